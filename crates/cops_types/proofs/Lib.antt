@@ -1,0 +1,2 @@
+pub mod DepLemmas
+pub mod Sessions

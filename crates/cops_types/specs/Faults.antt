@@ -1,0 +1,61 @@
+-- The four classes of faults.
+use Rattle.std.specs.Prelude.{◌≡◌, ◌≢◌, ◌<◌, ◌≤◌, ◌⊎◌, ◌↔◌, ℕ, List, Contains, AllPairs}
+use Rattle.cops_types.specs.declared.op.OpName.{OpName}
+use Rattle.cops_types.specs.Histories.{Sessions, IsGot, IsMissed, PutsKey, PutsVersion, SourceStep, Past}
+
+-- a put whose version another put bears
+pub record IsDoubled (h : Sessions) (name : OpName) : Type 0 where
+  pub version : ℕ
+  pub put : PutsVersion h name version
+  pub other : OpName
+  pub other_put : PutsVersion h other version
+  pub differs : other ≢ name
+
+-- a get that no put is the source of
+pub record HasNoSource (h : Sessions) (name : OpName) : Type 0 where
+  pub key : List ℕ
+  pub value : List ℕ
+  pub version : ℕ
+  pub got : IsGot h name key value version
+  pub none : (put : OpName) → ¬ SourceStep h put name
+
+-- a put or a get with this version
+abbrev pub HasVersion : Sessions → OpName → ℕ → Type 0
+HasVersion h name version = PutsVersion h name version ⊎ ((key value : List ℕ) × IsGot h name key value version)
+
+-- an earlier put or get of its session has a version that is not below the put's own
+pub record IsNotBelow (h : Sessions) (earlier name : OpName) : Type 0 where
+  pub version : ℕ
+  pub own : ℕ
+  pub put : PutsVersion h name own
+  pub has : HasVersion h earlier version
+  pub same_client : earlier.client ≡ name.client
+  pub before : earlier.index < name.index
+  pub not_below : own ≤ version
+
+-- the first such operation
+pub record IsNotAbove (h : Sessions) (name earlier : OpName) : Type 0 where
+  pub is_not_below : IsNotBelow h earlier name
+  pub first : (e : OpName) → IsNotBelow h e name → earlier.index ≤ e.index
+
+-- a put in the past, of this version, is newer than what was returned
+pub record IsNewer (h : Sessions) (name newer : OpName) (version : ℕ) : Type 0 where
+  pub key : List ℕ
+  pub put : PutsKey h newer key version
+  pub past : Past h newer name
+  pub returned : ((value : List ℕ) × (old : ℕ) × IsGot h name key value old × (old < version)) ⊎ IsMissed h name key
+
+-- the newest put on the key in the past is newer than what was returned
+pub record IsStale (h : Sessions) (name newer : OpName) : Type 0 where
+  pub version : ℕ
+  pub is_newer : IsNewer h name newer version
+  pub newest : (q : OpName) (w : ℕ) → IsNewer h name q w → w ≤ version
+
+-- the order of names: clients first
+abbrev pub IsBefore : OpName → OpName → Type 0
+IsBefore a b = (a.client < b.client) ⊎ (a.client ≡ b.client × a.index < b.index)
+
+-- exactly the faults of a class, in order of names
+pub record Lists {A : Type 0} (name_of : A → OpName) (IsFault : A → Type 0) (faults : List A) : Type 0 where
+  pub members : (x : A) → Contains faults x ↔ IsFault x
+  pub in_order : AllPairs (λ x y. IsBefore (name_of x) (name_of y)) faults

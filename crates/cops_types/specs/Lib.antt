@@ -1,0 +1,14 @@
+pub mod TypeFaults
+pub mod Format
+pub mod Key
+pub mod Value
+pub mod Version
+pub mod Dep
+pub mod Texts
+pub mod Histories
+pub mod Convergence
+pub mod Faults
+pub mod Verdicts
+pub mod Recorded
+pub mod Failures
+pub mod Counted

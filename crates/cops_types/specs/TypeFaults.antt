@@ -1,0 +1,22 @@
+use Rattle.cops_types.specs.declared.fault.TypeFault.{TypeFault}
+use Rattle.cops_types.specs.declared.fault.TypeFault.TheVariants.{Memory, KeyEmpty, KeyTooLong, ValueTooLong, UnknownClient, TooManyOps}
+
+-- the faults that making a key has
+abbrev pub IsKeyFault : TypeFault → Type 0
+IsKeyFault Memory = Unit {0}
+IsKeyFault KeyEmpty = Unit {0}
+IsKeyFault KeyTooLong = Unit {0}
+IsKeyFault _ = ⊥
+
+-- the faults that making a value has
+abbrev pub IsValueFault : TypeFault → Type 0
+IsValueFault Memory = Unit {0}
+IsValueFault ValueTooLong = Unit {0}
+IsValueFault _ = ⊥
+
+-- the faults that a history has
+abbrev pub IsHistoryFault : TypeFault → Type 0
+IsHistoryFault Memory = Unit {0}
+IsHistoryFault UnknownClient = Unit {0}
+IsHistoryFault TooManyOps = Unit {0}
+IsHistoryFault _ = ⊥

@@ -1,0 +1,73 @@
+ghost use Rattle.std.specs.Prelude.{◌≡◌, ◌<◌, ◌≤◌, ◌↔◌, ◌==◌, List, ℕ, length, IfOk, IfErr, IsErrOf, IsTrue};
+ghost use Rattle.cops_types.specs.Key.{IsKey};
+ghost use Rattle.cops_types.specs.TypeFaults.{IsKeyFault};
+
+use crate::fault::TypeFault;
+use std::alloc::Global;
+use std::marker::Model;
+
+/// The most bytes that a key has.
+pub const MAX_KEY: usize = 64;
+
+/// A key: 1 to 64 bytes.
+#[derive(Debug, Drop)]
+pub struct Key {
+    bytes: Vec<u8>,
+}
+
+impl Model for Key {
+    ghost Value = { List ℕ };
+
+    ghost view = { λ k. k.bytes.items };
+
+    ghost invariant = { λ k. IsKey k.bytes.items };
+}
+
+impl PartialEq for Key {
+    ghost use Rattle.std.proofs.Common.{rules};
+    ghost use Rattle.std.specs.Cmp.Rules.{comparing};
+    ghost use Rattle.std.specs.Cmp.Lexicographic.{pointwise};
+
+    ghost eq = { pointwise ◌==◌ };
+
+    ghost laws = { Prim.search (comparing, rules) };
+
+    fn eq(&self, other: &Key) -> bool {
+        self.bytes.as_slice() == other.bytes.as_slice()
+    }
+}
+
+impl Key {
+    /// The key of these bytes, `KeyEmpty` where there are none, or `KeyTooLong` where there are more than 64.
+    pub fn new(alloc: Global, bytes: &[u8]) -> Result<Self, TypeFault>
+        ensures ok { IfOk result (λ key. (key ≡ bytes.now) × IsKey bytes.now) }
+        ensures empty { IsErrOf result TypeFault.KeyEmpty ↔ (length bytes.now ≡ 0) }
+        ensures too_long { IsErrOf result TypeFault.KeyTooLong ↔ (64 < length bytes.now) }
+        ensures only { IfErr result IsKeyFault }
+    {
+        if bytes.is_empty() {
+            return Err(TypeFault::KeyEmpty);
+        }
+        if bytes.len() > MAX_KEY {
+            return Err(TypeFault::KeyTooLong);
+        }
+        match Vec::from_slice(alloc, bytes) {
+            Ok(bytes) => Ok(Key { bytes }),
+            Err(_) => Err(TypeFault::Memory),
+        }
+    }
+
+    pub fn as_bytes(&self) -> &[u8]
+        ensures bytes { result.now ≡ self.now }
+        ensures key { IsKey self.now }
+    {
+        self.bytes.as_slice()
+    }
+
+    /// Whether the two have the same bytes.
+    pub fn is(&self, other: &Key) -> bool
+        ensures { IsTrue result ↔ (self.now ≡ other.now) }
+    {
+        self.bytes.as_slice() == other.bytes.as_slice()
+    }
+}

@@ -1,0 +1,30 @@
+//! What every other crate speaks of: keys, values, versions, dependencies, operations, and histories of what clients
+//! saw; want of memory; and readers and writers that count their failures. Stands on std alone. The layers above use
+//! the ranges of these types, the order of versions, a history as a list of sessions, and the definitions of causal
+//! convergence, faults and verdicts in `specs/`.
+#![tactic(auto)]
+
+mod counted;
+mod dep;
+mod failing;
+mod fault;
+mod format;
+mod history;
+mod key;
+mod op;
+mod value;
+mod version;
+
+pub use counted::Counted;
+pub use dep::{Dep, Deps, MAX_DEPS};
+pub use failing::{FailingReader, FailingWriter};
+pub use fault::{Memory, TypeFault};
+pub use format::Format;
+pub use history::{History, MAX_CLIENT_OPS, MAX_OPS};
+pub use key::{Key, MAX_KEY};
+pub use op::{Op, OpName};
+pub use value::{MAX_VALUE, Value};
+pub use version::{MAX_CLOCK, MAX_NODE, Version};
+
+#[cfg(test)]
+mod tests;

@@ -1,0 +1,46 @@
+use crate::key::Key;
+use crate::value::Value;
+use crate::version::Version;
+use std::fmt;
+
+/// What a client did, and what it was told.
+#[derive(Debug, Drop)]
+pub enum Op {
+    /// A put, which was given this version.
+    Put {
+        key: Key,
+        value: Value,
+        version: Version,
+    },
+    /// A get that returned a value, and the version of the put that wrote it.
+    Got {
+        key: Key,
+        value: Value,
+        version: Version,
+    },
+    /// A get that found nothing.
+    Missed {
+        key: Key,
+    },
+}
+
+/// An operation's name: its client, and its place in that client's session, both from 0. Names are ordered by client
+/// first.
+#[derive(Clone, Copy, Debug, PartialEq, Eq, PartialOrd, Ord)]
+pub struct OpName {
+    pub client: u16,
+    pub index: u32,
+}
+
+impl fmt::Display for OpName {
+    ghost use Rattle.std.specs.Prelude.{Some};
+    ghost use Rattle.cops_types.specs.Texts.{name_text};
+
+    ghost output = { λ n. Some (name_text n) };
+
+    fn fmt<W: fmt::Write>(&self, f: &mut fmt::Formatter<W>) -> fmt::Result {
+        let client = self.client;
+        let index = self.index;
+        write!(f, "({client},{index})")
+    }
+}

@@ -1,0 +1,80 @@
+ghost use Rattle.std.specs.Prelude.{◌≡◌, ◌<◌, ◌≤◌, ◌↔◌, ◌==◌, List, ℕ, length, IfOk, IfErr, IsErrOf, IsTrue};
+ghost use Rattle.cops_types.specs.Value.{IsValue};
+ghost use Rattle.cops_types.specs.Format.{most_value};
+ghost use Rattle.cops_types.specs.TypeFaults.{IsValueFault};
+
+use crate::fault::TypeFault;
+use crate::format::Format;
+use std::alloc::Global;
+use std::marker::Model;
+
+/// The most bytes that a value of any format has.
+pub const MAX_VALUE: usize = 4096;
+
+/// A value: at most 4,096 bytes.
+#[derive(Debug, Drop)]
+pub struct Value {
+    bytes: Vec<u8>,
+}
+
+impl Model for Value {
+    ghost Value = { List ℕ };
+
+    ghost view = { λ v. v.bytes.items };
+
+    ghost invariant = { λ v. IsValue v.bytes.items };
+}
+
+impl PartialEq for Value {
+    ghost use Rattle.std.proofs.Common.{rules};
+    ghost use Rattle.std.specs.Cmp.Rules.{comparing};
+    ghost use Rattle.std.specs.Cmp.Lexicographic.{pointwise};
+
+    ghost eq = { pointwise ◌==◌ };
+
+    ghost laws = { Prim.search (comparing, rules) };
+
+    fn eq(&self, other: &Value) -> bool {
+        self.bytes.as_slice() == other.bytes.as_slice()
+    }
+}
+
+impl Value {
+    /// The value of these bytes in format 1, or `ValueTooLong` where there are more than 4,096.
+    pub fn new(alloc: Global, bytes: &[u8]) -> Result<Self, TypeFault>
+        ensures ok { IfOk result (λ value. (value ≡ bytes.now) × IsValue bytes.now) }
+        ensures too_long { IsErrOf result TypeFault.ValueTooLong ↔ (4096 < length bytes.now) }
+        ensures only { IfErr result IsValueFault }
+    {
+        Value::new_in(Format::One, alloc, bytes)
+    }
+
+    /// The value of these bytes, or `ValueTooLong` where there are more than the format allows.
+    pub fn new_in(format: Format, alloc: Global, bytes: &[u8]) -> Result<Self, TypeFault>
+        ensures ok { IfOk result (λ value. (value ≡ bytes.now) × IsValue bytes.now) }
+        ensures too_long { IsErrOf result TypeFault.ValueTooLong ↔ (most_value format < length bytes.now) }
+        ensures only { IfErr result IsValueFault }
+    {
+        if bytes.len() > format.most_value() {
+            return Err(TypeFault::ValueTooLong);
+        }
+        match Vec::from_slice(alloc, bytes) {
+            Ok(bytes) => Ok(Value { bytes }),
+            Err(_) => Err(TypeFault::Memory),
+        }
+    }
+
+    pub fn as_bytes(&self) -> &[u8]
+        ensures bytes { result.now ≡ self.now }
+        ensures value { IsValue self.now }
+    {
+        self.bytes.as_slice()
+    }
+
+    /// Whether the two have the same bytes.
+    pub fn is(&self, other: &Value) -> bool
+        ensures { IsTrue result ↔ (self.now ≡ other.now) }
+    {
+        self.bytes.as_slice() == other.bytes.as_slice()
+    }
+}
