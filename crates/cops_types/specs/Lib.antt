@@ -4,6 +4,7 @@ pub mod Key
 pub mod Value
 pub mod Version
 pub mod Dep
+pub mod Clock
 pub mod Texts
 pub mod Histories
 pub mod Convergence

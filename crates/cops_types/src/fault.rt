@@ -35,6 +35,8 @@ pub enum TypeFault {
     ValueTooLong = 3,
     #[error("the number is no version")]
     BadVersion = 4,
+    #[error("the clock is at its greatest")]
+    ClockExhausted = 5,
     #[error("there is no such client")]
     UnknownClient = 6,
     #[error("there are too many operations")]

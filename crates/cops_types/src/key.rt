@@ -3,7 +3,9 @@ ghost use Rattle.cops_types.specs.Key.{IsKey};
 ghost use Rattle.cops_types.specs.TypeFaults.{IsKeyFault};
 
 use crate::fault::TypeFault;
-use std::alloc::Global;
+use std::alloc::{AllocError, Global};
+use std::cmp::Ordering;
+use std::hash::{Hash, Hasher};
 use std::marker::Model;
 
 /// The most bytes that a key has.
@@ -34,6 +36,75 @@ impl PartialEq for Key {
 
     fn eq(&self, other: &Key) -> bool {
         self.bytes.as_slice() == other.bytes.as_slice()
+    }
+}
+
+impl Eq for Key {
+    ghost use Rattle.std.proofs.Common.{rules};
+    ghost use Rattle.std.specs.Cmp.Rules.{comparing};
+
+    ghost laws = { Prim.search (comparing, rules) };
+}
+
+/// Keys compare byte by byte.
+impl Ord for Key {
+    ghost use Rattle.std.proofs.Common.{rules};
+    ghost use Rattle.std.specs.Cmp.Lexicographic.{slice_cmp};
+    ghost use Rattle.std.specs.Cmp.Rules.{comparing};
+    ghost use Rattle.std.specs.Ordering.{nat_cmp};
+
+    ghost cmp = { slice_cmp nat_cmp };
+
+    ghost total = { Prim.search (comparing, rules) };
+
+    ghost matches_partial_cmp = { Prim.search (comparing, rules) };
+
+    ghost matches_eq = { Prim.search (comparing, rules) };
+
+    fn cmp(&self, other: &Key) -> Ordering {
+        self.bytes.as_slice().cmp(&other.bytes.as_slice())
+    }
+}
+
+impl PartialOrd for Key {
+    ghost use Rattle.std.proofs.Common.{rules};
+    ghost use Rattle.std.specs.Cmp.{partial_order_from_own_ties};
+    ghost use Rattle.std.specs.Cmp.Lexicographic.{slice_cmp};
+    ghost use Rattle.std.specs.Cmp.Rules.{comparing};
+    ghost use Rattle.std.specs.Ordering.{as_partial_cmp, nat_cmp};
+
+    ghost partial_cmp = { as_partial_cmp (slice_cmp nat_cmp) };
+
+    ghost laws = { partial_order_from_own_ties (Prim.search (comparing, rules)) (Prim.search (comparing, rules)) };
+
+    fn partial_cmp(&self, other: &Key) -> Option<Ordering> {
+        Some(self.cmp(other))
+    }
+}
+
+impl Hash for Key {
+    ghost use Rattle.std.proofs.Common.{rules};
+    ghost use Rattle.std.specs.Hash as fed;
+    ghost use Rattle.std.specs.Cmp.Rules.{hashing};
+
+    ghost hash_input = { fed.slice fed.u8 };
+
+    ghost respects_eq = { Prim.search (hashing, rules) };
+
+    fn hash<H: Hasher>(&self, state: &mut H) {
+        self.bytes.as_slice().hash(state);
+    }
+}
+
+/// A copy with the same bytes.
+impl Clone for Key {
+    ghost is_clone = { λ s t. t ≡ s };
+
+    fn clone(&self) -> Result<Key, AllocError> {
+        let alloc = *self.bytes.allocator();
+        Ok(Key {
+            bytes: Vec::from_slice(alloc, self.bytes.as_slice())?,
+        })
     }
 }
 

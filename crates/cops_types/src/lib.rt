@@ -4,6 +4,7 @@
 //! convergence, faults and verdicts in `specs/`.
 #![tactic(auto)]
 
+mod clock;
 mod counted;
 mod dep;
 mod failing;
@@ -12,9 +13,11 @@ mod format;
 mod history;
 mod key;
 mod op;
+mod put_record;
 mod value;
 mod version;
 
+pub use clock::Clock;
 pub use counted::Counted;
 pub use dep::{Dep, Deps, MAX_DEPS};
 pub use failing::{FailingReader, FailingWriter};
@@ -23,6 +26,7 @@ pub use format::Format;
 pub use history::{History, MAX_CLIENT_OPS, MAX_OPS};
 pub use key::{Key, MAX_KEY};
 pub use op::{Op, OpName};
+pub use put_record::{NodeStatus, PutRecord};
 pub use value::{MAX_VALUE, Value};
 pub use version::{MAX_CLOCK, MAX_NODE, Version};
 

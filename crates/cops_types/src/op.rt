@@ -1,10 +1,11 @@
 use crate::key::Key;
 use crate::value::Value;
 use crate::version::Version;
+use std::alloc::AllocError;
 use std::fmt;
 
 /// What a client did, and what it was told.
-#[derive(Debug, Drop)]
+#[derive(Debug, Drop, PartialEq, Eq)]
 pub enum Op {
     /// A put, which was given this version.
     Put {
@@ -22,6 +23,37 @@ pub enum Op {
     Missed {
         key: Key,
     },
+}
+
+/// A copy that equals it.
+impl Clone for Op {
+    ghost use Rattle.std.specs.Prelude.{◌≡◌};
+
+    ghost is_clone = { λ s t. t ≡ s };
+
+    fn clone(&self) -> Result<Op, AllocError> {
+        match self {
+            Op::Put {
+                key,
+                value,
+                version,
+            } => Ok(Op::Put {
+                key: key.clone()?,
+                value: value.clone()?,
+                version: *version,
+            }),
+            Op::Got {
+                key,
+                value,
+                version,
+            } => Ok(Op::Got {
+                key: key.clone()?,
+                value: value.clone()?,
+                version: *version,
+            }),
+            Op::Missed { key } => Ok(Op::Missed { key: key.clone()? }),
+        }
+    }
 }
 
 /// An operation's name: its client, and its place in that client's session, both from 0. Names are ordered by client

@@ -138,3 +138,32 @@ fn failures_are_counted(rt: HostRuntime) -> Result<(), Fail> {
     assert_eq!(rt; written.as_slice(), b"abc".as_slice());
     Ok(())
 }
+
+#[test]
+fn clocks(rt: HostRuntime) -> Result<(), Fail> {
+    let mut clock = Clock::new(64);
+    assert_eq!(rt; clock.next()?, Version::new(1, 64)?);
+    clock.raise(Version::new(MAX_CLOCK - 1, 0)?);
+    assert_eq!(rt; clock.next()?, Version::new(MAX_CLOCK, 64)?);
+    assert_eq!(rt; clock.next().err(), Some(TypeFault::ClockExhausted));
+    assert_eq!(rt; clock.clock(), MAX_CLOCK);
+    Ok(())
+}
+
+#[test]
+fn copies(rt: HostRuntime) -> Result<(), Fail> {
+    let version = Version::new(1, 0)?;
+    let op = Op::Put {
+        key: key(&rt, b"x")?,
+        value: Value::new(rt.alloc(), b"1")?,
+        version,
+    };
+    assert!(rt; op.clone()? == op);
+    let dep = Dep {
+        key: key(&rt, b"x")?,
+        version,
+    };
+    assert!(rt; dep.clone()? == dep);
+    assert!(rt; key(&rt, b"a")? < key(&rt, b"ab")?);
+    Ok(())
+}

@@ -5,7 +5,7 @@ ghost use Rattle.cops_types.specs.TypeFaults.{IsValueFault};
 
 use crate::fault::TypeFault;
 use crate::format::Format;
-use std::alloc::Global;
+use std::alloc::{AllocError, Global};
 use std::marker::Model;
 
 /// The most bytes that a value of any format has.
@@ -36,6 +36,25 @@ impl PartialEq for Value {
 
     fn eq(&self, other: &Value) -> bool {
         self.bytes.as_slice() == other.bytes.as_slice()
+    }
+}
+
+impl Eq for Value {
+    ghost use Rattle.std.proofs.Common.{rules};
+    ghost use Rattle.std.specs.Cmp.Rules.{comparing};
+
+    ghost laws = { Prim.search (comparing, rules) };
+}
+
+/// A copy with the same bytes.
+impl Clone for Value {
+    ghost is_clone = { λ s t. t ≡ s };
+
+    fn clone(&self) -> Result<Value, AllocError> {
+        let alloc = *self.bytes.allocator();
+        Ok(Value {
+            bytes: Vec::from_slice(alloc, self.bytes.as_slice())?,
+        })
     }
 }
 

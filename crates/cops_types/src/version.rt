@@ -14,7 +14,7 @@ pub const MAX_NODE: u16 = 1023;
 /// The version of a put, which is the put's identity: a clock from 1 to 281,474,976,710,655 in the high bits, and the
 /// number of the node that gave it, below 1,024, in the low 16 bits. The greater version is the later one (COPS,
 /// section 4: Lamport clocks with the node's number as tie-breaker).
-#[derive(Clone, Copy, Debug, PartialEq, Eq, PartialOrd, Ord)]
+#[derive(Clone, Copy, Debug, PartialEq, Eq, PartialOrd, Ord, Hash)]
 pub struct Version {
     raw: u64,
 }

@@ -1,0 +1,140 @@
+-- Where no operation is faulty by its version, steps never lead back.
+use Rattle.std.proofs.Common.{◌≡◌, ◌<◌, ◌≤◌, ◌⊎◌, ℕ, List, Some, refl, sym, ◌∙◌, ap, inl, inr, arith}
+use Rattle.cops_types.specs.declared.op.Op.TheVariants.{Put, Got}
+use Rattle.cops_types.specs.declared.op.OpName.{OpName}
+use Rattle.cops_types.specs.Histories.{Sessions, op_at, IsGot, PutsVersion, Step, Past, step, more}
+use Rattle.cops_types.specs.Faults.{IsNotBelow}
+
+pub same_name : (a b : OpName) → a.client ≡ b.client → a.index ≡ b.index → a ≡ b
+same_name a b c i = ap (λ (p : ℕ × ℕ). let n : OpName = record { client = p.0; index = p.1 } in n) (let q : (a.client, a.index) ≡ (b.client, b.index) = cc in q)
+
+-- a get's version
+abbrev pub GetsVersion : Sessions → OpName → ℕ → Type 0
+GetsVersion h name version = (key value : List ℕ) × IsGot h name key value version
+
+-- a put is no get
+pub put_is_no_get : (h : Sessions) (p g : OpName) (v w : ℕ) → PutsVersion h p v → GetsVersion h g w → p ≡ g → ⊥
+put_is_no_get h p g v w put got e =
+    let at : Some (Put put.0 put.1 v) ≡ Some (Got got.0 got.1 w) = sym put.2 ∙ ap (op_at h) e ∙ got.2 in
+    cc
+
+-- a put has one version
+pub one_version : (h : Sessions) (p q : OpName) (v w : ℕ) → PutsVersion h p v → PutsVersion h q w → p ≡ q → v ≡ w
+one_version h p q v w first second e =
+    let at : Some (Put first.0 first.1 v) ≡ Some (Put second.0 second.1 w) = sym first.2 ∙ ap (op_at h) e ∙ second.2 in
+    cc
+
+-- an earlier operation and a later one, by their places in one session
+abbrev pub AtOrBefore : OpName → OpName → Type 0
+AtOrBefore a b = (a.client ≡ b.client) × (a.index ≤ b.index)
+
+-- a put in the session of the one, and a get in the session of the other that returned that version or a later one
+pub record Crosses (h : Sessions) (from to : OpName) : Type 0 where
+  pub put : OpName
+  pub got : OpName
+  pub v : ℕ
+  pub w : ℕ
+  pub is_put : PutsVersion h put v
+  pub is_got : GetsVersion h got w
+  pub rises : v ≤ w
+  pub after_from : AtOrBefore from put
+  pub before_to : AtOrBefore got to
+
+-- no put has an earlier put or get of its session with a version that is not below its own
+abbrev pub VersionsRise : Sessions → Type 0
+VersionsRise h = (earlier name : OpName) → ¬ IsNotBelow h earlier name
+
+module _ (h : Sessions) (rise : VersionsRise h) where
+  -- a put's version is above that of a get at or before it in its session
+  pub got_below : (g p : OpName) (v w : ℕ) → GetsVersion h g v → PutsVersion h p w → AtOrBefore g p → v < w
+  got_below g p v w got put at =
+      let other : ¬ (g.index ≡ p.index) = λ e. put_is_no_get h p g w v put got (same_name p g (sym at.0) (sym e)) in
+      let not : ¬ (w ≤ v) = λ le. rise g p (record { version = v; own = w; put = put; has = inr got; same_client = at.0; before = omega arith; not_below = le }) in
+      omega (arith, not)
+
+  -- a put's version is above that of an earlier put of its session
+  put_below : (p q : OpName) (v w : ℕ) → PutsVersion h p v → PutsVersion h q w → p.client ≡ q.client → p.index < q.index → v < w
+  put_below p q v w first second same before =
+      let not : ¬ (w ≤ v) = λ le. rise p q (record { version = v; own = w; put = second; has = inl first; same_client = same; before = before; not_below = le }) in
+      omega (arith, not)
+
+  -- what is in the past is earlier in the session, or comes by a get
+  abbrev Precise : OpName → OpName → Type 0
+  Precise a b = ((a.client ≡ b.client) × (a.index < b.index)) ⊎ Crosses h a b
+
+  more_precise : (a b c : OpName) → Precise a b → Step h b c → Precise a c
+  more_precise a b c (inl e) (inl s) = inl (e.0 ∙ s.same_client, omega (arith, s.earlier, e.1))
+  more_precise a b c (inl e) (inr s) = inr (record {
+    put = b;
+    got = c;
+    v = s.version;
+    w = s.version;
+    is_put = (s.key, s.value, s.put);
+    is_got = (s.key, s.value, s.got);
+    rises = omega arith;
+    after_from = (e.0, omega (arith, e.1));
+    before_to = (refl, omega arith);
+  })
+  more_precise a b c (inr x) (inl s) = inr (record {
+    put = x.put;
+    got = x.got;
+    v = x.v;
+    w = x.w;
+    is_put = x.is_put;
+    is_got = x.is_got;
+    rises = x.rises;
+    after_from = x.after_from;
+    before_to = (x.before_to.0 ∙ s.same_client, omega (arith, s.earlier, x.before_to.1));
+  })
+  more_precise a b c (inr x) (inr s) =
+      let below : x.w < s.version = got_below x.got b x.w s.version x.is_got (s.key, s.value, s.put) x.before_to in
+      inr (record {
+        put = x.put;
+        got = c;
+        v = x.v;
+        w = s.version;
+        is_put = x.is_put;
+        is_got = (s.key, s.value, s.got);
+        rises = omega (arith, below, x.rises);
+        after_from = x.after_from;
+        before_to = (refl, omega arith);
+      })
+
+  pub precise : {a b : OpName} → Past h a b → Precise a b
+  precise {a} {b} (step (inl s)) = inl (s.same_client, s.earlier)
+  precise {a} {b} (step (inr s)) = inr (record {
+    put = a;
+    got = b;
+    v = s.version;
+    w = s.version;
+    is_put = (s.key, s.value, s.put);
+    is_got = (s.key, s.value, s.got);
+    rises = omega arith;
+    after_from = (refl, omega arith);
+    before_to = (refl, omega arith);
+  })
+  precise {a} {b} (more {by = by} past s) = more_precise a by b (precise past) s
+
+  -- no operation is in its own past
+  pub irreflexive : (a : OpName) → ¬ Past h a a
+  irreflexive a past = not_itself (precise past)
+    where
+      not_itself : ¬ Precise a a
+      not_itself (inl e) = omega (arith, e.1)
+      not_itself (inr x) = omega (arith, x.rises, got_below x.got x.put x.w x.v x.is_got x.is_put (x.before_to.0 ∙ x.after_from.0, omega (arith, x.before_to.1, x.after_from.1)))
+
+  -- puts in the past have lower versions
+  pub past_below : (p q : OpName) (v w : ℕ) → PutsVersion h p v → PutsVersion h q w → Past h p q → v < w
+  past_below p q v w first second past = by_cases (precise past)
+    where
+      same_put : (r : OpName) (u : ℕ) → PutsVersion h r u → AtOrBefore p r → v ≤ u
+      same_put r u put at =
+          let not : ¬ (u < v) = λ gap.
+          let not_less : ¬ (p.index < r.index) = λ before. omega (arith, put_below p r v u first put at.0 before) in
+          let not_same : ¬ (p.index ≡ r.index) = λ e. omega (arith, one_version h p r v u first put (same_name p r at.0 e)) in
+          omega (arith, not_less, not_same, at.1) in
+          omega (arith, not)
+
+      by_cases : Precise p q → v < w
+      by_cases (inl e) = put_below p q v w first second e.0 e.1
+      by_cases (inr x) = omega (arith, x.rises, same_put x.put x.v x.is_put x.after_from, got_below x.got q x.w w x.is_got second x.before_to)

@@ -1,0 +1,92 @@
+-- A loop over the names that collects the faults of a class.
+use Rattle.std.proofs.Common.{◌≡◌, ◌<◌, ◌≤◌, ◌+◌, ℕ, zero, suc, List, [], ◌∷◌, ◌++◌, length, get_or, take, take_all, refl, sym, ◌∙◌, ap, subst, inl, inr, arith, Contains, AllPairs}
+use Rattle.std.proofs.lemmas.List.Quantifiers.{all_pairs_push}
+use Rattle.std.proofs.lemmas.List.Elements.{Contains-append_left, Contains-push, Contains-push_cases, Contains-get_or}
+use Rattle.std.proofs.lemmas.List.{take_more}
+use Rattle.std.proofs.Common.{get_or-take, length-take}
+use Rattle.cops_types.specs.declared.op.OpName.{OpName}
+use Rattle.cops_types.specs.Faults.{IsBefore, Lists}
+use Rattle.cops_audit.specs.Names.{ListsAmong}
+
+module _ {A : Type 0} (name_of : A → OpName) (IsFault : A → Type 0) where
+  pub among_none : ListsAmong name_of IsFault [] []
+  among_none = record {
+    members = λ x. ((λ at. absurd (omega (arith, at.1))), (λ w. absurd (omega (arith, w.1.1))));
+    in_order = λ i j d less inside. absurd (omega (arith, inside));
+  }
+
+  -- a name without a fault
+  pub among_skip : (names : List OpName) (n : OpName) (faults : List A) → ListsAmong name_of IsFault names faults
+      → ((x : A) → IsFault x → name_of x ≡ n → ⊥) → ListsAmong name_of IsFault (names ++ n ∷ []) faults
+  among_skip names n faults lists none = record {
+    members = λ x. (
+      (λ at. let o = (lists.members x).0 at in (o.0, Contains-append_left names (n ∷ []) (name_of x) o.1)),
+      (λ w. elim (Contains-push_cases names n (name_of x) w.1) [
+        | inl old ↦ (lists.members x).1 (w.0, old)
+        | inr same ↦ absurd (none x w.0 (sym same))
+      ]),
+    );
+    in_order = lists.in_order;
+  }
+
+  -- a name with its fault
+  pub among_push : (names : List OpName) (faults : List A) (y : A) → ListsAmong name_of IsFault names faults → IsFault y
+      → ((x : A) → IsFault x → name_of x ≡ name_of y → x ≡ y)
+      → ((m : OpName) → Contains names m → IsBefore m (name_of y))
+      → ListsAmong name_of IsFault (names ++ name_of y ∷ []) (faults ++ y ∷ [])
+  among_push names faults y lists fault one before = record {
+    members = λ x. (
+      (λ at. elim (Contains-push_cases faults y x at) [
+        | inl old ↦ let o = (lists.members x).0 old in (o.0, Contains-append_left names (name_of y ∷ []) (name_of x) o.1)
+        | inr same ↦ (subst IsFault same fault, subst (λ m. Contains (names ++ name_of y ∷ []) m) (ap name_of same) (Contains-push names (name_of y)))
+      ]),
+      (λ w. elim (Contains-push_cases names (name_of y) (name_of x) w.1) [
+        | inl old ↦ Contains-append_left faults (y ∷ []) x ((lists.members x).1 (w.0, old))
+        | inr same ↦ subst (λ z. Contains (faults ++ y ∷ []) z) (sym (one x w.0 (sym same))) (Contains-push faults y)
+      ]),
+    );
+    in_order = all_pairs_push (λ a b. IsBefore (name_of a) (name_of b)) faults y lists.in_order
+        (λ k d inside. before (name_of (get_or faults k d)) ((lists.members (get_or faults k d)).0 (Contains-get_or faults k d inside)).1);
+  }
+
+  pub among_all : (names : List OpName) (faults : List A) → ListsAmong name_of IsFault names faults
+      → ((x : A) → IsFault x → Contains names (name_of x)) → Lists name_of IsFault faults
+  among_all names faults lists named = record {
+    members = λ x. ((λ at. ((lists.members x).0 at).0), (λ fault. (lists.members x).1 (fault, named x fault)));
+    in_order = lists.in_order;
+  }
+
+pub get_or-default : {A : Type 0} (xs : List A) (i : ℕ) (d e : A) → i < length xs → get_or xs i d ≡ get_or xs i e
+get_or-default [] i d e inside = absurd (omega (arith, inside))
+get_or-default (x ∷ xs) zero d e inside = refl
+get_or-default (x ∷ xs) (suc i) d e inside = get_or-default xs i d e (omega (arith, inside))
+
+-- the names so far come before the next one
+pub earlier_names : (names : List OpName) (i : ℕ) (d : OpName) → AllPairs IsBefore names → i < length names → (m : OpName) → Contains (take i names) m → IsBefore m (get_or names i d)
+earlier_names names i d in_order inside m at =
+    let short : length (take i names) ≤ i = omega (arith, length-take i names) in
+    let same : get_or names at.0 m ≡ m = sym (get_or-take i names at.0 m (omega (arith, at.1, short))) ∙ at.2 in
+    let same_d : get_or names i m ≡ get_or names i d = get_or-default names i m d inside in
+    subst (λ x. IsBefore x (get_or names i d)) same (subst (λ x. IsBefore (get_or names at.0 m) x) same_d (in_order at.0 i m (omega (arith, at.1, short)) inside))
+
+-- the list so far with the next name
+module _ {A : Type 0} (name_of : A → OpName) (IsFault : A → Type 0) (names : List OpName) (in_order : AllPairs IsBefore names) (i : ℕ) (inside : i < length names) where
+  pub skip_next : (faults : List A) (d : OpName) → ListsAmong name_of IsFault (take i names) faults
+      → ((x : A) → IsFault x → name_of x ≡ get_or names i d → ⊥) → ListsAmong name_of IsFault (take (i + 1) names) faults
+  skip_next faults d lists none =
+      subst (λ ns. ListsAmong name_of IsFault ns faults) (sym (take_more names i d inside))
+      (among_skip name_of IsFault (take i names) (get_or names i d) faults lists none)
+
+  pub push_next : (faults : List A) (d : OpName) (y : A) → name_of y ≡ get_or names i d → ListsAmong name_of IsFault (take i names) faults → IsFault y
+      → ((x : A) → IsFault x → name_of x ≡ name_of y → x ≡ y)
+      → ListsAmong name_of IsFault (take (i + 1) names) (faults ++ y ∷ [])
+  push_next faults d y same lists fault one =
+      subst (λ ns. ListsAmong name_of IsFault ns (faults ++ y ∷ [])) (ap (λ m. take i names ++ m ∷ []) same ∙ sym (take_more names i d inside))
+      (among_push name_of IsFault (take i names) faults y lists fault one
+      (λ m there. subst (IsBefore m) (sym same) (earlier_names names i d in_order inside m there)))
+
+pub all_listed : {A : Type 0} (name_of : A → OpName) (IsFault : A → Type 0) (names : List OpName) (i : ℕ) (faults : List A)
+    → length names ≤ i → ListsAmong name_of IsFault (take i names) faults
+    → ((x : A) → IsFault x → Contains names (name_of x)) → Lists name_of IsFault faults
+all_listed name_of IsFault names i faults enough lists named =
+    among_all name_of IsFault names faults (subst (λ ns. ListsAmong name_of IsFault ns faults) (take_all i names enough) lists) named

@@ -1,0 +1,16 @@
+pub mod Acyclic
+pub mod Firsts
+pub mod Reach
+pub mod Members
+pub mod PastOrder
+pub mod Exact
+pub mod Listing
+pub mod Collect
+pub mod Sorting
+pub mod PastCounts
+pub mod PastLoops
+pub mod Newest
+pub mod Emptiness
+pub mod Unique
+pub mod Listed
+pub mod Consequences

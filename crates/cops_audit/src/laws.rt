@@ -1,0 +1,19 @@
+ghost use Rattle.std.specs.Prelude.{◌↔◌, List};
+ghost use Rattle.cops_types.specs.declared.op.OpName.{OpName};
+ghost use Rattle.cops_types.specs.Histories.{Sessions};
+ghost use Rattle.cops_types.specs.Convergence.{ConvergesBy, IsVersionOrder};
+ghost use Rattle.cops_types.specs.Verdicts.{IsAccepted, NoneDoubled};
+ghost use Rattle.cops_audit.specs.declared.verdict.Verdict.{Verdict};
+ghost use Rattle.cops_audit.specs.Verdicts.{IsVerdict, SameVerdict};
+
+/// A law of the definitions: a history is accepted exactly where no version is borne by two puts and it is causally
+/// convergent with the version order as its arbitration.
+pub fn accepted_exactly_where_convergent()
+    ensures { (h : Sessions) (puts : List OpName) →
+        IsAccepted h puts ↔ (NoneDoubled h × IsVersionOrder h puts × ConvergesBy h puts) }
+{}
+
+/// A law of the definitions: a history has one verdict.
+pub fn one_verdict()
+    ensures { (h : Sessions) (v w : Verdict) → IsVerdict h v → IsVerdict h w → SameVerdict v w }
+{}

@@ -1,0 +1,306 @@
+use super::*;
+use cops_types::{History, Key, Op, OpName, Value, Version};
+use std::alloc::Global;
+use std::test::Fail;
+
+/// An operation with a key and a value of one byte, and a version's clock and node.
+#[derive(Clone, Copy)]
+enum Did {
+    Put(u8, u8, u64, u16),
+    Got(u8, u8, u64, u16),
+    Missed(u8),
+}
+
+fn op(alloc: Global, did: Did) -> Result<Op, Fail> {
+    match did {
+        Did::Put(key, value, clock, node) => Ok(Op::Put {
+            key: Key::new(alloc, &[key])?,
+            value: Value::new(alloc, &[value])?,
+            version: Version::new(clock, node)?,
+        }),
+        Did::Got(key, value, clock, node) => Ok(Op::Got {
+            key: Key::new(alloc, &[key])?,
+            value: Value::new(alloc, &[value])?,
+            version: Version::new(clock, node)?,
+        }),
+        Did::Missed(key) => Ok(Op::Missed {
+            key: Key::new(alloc, &[key])?,
+        }),
+    }
+}
+
+/// A history in which each client did what its entries say, in their order.
+fn history(alloc: Global, clients: u16, entries: &[(u16, Did)]) -> Result<History, Fail> {
+    let mut history = History::new(alloc, clients)?;
+    for (client, did) in entries {
+        history.push(*client, op(alloc, *did)?)?;
+    }
+    Ok(history)
+}
+
+fn name(client: u16, index: u32) -> OpName {
+    OpName { client, index }
+}
+
+/// The verdict that accepts these puts.
+fn accepted(alloc: Global, puts: &[OpName]) -> Result<Verdict, Fail> {
+    Ok(Verdict::Accepted(Vec::from_slice(alloc, puts)?))
+}
+
+/// The verdict that refuses for these stale gets, each with its newer put.
+fn stale(alloc: Global, faults: &[(OpName, OpName)]) -> Result<Verdict, Fail> {
+    let mut stale = Vec::new(alloc);
+    for (op, newer) in faults {
+        stale.push(Stale {
+            op: *op,
+            newer: *newer,
+        })?;
+    }
+    Ok(Verdict::Refused(Faults::Stale(stale)))
+}
+
+/// The verdict that refuses for these puts, each with the first operation that it is not above.
+fn not_above(alloc: Global, faults: &[(OpName, OpName)]) -> Result<Verdict, Fail> {
+    let mut not_above = Vec::new(alloc);
+    for (op, earlier) in faults {
+        not_above.push(NotAbove {
+            op: *op,
+            earlier: *earlier,
+        })?;
+    }
+    Ok(Verdict::Refused(Faults::NotAbove(not_above)))
+}
+
+fn doubled(alloc: Global, puts: &[OpName]) -> Result<Verdict, Fail> {
+    Ok(Verdict::Refused(Faults::Doubled(Vec::from_slice(alloc, puts)?)))
+}
+
+fn no_source(alloc: Global, gets: &[OpName]) -> Result<Verdict, Fail> {
+    Ok(Verdict::Refused(Faults::NoSource(Vec::from_slice(alloc, gets)?)))
+}
+
+#[test]
+fn no_sessions(rt: HostRuntime) -> Result<(), Fail> {
+    let a = rt.alloc();
+    assert_eq!(rt; judge(a, &history(a, 0, &[])?)?, accepted(a, &[])?);
+    Ok(())
+}
+
+#[test]
+fn empty_sessions(rt: HostRuntime) -> Result<(), Fail> {
+    let a = rt.alloc();
+    assert_eq!(rt; judge(a, &history(a, 3, &[])?)?, accepted(a, &[])?);
+    Ok(())
+}
+
+#[test]
+fn a_put_and_a_get(rt: HostRuntime) -> Result<(), Fail> {
+    let a = rt.alloc();
+    let h = history(
+        a,
+        2,
+        &[(0, Did::Put(b'x', 1, 1, 0)), (1, Did::Got(b'x', 1, 1, 0))],
+    )?;
+    assert_eq!(rt; judge(a, &h)?, accepted(a, &[name(0, 0)])?);
+    let get_first = history(
+        a,
+        2,
+        &[(1, Did::Got(b'x', 1, 1, 0)), (0, Did::Put(b'x', 1, 1, 0))],
+    )?;
+    assert_eq!(rt; judge(a, &get_first)?, accepted(a, &[name(0, 0)])?);
+    Ok(())
+}
+
+#[test]
+fn a_get_without_a_put(rt: HostRuntime) -> Result<(), Fail> {
+    let a = rt.alloc();
+    let h = history(a, 2, &[(1, Did::Got(b'x', 1, 1, 0))])?;
+    assert_eq!(rt; judge(a, &h)?, no_source(a, &[name(1, 0)])?);
+    Ok(())
+}
+
+#[test]
+fn a_get_of_another_key_or_value(rt: HostRuntime) -> Result<(), Fail> {
+    let a = rt.alloc();
+    let h = history(
+        a,
+        2,
+        &[
+            (0, Did::Put(b'x', 1, 1, 0)),
+            (1, Did::Got(b'y', 1, 1, 0)),
+            (1, Did::Got(b'x', 2, 1, 0)),
+            (1, Did::Got(b'x', 1, 1, 0)),
+        ],
+    )?;
+    assert_eq!(rt; judge(a, &h)?, no_source(a, &[name(1, 0), name(1, 1)])?);
+    Ok(())
+}
+
+#[test]
+fn one_version_twice(rt: HostRuntime) -> Result<(), Fail> {
+    let a = rt.alloc();
+    let h = history(
+        a,
+        3,
+        &[
+            (0, Did::Put(b'x', 1, 1, 0)),
+            (0, Did::Put(b'x', 3, 2, 0)),
+            (1, Did::Put(b'x', 2, 1, 0)),
+            (2, Did::Got(b'x', 3, 2, 0)),
+            (2, Did::Got(b'x', 1, 1, 0)),
+        ],
+    )?;
+    assert_eq!(rt; judge(a, &h)?, doubled(a, &[name(0, 0), name(1, 0)])?);
+    Ok(())
+}
+
+#[test]
+fn a_cycle_through_two_gets(rt: HostRuntime) -> Result<(), Fail> {
+    let a = rt.alloc();
+    let h = history(
+        a,
+        2,
+        &[
+            (0, Did::Got(b'a', 2, 1, 64)),
+            (0, Did::Put(b'b', 1, 1, 0)),
+            (1, Did::Got(b'b', 1, 1, 0)),
+            (1, Did::Put(b'a', 2, 1, 64)),
+        ],
+    )?;
+    assert_eq!(rt; judge(a, &h)?, not_above(a, &[(name(0, 1), name(0, 0))])?);
+    Ok(())
+}
+
+#[test]
+fn the_first_operation_that_is_not_below(rt: HostRuntime) -> Result<(), Fail> {
+    let a = rt.alloc();
+    let h = history(
+        a,
+        2,
+        &[
+            (0, Did::Put(b'a', 1, 3, 0)),
+            (1, Did::Missed(b'b')),
+            (1, Did::Got(b'a', 1, 3, 0)),
+            (1, Did::Got(b'a', 1, 3, 0)),
+            (1, Did::Put(b'b', 1, 2, 0)),
+            (1, Did::Put(b'b', 2, 1, 0)),
+            (1, Did::Put(b'b', 3, 4, 0)),
+        ],
+    )?;
+    let expected = not_above(a, &[(name(1, 3), name(1, 1)), (name(1, 4), name(1, 1))])?;
+    assert_eq!(rt; judge(a, &h)?, expected);
+    Ok(())
+}
+
+#[test]
+fn stale_through_another_key(rt: HostRuntime) -> Result<(), Fail> {
+    let a = rt.alloc();
+    let h = history(
+        a,
+        2,
+        &[
+            (0, Did::Put(b'x', 1, 1, 0)),
+            (0, Did::Put(b'x', 2, 2, 0)),
+            (0, Did::Put(b'y', 3, 3, 0)),
+            (1, Did::Got(b'y', 3, 3, 0)),
+            (1, Did::Got(b'x', 1, 1, 0)),
+        ],
+    )?;
+    assert_eq!(rt; judge(a, &h)?, stale(a, &[(name(1, 1), name(0, 1))])?);
+    Ok(())
+}
+
+#[test]
+fn missed_what_is_in_the_past(rt: HostRuntime) -> Result<(), Fail> {
+    let a = rt.alloc();
+    let h = history(
+        a,
+        2,
+        &[
+            (0, Did::Put(b'x', 1, 1, 0)),
+            (0, Did::Put(b'x', 2, 2, 0)),
+            (0, Did::Put(b'y', 3, 3, 0)),
+            (1, Did::Missed(b'x')),
+            (1, Did::Got(b'y', 3, 3, 0)),
+            (1, Did::Missed(b'x')),
+        ],
+    )?;
+    assert_eq!(rt; judge(a, &h)?, stale(a, &[(name(1, 2), name(0, 1))])?);
+    Ok(())
+}
+
+#[test]
+fn two_clients_see_two_puts_in_either_order(rt: HostRuntime) -> Result<(), Fail> {
+    let a = rt.alloc();
+    let entries = [
+        (0, Did::Put(b'x', 1, 1, 0)),
+        (1, Did::Put(b'x', 2, 1, 64)),
+        (2, Did::Got(b'x', 1, 1, 0)),
+        (2, Did::Got(b'x', 2, 1, 64)),
+        (3, Did::Got(b'x', 2, 1, 64)),
+        (4, Did::Got(b'x', 1, 1, 0)),
+        (3, Did::Got(b'x', 1, 1, 0)),
+    ];
+    let h = history(a, 5, &entries)?;
+    assert_eq!(rt; judge(a, &h)?, stale(a, &[(name(3, 1), name(1, 0))])?);
+    let without_the_last = history(a, 5, &entries[..6])?;
+    assert_eq!(rt;
+        judge(a, &without_the_last)?,
+        accepted(a, &[name(0, 0), name(1, 0)])?
+    );
+    Ok(())
+}
+
+#[test]
+fn equal_values_of_two_versions(rt: HostRuntime) -> Result<(), Fail> {
+    let a = rt.alloc();
+    let h = history(
+        a,
+        2,
+        &[
+            (0, Did::Put(b'x', 7, 1, 0)),
+            (0, Did::Put(b'x', 7, 2, 0)),
+            (1, Did::Got(b'x', 7, 1, 0)),
+            (1, Did::Got(b'x', 7, 2, 0)),
+            (1, Did::Got(b'x', 7, 1, 0)),
+        ],
+    )?;
+    assert_eq!(rt; judge(a, &h)?, stale(a, &[(name(1, 2), name(0, 1))])?);
+    Ok(())
+}
+
+/// Accepted as a put that another client got, at the limits of keys, values and versions.
+#[test]
+fn limits_of_keys_and_values(rt: HostRuntime) -> Result<(), Fail> {
+    let a = rt.alloc();
+    let key = [255u8; 64];
+    let value = vec![in a; 255u8; 4096]?;
+    let mut h = History::new(a, 2)?;
+    h.push(
+        0,
+        Op::Put {
+            key: Key::new(a, &key)?,
+            value: Value::new(a, &value)?,
+            version: Version::new(281_474_976_710_655, 1023)?,
+        },
+    )?;
+    h.push(
+        1,
+        Op::Got {
+            key: Key::new(a, &key)?,
+            value: Value::new(a, &value)?,
+            version: Version::new(281_474_976_710_655, 1023)?,
+        },
+    )?;
+    assert_eq!(rt; judge(a, &h)?, accepted(a, &[name(0, 0)])?);
+    h.push(
+        1,
+        Op::Got {
+            key: Key::new(a, &key)?,
+            value: Value::new(a, &value[..4095])?,
+            version: Version::new(281_474_976_710_655, 1023)?,
+        },
+    )?;
+    assert_eq!(rt; judge(a, &h)?, no_source(a, &[name(1, 1)])?);
+    Ok(())
+}

@@ -1,0 +1,89 @@
+-- From what a parse answers to what the words tell.
+use Rattle.std.proofs.Common.{◌≡◌, ◌≢◌, ◌<◌, ◌⊎◌, List, [], ◌∷◌, length, map, sym, subst, refl, arith, ⊎_elim, true, false, true≢false, Option}
+use Rattle.std.specs.Prelude.{◌==◌}
+use Rattle.std.specs.Borrow.{Bor}
+use Rattle.clap.specs.Words.{App, Row, Text, fault_of, is_simple, is_simple_and_free, subcommand_of, IsAmong}
+use Rattle.clap.specs.Kinds.{Kinds}
+use Rattle.clap.specs.declared.error.kind.ErrorKind.{ErrorKind}
+use Rattle.clap.specs.declared.error.kind.ErrorKind.TheVariants.{DisplayHelp, OutOfMemory}
+use Rattle.clap.proofs.OnLiterals.{clap_on_literals}
+use Rattle.cops_line.specs.declared.job.Job.{Job}
+use Rattle.cops_line.specs.declared.fault.LineFault.{LineFault}
+use Rattle.cops_line.specs.declared.fault.LineFault.TheVariants.{Memory, Usage, Help}
+use Rattle.cops_line.specs.Commands.{cops_app}
+use Rattle.cops_line.specs.Line.{IsJobIn, HasNoJobIn, IsRead, OnlyAsksForHelp, Tells, TellsNone, Explains, Reports}
+
+-- the command is one of which clap says the matches and the faults
+pub simple_command : is_simple_and_free cops_app ≡ true
+unfolding cops_app clap_on_literals
+simple_command = refl
+
+pub simple_matches : is_simple cops_app ≡ true
+unfolding cops_app clap_on_literals
+simple_matches = refl
+
+-- words that are not none tell what they read as
+pub told : (words : List Text) (job : Job) → 0 < length words → IsRead words job → Tells words job
+told [] job some read = absurd (omega arith)
+told (w ∷ ws) job some read = read
+
+pub untold : (words : List Text) → 0 < length words → ((job : Job) → ¬ IsRead words job) → TellsNone words
+untold [] some none = absurd (omega arith)
+untold (w ∷ ws) some none = none
+
+-- a command that took the words read them as the job of the subcommand that it met
+pub read_as_met : (words : List Text) (app : App) (met : Option (Text × List Row)) (job : Job) → app ≡ cops_app → (is_simple_and_free app ≡ true → fault_of app words ≡ [])
+    → (is_simple app ≡ true → met ≡ subcommand_of app words) → IsJobIn met job → IsRead words job
+read_as_met words app met job same kinds matches is =
+    let Reads : App → Type 0 = λ a. (is_simple_and_free a ≡ true → fault_of a words ≡ []) × (is_simple a ≡ true → met ≡ subcommand_of a words) in
+    let reads = subst Reads same (kinds, matches) in
+    let Is : Option (Text × List Row) → Type 0 = λ m. IsJobIn m job in
+    (reads.0 simple_command, subst Is (reads.1 simple_matches) is)
+
+-- where it met none, the words read as no job
+pub not_read : (words : List Text) (app : App) (met : Option (Text × List Row)) → app ≡ cops_app
+    → (is_simple app ≡ true → met ≡ subcommand_of app words) → HasNoJobIn met → (job : Job) → ¬ IsRead words job
+not_read words app met same matches none job read =
+    let Reads : App → Type 0 = λ a. is_simple a ≡ true → met ≡ subcommand_of a words in
+    let reads = subst Reads same matches in
+    let Is : Option (Text × List Row) → Type 0 = λ m. IsJobIn m job in
+    none job (subst Is (sym (reads simple_matches)) read.1)
+
+-- words at which the command has a fault read as no job
+pub faulty_words : (words : List Text) (kind : ErrorKind) → IsAmong kind (fault_of cops_app words) → (job : Job) → ¬ IsRead words job
+faulty_words words kind among job read = subst (IsAmong kind) read.0 among
+
+-- a kind that is not help is no answer to words that only ask for help
+pub other_kind : (words : List Text) (kind : ErrorKind) → IsAmong kind (fault_of cops_app words) → kind ≢ DisplayHelp → ¬ OnlyAsksForHelp words
+other_kind words kind among other only = ⊎_elim other (λ none. none) (subst (IsAmong kind) only among)
+
+-- words that were taken ask for no help
+pub no_help : (words : List Text) (app : App) → app ≡ cops_app → (is_simple_and_free app ≡ true → fault_of app words ≡ []) → ¬ OnlyAsksForHelp words
+no_help words app same kinds only =
+    let Taken : App → Type 0 = λ a. is_simple_and_free a ≡ true → fault_of a words ≡ [] in
+    let none = subst Taken same kinds simple_command in cc
+
+-- an error of the parse explains itself
+pub explained : (words : List Text) (app : App) (kind : ErrorKind) (fault : LineFault) → 0 < length words → app ≡ cops_app
+    → (is_simple_and_free app ≡ true → (kind ≡ OutOfMemory) ⊎ IsAmong kind (fault_of app words)) → Reports kind fault → Explains words fault
+explained words app kind fault some same kinds report = go fault report
+  where
+    at_app : App → Type 0
+    at_app = λ a. is_simple_and_free a ≡ true → (kind ≡ OutOfMemory) ⊎ IsAmong kind (fault_of a words)
+
+    why : (kind ≡ OutOfMemory) ⊎ IsAmong kind (fault_of cops_app words)
+    why = subst at_app same kinds simple_command
+
+    go : (f : LineFault) → Reports kind f → Explains words f
+    go Memory r = tt
+    go (Usage text) r =
+        let among : IsAmong kind (fault_of cops_app words) = ⊎_elim (λ m. absurd (r.0 m)) (λ a. a) why in
+        (untold words some (faulty_words words kind among), other_kind words kind among r.1)
+    go (Help text) r =
+        let among : IsAmong DisplayHelp (fault_of cops_app words) = ⊎_elim (λ m. cc) (λ a. subst (λ k. IsAmong k (fault_of cops_app words)) r a) why in
+        (untold words some (faulty_words words DisplayHelp among), among)
+
+-- words that are not empty
+pub some_words : (words : List (Bor Text)) → false ≡ (length words == 0) → 0 < length (map (λ s. s.now) words)
+some_words [] e = absurd (true≢false (sym e))
+some_words (w ∷ ws) e = omega arith

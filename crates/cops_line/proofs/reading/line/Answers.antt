@@ -1,0 +1,29 @@
+use Rattle.std.proofs.Common.{List, map}
+use Rattle.std.specs.Borrow.{Bor}
+use Rattle.clap.specs.Words.{Text, app_of, kind_of, subcommand_rows_of}
+use Rattle.cops_line.proofs.LineLemmas.{explained, no_help, not_read, read_as_met, some_words, told, untold}
+use Rattle.cops_line.proofs.reading.line.Goals as goal
+
+abbrev texts : List (Bor Text) → List Text
+texts = map (λ s. s.now)
+
+pub returns-in-Some-clause-job : goal.returns-in-Some-clause-job
+returns-in-Some-clause-job c =
+    let matches = c.in-Ok.ensures.matches in
+    told (texts c.args.words.now) c.in-Some.job (some_words c.args.words.now c.if-is_empty.ensures)
+    (read_as_met (texts c.args.words.now) (app_of c.in_ok-command.command) (subcommand_rows_of c.in-Ok.matches) c.in-Some.job c.in_ok-command.ensures
+    c.in-Ok.ensures.kinds (λ s. (matches s).1) c.in-Some.ensures.some)
+
+pub returns-in-Ok-clause-fault : goal.returns-in-Ok-clause-fault
+returns-in-Ok-clause-fault c =
+    let matches = c.in-Ok.ensures.matches in (
+      untold (texts c.args.words.now) (some_words c.args.words.now c.if-is_empty.ensures)
+          (not_read (texts c.args.words.now) (app_of c.in_ok-command.command) (subcommand_rows_of c.in-Ok.matches) c.in_ok-command.ensures
+          (λ s. (matches s).1) c.in-None.ensures.none),
+      no_help (texts c.args.words.now) (app_of c.in_ok-command.command) c.in_ok-command.ensures c.in-Ok.ensures.kinds,
+    )
+
+pub returns-clause-fault : goal.returns-clause-fault
+returns-clause-fault c =
+    explained (texts c.args.words.now) (app_of c.in_ok-command.command) (kind_of c.in-Err.error) c.as_fault.result (some_words c.args.words.now c.if-is_empty.ensures) c.in_ok-command.ensures
+    c.in-Err.ensures.kinds c.as_fault.ensures

@@ -1,0 +1,28 @@
+-- The program's command, as far as it says how words are read.
+use Rattle.std.specs.Prelude.{codes, true, [], Some}
+use Rattle.clap.specs.Words.{App, Rule, Text, new_app, new_rule, with_rule, with_subcommand}
+use Rattle.clap.specs.Simple.{new_shape}
+use Rattle.clap.specs.declared.builder.action.ArgAction.TheVariants.{Set}
+
+-- an argument that has to be there, and takes one word
+abbrev pub positional : Text → Rule
+positional id = record (new_rule id) { action = Some Set; required = true; value_names = 1 }
+
+-- `audit TRACE`
+abbrev pub audit_app : App
+audit_app = with_rule (new_app (codes "audit")) (positional (codes "trace"))
+
+-- `show TRACE`
+abbrev pub show_app : App
+show_app = with_rule (new_app (codes "show")) (positional (codes "trace"))
+
+-- the words of a subcommand alone
+abbrev pub cops_top : App
+cops_top = record {
+  top = record (new_shape (codes "cops")) { no_binary_name = true; subcommand_required = true };
+  subs = [];
+}
+
+-- one of the subcommands
+unfoldable pub cops_app : App
+cops_app = with_subcommand (with_subcommand cops_top audit_app.top) show_app.top

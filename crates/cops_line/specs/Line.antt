@@ -1,0 +1,64 @@
+-- The job that words tell, and what it means that they tell none.
+use Rattle.std.specs.Prelude.{◌≡◌, ◌≢◌, List, [], ◌∷◌, codes, Option, Some}
+use Rattle.clap.specs.Words.{Row, Text, first_of, subcommand_of, fault_of, IsAmong}
+use Rattle.clap.specs.declared.error.kind.ErrorKind.{ErrorKind}
+use Rattle.clap.specs.declared.error.kind.ErrorKind.TheVariants.{DisplayHelp, OutOfMemory}
+use Rattle.cops_line.specs.declared.job.Job.{Job}
+use Rattle.cops_line.specs.declared.job.Job.TheVariants.{Audit, Show}
+use Rattle.cops_line.specs.declared.fault.LineFault.{LineFault}
+use Rattle.cops_line.specs.declared.fault.LineFault.TheVariants.{Memory, Usage, Help}
+use Rattle.cops_line.specs.Commands.{cops_app}
+
+-- the job of a subcommand with these values
+abbrev pub IsJobOf : Text → List Row → Job → Type 0
+IsJobOf name rows (Audit trace) = (name ≡ codes "audit") × (first_of (codes "trace") rows ≡ Some trace.now)
+IsJobOf name rows (Show trace) = (name ≡ codes "show") × (first_of (codes "trace") rows ≡ Some trace.now)
+
+-- no job has this subcommand and these values
+abbrev pub HasNoJob : Text → List Row → Type 0
+HasNoJob name rows = (job : Job) → ¬ IsJobOf name rows job
+
+-- the job of the subcommand that was met
+abbrev pub IsJobIn : Option (Text × List Row) → Job → Type 0
+IsJobIn met job = (name : Text) × (rows : List Row) × (met ≡ Some (name, rows)) × IsJobOf name rows job
+
+abbrev pub HasNoJobIn : Option (Text × List Row) → Type 0
+HasNoJobIn met = (job : Job) → ¬ IsJobIn met job
+
+-- the job of no words: the audit of standard input
+abbrev pub IsDefault : Job → Type 0
+IsDefault (Audit trace) = trace.now ≡ codes "-"
+IsDefault (Show trace) = ⊥
+
+-- the program's command takes the words, and they name a subcommand with the job's values
+abbrev pub IsRead : List Text → Job → Type 0
+IsRead words job = (fault_of cops_app words ≡ []) × IsJobIn (subcommand_of cops_app words) job
+
+-- the words are none, or read as the job
+abbrev pub Tells : List Text → Job → Type 0
+Tells [] job = IsDefault job
+Tells (word ∷ words) job = IsRead (word ∷ words) job
+
+abbrev pub TellsNone : List Text → Type 0
+TellsNone words = (job : Job) → ¬ Tells words job
+
+-- the words ask the program's command for help
+abbrev pub AsksForHelp : List Text → Type 0
+AsksForHelp words = IsAmong DisplayHelp (fault_of cops_app words)
+
+-- they ask for it, and there is nothing else that they could be told
+abbrev pub OnlyAsksForHelp : List Text → Type 0
+OnlyAsksForHelp words = fault_of cops_app words ≡ DisplayHelp ∷ []
+
+-- A fault is want of memory, or the words tell no job. Help is given only where they ask for it, and where they ask
+-- for nothing else usage is not given in its place.
+abbrev pub Explains : List Text → LineFault → Type 0
+Explains words Memory = Unit {0}
+Explains words (Usage text) = TellsNone words × (¬ OnlyAsksForHelp words)
+Explains words (Help text) = TellsNone words × AsksForHelp words
+
+-- the fault that is made of an error of this kind
+abbrev pub Reports : ErrorKind → LineFault → Type 0
+Reports kind Memory = Unit {0}
+Reports kind (Usage text) = (kind ≢ OutOfMemory) × (kind ≢ DisplayHelp)
+Reports kind (Help text) = kind ≡ DisplayHelp

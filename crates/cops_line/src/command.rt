@@ -1,0 +1,89 @@
+ghost use Rattle.std.specs.Prelude.{◌≡◌, IfOk, codes, false};
+ghost use Rattle.clap.specs.Words.{app_of, rule_of};
+ghost use Rattle.clap.specs.declared.builder.command.Command.TheViews.{out-Command as fields_of};
+ghost use Rattle.cops_line.specs.Commands.{positional, cops_top, cops_app, audit_app, show_app};
+
+use clap::{Arg, ArgAction, Command};
+use std::alloc::{AllocError, Global};
+
+const ABOUT: &str =
+    "A key-value store spread over data centres, and the auditor that judges recorded histories";
+
+const LONG_ABOUT: &str = "\
+A key-value store spread over data centres, and the auditor that judges recorded histories.
+
+A trace is a file that records what each client of a store put and got. The auditor accepts it
+where the history in it is causally convergent, and else names the operations at fault.
+With no words at all, cops judges the trace on standard input.
+
+The exit status is 0 where the trace is accepted or the command did its work, 1 where the trace
+is refused, 2 where the input or the words are faulty, 3 where memory ran out, and 4 where a
+file could not be opened, read or written.";
+
+const AUDIT_LONG_ABOUT: &str = "\
+Judges whether a recorded history is causally convergent.
+
+Prints one line, `accepted: ..`, or `refused: ..` and a line for each operation at fault with
+what it contradicts. A file that is no trace is answered with one line, `faulty: ..`, that says
+what is wrong and at which byte.";
+
+const SHOW_LONG_ABOUT: &str = "\
+Prints a trace as text: a line for each frame, with its kind and its fields.
+
+Where the file is no whole trace, the frames before the fault are printed, and then one line,
+`faulty: ..`, that says what is wrong and at which byte.";
+
+const TRACE_HELP: &str = "The trace file, or `-` for standard input";
+
+/// The argument TRACE of a subcommand, which has to be there.
+fn trace_arg<'a>(alloc: Global) -> Arg<'a>
+    ensures rule { rule_of result ≡ positional (codes "trace") }
+    ensures local { result.global ≡ false }
+{
+    Arg::new(alloc, "trace")
+        .required(true)
+        .action(ArgAction::Set)
+        .value_name("TRACE")
+        .help(TRACE_HELP)
+}
+
+fn audit_command<'a>(alloc: Global) -> Result<Command<'a>, AllocError>
+    ensures app { IfOk result (λ c. app_of c ≡ audit_app) }
+    ensures local { IfOk result (λ c. (fields_of c).has_globals ≡ false) }
+{
+    Command::new(alloc, "audit")
+        .about("Judges whether a recorded history is causally convergent")
+        .long_about(AUDIT_LONG_ABOUT)
+        .arg(trace_arg(alloc))
+}
+
+fn show_command<'a>(alloc: Global) -> Result<Command<'a>, AllocError>
+    ensures app { IfOk result (λ c. app_of c ≡ show_app) }
+    ensures local { IfOk result (λ c. (fields_of c).has_globals ≡ false) }
+{
+    Command::new(alloc, "show")
+        .about("Prints a trace as text, a line for each frame")
+        .long_about(SHOW_LONG_ABOUT)
+        .arg(trace_arg(alloc))
+}
+
+fn top_command<'a>(alloc: Global) -> Result<Command<'a>, AllocError>
+    ensures app { IfOk result (λ c. app_of c ≡ cops_top) }
+    ensures local { IfOk result (λ c. (fields_of c).has_globals ≡ false) }
+{
+    Command::new(alloc, "cops")
+        .about(ABOUT)
+        .long_about(LONG_ABOUT)
+        .no_binary_name(true)
+        .subcommand_required(true)
+        .bin_name("cops")
+}
+
+/// The program's command: a subcommand has to be there, and each takes the words of its own job.
+pub fn cops_command<'a>(alloc: Global) -> Result<Command<'a>, AllocError>
+    ensures { IfOk result (λ c. app_of c ≡ cops_app) }
+{
+    let audit = audit_command(alloc)?;
+    let show = show_command(alloc)?;
+    top_command(alloc)?.subcommand(audit)?.subcommand(show)
+}

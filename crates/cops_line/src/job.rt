@@ -1,0 +1,57 @@
+ghost use Rattle.std.specs.Prelude.{◌≡◌, IfSome, IfNone, codes, option_map};
+ghost use Rattle.clap.specs.Words.{first_of, found_of, rows_of, subcommand_rows_of};
+ghost use Rattle.cops_line.specs.Line.{IsJobOf, HasNoJob, IsJobIn, HasNoJobIn};
+
+use clap::ArgMatches;
+
+/// What the words ask for.
+#[derive(Clone, Copy, Debug, PartialEq, Eq)]
+pub enum Job<'a> {
+    /// Judge a trace and print the verdict. `-` is standard input.
+    Audit { trace: &'a str },
+    /// Print a trace, a line for each frame. `-` is standard input.
+    Show { trace: &'a str },
+}
+
+/// The first value of an argument.
+fn value<'a>(matches: &ArgMatches<'a>, id: &str) -> Option<&'a str>
+    ensures { option_map (λ s. s.now) result ≡ first_of id.now (rows_of (found_of matches.now)) }
+{
+    matches.get_str(id)
+}
+
+fn audit_job<'a>(matches: &ArgMatches<'a>) -> Option<Job<'a>>
+    ensures some { IfSome result (IsJobOf (codes "audit") (rows_of (found_of matches.now))) }
+    ensures none { IfNone result (HasNoJob (codes "audit") (rows_of (found_of matches.now))) }
+{
+    let trace = value(matches, "trace")?;
+    Some(Job::Audit { trace })
+}
+
+fn show_job<'a>(matches: &ArgMatches<'a>) -> Option<Job<'a>>
+    ensures some { IfSome result (IsJobOf (codes "show") (rows_of (found_of matches.now))) }
+    ensures none { IfNone result (HasNoJob (codes "show") (rows_of (found_of matches.now))) }
+{
+    let trace = value(matches, "trace")?;
+    Some(Job::Show { trace })
+}
+
+fn job_of<'a>(name: &str, matches: &ArgMatches<'a>) -> Option<Job<'a>>
+    ensures some { IfSome result (IsJobOf name.now (rows_of (found_of matches.now))) }
+    ensures none { IfNone result (HasNoJob name.now (rows_of (found_of matches.now))) }
+{
+    match name {
+        "audit" => audit_job(matches),
+        "show" => show_job(matches),
+        _ => None,
+    }
+}
+
+/// The job of the subcommand that was met, if it is one.
+pub fn job_in<'a>(matches: &ArgMatches<'a>) -> Option<Job<'a>>
+    ensures some { IfSome result (IsJobIn (subcommand_rows_of matches.now)) }
+    ensures none { IfNone result (HasNoJobIn (subcommand_rows_of matches.now)) }
+{
+    let (name, inner) = matches.subcommand()?;
+    job_of(name, inner)
+}

@@ -1,0 +1,16 @@
+//! The words after the program's name, read as one job: `audit TRACE` or `show TRACE`, and with no words the audit of
+//! standard input. Stands on `clap`, whose texts are those of usage and help. The layer above uses the job with its
+//! texts, which the words determine, and the text to print where there is none.
+#![tactic(auto)]
+
+mod command;
+mod fault;
+mod job;
+mod reading;
+
+pub use fault::LineFault;
+pub use job::Job;
+pub use reading::line;
+
+#[cfg(test)]
+mod tests;

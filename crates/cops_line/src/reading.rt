@@ -1,0 +1,45 @@
+ghost use Rattle.std.specs.Prelude.{◌≡◌, IfOk, IfErr, map};
+ghost use Rattle.clap.specs.Words.{kind_of};
+ghost use Rattle.cops_line.specs.Line.{Tells, Explains, Reports};
+
+use crate::command::cops_command;
+use crate::fault::LineFault;
+use crate::job::{Job, job_in};
+use clap::Error;
+use clap::error::ErrorKind;
+use std::alloc::Global;
+
+/// The text of an error of the parse, as the fault that it is.
+fn as_fault(alloc: Global, error: Error) -> LineFault
+    ensures { Reports (kind_of error) result }
+{
+    let kind = error.kind();
+    if kind == ErrorKind::OutOfMemory {
+        return LineFault::Memory;
+    }
+    match error.to_string(alloc) {
+        Ok(text) if kind == ErrorKind::DisplayHelp => LineFault::Help(text),
+        Ok(text) => LineFault::Usage(text),
+        Err(_) => LineFault::Memory,
+    }
+}
+
+/// The job that the words ask for: `audit TRACE`, `show TRACE`, or none, which is as `audit -`. `Usage` where they are
+/// no job and ask for no help, and `Help` where they ask for it, by `--help`, `-h` or `help`, each with `clap`'s text.
+/// `words` are those after the program's name.
+pub fn line<'a>(alloc: Global, words: &'a [&'a str]) -> Result<Job<'a>, LineFault>
+    ensures job { IfOk result (Tells (map (λ s. s.now) words.entry.now)) }
+    ensures fault { IfErr result (Explains (map (λ s. s.now) words.entry.now)) }
+{
+    if words.is_empty() {
+        return Ok(Job::Audit { trace: "-" });
+    }
+    let command = cops_command(alloc)?;
+    match command.try_get_matches_from(words) {
+        Ok(matches) => match job_in(&matches) {
+            Some(job) => Ok(job),
+            None => Err(LineFault::Usage(String::from_str(alloc, "error: no such command\n")?)),
+        },
+        Err(error) => Err(as_fault(alloc, error)),
+    }
+}

@@ -1,0 +1,246 @@
+-- A text that comes in pieces: what holds of the bytes so far.
+use Rattle.std.proofs.Common.{◌≡◌, ◌≢◌, ℕ, zero, suc, ◌+◌, ◌<◌, Bool, true, false, List, [], ◌∷◌, ◌++◌, length, drop, Option, Some, None, Result, Ok, Err, refl, sym, ap, subst, ◌∙◌, append_assoc, arith, inl, inr}
+use Rattle.std.specs.Prelude.{◌⊎◌, IfSome, IfOk}
+use Rattle.std.specs.Io.KnownBytes.{Consumes, IsAtEnd}
+use Rattle.std.proofs.lemmas.List.{length-append, length-drop, append-nil}
+use Rattle.cops_wire.specs.Field.{IsBytes}
+use Rattle.cops_wire.specs.Message.{parts}
+use Rattle.cops_trace.specs.declared.fault.TraceFault.{TraceFault}
+use Rattle.cops_trace.specs.declared.fault.TraceFault.TheVariants.{Memory, ReadFailed, Cut, BytesAfterEnd}
+use Rattle.cops_trace.specs.declared.found.Item.{Item}
+use Rattle.cops_trace.specs.declared.found.Item.TheVariants.{Head, Entry, End}
+use Rattle.cops_trace.specs.declared.found.Found.{Found}
+use Rattle.cops_trace.specs.declared.found.Found.TheVariants.{Gives, Waits, Fails}
+use Rattle.cops_trace.specs.Text.{ATrace, IsTrace, spelled, beginning, end_text, text}
+use Rattle.cops_trace.specs.Next.{Progress, Stands}
+use Rattle.cops_trace.specs.Answer.{progress_of, progress_at, front, Begins, HasFault, Says, Agrees}
+use Rattle.cops_trace.specs.Answer as answer
+use Rattle.cops_trace.specs.Parsing.{Stage, progress_with, progress_in, with_item, is_end, after, StepGives, FedTo, Fed, IsSettledAt, IsSettled, Advances}
+use Rattle.cops_trace.proofs.Items.{item_message, Stood, stood, stands_still, front_with, trace_with, waits_len, nothing_waits, fails_really}
+use Rattle.cops_trace.proofs.Readings.{front_len, text_len, one_answer, only_answer}
+
+-- ---- bytes in a row
+
+IsBytes-append : (xs ys : List ℕ) → IsBytes xs → IsBytes ys → IsBytes (xs ++ ys)
+IsBytes-append [] ys h k i = k i
+IsBytes-append (x ∷ xs) ys h k zero = h 0
+IsBytes-append (x ∷ xs) ys h k (suc i) = IsBytes-append xs ys (λ j. h (suc j)) k i
+
+-- ---- a stage and its place
+
+progress_is : (s : Stage) → s.at ≡ length (front s.begun) → progress_in s ≡ progress_at s.begun
+progress_is s e = go s.begun s.at e
+  where
+    go : (b : Option ATrace) (at : ℕ) → at ≡ length (front b) → progress_in (record { begun = b; at = at; ended = false; rest = [] }) ≡ progress_at b
+    go None at e = refl
+    go (Some t) at e = ap (λ (n : ℕ). Some (progress_with n t)) e
+
+-- before the end
+record Open (fed : List ℕ) (s : Stage) : Type 0 where
+  begins : Begins fed s.begun s.rest
+  place : s.at ≡ length (front s.begun)
+
+open_of : (fed : List ℕ) (s : Stage) → Fed fed s → s.ended ≡ false → Open fed s
+open_of fed s h e = let o = subst (FedTo fed s) e h.stage in record { begins = o.0; place = o.1 }
+
+stands_at : (fed : List ℕ) (s : Stage) (found : Found) → Open fed s → Stands (progress_in s) s.rest found → Stands (progress_at s.begun) s.rest found
+stands_at fed s found o st = subst (λ (p : Option Progress). Stands p s.rest found) (progress_is s o.place) st
+
+pub fed_none : Fed [] (record { begun = None; at = 0; ended = false; rest = [] })
+fed_none = record { fits = λ i. omega arith; stage = (record { is_trace = tt; parts = refl }, refl) }
+
+pub fed_more : (fed piece : List ℕ) (s : Stage) → IsBytes piece → Fed fed s → Fed (fed ++ piece) (record s { rest = s.rest ++ piece })
+fed_more fed piece s fits h = record { fits = IsBytes-append fed piece h.fits fits; stage = go s.ended h.stage }
+  where
+    go : (e : Bool) → FedTo fed s e → FedTo (fed ++ piece) (record s { rest = s.rest ++ piece }) e
+    go false o = (record { is_trace = o.0.is_trace; parts = ap (λ (x : List ℕ). x ++ piece) o.0.parts ∙ append_assoc (front s.begun) s.rest piece }, o.1)
+    go true o = (o.0, o.1, o.2, ap (λ (x : List ℕ). x ++ piece) o.3 ∙ append_assoc (text o.0) s.rest piece, o.4)
+
+-- ---- an item that is taken
+
+item_taken : (fed : List ℕ) (s : Stage) (i : Item) (used : ℕ) (e : Bool) → is_end i ≡ e → Open fed s → Stood (progress_at s.begun) s.rest i used
+    → FedTo fed (record { begun = with_item i s.begun; at = s.at + used; ended = e; rest = drop used s.rest }) e
+item_taken fed s i used false k o st =
+    let grows = front_with s.begun i st.allowed k in
+    let m = spelled (item_message (progress_at s.begun) i) in (
+      record {
+        is_trace = trace_with s.begun i o.begins.is_trace st.allowed st.legal k;
+        parts = o.begins.parts ∙ ap (λ (x : List ℕ). front s.begun ++ x) st.parts_are ∙ sym (append_assoc (front s.begun) m (drop used s.rest)) ∙ ap (λ (x : List ℕ). x ++ drop used s.rest) (sym grows);
+      },
+      omega (arith, o.place, st.used_is, ap length grows, length-append (front s.begun) m),
+    )
+item_taken fed s i used true k o st = go s.begun i used k o.begins.is_trace st o.begins.parts o.place
+  where
+    go : (b : Option ATrace) (i : Item) (used : ℕ) → is_end i ≡ true → IfSome b IsTrace → Stood (progress_at b) s.rest i used → fed ≡ front b ++ s.rest → s.at ≡ length (front b)
+        → FedTo fed (record { begun = with_item i b; at = s.at + used; ended = true; rest = drop used s.rest }) true
+    go (Some t) End used k is st parts place = (
+      t,
+      refl,
+      is,
+      parts ∙ ap (λ (x : List ℕ). beginning t ++ x) st.parts_are ∙ sym (append_assoc (beginning t) (end_text t) (drop used s.rest)),
+      omega (arith, place, st.used_is, length-append (beginning t) (end_text t)),
+    )
+    go None End used k is st parts place = absurd st.allowed
+    go b (Head clients) used k is st parts place = absurd cc
+    go b (Entry r) used k is st parts place = absurd cc
+
+pub fed_item : (fed : List ℕ) (s : Stage) (i : Item) (used : ℕ) → Fed fed s → s.ended ≡ false → Stands (progress_in s) s.rest (Gives i used) → Fed fed (after i used s)
+fed_item fed s i used h e st =
+    let o = open_of fed s h e in
+    record {
+      fits = h.fits;
+      stage = item_taken fed s i used (is_end i) refl o (stood (progress_at s.begun) s.rest i used (stands_at fed s (Gives i used) o st));
+    }
+
+-- ---- faults
+
+pub fed_fault : (fed : List ℕ) (s : Stage) (e : TraceFault) (more : List ℕ) → Fed fed s → s.ended ≡ false → Stands (progress_in s) s.rest (Fails e) → HasFault (fed ++ more) e
+fed_fault fed s e more h going st =
+    let o = open_of fed s h going in
+    inl (record {
+      begun = s.begun;
+      rest = s.rest ++ more;
+      begins = record { is_trace = o.begins.is_trace; parts = ap (λ (x : List ℕ). x ++ more) o.begins.parts ∙ append_assoc (front s.begun) s.rest more };
+      stands = stands_still (progress_at s.begun) s.rest more (Fails e) (λ q. cc) (stands_at fed s (Fails e) o st);
+    })
+
+nothing_before : (xs ys : List ℕ) → xs ≢ [] → xs ++ ys ≢ []
+nothing_before [] ys some e = some refl
+nothing_before (x ∷ xs) ys some e = cc
+
+pub fed_after_end : (fed : List ℕ) (s : Stage) (more : List ℕ) → Fed fed s → s.ended ≡ true → s.rest ≢ [] → HasFault (fed ++ more) (BytesAfterEnd s.at)
+fed_after_end fed s more h ended some =
+    let o = subst (FedTo fed s) ended h.stage in
+    inr (inr (record {
+      trace = o.0;
+      rest = s.rest ++ more;
+      is_trace = o.2;
+      parts = ap (λ (x : List ℕ). x ++ more) o.3 ∙ append_assoc (text o.0) s.rest more;
+      more = nothing_before s.rest more some;
+      fault_is = ap (λ (n : ℕ). BytesAfterEnd n) o.4;
+    }))
+
+pub fed_cut : (fed : List ℕ) (s : Stage) → Fed fed s → s.ended ≡ false → IsSettled s → Says fed (Err (Cut s.at))
+fed_cut fed s h going settled =
+    let o = open_of fed s h going in
+    let st : Stands (progress_in s) s.rest Waits = subst (λ (b : Bool). IsSettledAt b s) going settled in
+    inr (inl (record { begun = s.begun; rest = s.rest; begins = o.begins; stands = stands_at fed s Waits o st; fault_is = ap (λ (n : ℕ). Cut n) o.place }))
+
+pub fed_whole : (fed : List ℕ) (s : Stage) (t : ATrace) → Fed fed s → s.ended ≡ true → s.begun ≡ Some t → IsSettled s → Says fed (Ok t)
+fed_whole fed s t h ended begun settled =
+    let o = subst (FedTo fed s) ended h.stage in
+    let none : s.rest ≡ [] = subst (λ (b : Bool). IsSettledAt b s) ended settled in
+    let both : Some o.0 ≡ Some t = sym o.1 ∙ begun in
+    let same : o.0 ≡ t = cc in
+    let whole : fed ≡ text o.0 = o.3 ∙ ap (λ (x : List ℕ). text o.0 ++ x) none ∙ append-nil (text o.0) in
+    (subst IsTrace same o.2, whole ∙ ap text same)
+
+-- after the end there is a trace
+pub fed_ended : (fed : List ℕ) (s : Stage) → Fed fed s → s.ended ≡ true → s.begun ≢ None
+fed_ended fed s h ended none = let o = subst (FedTo fed s) ended h.stage in let bad : Some o.0 ≡ None = sym o.1 ∙ none in cc
+
+-- ---- a step, and all of them
+
+pub step_fails : (fed : List ℕ) (s new : Stage) (e : TraceFault) → Fed fed s → s.ended ≡ false → (e ≡ Memory) ⊎ Stands (progress_in s) s.rest (Fails e) → Advances fed (Err e) new
+step_fails fed s new e h going (inl m) = inl m
+step_fails fed s new e h going (inr st) = inr (λ more. fed_fault fed s e more h going st)
+
+pub step_waits : (fed : List ℕ) (s new : Stage) → Fed fed s → s.ended ≡ false → StepGives s (Ok false) new → Fed fed new × IsSettled new
+step_waits fed s new h going st = subst (λ (x : Stage). Fed fed x × IsSettled x) (sym st.1) (h, subst (λ (b : Bool). IsSettledAt b s) (sym going) st.0)
+
+pub step_takes : (fed : List ℕ) (s new : Stage) → Fed fed s → s.ended ≡ false → StepGives s (Ok true) new → Fed fed new
+step_takes fed s new h going st = subst (Fed fed) (sym st.5) (fed_item fed s st.0 st.1 h going st.2)
+
+pub step_sum : (s new : Stage) → StepGives s (Ok true) new → new.at + length new.rest ≡ s.at + length s.rest
+step_sum s new st =
+    let sum : s.at + st.1 + length (drop st.1 s.rest) ≡ s.at + length s.rest = omega (arith, length-drop st.1 s.rest, st.4) in
+    ap (λ (x : Stage). x.at + length x.rest) st.5 ∙ sum
+
+pub ends_settled : (s : Stage) → s.ended ≡ true → s.rest ≡ [] → IsSettled s
+ends_settled s ended none = subst (λ (b : Bool). IsSettledAt b s) (sym ended) none
+
+-- ---- how many bytes there may be
+
+pub fed_len : (fed : List ℕ) (s : Stage) → Fed fed s → s.at + length s.rest ≡ length fed
+fed_len fed s h = go s.ended h.stage
+  where
+    go : (e : Bool) → FedTo fed s e → s.at + length s.rest ≡ length fed
+    go false o = omega (arith, o.1, ap length o.0.parts, length-append (front s.begun) s.rest)
+    go true o = omega (arith, o.4, ap length o.3, length-append (text o.0) s.rest)
+
+-- where no whole item is left, there are fewer bytes than the most reads
+pub settled_len : (fed : List ℕ) (s : Stage) → Fed fed s → IsSettled s → length fed < 1099511627776
+settled_len fed s h settled = go s.ended h.stage settled
+  where
+    go : (e : Bool) → FedTo fed s e → IsSettledAt e s → length fed < 1099511627776
+    go false o st = omega (arith, ap length o.0.parts, length-append (front s.begun) s.rest, front_len s.begun o.0.is_trace, waits_len (progress_in s) s.rest st)
+    go true o none = omega (arith, ap length o.3, length-append (text o.0) s.rest, ap length none, text_len o.0 o.2)
+
+pub none_settled : IsSettled (record { begun = None; at = 0; ended = false; rest = [] })
+none_settled = nothing_waits
+
+-- ---- the device is not at fault
+
+no_device : (bytes : List ℕ) → HasFault bytes ReadFailed → ⊥
+no_device bytes (inl h) = fails_really (progress_at h.begun) h.stands.frame h.stands.found_is
+no_device bytes (inr (inl h)) = let e = h.fault_is in cc
+no_device bytes (inr (inr h)) = let e = h.fault_is in cc
+
+pub advance_device : (fed : List ℕ) (e : TraceFault) (new : Stage) → Advances fed (Err e) new → e ≢ ReadFailed
+advance_device fed e new (inl m) r = let both : Memory ≡ ReadFailed = sym m ∙ r in cc
+advance_device fed e new (inr h) r = no_device (fed ++ []) (subst (HasFault (fed ++ [])) r (h []))
+
+-- ---- what a reader has left
+
+-- bytes that were taken, and then more
+pub consumed : (a b c : Option (List ℕ)) (xs ys : List ℕ) → Consumes a b xs → Consumes b c ys → Consumes a c (xs ++ ys)
+consumed None b c xs ys p q = tt
+consumed (Some u) None c xs ys p q = absurd p
+consumed (Some u) (Some v) None xs ys p q = absurd q
+consumed (Some u) (Some v) (Some w) xs ys p q = p ∙ ap (λ (t : List ℕ). xs ++ t) q ∙ sym (append_assoc xs ys w)
+
+pub consumed_none : (a : Option (List ℕ)) → Consumes a a []
+consumed_none None = tt
+consumed_none (Some u) = refl
+
+-- what was read before the end is all there was
+pub all_read : (a b c : Option (List ℕ)) (fed : List ℕ) (s : Stage) → Consumes a b fed → Consumes b c [] → IsAtEnd c → Fed fed s → IsSettled s → IfSome a (λ bytes. Fed bytes s × IsSettled s)
+all_read None b c fed s p q r h settled = tt
+all_read (Some u) None c fed s p q r h settled = absurd p
+all_read (Some u) (Some v) None fed s p q r h settled = absurd q
+all_read (Some u) (Some v) (Some w) fed s p q r h settled =
+    let whole : fed ≡ u = sym (p ∙ ap (λ (t : List ℕ). fed ++ t) (q ∙ r) ∙ append-nil fed) in
+    (subst (λ (x : List ℕ). Fed x s) whole h, settled)
+
+-- a fault of what was read is a fault of all there is
+pub fault_read : (a b : Option (List ℕ)) (fed : List ℕ) (e : TraceFault) (new : Stage) → Consumes a b fed → Advances fed (Err e) new → (e ≡ Memory) ⊎ (e ≡ ReadFailed) ⊎ IfSome a (λ bytes. HasFault bytes e)
+fault_read a b fed e new p (inl m) = inl m
+fault_read None b fed e new p (inr h) = inr (inr tt)
+fault_read (Some u) None fed e new p (inr h) = absurd p
+fault_read (Some u) (Some v) fed e new p (inr h) = inr (inr (subst (λ (x : List ℕ). HasFault x e) (sym p) (h v)))
+
+-- ---- the answer
+
+says_agrees : (bytes : List ℕ) (r : Result ATrace TraceFault) → Says bytes r → Agrees bytes r
+says_agrees bytes (Ok t) h = h
+says_agrees bytes (Err e) h = inr (inr h)
+
+pub read_says : (a : Option (List ℕ)) (s : Stage) (r : Result ATrace TraceFault) → IfSome a (λ bytes. Fed bytes s × IsSettled s) → ((fed : List ℕ) → Fed fed s → IsSettled s → Says fed r)
+    → IfSome a (λ bytes. Agrees bytes r)
+read_says None s r h says = tt
+read_says (Some u) s r h says = says_agrees u r (says u h.0 h.1)
+
+pub read_only : (a : Option (List ℕ)) (r : Result ATrace TraceFault) → IfSome a (λ bytes. Agrees bytes r)
+    → IfSome a (λ bytes. IsBytes bytes → (x : Result ATrace TraceFault) → Says bytes x → answer.Gives x r)
+read_only None r h = tt
+read_only (Some u) r h = λ fits. only_answer u r fits h
+
+pub read_one : (a : Option (List ℕ)) (s : Stage) (r : Result ATrace TraceFault) → IfSome a (λ bytes. Fed bytes s × IsSettled s) → ((fed : List ℕ) → Fed fed s → IsSettled s → Says fed r)
+    → IfOk r (λ t. IfSome a (λ bytes. (x : Result ATrace TraceFault) → Says bytes x → x ≡ Ok t))
+read_one a s (Err e) h says = tt
+read_one None s (Ok t) h says = tt
+read_one (Some u) s (Ok t) h says = λ x k. one_answer u x (Ok t) h.0.fits k (says u h.0 h.1)
+
+pub read_fault : (a : Option (List ℕ)) (e : TraceFault) → (e ≡ Memory) ⊎ (e ≡ ReadFailed) ⊎ IfSome a (λ bytes. HasFault bytes e) → IfSome a (λ bytes. Agrees bytes (Err e))
+read_fault None e h = tt
+read_fault (Some u) e h = h

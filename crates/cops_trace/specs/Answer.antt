@@ -1,0 +1,73 @@
+-- What a trace's bytes are: the text of a trace, or a text with a first fault.
+use Rattle.std.specs.Prelude.{◌≡◌, ◌≢◌, ℕ, ◌⊎◌, List, [], ◌++◌, length, Option, Some, None, IfSome, Result, Ok, Err, option_map}
+use Rattle.cops_trace.specs.declared.fault.TraceFault.{TraceFault}
+use Rattle.cops_trace.specs.declared.fault.TraceFault.TheVariants.{Memory, ReadFailed, Cut, BytesAfterEnd}
+use Rattle.cops_trace.specs.declared.found.Found.TheVariants.{Waits, Fails}
+use Rattle.cops_trace.specs.Text.{ATrace, IsTrace, turn, beginning, text}
+use Rattle.cops_trace.specs.Next.{Progress, Stands}
+
+-- how far a text has come with the head and the records of a trace
+abbrev pub progress_of : ATrace → Progress
+progress_of t = record {
+  clients = t.clients;
+  turn = λ client. turn client t.records;
+  total = length t.records;
+  at = length (beginning t);
+}
+
+-- a front of a text: nothing, or the head and the records of a trace
+abbrev pub front : Option ATrace → List ℕ
+front None = []
+front (Some t) = beginning t
+
+-- how far a text has come with that
+abbrev pub progress_at : Option ATrace → Option Progress
+progress_at = option_map progress_of
+
+-- the bytes begin so, and this is the rest of them
+pub record Begins (bytes : List ℕ) (begun : Option ATrace) (rest : List ℕ) : Type 0 where
+  pub is_trace : IfSome begun IsTrace
+  pub parts : bytes ≡ front begun ++ rest
+
+-- after a front of a text stands a frame with this fault
+pub record HasWrongFrame (bytes : List ℕ) (e : TraceFault) : Type 0 where
+  pub begun : Option ATrace
+  pub rest : List ℕ
+  pub begins : Begins bytes begun rest
+  pub stands : Stands (progress_at begun) rest (Fails e)
+
+-- the bytes end before the next frame, and so before the end, is whole
+pub record IsCut (bytes : List ℕ) (e : TraceFault) : Type 0 where
+  pub begun : Option ATrace
+  pub rest : List ℕ
+  pub begins : Begins bytes begun rest
+  pub stands : Stands (progress_at begun) rest Waits
+  pub fault_is : e ≡ Cut (length (front begun))
+
+-- there are bytes after a whole text
+pub record HasMore (bytes : List ℕ) (e : TraceFault) : Type 0 where
+  pub trace : ATrace
+  pub rest : List ℕ
+  pub is_trace : IsTrace trace
+  pub parts : bytes ≡ text trace ++ rest
+  pub more : rest ≢ []
+  pub fault_is : e ≡ BytesAfterEnd (length (text trace))
+
+-- the first fault of the bytes, with its offset
+abbrev pub HasFault : List ℕ → TraceFault → Type 0
+HasFault bytes e = HasWrongFrame bytes e ⊎ IsCut bytes e ⊎ HasMore bytes e
+
+-- the bytes are this trace's text, or have this fault first
+abbrev pub Says : List ℕ → Result ATrace TraceFault → Type 0
+Says bytes (Ok t) = IsTrace t × (bytes ≡ text t)
+Says bytes (Err e) = HasFault bytes e
+
+-- what a reader answered holds of the bytes, unless memory or the device failed
+abbrev pub Agrees : List ℕ → Result ATrace TraceFault → Type 0
+Agrees bytes (Ok t) = Says bytes (Ok t)
+Agrees bytes (Err e) = (e ≡ Memory) ⊎ (e ≡ ReadFailed) ⊎ HasFault bytes e
+
+-- it answered this, unless memory or the device failed
+abbrev pub Gives : Result ATrace TraceFault → Result ATrace TraceFault → Type 0
+Gives answer (Ok t) = answer ≡ Ok t
+Gives answer (Err e) = (e ≡ Memory) ⊎ (e ≡ ReadFailed) ⊎ (answer ≡ Err e)

@@ -1,0 +1,89 @@
+-- What is kept while a trace's text comes in pieces.
+use Rattle.std.specs.Prelude.{◌≡◌, ℕ, ◌+◌, ◌<◌, ◌≤◌, ◌⊎◌, Bool, true, false, List, [], ◌++◌, length, drop, Option, Some, None, Result, Ok, Err, option_map}
+use Rattle.cops_wire.specs.Field.{IsBytes}
+use Rattle.cops_trace.specs.declared.fault.TraceFault.{TraceFault}
+use Rattle.cops_trace.specs.declared.fault.TraceFault.TheVariants.{Memory}
+use Rattle.cops_trace.specs.declared.found.Item.{Item}
+use Rattle.cops_trace.specs.declared.found.Item.TheVariants.{Head, Entry, End}
+use Rattle.cops_trace.specs.declared.found.Found.{Found}
+use Rattle.cops_trace.specs.declared.found.Found.TheVariants.{Gives, Waits, Fails}
+use Rattle.cops_trace.specs.Text.{ATrace, IsTrace, turn, text}
+use Rattle.cops_trace.specs.Answer.{Begins, front, HasFault}
+use Rattle.cops_trace.specs.Kept.{grown}
+use Rattle.cops_trace.specs.Next.{Progress, Stands}
+
+-- how far a text has come that stands at this place
+abbrev pub progress_with : ℕ → ATrace → Progress
+progress_with at t = record { clients = t.clients; turn = λ client. turn client t.records; total = length t.records; at = at }
+
+-- an item takes some of the bytes
+abbrev pub IsWithin : Found → ℕ → Type 0
+IsWithin (Gives item used) len = (0 < used) × (used ≤ len)
+IsWithin Waits len = Unit {0}
+IsWithin (Fails e) len = Unit {0}
+
+-- what was read: the head with the records so far, how many bytes that was, whether the end came, and the bytes
+-- that are left
+pub record Stage : Type 0 where
+  pub begun : Option ATrace
+  pub at : ℕ
+  pub ended : Bool
+  pub rest : List ℕ
+
+abbrev pub progress_in : Stage → Option Progress
+progress_in s = option_map (progress_with s.at) s.begun
+
+-- the trace with an item more
+abbrev pub with_item : Item → Option ATrace → Option ATrace
+with_item (Head clients) begun = Some (record { clients = clients; records = [] })
+with_item (Entry r) begun = option_map (λ t. grown t r) begun
+with_item End begun = begun
+
+abbrev pub is_end : Item → Bool
+is_end (Head clients) = false
+is_end (Entry r) = false
+is_end End = true
+
+-- the stage after an item of this many bytes
+abbrev pub after : Item → ℕ → Stage → Stage
+after item used s = record { begun = with_item item s.begun; at = s.at + used; ended = is_end item; rest = drop used s.rest }
+
+-- there is room for a record's operation in the trace that was begun
+abbrev pub ItemHasRoom : Item → Option ATrace → Type 0
+ItemHasRoom (Head clients) begun = Unit {0}
+ItemHasRoom (Entry r) None = ⊥
+ItemHasRoom (Entry r) (Some t) = (r.client < t.clients) × (turn r.client t.records < 1000000) × (length t.records < 16000000)
+ItemHasRoom End begun = Unit {0}
+
+abbrev pub HasRoom : Found → Option ATrace → Type 0
+HasRoom (Gives item used) begun = ItemHasRoom item begun
+HasRoom Waits begun = Unit {0}
+HasRoom (Fails e) begun = Unit {0}
+
+-- what a step answers, and what it leaves: it took an item, or none is whole
+abbrev pub StepGives : Stage → Result Bool TraceFault → Stage → Type 0
+StepGives old (Ok true) new = (item : Item) × (used : ℕ) × Stands (progress_in old) old.rest (Gives item used) × (0 < used) × (used ≤ length old.rest) × (new ≡ after item used old)
+StepGives old (Ok false) new = Stands (progress_in old) old.rest Waits × (new ≡ old)
+StepGives old (Err e) new = (e ≡ Memory) ⊎ Stands (progress_in old) old.rest (Fails e)
+
+-- Of these bytes, the stage has what was read and what is left.
+abbrev pub FedTo : List ℕ → Stage → Bool → Type 0
+FedTo fed s false = Begins fed s.begun s.rest × (s.at ≡ length (front s.begun))
+FedTo fed s true = (t : ATrace) × (s.begun ≡ Some t) × IsTrace t × (fed ≡ text t ++ s.rest) × (s.at ≡ length (text t))
+
+pub record Fed (fed : List ℕ) (s : Stage) : Type 0 where
+  pub fits : IsBytes fed
+  pub stage : FedTo fed s s.ended
+
+-- no whole item is left, and after the end nothing
+abbrev pub IsSettledAt : Bool → Stage → Type 0
+IsSettledAt false s = Stands (progress_in s) s.rest Waits
+IsSettledAt true s = s.rest ≡ []
+
+abbrev pub IsSettled : Stage → Type 0
+IsSettled s = IsSettledAt s.ended s
+
+-- all whole items were taken, or there is a fault, whatever comes
+abbrev pub Advances : List ℕ → Result (Unit {0}) TraceFault → Stage → Type 0
+Advances fed (Ok u) new = Fed fed new × IsSettled new
+Advances fed (Err e) new = (e ≡ Memory) ⊎ ((more : List ℕ) → HasFault (fed ++ more) e)

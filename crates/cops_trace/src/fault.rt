@@ -1,0 +1,73 @@
+//! Why bytes are no trace.
+ghost use Rattle.std.specs.Prelude.{◌≡◌};
+ghost use Rattle.cops_trace.specs.declared.fault.TraceFault.TheVariants.{Memory as OutOfMemory};
+
+use cops_types::Memory;
+use cops_wire::WireFault;
+use std::alloc::{AllocError, AllocFailed};
+use thiserror::Error;
+
+/// Why no trace was read. An offset counts from the text's first byte: it is the place of the frame that is wrong, or
+/// for a field that is not legal the place of that field.
+#[derive(Clone, Copy, Debug, PartialEq, Eq, Error)]
+pub enum TraceFault {
+    #[error("out of memory")]
+    Memory,
+    /// 1: the first frame is no head.
+    #[error("no head at {offset}")]
+    NoHead { offset: u64 },
+    /// 2: the head's format is not 1.
+    #[error("bad format at {offset}")]
+    BadFormat { offset: u64 },
+    /// 3: a record's client is not below the head's number of clients.
+    #[error("client out of range at {offset}")]
+    ClientOutOfRange { offset: u64 },
+    /// 4: a record's index is not its client's next.
+    #[error("index out of turn at {offset}")]
+    IndexOutOfTurn { offset: u64 },
+    /// 5: the end does not count the records.
+    #[error("bad count at {offset}")]
+    BadCount { offset: u64 },
+    /// 6: a byte stands after the end, at this place.
+    #[error("bytes after end at {offset}")]
+    BytesAfterEnd { offset: u64 },
+    /// 7: the input ends before the end is whole, in the frame that begins here.
+    #[error("cut at {offset}")]
+    Cut { offset: u64 },
+    /// 8: a frame is no message.
+    #[error("{fault} at {offset}")]
+    Frame { fault: WireFault, offset: u64 },
+    /// 9: the reader failed.
+    #[error("the reader failed")]
+    ReadFailed,
+    /// 10: a client's 1,000,001st record, or the 16,000,001st of all.
+    #[error("too long at {offset}")]
+    TooLong { offset: u64 },
+    /// 11: a later frame is neither a record nor the end.
+    #[error("not a record at {offset}")]
+    NotARecord { offset: u64 },
+}
+
+impl From<Memory> for TraceFault {
+    ghost from_gives = { λ _ e. e ≡ OutOfMemory };
+
+    fn from(_e: Memory) -> TraceFault {
+        TraceFault::Memory
+    }
+}
+
+impl From<AllocError> for TraceFault {
+    ghost from_gives = { λ _ e. e ≡ OutOfMemory };
+
+    fn from(_e: AllocError) -> TraceFault {
+        TraceFault::Memory
+    }
+}
+
+impl<T: Drop> From<AllocFailed<T>> for TraceFault {
+    ghost from_gives = { λ _ e. e ≡ OutOfMemory };
+
+    fn from(_e: AllocFailed<T>) -> TraceFault {
+        TraceFault::Memory
+    }
+}

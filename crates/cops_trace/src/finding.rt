@@ -1,0 +1,144 @@
+//! What stands next in a trace's text.
+ghost use Rattle.std.specs.Prelude.{◌≡◌, ◌≢◌, ◌<◌, ◌≤◌, ◌^◌, ◌+◌, ℕ, length, None, Some, IfOk};
+ghost use Rattle.cops_trace.specs.Next.{Stands, unread, first_message, later_message, record_found, end_found};
+ghost use Rattle.cops_trace.specs.Parsing.{progress_with, IsWithin};
+
+use crate::fault::TraceFault;
+use crate::found::{Found, Item};
+use crate::record::Record;
+use crate::trace::Trace;
+use cops_types::{Memory, Op};
+use cops_wire::{Message, WireFault, decode};
+use std::alloc::Global;
+
+/// The most operations of one client, and of a trace.
+const CLIENT_LIMIT: usize = 1_000_000;
+
+const TRACE_LIMIT: usize = 16_000_000;
+
+/// A frame at this place that is no message: it is waited for, or a fault stands there.
+fn unread(at: u64, fault: WireFault) -> Result<Found, Memory>
+    requires { at < 2 ^ 63 }
+    ensures ok { IfOk result (λ found. (fault ≢ WireFault.Memory) × (found ≡ unread at fault)) }
+    ensures none { (len : ℕ) → IfOk result (λ found. IsWithin found len) }
+{
+    match fault {
+        WireFault::Memory => Err(Memory),
+        WireFault::Short => Ok(Found::Waits),
+        WireFault::BadField { offset } => {
+            let offset = at + u64::from(offset);
+            Ok(Found::Fails(TraceFault::Frame { fault, offset }))
+        }
+        _ => Ok(Found::Fails(TraceFault::Frame { fault, offset: at })),
+    }
+}
+
+/// What the first message means.
+fn first_message(message: Message, used: usize) -> Found
+    ensures { result ≡ first_message message used }
+{
+    match message {
+        Message::TraceHead { format: 1, clients } => Found::Gives {
+            item: Item::Head { clients },
+            used,
+        },
+        Message::TraceHead { .. } => Found::Fails(TraceFault::BadFormat { offset: 0 }),
+        _ => Found::Fails(TraceFault::NoHead { offset: 0 }),
+    }
+}
+
+/// What stands at the front of a text.
+pub(crate) fn first_found(alloc: Global, bytes: &[u8]) -> Result<Found, Memory>
+    ensures stands { IfOk result (Stands None bytes.now) }
+    ensures within { IfOk result (λ found. IsWithin found (length bytes.now)) }
+{
+    match decode(alloc, bytes) {
+        Ok(decoded) => Ok(first_message(decoded.message, decoded.used)),
+        Err(fault) => unread(0, fault),
+    }
+}
+
+/// A record with this index after those of the trace, with a frame of this many bytes at this place.
+fn record_found(trace: &Trace, at: u64, entry: Record, index: u32, used: usize) -> Found
+    ensures { result ≡ record_found (progress_with at trace.now) entry index used }
+{
+    let turn = trace.turn(entry.client);
+    if entry.client >= trace.clients() {
+        return Found::Fails(TraceFault::ClientOutOfRange { offset: at });
+    }
+    if index as usize != turn {
+        return Found::Fails(TraceFault::IndexOutOfTurn { offset: at });
+    }
+    if turn < CLIENT_LIMIT && trace.len() < TRACE_LIMIT {
+        let item = Item::Entry(entry);
+        Found::Gives { item, used }
+    } else {
+        Found::Fails(TraceFault::TooLong { offset: at })
+    }
+}
+
+/// What a message means after the head and the records of the trace.
+fn later_message(trace: &Trace, at: u64, message: Message, used: usize) -> Found
+    ensures { result ≡ later_message (progress_with at trace.now) message used }
+{
+    match message {
+        Message::TracePut {
+            client,
+            index,
+            key,
+            value,
+            version,
+        } => {
+            let op = Op::Put {
+                key,
+                value,
+                version,
+            };
+            record_found(trace, at, Record { client, op }, index, used)
+        }
+        Message::TraceGot {
+            client,
+            index,
+            key,
+            value,
+            version,
+        } => {
+            let op = Op::Got {
+                key,
+                value,
+                version,
+            };
+            record_found(trace, at, Record { client, op }, index, used)
+        }
+        Message::TraceMissed { client, index, key } => {
+            let op = Op::Missed { key };
+            record_found(trace, at, Record { client, op }, index, used)
+        }
+        Message::TraceEnd { ops } => {
+            if ops as usize == trace.len() {
+                let item = Item::End;
+                Found::Gives { item, used }
+            } else {
+                Found::Fails(TraceFault::BadCount { offset: at })
+            }
+        }
+        _ => Found::Fails(TraceFault::NotARecord { offset: at }),
+    }
+}
+
+/// What stands at this place, after the head and the records of the trace.
+pub(crate) fn later_found(
+    alloc: Global,
+    trace: &Trace,
+    at: u64,
+    rest: &[u8],
+) -> Result<Found, Memory>
+    requires { at < 2 ^ 63 }
+    ensures stands { IfOk result (Stands (Some (progress_with at trace.now)) rest.now) }
+    ensures within { IfOk result (λ found. IsWithin found (length rest.now)) }
+{
+    match decode(alloc, rest) {
+        Ok(decoded) => Ok(later_message(trace, at, decoded.message, decoded.used)),
+        Err(fault) => unread(at, fault),
+    }
+}

@@ -1,0 +1,23 @@
+//! Trace files: what clients saw, in order of arrival, as bytes. Stands on the types and on the messages' codec. The
+//! layers above use a trace as a number of clients with a list of records, its one text, each fault with its case and
+//! offset, and the sessions that it records.
+#![tactic(auto)]
+
+mod fault;
+mod finding;
+mod found;
+mod lines;
+mod parser;
+mod reading;
+mod record;
+mod trace;
+
+pub use fault::TraceFault;
+pub use found::{Found, Item};
+pub use lines::fault_line;
+pub use reading::read_trace;
+pub use record::Record;
+pub use trace::Trace;
+
+#[cfg(test)]
+mod tests;

@@ -1,0 +1,56 @@
+//! The line of a trace's fault.
+ghost use Rattle.std.specs.Prelude.{◌≡◌, ◌++◌, OnOk, OnErr, string_bytes, IfOk, IfSome, option_map};
+ghost use Rattle.cops_trace.specs.Lines.{wire_words, words, fault_line};
+
+use crate::fault::TraceFault;
+use cops_types::Memory;
+use cops_wire::WireFault;
+use std::alloc::Global;
+
+fn wire_words(fault: WireFault) -> Option<&'static str>
+    ensures { option_map (λ s. s.now) result ≡ wire_words fault }
+{
+    match fault {
+        WireFault::BadLength => Some("bad length"),
+        WireFault::UnknownKind => Some("unknown kind"),
+        WireFault::BadField { .. } => Some("bad field"),
+        WireFault::TrailingBytes => Some("trailing bytes"),
+        WireFault::Memory | WireFault::Short => None,
+    }
+}
+
+/// The words of a fault, and its offset.
+fn words(fault: &TraceFault) -> Option<(&'static str, u64)>
+    ensures { option_map (λ p. (p.0.now, p.1)) result ≡ words fault.now }
+{
+    match *fault {
+        TraceFault::NoHead { offset } => Some(("no head", offset)),
+        TraceFault::BadFormat { offset } => Some(("bad format", offset)),
+        TraceFault::ClientOutOfRange { offset } => Some(("client out of range", offset)),
+        TraceFault::IndexOutOfTurn { offset } => Some(("index out of turn", offset)),
+        TraceFault::BadCount { offset } => Some(("bad count", offset)),
+        TraceFault::BytesAfterEnd { offset } => Some(("bytes after end", offset)),
+        TraceFault::Cut { offset } => Some(("cut", offset)),
+        TraceFault::Frame { fault, offset } => match wire_words(fault) {
+            Some(words) => Some((words, offset)),
+            None => None,
+        },
+        TraceFault::TooLong { offset } => Some(("too long", offset)),
+        TraceFault::NotARecord { offset } => Some(("not a record", offset)),
+        TraceFault::Memory | TraceFault::ReadFailed => None,
+    }
+}
+
+/// Appends the line of a fault, `faulty: WORDS at OFFSET`; nothing for want of memory, a failed read, or a frame that
+/// is not whole. Where memory is refused nothing is appended.
+pub fn fault_line(alloc: Global, fault: &TraceFault, out: &mut Vec<u8>) -> Result<(), Memory>
+    ensures ok { OnOk result (out.new.items ≡ out.old.items ++ fault_line fault.now) }
+    ensures err { OnErr result (out.new.items ≡ out.old.items) }
+{
+    let Some((words, offset)) = words(fault) else {
+        return Ok(());
+    };
+    let line = format!(in alloc; "faulty: {words} at {offset}\n")?;
+    out.extend_from_slice(line.as_bytes())?;
+    Ok(())
+}

@@ -1,0 +1,188 @@
+//! A trace's text that comes in pieces.
+ghost use Rattle.std.specs.Prelude.{◌≡◌, OnOk, OnErr, Err};
+ghost use Rattle.cops_trace.specs.declared.found.Item.TheVariants.{Entry};
+ghost use Rattle.cops_trace.specs.Parsing.{ItemHasRoom, with_item};
+
+use crate::fault::TraceFault;
+use crate::finding::{first_found, later_found};
+use crate::found::{Found, Item};
+use crate::record::Record;
+use crate::trace::Trace;
+use cops_types::{Memory, TypeFault};
+use std::alloc::Global;
+use std::marker::Model;
+
+/// What was read of a text: the head with the records so far, and the bytes that no item was taken from.
+#[derive(Debug, Drop)]
+pub(crate) struct Parser {
+    alloc: Global,
+    bytes: Vec<u8>,
+    start: usize,
+    begun: Option<Trace>,
+    at: u64,
+    ended: bool,
+}
+
+impl Model for Parser {
+    ghost use Rattle.std.specs.Prelude.{◌≤◌, length, drop};
+    ghost use Rattle.cops_trace.specs.Parsing.{Stage};
+
+    ghost Value = { Stage };
+
+    ghost view = { λ p. record { begun = p.begun; at = p.at; ended = p.ended; rest = drop p.start p.bytes.items } };
+
+    ghost invariant = { λ p. p.start ≤ length p.bytes.items };
+}
+
+impl Parser {
+    ghost use Rattle.std.specs.Prelude.{◌≡◌, ◌≤◌, ◌<◌, ◌^◌, ◌+◌, ◌++◌, [], None, false, length, OnOk, OnErr, IfOk, IsErrOf, Err, List, ℕ};
+    ghost use Rattle.cops_trace.specs.Parsing.{Stage, progress_in, IsWithin, HasRoom, ItemHasRoom, with_item, is_end, StepGives, Fed, Advances, IsSettled};
+    ghost use Rattle.cops_trace.specs.Answer.{Says};
+    ghost use Rattle.cops_trace.specs.Next.{Stands};
+
+    pub(crate) fn new(alloc: Global) -> Parser
+        ensures { result ≡ record { begun = None; at = 0; ended = false; rest = [] } }
+    {
+        Parser {
+            alloc,
+            bytes: Vec::new(alloc),
+            start: 0,
+            begun: None,
+            at: 0,
+            ended: false,
+        }
+    }
+
+    /// Takes the next piece. For want of memory nothing changes.
+    fn feed(&mut self, piece: &[u8]) -> Result<(), Memory>
+        ensures ok { OnOk result (self.new ≡ record self.old { rest = self.old.rest ++ piece.now }) }
+        ensures err { OnErr result (self.new ≡ self.old) }
+    {
+        self.bytes.extend_from_slice(piece)?;
+        let left = self.bytes.len() - self.start;
+        let start = self.start;
+        self.bytes.rotate_left(start);
+        self.bytes.truncate(left);
+        self.start = 0;
+        Ok(())
+    }
+
+    /// What stands at the front of the rest.
+    fn found(&self) -> Result<Found, Memory>
+        requires { self.now.at < 2 ^ 63 }
+        ensures stands { IfOk result (Stands (progress_in self.now) self.now.rest) }
+        ensures within { IfOk result (λ found. IsWithin found (length self.now.rest)) }
+        ensures room { IfOk result (λ found. HasRoom found self.now.begun) }
+    {
+        let (_, rest) = self.bytes.split_at(self.start);
+        match &self.begun {
+            None => first_found(self.alloc, rest),
+            Some(trace) => later_found(self.alloc, trace, self.at, rest),
+        }
+    }
+
+    /// Takes an item into the trace.
+    fn take(&mut self, item: Item) -> Result<(), TraceFault>
+        requires { ItemHasRoom item self.old.begun }
+        ensures ok { OnOk result (self.new ≡ record self.old { begun = with_item item self.old.begun; ended = is_end item }) }
+        ensures err { OnErr result (result ≡ Err TraceFault.Memory) }
+    {
+        match item {
+            Item::Head { clients } => {
+                self.begun = Some(Trace::new(self.alloc, clients)?);
+                self.ended = false;
+            }
+            Item::Entry(entry) => {
+                push(&mut self.begun, entry)?;
+                self.ended = false;
+            }
+            Item::End => self.ended = true,
+        }
+        Ok(())
+    }
+
+    /// Takes the next item off the rest, and says whether a whole one was there.
+    fn step(&mut self) -> Result<bool, TraceFault>
+        requires { self.old.at + length self.old.rest < 2 ^ 63 }
+        ensures { StepGives self.old result self.new }
+    {
+        match self.found()? {
+            Found::Waits => Ok(false),
+            Found::Fails(fault) => Err(fault),
+            Found::Gives { item, used } => {
+                self.take(item)?;
+                self.at += used as u64;
+                self.start += used;
+                Ok(true)
+            }
+        }
+    }
+
+    /// Takes all whole items off the rest. Nothing may be left after the end.
+    fn advance(&mut self) -> Result<(), TraceFault>
+        requires { self.old.at + length self.old.rest < 2 ^ 63 }
+        ensures { (fed : List ℕ) → Fed fed self.old → Advances fed result self.new }
+    {
+        while !self.ended {
+            if !self.step()? {
+                return Ok(());
+            }
+        }
+        if self.start < self.bytes.len() {
+            return Err(TraceFault::BytesAfterEnd { offset: self.at });
+        }
+        Ok(())
+    }
+
+    /// Takes the next piece, and then all whole items off the rest.
+    pub(crate) fn take_piece(&mut self, piece: &[u8]) -> Result<(), TraceFault>
+        requires { self.old.at + length self.old.rest + length piece.now < 2 ^ 63 }
+        ensures { (fed : List ℕ) → Fed fed self.old → Advances (fed ++ piece.now) result self.new }
+    {
+        self.feed(piece)?;
+        self.advance()
+    }
+
+    /// Where the next item begins.
+    pub(crate) fn at(&self) -> u64
+        ensures { result ≡ self.now.at }
+    {
+        self.at
+    }
+
+    /// The trace where its end came, else the fault of a text that is cut here.
+    pub(crate) fn finish(self) -> Result<Trace, TraceFault>
+        ensures says { (fed : List ℕ) → Fed fed self → IsSettled self → Says fed result }
+        ensures device { ¬ IsErrOf result TraceFault.ReadFailed }
+    {
+        let Parser {
+            alloc: _,
+            bytes: _,
+            start: _,
+            begun,
+            at,
+            ended,
+        } = self;
+        match begun {
+            Some(trace) if ended => Ok(trace),
+            _ => Err(TraceFault::Cut { offset: at }),
+        }
+    }
+}
+
+/// Adds a record to the trace that was begun.
+fn push(begun: &mut Option<Trace>, entry: Record) -> Result<(), TraceFault>
+    requires { ItemHasRoom (Entry entry) begun.old }
+    ensures ok { OnOk result (begun.new ≡ with_item (Entry entry) begun.old) }
+    ensures err { OnErr result (result ≡ Err TraceFault.Memory) }
+{
+    let Record { client, op } = entry;
+    match begun {
+        Some(trace) => match trace.push(client, op) {
+            Ok(()) => Ok(()),
+            Err(TypeFault::Memory) => Err(TraceFault::Memory),
+            Err(_) => unreachable!(),
+        },
+        None => unreachable!(),
+    }
+}

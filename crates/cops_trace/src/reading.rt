@@ -1,0 +1,57 @@
+//! A trace from a reader.
+ghost use Rattle.std.specs.Prelude.{◌≡◌, ◌⊎◌, ℕ, ◌<◌, List, Result, Ok, IfOk, IfErr, IfSome, IsErrOf};
+ghost use Rattle.cops_types.specs.Failures.{Failed};
+ghost use Rattle.cops_types.specs.Counted.{failures, inner};
+ghost use Rattle.cops_trace.specs.declared.fault.TraceFault.{TraceFault as AFault};
+ghost use Rattle.cops_wire.specs.Field.{IsBytes};
+ghost use Rattle.cops_trace.specs.Text.{ATrace};
+ghost use Rattle.cops_trace.specs.Answer.{Says, Agrees, Gives, HasFault};
+ghost use Rattle.cops_trace.specs.Parsing.{Fed, IsSettled};
+
+use crate::fault::TraceFault;
+use crate::parser::Parser;
+use crate::trace::Trace;
+use cops_types::Counted;
+use std::alloc::Global;
+use std::io::Read;
+
+/// How many bytes are asked for in one read.
+const PIECE: usize = 4096;
+
+/// The most reads. A text has a fault or an end before so many bytes.
+const READS: u64 = 1 << 40;
+
+/// Reads to the end of the input, or to the first fault. A failed read is not tried again.
+fn read_items<R: Read>(alloc: Global, reader: &mut Counted<R>) -> Result<Parser, TraceFault>
+    ensures ok { IfOk result (λ parser. IfSome (R.remaining (inner reader.old)) (λ bytes. Fed bytes parser × IsSettled parser)) }
+    ensures err { IfErr result (λ e. (e ≡ TraceFault.Memory) ⊎ (e ≡ TraceFault.ReadFailed) ⊎ IfSome (R.remaining (inner reader.old)) (λ bytes. HasFault bytes e)) }
+    ensures failed { IsErrOf result TraceFault.ReadFailed → Failed (failures reader.old) (failures reader.new) }
+{
+    let mut parser = Parser::new(alloc);
+    let mut piece = [0u8; PIECE];
+    for _ in 0..READS {
+        let count = match reader.read(&mut piece) {
+            Ok(count) => count,
+            Err(_) => return Err(TraceFault::ReadFailed),
+        };
+        if count == 0 {
+            return Ok(parser);
+        }
+        parser.take_piece(&piece[..count])?;
+    }
+    Err(TraceFault::TooLong {
+        offset: parser.at(),
+    })
+}
+
+/// The trace whose text a reader gives, or the text's first fault; `ReadFailed` where a read failed.
+pub fn read_trace<R: Read>(alloc: Global, reader: &mut Counted<R>) -> Result<Trace, TraceFault>
+    ensures says { IfSome (R.remaining (inner reader.old)) (λ bytes. Agrees bytes result) }
+    // Bytes are one text, or have one first fault.
+    ensures only { IfSome (R.remaining (inner reader.old)) (λ bytes. IsBytes bytes → (a : Result ATrace AFault) → Says bytes a → Gives a result) }
+    ensures one { IfOk result (λ trace. IfSome (R.remaining (inner reader.old)) (λ bytes. (a : Result ATrace AFault) → Says bytes a → a ≡ Ok trace)) }
+    ensures failed { IsErrOf result TraceFault.ReadFailed → Failed (failures reader.old) (failures reader.new) }
+{
+    let parser = read_items(alloc, reader)?;
+    parser.finish()
+}

@@ -1,0 +1,125 @@
+ghost use Rattle.cops_trace.specs.Text.{IsOp};
+
+use cops_types::{History, Memory, Op, TypeFault};
+use std::alloc::Global;
+use std::marker::Model;
+
+/// What clients did, in order of arrival: at most 65,535 clients, 1,000,000 operations of one client and 16,000,000 in
+/// all.
+#[derive(Debug, Drop)]
+pub struct Trace {
+    history: History,
+    arrivals: Vec<u16>,
+}
+
+impl Model for Trace {
+    ghost use Rattle.cops_trace.specs.Text.{ATrace};
+    ghost use Rattle.cops_trace.specs.Kept.{trace_of, IsKept};
+
+    ghost Value = { ATrace };
+
+    ghost view = { λ t. trace_of t.history.sessions t.arrivals.items };
+
+    ghost invariant = { λ t. IsKept t.history.sessions t.arrivals.items };
+}
+
+impl Trace {
+    ghost use Rattle.std.specs.Prelude.{◌≡◌, ◌≤◌, ◌<◌, ◌↔◌, [], length, OnOk, OnErr, IfOk, IfErr, IsErrOf, ◌==◌};
+    ghost use Rattle.cops_types.specs.TypeFaults.{IsHistoryFault};
+    ghost use Rattle.cops_trace.specs.Text.{IsTrace, sessions_of, turn};
+    ghost use Rattle.cops_trace.specs.Kept.{grown, IsFull};
+
+    /// A trace of so many clients, without operations.
+    pub fn new(alloc: Global, clients: u16) -> Result<Self, Memory>
+        ensures { IfOk result (λ trace. trace ≡ record { clients = clients; records = [] }) }
+    {
+        let history = History::new(alloc, clients)?;
+        Ok(Trace {
+            history,
+            arrivals: Vec::new(alloc),
+        })
+    }
+
+    /// Adds an operation: `UnknownClient` where there is no such client, then `TooManyOps` where the client has
+    /// 1,000,000 operations or there are 16,000,000. A fault changes nothing.
+    pub fn push(&mut self, client: u16, op: Op) -> Result<(), TypeFault>
+        ensures ok { OnOk result (self.new ≡ grown self.old (record { client = client; op = op })) }
+        ensures err { OnErr result (self.new ≡ self.old) }
+        ensures unknown { IsErrOf result TypeFault.UnknownClient ↔ (self.old.clients ≤ client) }
+        ensures too_many { IsErrOf result TypeFault.TooManyOps ↔ (client < self.old.clients × IsFull self.old client) }
+        ensures only { IfErr result IsHistoryFault }
+    {
+        self.history.reserve(client)?;
+        self.arrivals.reserve(1)?;
+        legal(&op);
+        self.history.push(client, op)?;
+        self.arrivals.push_reserved(client);
+        Ok(())
+    }
+
+    /// The sessions that the trace records.
+    pub fn history(&self) -> &History
+        ensures sessions { result.now.sessions ≡ sessions_of self.now }
+        ensures trace { IsTrace self.now }
+    {
+        &self.history
+    }
+
+    /// How many clients there are.
+    pub fn clients(&self) -> u16
+        ensures { result ≡ self.now.clients }
+    {
+        self.history.clients() as u16
+    }
+
+    /// How many operations there are.
+    pub fn len(&self) -> usize
+        ensures count { result ≡ length self.now.records }
+        ensures trace { IsTrace self.now }
+    {
+        self.arrivals.len()
+    }
+
+    /// Whether there is no operation.
+    pub fn is_empty(&self) -> bool
+        ensures { result ≡ (length self.now.records == 0) }
+    {
+        self.arrivals.is_empty()
+    }
+
+    /// How many operations the client has.
+    pub(crate) fn turn(&self, client: u16) -> usize
+        ensures { result ≡ turn client self.now.records }
+    {
+        self.history.session(client).len()
+    }
+}
+
+/// An operation has a spelling: its key, value and version are within their ranges.
+fn legal(op: &Op)
+    ensures { IsOp op.now }
+{
+    match op {
+        Op::Put {
+            key,
+            value,
+            version,
+        } => {
+            let _key = key.as_bytes();
+            let _value = value.as_bytes();
+            let _version = version.as_u64();
+        }
+        Op::Got {
+            key,
+            value,
+            version,
+        } => {
+            let _key = key.as_bytes();
+            let _value = value.as_bytes();
+            let _version = version.as_u64();
+        }
+        Op::Missed { key } => {
+            let _key = key.as_bytes();
+        }
+    }
+}

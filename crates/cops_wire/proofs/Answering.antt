@@ -1,0 +1,55 @@
+-- What `decode` makes of the answer of the reading.
+use Rattle.std.proofs.Common.{◌≡◌, ℕ, ◌+◌, ◌^◌, ◌<◌, ◌≤◌, List, length, Option, Some, None, Result, Ok, Err, refl, sym, ap, subst, ◌∙◌, arith}
+use Rattle.std.proofs.lemmas.List.{length-append}
+use Rattle.cops_types.specs.declared.format.Format.{Format}
+use Rattle.cops_types.specs.declared.format.Format.TheVariants.{One}
+use Rattle.cops_types.specs.Format.{most_deps, longest_body}
+use Rattle.cops_wire.specs.declared.fault.WireFault.{WireFault}
+use Rattle.cops_wire.specs.declared.fault.WireFault.TheVariants.{Memory, Short, BadLength, UnknownKind, BadField, TrailingBytes}
+use Rattle.cops_wire.specs.declared.reading.ReadFault.TheVariants as faults
+use Rattle.cops_wire.specs.declared.decoding.Decoded.{Decoded}
+use Rattle.cops_wire.specs.Field.{IsBytes, Field, spelled_all}
+use Rattle.cops_wire.specs.Grammar.{Grammar, Parts, grammar, fields_of, IsGrammar}
+use Rattle.cops_wire.specs.Answer.{IsAnswer, Answers}
+use Rattle.cops_wire.specs.Reading.{known_fields_at, contents_at, frame_at}
+use Rattle.cops_wire.proofs.Rows.{fields_stop}
+use Rattle.cops_wire.proofs.Frames.{frame_answers, only_answer}
+
+-- the messages of each format fit their frames
+pub grammar_ok : (format : Format) → IsGrammar (grammar format)
+grammar_ok One = (omega arith, refl)
+
+-- a place in a frame is a number of 32 bits
+pub places_fit : (format : Format) → 4 + longest_body format < 2 ^ 32
+places_fit One = omega arith
+
+-- dependencies of each format are dependencies
+pub most_deps_le : (format : Format) → most_deps format ≤ 256
+most_deps_le One = omega arith
+
+known_left : (o : Option (List Field)) (bytes : List ℕ) (left : ℕ) → IsBytes bytes → known_fields_at o bytes ≡ Err (faults.BadField left) → left ≤ length bytes
+known_left None bytes left fits e = absurd cc
+known_left (Some fs) bytes left fits e =
+    let s = fields_stop fs bytes (faults.BadField left) fits e in
+    let left_is : left ≡ length s.rest = let e = s.fault_is in cc in
+    omega (arith, left_is, ap length s.split, length-append (spelled_all s.before s.contents) s.rest)
+
+-- what is left at a bad field is part of what was there
+pub left_within : (g : Grammar) (kind : ℕ) (bytes : List ℕ) (left : ℕ) → IsBytes bytes → contents_at g kind bytes ≡ Err (faults.BadField left) → left ≤ length bytes
+left_within g kind bytes left fits e = known_left (fields_of g kind) bytes left fits e
+
+Answers-weaker : (r : Result Decoded WireFault) (P Q : Result (Parts × ℕ) WireFault → Type 0) → Answers r P → ((a : Result (Parts × ℕ) WireFault) → P a → Q a) → Answers r Q
+Answers-weaker (Ok d) P Q h k = k _ h
+Answers-weaker (Err Memory) P Q h k = tt
+Answers-weaker (Err Short) P Q h k = k _ h
+Answers-weaker (Err BadLength) P Q h k = k _ h
+Answers-weaker (Err UnknownKind) P Q h k = k _ h
+Answers-weaker (Err (BadField offset)) P Q h k = k _ h
+Answers-weaker (Err TrailingBytes) P Q h k = k _ h
+
+pub answers : (g : Grammar) (bytes : List ℕ) (r : Result Decoded WireFault) → IsBytes bytes → Answers r (λ a. a ≡ frame_at g bytes) → Answers r (IsAnswer g bytes)
+answers g bytes r fits h = Answers-weaker r (λ a. a ≡ frame_at g bytes) (IsAnswer g bytes) h (λ a e. subst (IsAnswer g bytes) (sym e) (frame_answers g bytes fits))
+
+pub answers_only : (g : Grammar) → IsGrammar g → (bytes : List ℕ) (r : Result Decoded WireFault) → IsBytes bytes → Answers r (λ a. a ≡ frame_at g bytes)
+    → (a : Result (Parts × ℕ) WireFault) → IsAnswer g bytes a → Answers r (λ b. b ≡ a)
+answers_only g ok bytes r fits h a is = Answers-weaker r (λ a. a ≡ frame_at g bytes) (λ b. b ≡ a) h (λ b e. e ∙ only_answer g ok bytes fits a is)

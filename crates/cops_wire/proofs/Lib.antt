@@ -1,0 +1,10 @@
+pub mod Fields
+pub mod Rows
+pub mod Frames
+pub mod Answering
+pub mod Pairs
+pub mod FieldsWritten
+pub mod Messages
+pub mod Codec
+pub mod Stopping
+pub mod Taking

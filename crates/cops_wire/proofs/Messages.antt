@@ -1,0 +1,77 @@
+-- Each message is told by its kind and its fields.
+use Rattle.std.proofs.Common.{◌≡◌, ℕ, zero, suc, cond, eqb, List, [], ◌∷◌, refl, sym, ap, ◌∙◌}
+use Rattle.cops_types.specs.declared.dep.Dep.{Dep}
+use Rattle.cops_wire.specs.declared.message.Message.{Message}
+use Rattle.cops_wire.specs.declared.message.Message.TheVariants.{Hello, HelloOk, Put, Get, PutDone, Got, Missed, Refused, PutAfter, DepCheck, DepYes, DepWait, Status, StatusIs, Bye, ByeOk, TraceHead, TracePut, TraceGot, TraceMissed, TraceEnd}
+use Rattle.cops_wire.specs.Field.{Content, of_number, of_bytes, of_pairs}
+use Rattle.cops_wire.specs.Grammar.{Parts}
+use Rattle.cops_wire.specs.Message.{parts}
+
+-- what stands at a place
+abbrev content : List Content → ℕ → Content
+content [] i = of_number 0
+content (c ∷ cs) zero = c
+content (c ∷ cs) (suc i) = content cs i
+
+abbrev number : Content → ℕ
+number (of_number n) = n
+number _ = 0
+
+abbrev bytes : Content → List ℕ
+bytes (of_bytes text) = text
+bytes _ = []
+
+abbrev deps : Content → List Dep
+deps (of_pairs ds) = ds
+deps _ = []
+
+abbrev message_of : Parts → Message
+message_of p =
+    let at : ℕ → Content = content p.contents in
+    cond (eqb p.kind 1) (Hello (number (at 0)) (number (at 1))) (
+    cond (eqb p.kind 2) (HelloOk (number (at 0)) (number (at 1))) (
+    cond (eqb p.kind 3) (Put (number (at 0)) (bytes (at 1)) (bytes (at 2))) (
+    cond (eqb p.kind 4) (Get (number (at 0)) (bytes (at 1))) (
+    cond (eqb p.kind 5) (PutDone (number (at 0)) (number (at 1))) (
+    cond (eqb p.kind 6) (Got (number (at 0)) (bytes (at 1)) (number (at 2))) (
+    cond (eqb p.kind 7) (Missed (number (at 0))) (
+    cond (eqb p.kind 8) (Refused (number (at 0)) (number (at 1))) (
+    cond (eqb p.kind 9) (PutAfter (bytes (at 0)) (bytes (at 1)) (number (at 2)) (deps (at 3))) (
+    cond (eqb p.kind 10) (DepCheck (number (at 0)) (bytes (at 1)) (number (at 2))) (
+    cond (eqb p.kind 11) (DepYes (number (at 0))) (
+    cond (eqb p.kind 12) (DepWait (number (at 0))) (
+    cond (eqb p.kind 13) (Status (number (at 0)) (number (at 1))) (
+    cond (eqb p.kind 14) (StatusIs (number (at 0)) (number (at 1)) (number (at 2)) (number (at 3)) (number (at 4))) (
+    cond (eqb p.kind 15) Bye (
+    cond (eqb p.kind 16) ByeOk (
+    cond (eqb p.kind 17) (TraceHead (number (at 0)) (number (at 1))) (
+    cond (eqb p.kind 18) (TracePut (number (at 0)) (number (at 1)) (bytes (at 2)) (bytes (at 3)) (number (at 4))) (
+    cond (eqb p.kind 19) (TraceGot (number (at 0)) (number (at 1)) (bytes (at 2)) (bytes (at 3)) (number (at 4))) (
+    cond (eqb p.kind 20) (TraceMissed (number (at 0)) (number (at 1)) (bytes (at 2))) (
+    (TraceEnd (number (at 0)))))))))))))))))))))))
+
+back : (m : Message) → message_of (parts m) ≡ m
+back (Hello profile client) = refl
+back (HelloOk dc nodes) = refl
+back (Put seq key value) = refl
+back (Get seq key) = refl
+back (PutDone seq version) = refl
+back (Got seq value version) = refl
+back (Missed seq) = refl
+back (Refused seq code) = refl
+back (PutAfter key value version deps) = refl
+back (DepCheck seq key version) = refl
+back (DepYes seq) = refl
+back (DepWait seq) = refl
+back (Status seq node) = refl
+back (StatusIs seq clock keys settled held) = refl
+back Bye = refl
+back ByeOk = refl
+back (TraceHead format clients) = refl
+back (TracePut client index key value version) = refl
+back (TraceGot client index key value version) = refl
+back (TraceMissed client index key) = refl
+back (TraceEnd ops) = refl
+
+pub parts-same : (m n : Message) → parts m ≡ parts n → m ≡ n
+parts-same m n e = sym (back m) ∙ ap message_of e ∙ back n

@@ -1,0 +1,20 @@
+use Rattle.std.proofs.Common.{◌≡◌, ℕ, ◌+◌, ◌≤◌, List, length, take, drop, get_or, ap, subst, ◌∙◌, arith}
+use Rattle.std.specs.Prelude.{IsSome}
+use Rattle.std.specs.Int.{w32, from_be_bytes}
+use Rattle.std.proofs.lemmas.List.{length-drop}
+use Rattle.cops_wire.specs.Grammar.{grammar, fields_of}
+use Rattle.cops_wire.specs.Answer.{length_at}
+use Rattle.cops_wire.proofs.Frames.{known_frame}
+use Rattle.cops_wire.proofs.decoding.frame.Goals as goal
+
+pub returns-clause-memory : goal.returns-clause-memory
+returns-clause-memory c = λ e.
+    let bytes = c.args.bytes.now in
+    let rest = c.split_at.result.1.now in
+    let len : c.from_be_bytes-len.result ≡ length_at bytes = c.from_be_bytes-len.ensures ∙ ap (from_be_bytes w32) c.split_at.ensures.front in
+    let text : c.split_at-2.result.0.now ≡ take (length_at bytes) (drop 4 bytes) =
+    c.split_at-2.ensures.front
+    ∙ ap (λ (n : ℕ). take n rest) len
+    ∙ ap (take (length_at bytes)) c.split_at.ensures.back in
+    let long : 4 + length_at bytes ≤ length bytes = omega (arith, ap length c.split_at.ensures.back, length-drop 4 bytes, len, c.if-rest-len.false, c.if-bytes-lt4.false) in
+    known_frame (grammar c.args.format) bytes (λ i. omega (arith, c.type_inv.bytes i)) c.if-bytes-lt4.false (omega (arith, len)) (omega (arith, len)) long (subst (λ (t : List ℕ). IsSome (fields_of (grammar c.args.format) (get_or t 0 0))) text (c.body.ensures.memory e))

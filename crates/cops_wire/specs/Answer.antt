@@ -1,0 +1,113 @@
+-- The answer that some bytes have, by the six steps: each fault with its case.
+use Rattle.std.specs.Prelude.{◌≡◌, ◌≢◌, ℕ, ◌+◌, ◌<◌, ◌≤◌, ◌⊎◌, List, [], ◌∷◌, ◌++◌, length, take, Some, None, IsSome, Result, Ok, Err}
+use Rattle.std.specs.Int.{w32, from_be_bytes}
+use Rattle.cops_wire.specs.declared.fault.WireFault.{WireFault}
+use Rattle.cops_wire.specs.declared.fault.WireFault.TheVariants.{Memory, Short, BadLength, UnknownKind, BadField, TrailingBytes}
+use Rattle.cops_wire.specs.declared.decoding.Decoded.{Decoded}
+use Rattle.cops_wire.specs.Field.{u32, Field, Content, spelled_number, spelled, spelled_all, IsLegal, AllLegal}
+use Rattle.cops_wire.specs.Grammar.{Grammar, Parts, fields_of, spelling, IsMessage}
+use Rattle.cops_wire.specs.Message.{parts}
+
+-- the number in the first four bytes
+abbrev pub length_at : List ℕ → ℕ
+length_at bytes = from_be_bytes w32 (take 4 bytes)
+
+-- steps 1 and 3
+abbrev pub IsShort : Grammar → List ℕ → Type 0
+IsShort g bytes = (length bytes < 4) ⊎ ((0 < length_at bytes) × (length_at bytes ≤ g.longest) × (length bytes < 4 + length_at bytes))
+
+-- step 2
+abbrev pub HasBadLength : Grammar → List ℕ → Type 0
+HasBadLength g bytes = (4 ≤ length bytes) × ((length_at bytes ≡ 0) ⊎ (g.longest < length_at bytes))
+
+-- the first three steps are passed: a whole frame stands at the front, of this kind, with these bytes for its fields
+pub record BeginsWithFrame (g : Grammar) (bytes : List ℕ) (kind : ℕ) (fields : List ℕ) : Type 0 where
+  pub rest : List ℕ
+  pub front : bytes ≡ spelled_number u32 (length (kind ∷ fields)) ++ (kind ∷ fields) ++ rest
+  pub fits : length (kind ∷ fields) ≤ g.longest
+
+-- step 4
+pub record HasUnknownKind (g : Grammar) (bytes : List ℕ) : Type 0 where
+  pub kind : ℕ
+  pub fields : List ℕ
+  pub frame : BeginsWithFrame g bytes kind fields
+  pub unknown : fields_of g kind ≡ None
+
+-- a whole frame of a kind of the grammar stands at the front
+pub record BeginsWithKnown (g : Grammar) (bytes : List ℕ) : Type 0 where
+  pub kind : ℕ
+  pub fields : List ℕ
+  pub frame : BeginsWithFrame g bytes kind fields
+  pub known : IsSome (fields_of g kind)
+
+-- no legal field of this type stands at the front: each runs past the end, or differs
+abbrev pub NoneBegins : Field → List ℕ → Type 0
+NoneBegins field bytes = (c : Content) → IsLegal field c → (rest : List ℕ) → bytes ≢ spelled field c ++ rest
+
+-- step 5: legal fields, and then a place where the next field does not stand
+pub record HasBadField (g : Grammar) (bytes : List ℕ) (offset : ℕ) : Type 0 where
+  pub kind : ℕ
+  pub fields : List ℕ
+  pub frame : BeginsWithFrame g bytes kind fields
+  pub before : List Field
+  pub field : Field
+  pub after : List Field
+  pub known : fields_of g kind ≡ Some (before ++ field ∷ after)
+  pub contents : List Content
+  pub legal : AllLegal before contents
+  pub rest : List ℕ
+  pub split : fields ≡ spelled_all before contents ++ rest
+  pub bad : NoneBegins field rest
+  pub place : offset ≡ 5 + length (spelled_all before contents)
+
+-- step 6: all the fields, and then more bytes of the body
+pub record HasTrailingBytes (g : Grammar) (bytes : List ℕ) : Type 0 where
+  pub kind : ℕ
+  pub fields : List ℕ
+  pub frame : BeginsWithFrame g bytes kind fields
+  pub types : List Field
+  pub known : fields_of g kind ≡ Some types
+  pub contents : List Content
+  pub legal : AllLegal types contents
+  pub rest : List ℕ
+  pub split : fields ≡ spelled_all types contents ++ rest
+  pub more : rest ≢ []
+
+-- no fault: a message's spelling stands at the front, and this is its length
+pub record HasMessage (g : Grammar) (bytes : List ℕ) (p : Parts) (used : ℕ) : Type 0 where
+  pub message : IsMessage g p
+  pub rest : List ℕ
+  pub front : bytes ≡ spelling g p ++ rest
+  pub length_is : used ≡ length (spelling g p)
+
+-- This is the answer that the bytes have.
+abbrev pub IsAnswer : Grammar → List ℕ → Result (Parts × ℕ) WireFault → Type 0
+IsAnswer g bytes (Ok x) = HasMessage g bytes x.0 x.1
+IsAnswer g bytes (Err Memory) = ⊥
+IsAnswer g bytes (Err Short) = IsShort g bytes
+IsAnswer g bytes (Err BadLength) = HasBadLength g bytes
+IsAnswer g bytes (Err UnknownKind) = HasUnknownKind g bytes
+IsAnswer g bytes (Err (BadField offset)) = HasBadField g bytes offset
+IsAnswer g bytes (Err TrailingBytes) = HasTrailingBytes g bytes
+
+-- The answer is found by looking at the fields, which is what may take memory.
+abbrev pub IsFromFields : Result (Parts × ℕ) WireFault → Type 0
+IsFromFields (Ok x) = Unit {0}
+IsFromFields (Err (BadField offset)) = Unit {0}
+IsFromFields (Err TrailingBytes) = Unit {0}
+IsFromFields (Err _) = ⊥
+
+-- What `decode` returned, apart from its Rust types, is so, unless memory ran out.
+abbrev pub Answers : Result Decoded WireFault → (Result (Parts × ℕ) WireFault → Type 0) → Type 0
+Answers (Ok d) P = P (Ok (parts d.message, d.used))
+Answers (Err Memory) P = Unit {0}
+Answers (Err Short) P = P (Err Short)
+Answers (Err BadLength) P = P (Err BadLength)
+Answers (Err UnknownKind) P = P (Err UnknownKind)
+Answers (Err (BadField offset)) P = P (Err (BadField offset))
+Answers (Err TrailingBytes) P = P (Err TrailingBytes)
+
+-- a bad field's place is within a frame whose body has at most so many bytes, behind the kind's byte
+abbrev pub IsPlacedWithin : ℕ → WireFault → Type 0
+IsPlacedWithin most (BadField offset) = (4 < offset) × (offset ≤ 4 + most)
+IsPlacedWithin most _ = Unit {0}

@@ -1,0 +1,95 @@
+-- The grammar of a format: its kinds of messages with their fields, and how long a frame's body may be.
+use Rattle.std.specs.Prelude.{ℕ, ◌==◌, if◌then◌else◌, List, [], ◌∷◌, ◌++◌, length, Option, Some, None, MatchOption, unwrap_or, Bool, true, ◌&&◌, nat_le, ◌+◌, ◌*◌, ◌<◌, ◌^◌, IsTrue}
+use Rattle.std.specs.Int.{byte_len}
+use Rattle.cops_types.specs.declared.format.Format.{Format}
+use Rattle.cops_types.specs.Format.{most_value, most_deps, longest_body}
+use Rattle.cops_wire.specs.Field.{Field, Content, u8, u16, u32, u64, width, number, number_in, string, version, pairs, key, spelled_number, spelled_all, AllLegal}
+
+pub record Grammar : Type 0 where
+  pub kinds : List (ℕ × List Field)
+  pub longest : ℕ
+
+-- a value of the format
+abbrev pub value : Format → Field
+value format = string u16 0 (most_value format)
+
+-- dependencies of the format
+abbrev pub deps : Format → Field
+deps format = pairs (most_deps format)
+
+-- the table of kinds
+abbrev pub grammar : Format → Grammar
+grammar format = record {
+  kinds =
+      (1, number u16 ∷ number u16 ∷ [])
+      ∷ (2, number_in u8 0 15 ∷ number_in u8 1 64 ∷ [])
+      ∷ (3, number u32 ∷ key ∷ value format ∷ [])
+      ∷ (4, number u32 ∷ key ∷ [])
+      ∷ (5, number u32 ∷ version ∷ [])
+      ∷ (6, number u32 ∷ value format ∷ version ∷ [])
+      ∷ (7, number u32 ∷ [])
+      ∷ (8, number u32 ∷ number_in u8 1 255 ∷ [])
+      ∷ (9, key ∷ value format ∷ version ∷ deps format ∷ [])
+      ∷ (10, number u32 ∷ key ∷ version ∷ [])
+      ∷ (11, number u32 ∷ [])
+      ∷ (12, number u32 ∷ [])
+      ∷ (13, number u32 ∷ number_in u8 0 63 ∷ [])
+      ∷ (14, number u32 ∷ number_in u64 0 281474976710655 ∷ number u32 ∷ number u32 ∷ number u32 ∷ [])
+      ∷ (15, [])
+      ∷ (16, [])
+      ∷ (17, number u16 ∷ number u16 ∷ [])
+      ∷ (18, number u16 ∷ number u32 ∷ key ∷ value format ∷ version ∷ [])
+      ∷ (19, number u16 ∷ number u32 ∷ key ∷ value format ∷ version ∷ [])
+      ∷ (20, number u16 ∷ number u32 ∷ key ∷ [])
+      ∷ (21, number u32 ∷ [])
+      ∷ [];
+  longest = longest_body format;
+}
+
+-- the fields of the first row of a kind
+abbrev pub row_of : ℕ → List (ℕ × List Field) → Option (List Field)
+row_of kind [] = None
+row_of kind (row ∷ rows) = if kind == row.0 then Some row.1 else row_of kind rows
+
+-- the fields of a kind, if the grammar has it
+abbrev pub fields_of : Grammar → ℕ → Option (List Field)
+fields_of g kind = row_of kind g.kinds
+
+-- a message apart from its Rust type: its kind, and what stands in its fields
+pub record Parts : Type 0 where
+  pub kind : ℕ
+  pub contents : List Content
+
+-- the kind's byte and the fields
+abbrev pub body : Grammar → Parts → List ℕ
+body g p = p.kind ∷ spelled_all (unwrap_or (fields_of g p.kind) []) p.contents
+
+-- the frame of a message: its body behind the body's length
+abbrev pub spelling : Grammar → Parts → List ℕ
+spelling g p = spelled_number u32 (length (body g p)) ++ body g p
+
+-- a legal message of the grammar: its kind is in the table, and each field is within its range
+abbrev pub IsMessage : Grammar → Parts → Type 0
+IsMessage g p = MatchOption (fields_of g p.kind) ⊥ (λ fields. AllLegal fields p.contents)
+
+-- the most bytes that a field takes
+abbrev pub most_len : Field → ℕ
+most_len (number s) = byte_len (width s)
+most_len (number_in s least greatest) = byte_len (width s)
+most_len (string s least greatest) = byte_len (width s) + greatest
+most_len version = 8
+most_len (pairs most) = 2 + most * 73
+
+-- the same of fields in a row
+abbrev pub most_len_all : List Field → ℕ
+most_len_all [] = 0
+most_len_all (f ∷ fs) = most_len f + most_len_all fs
+
+-- each message fits a frame
+abbrev pub all_fit : ℕ → List (ℕ × List Field) → Bool
+all_fit longest [] = true
+all_fit longest (row ∷ rows) = nat_le (1 + most_len_all row.1) longest && all_fit longest rows
+
+-- a grammar whose messages all fit their frames
+abbrev pub IsGrammar : Grammar → Type 0
+IsGrammar g = (g.longest < 2 ^ 32) × IsTrue (all_fit g.longest g.kinds)

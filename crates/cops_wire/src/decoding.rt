@@ -1,0 +1,112 @@
+//! The message at the front of some bytes.
+ghost use Rattle.std.specs.Prelude.{◌≡◌, ◌<◌, ◌≤◌, ◌+◌, ℕ, length, Result, IfOk, IfErr, IsSome, slice_index};
+ghost use Rattle.cops_types.specs.Format.{longest_body};
+ghost use Rattle.cops_wire.specs.declared.fault.WireFault.{WireFault};
+ghost use Rattle.cops_wire.specs.Grammar.{grammar, fields_of, Parts};
+ghost use Rattle.cops_wire.specs.Answer.{IsAnswer, Answers, BeginsWithKnown, IsPlacedWithin};
+ghost use Rattle.cops_wire.specs.Reading.{body_at, frame_at};
+
+use crate::fault::WireFault;
+use crate::message::Message;
+use crate::reading::{ReadFault, Rest};
+use cops_types::Format;
+use std::alloc::Global;
+
+/// A message, and how many bytes its frame takes: more than 4, and at most 4 and the most of a body.
+#[derive(Debug, Drop)]
+pub struct Decoded {
+    pub message: Message,
+    pub used: usize,
+}
+
+/// The message of format 1 at the front: `decode_in` at `Format::One`.
+pub fn decode(alloc: Global, bytes: &[u8]) -> Result<Decoded, WireFault>
+    ensures answer { Answers result (IsAnswer (grammar Format.One) bytes.now) }
+    ensures only { (a : Result (Parts × ℕ) WireFault) → IsAnswer (grammar Format.One) bytes.now a → Answers result (λ b. b ≡ a) }
+    ensures reading { Answers result (λ a. a ≡ frame_at (grammar Format.One) bytes.now) }
+    ensures memory { result ≡ Err WireFault.Memory → BeginsWithKnown (grammar Format.One) bytes.now }
+    ensures used { IfOk result (λ decoded. (4 < decoded.used) × (decoded.used ≤ length bytes.now) × (decoded.used ≤ 4 + 32768)) }
+    ensures offset { IfErr result (IsPlacedWithin 32768) }
+{
+    decode_in(Format::One, alloc, bytes)
+}
+
+/// The message of a format at the front of some bytes, and how many bytes its frame takes. What follows its frame is not
+/// looked at. It looks in this order: fewer than 4 bytes are `Short`; a length of 0 or above the format's most is
+/// `BadLength`; a frame that is not whole is `Short`; then `UnknownKind`; then `BadField`, at the first field from the
+/// left that runs past the body's end or is not legal; then `TrailingBytes`.
+pub fn decode_in(format: Format, alloc: Global, bytes: &[u8]) -> Result<Decoded, WireFault>
+    // What is answered is so by that order, unless memory runs out.
+    ensures answer { Answers result (IsAnswer (grammar format) bytes.now) }
+
+    // What is so by that order is answered: there is no other answer.
+    ensures only { (a : Result (Parts × ℕ) WireFault) → IsAnswer (grammar format) bytes.now a → Answers result (λ b. b ≡ a) }
+
+    // The same, computed.
+    ensures reading { Answers result (λ a. a ≡ frame_at (grammar format) bytes.now) }
+
+    // Only fields take memory: it runs out only in a whole frame of a known kind.
+    ensures memory { result ≡ Err WireFault.Memory → BeginsWithKnown (grammar format) bytes.now }
+
+    // A frame lies within the bytes, and a bad field's place within its frame.
+    ensures used { IfOk result (λ decoded. (4 < decoded.used) × (decoded.used ≤ length bytes.now) × (decoded.used ≤ 4 + longest_body format)) }
+    ensures offset { IfErr result (IsPlacedWithin (longest_body format)) }
+{
+    frame(format, alloc, bytes)
+}
+
+/// The first three steps, which look at the length.
+#[tactic(auto, unfolding(crate::specs::Reading::frame_at))]
+fn frame(format: Format, alloc: Global, bytes: &[u8]) -> Result<Decoded, WireFault>
+    ensures reading { Answers result (λ a. a ≡ frame_at (grammar format) bytes.now) }
+    ensures memory { result ≡ Err WireFault.Memory → BeginsWithKnown (grammar format) bytes.now }
+    ensures used { IfOk result (λ decoded. (4 < decoded.used) × (decoded.used ≤ length bytes.now) × (decoded.used ≤ 4 + longest_body format)) }
+    ensures offset { IfErr result (IsPlacedWithin (longest_body format)) }
+{
+    if bytes.len() < 4 {
+        return Err(WireFault::Short);
+    }
+    let (head, rest) = bytes.split_at(4);
+    let len = u32::from_be_bytes([head[0], head[1], head[2], head[3]]) as usize;
+    if len == 0 || len > format.longest_body() {
+        return Err(WireFault::BadLength);
+    }
+    if rest.len() < len {
+        return Err(WireFault::Short);
+    }
+    let (text, _) = rest.split_at(len);
+    body(format, alloc, text)
+}
+
+/// The last three steps, on a whole body.
+fn body(format: Format, alloc: Global, text: &[u8]) -> Result<Decoded, WireFault>
+    requires some { 0 < length text.now }
+    requires fits { length text.now ≤ longest_body format }
+    ensures reading { Answers result (λ a. a ≡ body_at (grammar format) text.now) }
+    ensures memory { result ≡ Err WireFault.Memory → IsSome (fields_of (grammar format) (slice_index text.now 0)) }
+    ensures used { IfOk result (λ decoded. decoded.used ≡ 4 + length text.now) }
+    ensures offset { IfErr result (IsPlacedWithin (length text.now)) }
+{
+    let used = 4 + text.len();
+    let mut rest = Rest {
+        alloc,
+        format,
+        bytes: &text[1..],
+    };
+    match rest.message(text[0]) {
+        Ok(message) => {
+            if rest.bytes.is_empty() {
+                Ok(Decoded { message, used })
+            } else {
+                Err(WireFault::TrailingBytes)
+            }
+        }
+        Err(ReadFault::Memory) => Err(WireFault::Memory),
+        Err(ReadFault::UnknownKind) => Err(WireFault::UnknownKind),
+        Err(ReadFault::BadField(left)) => {
+            let place = used - left;
+            let offset = place as u32;
+            Err(WireFault::BadField { offset })
+        }
+    }
+}

@@ -1,0 +1,53 @@
+//! The one spelling of a message.
+ghost use Rattle.std.specs.Prelude.{◌≡◌, ◌+◌, ◌≤◌, ◌++◌, ◌^◌, length, vec_len, OnOk, OnErr};
+ghost use Rattle.cops_wire.specs.Grammar.{grammar, body, spelling, IsMessage};
+ghost use Rattle.cops_wire.specs.Message.{kind_of, parts};
+
+use crate::field::{self, FieldRef, as_written};
+use crate::message::Message;
+use crate::table::kinds;
+use cops_types::{Format, Memory};
+
+/// The number of a message's kind, 1 to 21.
+pub fn kind(message: &Message) -> u8
+    ensures { result ≡ kind_of message.now }
+{
+    macro_rules! number {
+        ($message:ident; $($group:ident { $($number:literal => $name:ident { $($field:ident: $type:ident($($arg:literal),*)),* }),* })*) => {
+            match $message {
+                $($(Message::$name { .. } => $number,)*)*
+            }
+        };
+    }
+    kinds!(number message)
+}
+
+/// How many bytes a message's body has, which is 4 fewer than its frame.
+pub fn body_len(message: &Message) -> usize
+    ensures { result ≡ length (body (grammar Format.One) (parts message.now)) }
+{
+    macro_rules! len {
+        ($message:ident; $($group:ident { $($number:literal => $name:ident { $($field:ident: $type:ident($($arg:literal),*)),* }),* })*) => {
+            match $message {
+                $($(Message::$name { $($field),* } => field::len($number, &[$(as_written!($type $field)),*]),)*)*
+            }
+        };
+    }
+    kinds!(len message)
+}
+
+/// Appends the frame of a legal message, its one spelling, or where memory runs out nothing.
+pub fn encode(message: &Message, out: &mut Vec<u8>) -> Result<(), Memory>
+    requires { IsMessage (grammar Format.One) (parts message.now) }
+    ensures ok { OnOk result (out.new.items ≡ out.old.items ++ spelling (grammar Format.One) (parts message.now)) }
+    ensures err { OnErr result (out.new.items ≡ out.old.items) }
+{
+    macro_rules! append {
+        ($message:ident, $out:ident; $($group:ident { $($number:literal => $name:ident { $($field:ident: $type:ident($($arg:literal),*)),* }),* })*) => {
+            match $message {
+                $($(Message::$name { $($field),* } => field::append($out, $number, &[$(as_written!($type $field)),*]),)*)*
+            }
+        };
+    }
+    kinds!(append message, out)
+}

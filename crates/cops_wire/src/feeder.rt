@@ -1,0 +1,97 @@
+//! Messages from a stream that comes in pieces.
+ghost use Rattle.std.specs.Prelude.{◌≡◌, ◌≤◌, length, drop};
+
+use crate::decoding::decode;
+use crate::fault::WireFault;
+use crate::message::Message;
+use cops_types::{Format, Memory};
+use std::alloc::Global;
+use std::marker::Model;
+
+/// Reads messages of format 1 from a stream that comes in pieces: what came and is not read is the rest.
+#[derive(Debug, Drop)]
+pub struct Feeder {
+    alloc: Global,
+    bytes: Vec<u8>,
+    start: usize,
+    fault: Option<WireFault>,
+}
+
+impl Model for Feeder {
+    ghost use Rattle.std.specs.Prelude.{◌≤◌, length, drop};
+    ghost use Rattle.cops_wire.specs.Feeding.{Fed, IsStoppedBy};
+
+    ghost Value = { Fed };
+
+    ghost view = { λ f. record { rest = drop f.start f.bytes.items; fault = f.fault } };
+
+    ghost invariant = { λ f. (f.start ≤ length f.bytes.items) × IsStoppedBy (drop f.start f.bytes.items) f.fault };
+}
+
+impl Feeder {
+    ghost use Rattle.std.specs.Prelude.{◌≡◌, ◌++◌, ◌↔◌, [], None, OnOk, OnErr, IfSome, Ok, Err};
+    ghost use Rattle.cops_wire.specs.Grammar.{grammar};
+    ghost use Rattle.cops_wire.specs.Answer.{IsShort};
+    ghost use Rattle.cops_wire.specs.Feeding.{IsNext};
+
+    /// A feeder that was given nothing.
+    pub fn new(alloc: Global) -> Self
+        ensures { result ≡ record { rest = []; fault = None } }
+    {
+        Feeder {
+            alloc,
+            bytes: Vec::new(alloc),
+            start: 0,
+            fault: None,
+        }
+    }
+
+    /// Appends a piece to the rest.
+    pub fn feed(&mut self, piece: &[u8]) -> Result<(), Memory>
+        ensures ok { OnOk result (self.new ≡ record { rest = self.old.rest ++ piece.now; fault = self.old.fault }) }
+        ensures err { OnErr result (self.new ≡ self.old) }
+    {
+        let read = self.start;
+        drop_front(&mut self.bytes, read);
+        self.start = 0;
+        self.bytes.extend_from_slice(piece)?;
+        Ok(())
+    }
+
+    /// The message at the front of the rest, which is taken off, or nothing while the front is no whole frame. A fault
+    /// but `Memory` is answered again by every later call, and takes no memory.
+    pub fn next(&mut self) -> Result<Option<Message>, WireFault>
+        ensures next { IsNext self.old result self.new }
+        ensures again { IfSome self.old.fault (λ fault. result ≡ Err fault) }
+        ensures waits { (result ≡ Ok None) ↔ IsShort (grammar Format.One) self.old.rest }
+    {
+        if let Some(fault) = self.fault {
+            return Err(fault);
+        }
+        let unread = &self.bytes[self.start..];
+        match decode(self.alloc, unread) {
+            Ok(decoded) => {
+                self.start += decoded.used;
+                Ok(Some(decoded.message))
+            }
+            Err(fault) => match fault {
+                WireFault::Short => Ok(None),
+                WireFault::Memory => Err(WireFault::Memory),
+                _ => {
+                    self.fault = Some(fault);
+                    Err(fault)
+                }
+            },
+        }
+    }
+}
+
+/// Takes the first bytes off.
+fn drop_front(bytes: &mut Vec<u8>, count: usize)
+    requires { count ≤ length bytes.old.items }
+    ensures { bytes.new.items ≡ drop count bytes.old.items }
+{
+    let left = bytes.len() - count;
+    bytes.as_mut_slice().rotate_left(count);
+    bytes.truncate(left);
+}

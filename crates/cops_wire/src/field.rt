@@ -1,0 +1,115 @@
+//! A message's fields as they are written.
+ghost use Rattle.std.specs.Prelude.{◌≡◌, ◌+◌, ◌*◌, ◌≤◌, ◌++◌, length, vec_len, vec_capacity, OnOk, OnErr};
+ghost use Rattle.std.specs.List.{flat_map};
+ghost use Rattle.cops_wire.specs.Field.{spelled_pair};
+ghost use Rattle.cops_wire.specs.Written.{spelled_field, spelled_fields, spelled_body, spelled_frame};
+
+use crate::put;
+use cops_types::{Deps, Key, Memory, Value, Version};
+
+/// A field of a message.
+#[derive(Clone, Copy)]
+pub(crate) enum FieldRef<'a> {
+    U8(&'a u8),
+    U16(&'a u16),
+    U32(&'a u32),
+    U64(&'a u64),
+    Key(&'a Key),
+    Value(&'a Value),
+    Version(&'a Version),
+    Deps(&'a Deps),
+}
+
+/// A field by its type in the table.
+macro_rules! as_written {
+    (u16 $field:ident) => { FieldRef::U16($field) };
+    (u32 $field:ident) => { FieldRef::U32($field) };
+    (u8_in $field:ident) => { FieldRef::U8($field) };
+    (u64_in $field:ident) => { FieldRef::U64($field) };
+    (key $field:ident) => { FieldRef::Key($field) };
+    (value $field:ident) => { FieldRef::Value($field) };
+    (version $field:ident) => { FieldRef::Version($field) };
+    (deps $field:ident) => { FieldRef::Deps($field) };
+}
+
+pub(crate) use as_written;
+
+/// How many bytes a field takes.
+#[tactic(auto, unfolding(crate::specs::Field::spelled_number))]
+fn field_len(field: &FieldRef<'_>) -> usize
+    ensures len { result ≡ length (spelled_field field.now) }
+    ensures most { result ≤ 18690 }
+{
+    match field {
+        FieldRef::U8(_) => 1,
+        FieldRef::U16(_) => 2,
+        FieldRef::U32(_) => 4,
+        FieldRef::U64(_) => 8,
+        FieldRef::Key(key) => 1 + key.as_bytes().len(),
+        FieldRef::Value(value) => 2 + value.as_bytes().len(),
+        FieldRef::Version(_) => 8,
+        FieldRef::Deps(deps) => deps_len(deps),
+    }
+}
+
+#[tactic(auto, unfolding(crate::specs::Field::spelled_number))]
+fn deps_len(deps: &Deps) -> usize
+    ensures len { result ≡ 2 + length (flat_map spelled_pair deps.now) }
+    ensures most { result ≤ 18690 }
+{
+    let mut len = 2;
+    for pair in deps.as_slice() {
+        len += 9 + pair.key.as_bytes().len();
+    }
+    len
+}
+
+/// How many bytes a body takes.
+pub(crate) fn len(kind: u8, fields: &[FieldRef<'_>]) -> usize
+    requires { length fields.now ≤ 8 }
+    ensures len { result ≡ length (spelled_body kind fields.now) }
+    ensures most { result ≤ 1 + 8 * 18690 }
+{
+    let _kind = kind;
+    let mut len = 1;
+    for field in fields {
+        len += field_len(field);
+    }
+    len
+}
+
+#[tactic(auto, unfolding(crate::specs::Field::spelled_number))]
+fn put_field(out: &mut Vec<u8>, field: &FieldRef<'_>)
+    requires { vec_len out.old + length (spelled_field field.now) ≤ vec_capacity out.old }
+    ensures items { out.new.items ≡ out.old.items ++ spelled_field field.now }
+    ensures len { vec_len out.new ≡ vec_len out.old + length (spelled_field field.now) }
+    ensures room { vec_capacity out.old ≤ vec_capacity out.new }
+{
+    match field {
+        FieldRef::U8(n) => put::u8(out, n),
+        FieldRef::U16(n) => put::u16(out, n),
+        FieldRef::U32(n) => put::u32(out, n),
+        FieldRef::U64(n) => put::u64(out, n),
+        FieldRef::Key(k) => put::key(out, k),
+        FieldRef::Value(v) => put::value(out, v),
+        FieldRef::Version(v) => put::version(out, v),
+        FieldRef::Deps(d) => put::deps(out, d),
+    }
+}
+
+/// Appends a frame, or at an error nothing.
+#[tactic(auto, unfolding(crate::specs::Field::spelled_number))]
+pub(crate) fn append(out: &mut Vec<u8>, kind: u8, fields: &[FieldRef<'_>]) -> Result<(), Memory>
+    requires { length fields.now ≤ 8 }
+    ensures ok { OnOk result (out.new.items ≡ out.old.items ++ spelled_frame kind fields.now) }
+    ensures err { OnErr result (out.new.items ≡ out.old.items) }
+{
+    let len = len(kind, fields);
+    out.reserve(4 + len)?;
+    put::u32(out, &(len as u32));
+    put::u8(out, &kind);
+    for field in fields {
+        put_field(out, field);
+    }
+    Ok(())
+}

@@ -1,0 +1,70 @@
+//! Laws of the grammar alone, at any format. Each is the contract of a function that does nothing.
+ghost use Rattle.std.specs.Prelude.{◌≡◌, ◌≢◌, ◌<◌, ◌≤◌, ◌+◌, ◌++◌, ◌↔◌, ℕ, [], List, Result, Ok, Err, length, drop};
+ghost use Rattle.cops_types.specs.declared.format.Format.{Format};
+ghost use Rattle.cops_types.specs.Format.{longest_body};
+ghost use Rattle.cops_wire.specs.declared.fault.WireFault.{WireFault};
+ghost use Rattle.cops_wire.specs.declared.message.Message.{Message};
+ghost use Rattle.cops_wire.specs.Field.{IsBytes};
+ghost use Rattle.cops_wire.specs.Grammar.{grammar, Parts, spelling, IsMessage};
+ghost use Rattle.cops_wire.specs.Message.{parts};
+ghost use Rattle.cops_wire.specs.Answer.{IsAnswer, IsShort, BeginsWithKnown, IsFromFields};
+ghost use Rattle.cops_wire.specs.Reading.{frame_at};
+
+/// No spelling of a message begins another, and each is the spelling of one message.
+pub fn one_spelling()
+    ensures { (format : Format) (m n : Message) (x y : List ℕ) → IsMessage (grammar format) (parts m) → IsMessage (grammar format) (parts n)
+        → spelling (grammar format) (parts m) ++ x ≡ spelling (grammar format) (parts n) ++ y → (m ≡ n) × (x ≡ y) }
+{}
+
+/// Bytes have at most one answer.
+pub fn one_answer()
+    ensures { (format : Format) (bytes : List ℕ) → IsBytes bytes → (a b : Result (Parts × ℕ) WireFault)
+        → IsAnswer (grammar format) bytes a → IsAnswer (grammar format) bytes b → a ≡ b }
+{}
+
+/// What follows a frame changes no answer but that the frame is not whole. So a fault at the front of a stream stays.
+pub fn answer_stays()
+    ensures { (format : Format) (bytes more : List ℕ) (a : Result (Parts × ℕ) WireFault) → a ≢ Err WireFault.Short
+        → IsAnswer (grammar format) bytes a → IsAnswer (grammar format) (bytes ++ more) a }
+{}
+
+/// A spelling is answered by its message, whatever follows it.
+pub fn spelling_is_answered()
+    ensures { (format : Format) (m : Message) (rest : List ℕ) → IsMessage (grammar format) (parts m)
+        → IsAnswer (grammar format) (spelling (grammar format) (parts m) ++ rest) (Ok (parts m, length (spelling (grammar format) (parts m)))) }
+{}
+
+/// An answer that is a message splits the bytes: the message's spelling stands first, and then what was not used.
+pub fn answer_splits()
+    ensures { (format : Format) (bytes : List ℕ) (p : Parts) (used : ℕ) → IsAnswer (grammar format) bytes (Ok (p, used))
+        → IsMessage (grammar format) p × (used ≡ length (spelling (grammar format) p)) × (bytes ≡ spelling (grammar format) p ++ drop used bytes) }
+{}
+
+/// The answer is what reading from left to right gives.
+pub fn answer_is_read()
+    ensures { (format : Format) (bytes : List ℕ) → IsBytes bytes → (a : Result (Parts × ℕ) WireFault)
+        → IsAnswer (grammar format) bytes a ↔ (a ≡ frame_at (grammar format) bytes) }
+{}
+
+/// Messages with the same kind and the same contents are the same.
+pub fn parts_tell_messages()
+    ensures { (m n : Message) → parts m ≡ parts n → m ≡ n }
+{}
+
+/// A legal message's spelling has more than 4 bytes, and no more than a frame may have.
+pub fn spelling_is_bounded()
+    ensures { (format : Format) (m : Message) → IsMessage (grammar format) (parts m)
+        → (4 < length (spelling (grammar format) (parts m))) × (length (spelling (grammar format) (parts m)) ≤ 4 + longest_body format) }
+{}
+
+/// A front of a spelling that is not all of it is no whole frame.
+pub fn front_is_short()
+    ensures { (format : Format) (m : Message) (x y : List ℕ) → IsMessage (grammar format) (parts m)
+        → spelling (grammar format) (parts m) ≡ x ++ y → y ≢ [] → IsShort (grammar format) x }
+{}
+
+/// Where memory may run out, in a whole frame of a known kind, the answer is a message, a bad field or trailing bytes.
+pub fn known_is_from_fields()
+    ensures { (format : Format) (bytes : List ℕ) → IsBytes bytes → BeginsWithKnown (grammar format) bytes
+        → (a : Result (Parts × ℕ) WireFault) → IsAnswer (grammar format) bytes a → IsFromFields a }
+{}

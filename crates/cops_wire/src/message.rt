@@ -1,0 +1,117 @@
+use cops_types::{Deps, Key, Value, Version};
+
+/// What is sent, and what a trace holds. `seq` is the asker's own number for a request, which its answer repeats. Each
+/// field may have any value of its type, save where a range is given; `legal` tests those ranges.
+#[derive(Debug, Drop)]
+pub enum Message {
+    /// A client greets, with the number of the format that it speaks and its own number.
+    Hello {
+        profile: u16,
+        client: u16,
+    },
+    /// The answer to a greeting: the client's data centre, below 16, and its number of nodes, 1 to 64.
+    HelloOk {
+        dc: u8,
+        nodes: u8,
+    },
+    /// A client's put.
+    Put {
+        seq: u32,
+        key: Key,
+        value: Value,
+    },
+    /// A client's get.
+    Get {
+        seq: u32,
+        key: Key,
+    },
+    /// The version that a put was given.
+    PutDone {
+        seq: u32,
+        version: Version,
+    },
+    /// The value that a get found, and its version.
+    Got {
+        seq: u32,
+        value: Value,
+        version: Version,
+    },
+    /// A get that found nothing.
+    Missed {
+        seq: u32,
+    },
+    /// A request that was refused, with the refusal's code, not 0.
+    Refused {
+        seq: u32,
+        code: u8,
+    },
+    /// A put on its way to another data centre, with the dependencies that must be there first.
+    PutAfter {
+        key: Key,
+        value: Value,
+        version: Version,
+        deps: Deps,
+    },
+    /// A question whether a put is there.
+    DepCheck {
+        seq: u32,
+        key: Key,
+        version: Version,
+    },
+    /// It is there.
+    DepYes {
+        seq: u32,
+    },
+    /// It is not there yet.
+    DepWait {
+        seq: u32,
+    },
+    /// A question how a node stands, by its number in the data centre, below 64.
+    Status {
+        seq: u32,
+        node: u8,
+    },
+    /// How it stands: its clock, at most 281,474,976,710,655, and how many keys, settled puts and held puts it has.
+    StatusIs {
+        seq: u32,
+        clock: u64,
+        keys: u32,
+        settled: u32,
+        held: u32,
+    },
+    /// A client ends its session.
+    Bye,
+    /// The session is ended.
+    ByeOk,
+    /// The head of a trace: its format, and how many clients it has.
+    TraceHead {
+        format: u16,
+        clients: u16,
+    },
+    /// A record of a trace: a put, and the version that it was given. The index is its place in the client's session.
+    TracePut {
+        client: u16,
+        index: u32,
+        key: Key,
+        value: Value,
+        version: Version,
+    },
+    /// A record of a trace: a get that found a value.
+    TraceGot {
+        client: u16,
+        index: u32,
+        key: Key,
+        value: Value,
+        version: Version,
+    },
+    /// A record of a trace: a get that found nothing.
+    TraceMissed {
+        client: u16,
+        index: u32,
+        key: Key,
+    },
+    /// The end of a trace: how many records it has.
+    TraceEnd {
+        ops: u32,
+    },
+}

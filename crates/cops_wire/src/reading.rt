@@ -1,0 +1,307 @@
+//! The fields of a message, from the front of what is left of its body.
+ghost use Rattle.std.specs.Prelude.{◌≡◌, ◌<◌, ◌≤◌, List, length, take, drop, IfOk, Ok};
+ghost use Rattle.cops_wire.specs.Field.{u8, u16, u32, u64};
+ghost use Rattle.cops_types.specs.Format.{most_value, most_deps};
+ghost use Rattle.cops_wire.specs.Grammar.{grammar};
+ghost use Rattle.cops_wire.specs.Message.{kind_of, contents_of};
+ghost use Rattle.cops_wire.specs.Reading.{GivesField, GivesContents, number_at, number_in_at, string_at, version_at, pair_at, pairs_at, deps_at, GivesPart};
+
+use crate::message::Message;
+use crate::table::kinds;
+use cops_types::{Dep, Deps, Format, Key, TypeFault, Value, Version};
+use std::alloc::{AllocError, AllocFailed, Global};
+
+/// The fewest bytes that a pair has: a key's length, one byte of a key, and a version.
+const LEAST_PAIR: usize = 10;
+
+/// Why fields could not be read.
+#[derive(Clone, Copy, Debug, PartialEq, Eq)]
+pub(crate) enum ReadFault {
+    Memory,
+    UnknownKind,
+    /// How many bytes are left from the first field on that does not stand there.
+    BadField(usize),
+}
+
+impl From<AllocError> for ReadFault {
+    ghost use Rattle.std.specs.Prelude.{◌≡◌};
+    ghost use Rattle.cops_wire.specs.declared.reading.ReadFault.TheVariants.{Memory};
+
+    ghost from_gives = { λ _ e. e ≡ Memory };
+
+    fn from(_e: AllocError) -> ReadFault {
+        ReadFault::Memory
+    }
+}
+
+impl<T: Drop> From<AllocFailed<T>> for ReadFault {
+    ghost use Rattle.std.specs.Prelude.{◌≡◌};
+    ghost use Rattle.cops_wire.specs.declared.reading.ReadFault.TheVariants.{Memory};
+
+    ghost from_gives = { λ _ e. e ≡ Memory };
+
+    fn from(_e: AllocFailed<T>) -> ReadFault {
+        ReadFault::Memory
+    }
+}
+
+/// The message of a kind of one group of the table.
+macro_rules! read_group {
+    (front, $kind:ident, $rest:ident; front { $($rows:tt)* } node { $($n:tt)* } trace { $($t:tt)* }) => {
+        read!($kind, $rest; $($rows)*)
+    };
+    (node, $kind:ident, $rest:ident; front { $($f:tt)* } node { $($rows:tt)* } trace { $($t:tt)* }) => {
+        read!($kind, $rest; $($rows)*)
+    };
+    (trace, $kind:ident, $rest:ident; front { $($f:tt)* } node { $($n:tt)* } trace { $($rows:tt)* }) => {
+        read!($kind, $rest; $($rows)*)
+    };
+}
+
+macro_rules! read {
+    ($kind:ident, $rest:ident; $($number:literal => $name:ident { $($field:ident: $type:ident($($arg:literal),*)),* }),*) => {
+        match $kind {
+            $($number => return Ok(Message::$name { $($field: $rest.$type($($arg),*)?),* }),)*
+            _ => return Err(ReadFault::UnknownKind),
+        }
+    };
+}
+
+/// What is left of a body. A reader takes a field off its front.
+#[derive(Drop)]
+pub(crate) struct Rest<'a> {
+    pub(crate) alloc: Global,
+    pub(crate) format: Format,
+    pub(crate) bytes: &'a [u8],
+}
+
+impl<'a> Rest<'a> {
+    pub(crate) fn bad(&self) -> ReadFault
+        ensures { result ≡ ReadFault.BadField (length self.now.bytes.now) }
+    {
+        ReadFault::BadField(self.bytes.len())
+    }
+
+    /// The next `len` bytes, which are there.
+    pub(crate) fn take(&mut self, len: usize) -> &'a [u8]
+        requires { len ≤ length self.old.bytes.now }
+        ensures format { self.new.format ≡ self.old.format }
+        ensures front { result.now ≡ take len self.old.bytes.now }
+        ensures rest { self.new.bytes.now ≡ drop len self.old.bytes.now }
+    {
+        let (front, rest) = self.bytes.split_at(len);
+        self.bytes = rest;
+        front
+    }
+
+    #[tactic(auto, unfolding(crate::specs::Reading::number_at))]
+    pub(crate) fn u8(&mut self) -> Result<u8, ReadFault>
+        ensures format { self.new.format ≡ self.old.format }
+        ensures field { GivesField (λ n. (n, self.new.bytes.now)) self.old.bytes.now result (number_at u8 self.old.bytes.now) }
+    {
+        if self.bytes.is_empty() {
+            return Err(self.bad());
+        }
+        let front = self.take(1);
+        Ok(u8::from_be_bytes([front[0]]))
+    }
+
+    #[tactic(auto, unfolding(crate::specs::Reading::number_at))]
+    pub(crate) fn u16(&mut self) -> Result<u16, ReadFault>
+        ensures format { self.new.format ≡ self.old.format }
+        ensures field { GivesField (λ n. (n, self.new.bytes.now)) self.old.bytes.now result (number_at u16 self.old.bytes.now) }
+    {
+        if self.bytes.len() < 2 {
+            return Err(self.bad());
+        }
+        let front = self.take(2);
+        Ok(u16::from_be_bytes([front[0], front[1]]))
+    }
+
+    #[tactic(auto, unfolding(crate::specs::Reading::number_at))]
+    pub(crate) fn u32(&mut self) -> Result<u32, ReadFault>
+        ensures format { self.new.format ≡ self.old.format }
+        ensures field { GivesField (λ n. (n, self.new.bytes.now)) self.old.bytes.now result (number_at u32 self.old.bytes.now) }
+    {
+        if self.bytes.len() < 4 {
+            return Err(self.bad());
+        }
+        let front = self.take(4);
+        Ok(u32::from_be_bytes([front[0], front[1], front[2], front[3]]))
+    }
+
+    #[tactic(auto, unfolding(crate::specs::Reading::number_at))]
+    fn u64(&mut self) -> Result<u64, ReadFault>
+        ensures format { self.new.format ≡ self.old.format }
+        ensures field { GivesField (λ n. (n, self.new.bytes.now)) self.old.bytes.now result (number_at u64 self.old.bytes.now) }
+    {
+        if self.bytes.len() < 8 {
+            return Err(self.bad());
+        }
+        let front = self.take(8);
+        Ok(u64::from_be_bytes([
+            front[0], front[1], front[2], front[3], front[4], front[5], front[6], front[7],
+        ]))
+    }
+
+    #[tactic(auto, unfolding(crate::specs::Reading::number_in_at))]
+    fn u8_in(&mut self, least: u8, greatest: u8) -> Result<u8, ReadFault>
+        ensures format { self.new.format ≡ self.old.format }
+        ensures field { GivesField (λ n. (n, self.new.bytes.now)) self.old.bytes.now result (number_in_at u8 least greatest self.old.bytes.now) }
+    {
+        let bad = self.bad();
+        let number = self.u8()?;
+        if number < least || number > greatest {
+            return Err(bad);
+        }
+        Ok(number)
+    }
+
+    #[tactic(auto, unfolding(crate::specs::Reading::number_in_at))]
+    fn u64_in(&mut self, least: u64, greatest: u64) -> Result<u64, ReadFault>
+        ensures format { self.new.format ≡ self.old.format }
+        ensures field { GivesField (λ n. (n, self.new.bytes.now)) self.old.bytes.now result (number_in_at u64 least greatest self.old.bytes.now) }
+    {
+        let bad = self.bad();
+        let number = self.u64()?;
+        if number < least || number > greatest {
+            return Err(bad);
+        }
+        Ok(number)
+    }
+
+    #[tactic(auto, unfolding(crate::specs::Reading::string_at, crate::specs::Reading::number_in_at))]
+    fn key(&mut self) -> Result<Key, ReadFault>
+        ensures format { self.new.format ≡ self.old.format }
+        ensures field { GivesField (λ k. (k, self.new.bytes.now)) self.old.bytes.now result (string_at u8 1 64 self.old.bytes.now) }
+    {
+        let bad = self.bad();
+        let len = self.u8()? as usize;
+        if self.bytes.len() < len {
+            return Err(bad);
+        }
+        match Key::new(self.alloc, self.take(len)) {
+            Ok(key) => Ok(key),
+            Err(TypeFault::Memory) => Err(ReadFault::Memory),
+            Err(_) => Err(bad),
+        }
+    }
+
+    #[tactic(auto, unfolding(crate::specs::Reading::string_at, crate::specs::Reading::number_in_at))]
+    fn value(&mut self) -> Result<Value, ReadFault>
+        ensures format { self.new.format ≡ self.old.format }
+        ensures field { GivesField (λ v. (v, self.new.bytes.now)) self.old.bytes.now result (string_at u16 0 (most_value self.old.format) self.old.bytes.now) }
+    {
+        let bad = self.bad();
+        let len = self.u16()? as usize;
+        if self.bytes.len() < len {
+            return Err(bad);
+        }
+        match Value::new_in(self.format, self.alloc, self.take(len)) {
+            Ok(value) => Ok(value),
+            Err(TypeFault::Memory) => Err(ReadFault::Memory),
+            Err(_) => Err(bad),
+        }
+    }
+
+    #[tactic(auto, unfolding(crate::specs::Reading::version_at))]
+    pub(crate) fn version(&mut self) -> Result<Version, ReadFault>
+        ensures format { self.new.format ≡ self.old.format }
+        ensures field { GivesField (λ v. (v, self.new.bytes.now)) self.old.bytes.now result (version_at self.old.bytes.now) }
+    {
+        let bad = self.bad();
+        let number = self.u64()?;
+        match Version::from_u64(number) {
+            Ok(version) => Ok(version),
+            Err(_) => Err(bad),
+        }
+    }
+
+    #[tactic(auto, unfolding(crate::specs::Reading::pair_at))]
+    fn pair(&mut self) -> Result<Dep, ReadFault>
+        ensures format { self.new.format ≡ self.old.format }
+        ensures field { GivesPart (λ d. (d, self.new.bytes.now)) result (pair_at self.old.bytes.now) }
+    {
+        let key = self.key()?;
+        let version = self.version()?;
+        Ok(Dep { key, version })
+    }
+
+    /// So many pairs. No more room is made than for those that the bytes left can hold.
+    fn pairs(&mut self, count: u16) -> Result<Vec<Dep>, ReadFault>
+        ensures format { self.new.format ≡ self.old.format }
+        ensures field { GivesPart (λ v. (v.items, self.new.bytes.now)) result (pairs_at count self.old.bytes.now) }
+    {
+        let room = usize::from(count).min(self.bytes.len() / LEAST_PAIR);
+        let mut pairs = Vec::with_capacity(self.alloc, room)?;
+        for _ in 0..count {
+            let pair = self.pair()?;
+            pairs.push(pair)?;
+        }
+        Ok(pairs)
+    }
+
+    #[tactic(auto, unfolding(crate::specs::Reading::deps_at, crate::specs::Reading::number_in_at))]
+    fn deps(&mut self) -> Result<Deps, ReadFault>
+        ensures format { self.new.format ≡ self.old.format }
+        ensures field { GivesField (λ d. (d, self.new.bytes.now)) self.old.bytes.now result (deps_at (most_deps self.old.format) self.old.bytes.now) }
+    {
+        let bad = self.bad();
+        let most = self.format.most_deps();
+        let count = self.u16()?;
+        if count as usize > most {
+            return Err(bad);
+        }
+        let pairs = match self.pairs(count) {
+            Ok(pairs) => pairs,
+            Err(ReadFault::Memory) => return Err(ReadFault::Memory),
+            Err(_) => return Err(bad),
+        };
+        match Deps::new(pairs) {
+            Ok(deps) => Ok(deps),
+            Err(_) => Err(bad),
+        }
+    }
+
+    /// The message of this kind whose fields stand at the front.
+    pub(crate) fn message(&mut self, kind: u8) -> Result<Message, ReadFault>
+        ensures contents { GivesContents (grammar self.old.format) kind self.old.bytes.now result self.new.bytes.now }
+        ensures kind { IfOk result (λ m. kind_of m ≡ kind) }
+    {
+        if kind < 9 {
+            self.front_message(kind)
+        } else if kind < 17 {
+            self.node_message(kind)
+        } else {
+            self.trace_message(kind)
+        }
+    }
+
+    fn front_message(&mut self, kind: u8) -> Result<Message, ReadFault>
+        requires { kind < 9 }
+        ensures contents { GivesContents (grammar self.old.format) kind self.old.bytes.now result self.new.bytes.now }
+        ensures kind { IfOk result (λ m. kind_of m ≡ kind) }
+    {
+        let rest = self;
+        kinds!(read_group front, kind, rest)
+    }
+
+    fn node_message(&mut self, kind: u8) -> Result<Message, ReadFault>
+        requires from { 9 ≤ kind }
+        requires to { kind < 17 }
+        ensures contents { GivesContents (grammar self.old.format) kind self.old.bytes.now result self.new.bytes.now }
+        ensures kind { IfOk result (λ m. kind_of m ≡ kind) }
+    {
+        let rest = self;
+        kinds!(read_group node, kind, rest)
+    }
+
+    fn trace_message(&mut self, kind: u8) -> Result<Message, ReadFault>
+        requires { 17 ≤ kind }
+        ensures contents { GivesContents (grammar self.old.format) kind self.old.bytes.now result self.new.bytes.now }
+        ensures kind { IfOk result (λ m. kind_of m ≡ kind) }
+    {
+        let rest = self;
+        kinds!(read_group trace, kind, rest)
+    }
+}
