@@ -22,6 +22,7 @@ HasNoJob name rows = (job : Job) → ¬ IsJobOf name rows job
 abbrev pub IsJobIn : Option (Text × List Row) → Job → Type 0
 IsJobIn met job = (name : Text) × (rows : List Row) × (met ≡ Some (name, rows)) × IsJobOf name rows job
 
+-- the subcommand that was met, if there is one, has no job
 abbrev pub HasNoJobIn : Option (Text × List Row) → Type 0
 HasNoJobIn met = (job : Job) → ¬ IsJobIn met job
 
@@ -39,6 +40,7 @@ abbrev pub Tells : List Text → Job → Type 0
 Tells [] job = IsDefault job
 Tells (word ∷ words) job = IsRead (word ∷ words) job
 
+-- the words tell no job
 abbrev pub TellsNone : List Text → Type 0
 TellsNone words = (job : Job) → ¬ Tells words job
 

@@ -24,9 +24,10 @@ fn as_fault(alloc: Global, error: Error) -> LineFault
     }
 }
 
-/// The job that the words ask for: `audit TRACE`, `show TRACE`, or none, which is as `audit -`. `Usage` where they are
-/// no job and ask for no help, and `Help` where they ask for it, by `--help`, `-h` or `help`, each with `clap`'s text.
-/// `words` are those after the program's name.
+/// The job that the words ask for: `audit TRACE`, `show TRACE`, or none, which is as `audit -`. `words` are those after
+/// the program's name. `Usage` where they are no job, and `Help` where they ask for help, by `--help`, `-h` or `help`,
+/// each with `clap`'s text; `Memory` where a growth was refused. No words that tell a job are answered with `Usage` or
+/// `Help`, and words that only ask for help are not answered with `Usage`.
 pub fn line<'a>(alloc: Global, words: &'a [&'a str]) -> Result<Job<'a>, LineFault>
     ensures job { IfOk result (Tells (map (λ s. s.now) words.entry.now)) }
     ensures fault { IfErr result (Explains (map (λ s. s.now) words.entry.now)) }
@@ -38,7 +39,11 @@ pub fn line<'a>(alloc: Global, words: &'a [&'a str]) -> Result<Job<'a>, LineFaul
     match command.try_get_matches_from(words) {
         Ok(matches) => match job_in(&matches) {
             Some(job) => Ok(job),
-            None => Err(LineFault::Usage(String::from_str(alloc, "error: no such command\n")?)),
+            // Each subcommand has a job, but no clause of the parse says so of what it takes.
+            None => Err(LineFault::Usage(String::from_str(
+                alloc,
+                "error: no such command\n",
+            )?)),
         },
         Err(error) => Err(as_fault(alloc, error)),
     }

@@ -1,22 +1,23 @@
 -- A text that comes in pieces: what holds of the bytes so far.
 use Rattle.std.proofs.Common.{◌≡◌, ◌≢◌, ℕ, zero, suc, ◌+◌, ◌<◌, Bool, true, false, List, [], ◌∷◌, ◌++◌, length, drop, Option, Some, None, Result, Ok, Err, refl, sym, ap, subst, ◌∙◌, append_assoc, arith, inl, inr}
-use Rattle.std.specs.Prelude.{◌⊎◌, IfSome, IfOk}
+use Rattle.std.specs.Prelude.{◌⊎◌, IfSome, IfOk, unwrap_or}
 use Rattle.std.specs.Io.KnownBytes.{Consumes, IsAtEnd}
 use Rattle.std.proofs.lemmas.List.{length-append, length-drop, append-nil}
 use Rattle.cops_wire.specs.Field.{IsBytes}
 use Rattle.cops_wire.specs.Message.{parts}
 use Rattle.cops_trace.specs.declared.fault.TraceFault.{TraceFault}
 use Rattle.cops_trace.specs.declared.fault.TraceFault.TheVariants.{Memory, ReadFailed, Cut, BytesAfterEnd}
+use Rattle.cops_trace.specs.declared.trace.Partial.{Partial}
 use Rattle.cops_trace.specs.declared.found.Item.{Item}
 use Rattle.cops_trace.specs.declared.found.Item.TheVariants.{Head, Entry, End}
 use Rattle.cops_trace.specs.declared.found.Found.{Found}
 use Rattle.cops_trace.specs.declared.found.Found.TheVariants.{Gives, Waits, Fails}
 use Rattle.cops_trace.specs.Text.{ATrace, IsTrace, spelled, beginning, end_text, text}
 use Rattle.cops_trace.specs.Next.{Progress, Stands}
-use Rattle.cops_trace.specs.Answer.{progress_of, progress_at, front, Begins, HasFault, Says, Agrees}
+use Rattle.cops_trace.specs.Answer.{progress_of, progress_at, front, Begins, HasFault, Says, IsCutAfter, BeginsAs, Agrees}
 use Rattle.cops_trace.specs.Answer as answer
-use Rattle.cops_trace.specs.Parsing.{Stage, progress_with, progress_in, with_item, is_end, after, StepGives, FedTo, Fed, IsSettledAt, IsSettled, Advances}
-use Rattle.cops_trace.proofs.Items.{item_message, Stood, stood, stands_still, front_with, trace_with, waits_len, nothing_waits, fails_really}
+use Rattle.cops_trace.specs.Parsing.{Stage, progress_with, progress_in, with_item, is_end, after, StepGives, FedTo, Fed, IsSettledAt, IsSettled, HasFailed, Advances}
+use Rattle.cops_trace.proofs.Items.{item_message, Stood, stood, stands_still, front_with, trace_with, waits_len, nothing_waits, is_of_frame, frame_fails}
 use Rattle.cops_trace.proofs.Readings.{front_len, text_len, one_answer, only_answer}
 
 -- ---- bytes in a row
@@ -108,7 +109,7 @@ nothing_before : (xs ys : List ℕ) → xs ≢ [] → xs ++ ys ≢ []
 nothing_before [] ys some e = some refl
 nothing_before (x ∷ xs) ys some e = cc
 
-pub fed_after_end : (fed : List ℕ) (s : Stage) (more : List ℕ) → Fed fed s → s.ended ≡ true → s.rest ≢ [] → HasFault (fed ++ more) (BytesAfterEnd s.at)
+fed_after_end : (fed : List ℕ) (s : Stage) (more : List ℕ) → Fed fed s → s.ended ≡ true → s.rest ≢ [] → HasFault (fed ++ more) (BytesAfterEnd s.at)
 fed_after_end fed s more h ended some =
     let o = subst (FedTo fed s) ended h.stage in
     inr (inr (record {
@@ -120,11 +121,21 @@ fed_after_end fed s more h ended some =
       fault_is = ap (λ (n : ℕ). BytesAfterEnd n) o.4;
     }))
 
+pub more_fails : (fed : List ℕ) (s : Stage) → Fed fed s → s.ended ≡ true → s.rest ≢ [] → HasFailed fed (BytesAfterEnd s.at)
+more_fails fed s h ended some = record { no_cut = λ offset q. cc; device = λ q. cc; stays = λ more. fed_after_end fed s more h ended some }
+
 pub fed_cut : (fed : List ℕ) (s : Stage) → Fed fed s → s.ended ≡ false → IsSettled s → Says fed (Err (Cut s.at))
 fed_cut fed s h going settled =
     let o = open_of fed s h going in
     let st : Stands (progress_in s) s.rest Waits = subst (λ (b : Bool). IsSettledAt b s) going settled in
     inr (inl (record { begun = s.begun; rest = s.rest; begins = o.begins; stands = stands_at fed s Waits o st; fault_is = ap (λ (n : ℕ). Cut n) o.place }))
+
+-- the head and the records before a cut
+pub fed_so_far : (fed : List ℕ) (s : Stage) → Fed fed s → s.ended ≡ false → IsSettled s → IsCutAfter fed (unwrap_or s.begun (record { clients = 0; records = [] })) s.at
+fed_so_far fed s h going settled =
+    let o = open_of fed s h going in
+    let st : Stands (progress_in s) s.rest Waits = subst (λ (b : Bool). IsSettledAt b s) going settled in
+    record { begun = s.begun; rest = s.rest; begins = o.begins; stands = stands_at fed s Waits o st; place = o.place; trace_is = refl }
 
 pub fed_whole : (fed : List ℕ) (s : Stage) (t : ATrace) → Fed fed s → s.ended ≡ true → s.begun ≡ Some t → IsSettled s → Says fed (Ok t)
 fed_whole fed s t h ended begun settled =
@@ -143,7 +154,13 @@ fed_ended fed s h ended none = let o = subst (FedTo fed s) ended h.stage in let 
 
 pub step_fails : (fed : List ℕ) (s new : Stage) (e : TraceFault) → Fed fed s → s.ended ≡ false → (e ≡ Memory) ⊎ Stands (progress_in s) s.rest (Fails e) → Advances fed (Err e) new
 step_fails fed s new e h going (inl m) = inl m
-step_fails fed s new e h going (inr st) = inr (λ more. fed_fault fed s e more h going st)
+step_fails fed s new e h going (inr st) =
+    let real = frame_fails (progress_in s) st.frame e st.found_is in
+    inr (record {
+      no_cut = λ offset q. let bad : is_of_frame (Cut offset) ≡ true = subst (λ (x : TraceFault). is_of_frame x ≡ true) q real in cc;
+      device = λ q. let bad : is_of_frame ReadFailed ≡ true = subst (λ (x : TraceFault). is_of_frame x ≡ true) q real in cc;
+      stays = λ more. fed_fault fed s e more h going st;
+    })
 
 pub step_waits : (fed : List ℕ) (s new : Stage) → Fed fed s → s.ended ≡ false → StepGives s (Ok false) new → Fed fed new × IsSettled new
 step_waits fed s new h going st = subst (λ (x : Stage). Fed fed x × IsSettled x) (sym st.1) (h, subst (λ (b : Bool). IsSettledAt b s) (sym going) st.0)
@@ -181,14 +198,13 @@ none_settled = nothing_waits
 
 -- ---- the device is not at fault
 
-no_device : (bytes : List ℕ) → HasFault bytes ReadFailed → ⊥
-no_device bytes (inl h) = fails_really (progress_at h.begun) h.stands.frame h.stands.found_is
-no_device bytes (inr (inl h)) = let e = h.fault_is in cc
-no_device bytes (inr (inr h)) = let e = h.fault_is in cc
-
 pub advance_device : (fed : List ℕ) (e : TraceFault) (new : Stage) → Advances fed (Err e) new → e ≢ ReadFailed
 advance_device fed e new (inl m) r = let both : Memory ≡ ReadFailed = sym m ∙ r in cc
-advance_device fed e new (inr h) r = no_device (fed ++ []) (subst (HasFault (fed ++ [])) r (h []))
+advance_device fed e new (inr h) r = h.device r
+
+pub advance_no_cut : (fed : List ℕ) (e : TraceFault) (new : Stage) (offset : ℕ) → Advances fed (Err e) new → e ≢ Cut offset
+advance_no_cut fed e new offset (inl m) r = let both : Memory ≡ Cut offset = sym m ∙ r in cc
+advance_no_cut fed e new offset (inr h) r = h.no_cut offset r
 
 -- ---- what a reader has left
 
@@ -217,7 +233,7 @@ pub fault_read : (a b : Option (List ℕ)) (fed : List ℕ) (e : TraceFault) (ne
 fault_read a b fed e new p (inl m) = inl m
 fault_read None b fed e new p (inr h) = inr (inr tt)
 fault_read (Some u) None fed e new p (inr h) = absurd p
-fault_read (Some u) (Some v) fed e new p (inr h) = inr (inr (subst (λ (x : List ℕ). HasFault x e) (sym p) (h v)))
+fault_read (Some u) (Some v) fed e new p (inr h) = inr (inr (subst (λ (x : List ℕ). HasFault x e) (sym p) (h.stays v)))
 
 -- ---- the answer
 
@@ -244,3 +260,8 @@ read_one (Some u) s (Ok t) h says = λ x k. one_answer u x (Ok t) h.0.fits k (sa
 pub read_fault : (a : Option (List ℕ)) (e : TraceFault) → (e ≡ Memory) ⊎ (e ≡ ReadFailed) ⊎ IfSome a (λ bytes. HasFault bytes e) → IfSome a (λ bytes. Agrees bytes (Err e))
 read_fault None e h = tt
 read_fault (Some u) e h = h
+
+pub so_far_says : (a : Option (List ℕ)) (s : Stage) (p : Partial) → IfSome a (λ bytes. Fed bytes s × IsSettled s) → ((fed : List ℕ) → Fed fed s → IsSettled s → BeginsAs fed p.trace p.cut)
+    → IfSome a (λ bytes. BeginsAs bytes p.trace p.cut)
+so_far_says None s p h says = tt
+so_far_says (Some u) s p h says = says u h.0 h.1

@@ -1,5 +1,5 @@
 -- The items of a text: the message of each, and what stands where one does.
-use Rattle.std.proofs.Common.{◌≡◌, ◌≢◌, ℕ, ◌^◌, ◌<◌, ◌≤◌, Bool, true, false, cond, ltb, eqb, List, [], ◌++◌, length, drop, Option, Some, None, Result, Ok, Err, refl, sym, ap, subst, ◌∙◌, arith, inl, inr, eq-eqb}
+use Rattle.std.proofs.Common.{◌≡◌, ◌≢◌, ℕ, ◌+◌, ◌^◌, ◌<◌, ◌≤◌, Bool, true, false, cond, ltb, eqb, List, [], ◌++◌, length, drop, Option, Some, None, Result, Ok, Err, refl, sym, ap, subst, ◌∙◌, arith, inl, inr, eq-eqb}
 use Rattle.std.specs.Prelude.{◌&&◌, IfSome}
 use Rattle.std.proofs.lemmas.Bool.{ltb-true, lt-ltb, eqb-true}
 use Rattle.cops_types.specs.declared.format.Format.TheVariants.{One}
@@ -17,6 +17,7 @@ use Rattle.cops_wire.proofs.Messages.{parts-same}
 use Rattle.cops_wire.proofs.Codec.{same_answer, spelling_answered, answer_splits, spelling_bounds}
 use Rattle.cops_wire.proofs.Frames.{answer_stays}
 use Rattle.cops_trace.specs.declared.record.Record.{Record}
+use Rattle.cops_trace.specs.declared.fault.TraceFault.{TraceFault}
 use Rattle.cops_trace.specs.declared.fault.TraceFault.TheVariants as fault
 use Rattle.cops_trace.specs.declared.found.Item.{Item}
 use Rattle.cops_trace.specs.declared.found.Item.TheVariants.{Head, Entry, End}
@@ -247,40 +248,61 @@ pub spelled_len : (m : Message) → IsLegal m → length (spelled m) ≤ 32772
 unfolding spelled
 spelled_len m legal = let b = spelling_bounds One (parts m) legal in omega (arith, b.1)
 
--- ---- the device is not at fault
+-- ---- the faults of frames
 
-record_real : (p : Progress) (s : Record) (index n : ℕ) → record_found p s index n ≢ Fails fault.ReadFailed
-record_real p s index n =
+-- a fault of a frame that is there: not want of memory, a failed read, a cut, or bytes after the end
+abbrev pub is_of_frame : TraceFault → Bool
+is_of_frame fault.Memory = false
+is_of_frame fault.ReadFailed = false
+is_of_frame (fault.Cut offset) = false
+is_of_frame (fault.BytesAfterEnd offset) = false
+is_of_frame _ = true
+
+abbrev FailsAsFrame : Found → Type 0
+FailsAsFrame found = (e : TraceFault) → found ≡ Fails e → is_of_frame e ≡ true
+
+either_fails : (b : Bool) (x y : Found) → FailsAsFrame x → FailsAsFrame y → FailsAsFrame (cond b x y)
+either_fails true x y p q = p
+either_fails false x y p q = q
+
+fails_so : (e : TraceFault) → is_of_frame e ≡ true → FailsAsFrame (Fails e)
+fails_so e h d q = let same : e ≡ d = cc in subst (λ (x : TraceFault). is_of_frame x ≡ true) same h
+
+gives_so : (i : Item) (n : ℕ) → FailsAsFrame (Gives i n)
+gives_so i n d q = absurd cc
+
+record_fails : (p : Progress) (s : Record) (index n : ℕ) → FailsAsFrame (record_found p s index n)
+record_fails p s index n =
     let inner = cond (ltb (p.turn s.client) 1000000 && ltb p.total 16000000) (Gives (Entry s) n) (Fails (fault.TooLong p.at)) in
-    let first = neither (ltb (p.turn s.client) 1000000 && ltb p.total 16000000) (Gives (Entry s) n) (Fails (fault.TooLong p.at)) (Fails fault.ReadFailed) (λ q. cc) (λ q. cc) in
-    let second = neither (eqb index (p.turn s.client)) inner (Fails (fault.IndexOutOfTurn p.at)) (Fails fault.ReadFailed) first (λ q. cc) in
-    neither (ltb s.client p.clients) (cond (eqb index (p.turn s.client)) inner (Fails (fault.IndexOutOfTurn p.at))) (Fails (fault.ClientOutOfRange p.at)) (Fails fault.ReadFailed) second (λ q. cc)
+    let first = either_fails (ltb (p.turn s.client) 1000000 && ltb p.total 16000000) (Gives (Entry s) n) (Fails (fault.TooLong p.at)) (gives_so (Entry s) n) (fails_so (fault.TooLong p.at) refl) in
+    let second = either_fails (eqb index (p.turn s.client)) inner (Fails (fault.IndexOutOfTurn p.at)) first (fails_so (fault.IndexOutOfTurn p.at) refl) in
+    either_fails (ltb s.client p.clients) (cond (eqb index (p.turn s.client)) inner (Fails (fault.IndexOutOfTurn p.at))) (Fails (fault.ClientOutOfRange p.at)) second (fails_so (fault.ClientOutOfRange p.at) refl)
 
-later_real : (p : Progress) (m : Message) (n : ℕ) → later_message p m n ≢ Fails fault.ReadFailed
-later_real p (TracePut client index key value version) n e = record_real p (record { client = client; op = Put key value version }) index n e
-later_real p (TraceGot client index key value version) n e = record_real p (record { client = client; op = Got key value version }) index n e
-later_real p (TraceMissed client index key) n e = record_real p (record { client = client; op = Missed key }) index n e
-later_real p (TraceEnd ops) n e = neither (eqb ops p.total) (Gives End n) (Fails (fault.BadCount p.at)) (Fails fault.ReadFailed) (λ q. cc) (λ q. cc) e
-later_real p _ n e = cc
+later_fails : (p : Progress) (m : Message) (n : ℕ) → FailsAsFrame (later_message p m n)
+later_fails p (TracePut client index key value version) n = record_fails p (record { client = client; op = Put key value version }) index n
+later_fails p (TraceGot client index key value version) n = record_fails p (record { client = client; op = Got key value version }) index n
+later_fails p (TraceMissed client index key) n = record_fails p (record { client = client; op = Missed key }) index n
+later_fails p (TraceEnd ops) n = either_fails (eqb ops p.total) (Gives End n) (Fails (fault.BadCount p.at)) (gives_so End n) (fails_so (fault.BadCount p.at) refl)
+later_fails p _ n = fails_so (fault.NotARecord p.at) refl
 
-first_real : (m : Message) (n : ℕ) → first_message m n ≢ Fails fault.ReadFailed
-first_real (TraceHead format clients) n e = neither (eqb format 1) (Gives (Head clients) n) (Fails (fault.BadFormat 0)) (Fails fault.ReadFailed) (λ q. cc) (λ q. cc) e
-first_real _ n e = cc
+first_fails : (m : Message) (n : ℕ) → FailsAsFrame (first_message m n)
+first_fails (TraceHead format clients) n = either_fails (eqb format 1) (Gives (Head clients) n) (Fails (fault.BadFormat 0)) (gives_so (Head clients) n) (fails_so (fault.BadFormat 0) refl)
+first_fails _ n = fails_so (fault.NoHead 0) refl
 
-unread_real : (at : ℕ) (e : WireFault) → unread at e ≢ Fails fault.ReadFailed
-unread_real at wire.Memory h = cc
-unread_real at wire.Short h = cc
-unread_real at wire.BadLength h = cc
-unread_real at wire.UnknownKind h = cc
-unread_real at (wire.BadField offset) h = cc
-unread_real at wire.TrailingBytes h = cc
+unread_fails : (at : ℕ) (e : WireFault) → FailsAsFrame (unread at e)
+unread_fails at wire.Memory = fails_so (fault.Frame wire.Memory at) refl
+unread_fails at wire.Short = λ d q. absurd cc
+unread_fails at wire.BadLength = fails_so (fault.Frame wire.BadLength at) refl
+unread_fails at wire.UnknownKind = fails_so (fault.Frame wire.UnknownKind at) refl
+unread_fails at (wire.BadField offset) = fails_so (fault.Frame (wire.BadField offset) (at + offset)) refl
+unread_fails at wire.TrailingBytes = fails_so (fault.Frame wire.TrailingBytes at) refl
 
--- no frame's fault is that the reader failed
-pub fails_really : (p : Option Progress) (d : Result (Message × ℕ) WireFault) → found_in p d ≢ Fails fault.ReadFailed
-fails_really None (Ok frame) e = first_real frame.0 frame.1 e
-fails_really None (Err x) e = unread_real 0 x e
-fails_really (Some p) (Ok frame) e = later_real p frame.0 frame.1 e
-fails_really (Some p) (Err x) e = unread_real p.at x e
+-- what fails is a frame that is there
+pub frame_fails : (p : Option Progress) (d : Result (Message × ℕ) WireFault) (e : TraceFault) → found_in p d ≡ Fails e → is_of_frame e ≡ true
+frame_fails None (Ok frame) = first_fails frame.0 frame.1
+frame_fails None (Err x) = unread_fails 0 x
+frame_fails (Some p) (Ok frame) = later_fails p frame.0 frame.1
+frame_fails (Some p) (Err x) = unread_fails p.at x
 
 -- ---- a front of a text that grows by an item
 

@@ -73,13 +73,13 @@ pub length-records_from : (h : Sessions) (earlier cs : List ℕ) → length (rec
 length-records_from h earlier [] = refl
 length-records_from h earlier (c ∷ cs) = ap suc (length-records_from h (earlier ++ c ∷ []) cs)
 
-turn-records_from : (h : Sessions) (d : ℕ) (earlier cs : List ℕ) → turn d (records_from h earlier cs) ≡ times d cs
+pub turn-records_from : (h : Sessions) (d : ℕ) (earlier cs : List ℕ) → turn d (records_from h earlier cs) ≡ times d cs
 turn-records_from h d earlier [] = refl
 turn-records_from h d earlier (c ∷ cs) =
     turn-cons d (record { client = c; op = op_in h c (times c earlier) }) (records_from h (earlier ++ c ∷ []) cs)
     ∙ ap (λ (n : ℕ). cond (eqb c d) 1 0 + n) (turn-records_from h d (earlier ++ c ∷ []) cs) ∙ sym (times-cons d c cs)
 
-records_push : (h : Sessions) (earlier cs : List ℕ) (c : ℕ) → records_from h earlier (cs ++ c ∷ []) ≡ records_from h earlier cs ++ record { client = c; op = op_in h c (times c (earlier ++ cs)) } ∷ []
+pub records_push : (h : Sessions) (earlier cs : List ℕ) (c : ℕ) → records_from h earlier (cs ++ c ∷ []) ≡ records_from h earlier cs ++ record { client = c; op = op_in h c (times c (earlier ++ cs)) } ∷ []
 records_push h earlier [] c = ap (λ (e : List ℕ). let r : Record = record { client = c; op = op_in h c (times c e) } in r ∷ []) (sym (append-nil earlier))
 records_push h earlier (d ∷ cs) c =
     let first : Record = record { client = d; op = op_in h d (times d earlier) } in
@@ -123,7 +123,7 @@ records_stay h c op earlier (d ∷ cs) inside bound =
 
 -- ---- the whole
 
-kept_len : (h : Sessions) (cs : List ℕ) (c : ℕ) → IsKept h cs → length (get_or h c []) ≡ times c cs
+pub kept_len : (h : Sessions) (cs : List ℕ) (c : ℕ) → IsKept h cs → length (get_or h c []) ≡ times c cs
 kept_len h cs c k =
     ap (λ (g : Sessions). length (get_or g c [])) k.sessions ∙ session_turn (trace_of h cs) c k.is_trace ∙ turn-records_from h c [] cs
 

@@ -1,7 +1,9 @@
 pub mod Lists
 pub mod Growth
 pub mod Keeping
+pub mod Spellings
 pub mod Items
 pub mod Founds
 pub mod Readings
 pub mod Feeding
+pub mod Writings

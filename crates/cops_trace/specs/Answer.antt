@@ -1,8 +1,9 @@
 -- What a trace's bytes are: the text of a trace, or a text with a first fault.
-use Rattle.std.specs.Prelude.{◌≡◌, ◌≢◌, ℕ, ◌⊎◌, List, [], ◌++◌, length, Option, Some, None, IfSome, Result, Ok, Err, option_map}
+use Rattle.std.specs.Prelude.{◌≡◌, ◌≢◌, ℕ, ◌⊎◌, List, [], ◌++◌, length, Option, Some, None, IfSome, Result, Ok, Err, option_map, unwrap_or}
 use Rattle.cops_trace.specs.declared.fault.TraceFault.{TraceFault}
 use Rattle.cops_trace.specs.declared.fault.TraceFault.TheVariants.{Memory, ReadFailed, Cut, BytesAfterEnd}
 use Rattle.cops_trace.specs.declared.found.Found.TheVariants.{Waits, Fails}
+use Rattle.cops_trace.specs.declared.trace.Partial.{Partial}
 use Rattle.cops_trace.specs.Text.{ATrace, IsTrace, turn, beginning, text}
 use Rattle.cops_trace.specs.Next.{Progress, Stands}
 
@@ -44,6 +45,15 @@ pub record IsCut (bytes : List ℕ) (e : TraceFault) : Type 0 where
   pub stands : Stands (progress_at begun) rest Waits
   pub fault_is : e ≡ Cut (length (front begun))
 
+-- the bytes are cut at this place, and before it come the head and the records of a trace, or nothing
+pub record IsCutAfter (bytes : List ℕ) (t : ATrace) (offset : ℕ) : Type 0 where
+  pub begun : Option ATrace
+  pub rest : List ℕ
+  pub begins : Begins bytes begun rest
+  pub stands : Stands (progress_at begun) rest Waits
+  pub place : offset ≡ length (front begun)
+  pub trace_is : t ≡ unwrap_or begun (record { clients = 0; records = [] })
+
 -- there are bytes after a whole text
 pub record HasMore (bytes : List ℕ) (e : TraceFault) : Type 0 where
   pub trace : ATrace
@@ -71,3 +81,13 @@ Agrees bytes (Err e) = (e ≡ Memory) ⊎ (e ≡ ReadFailed) ⊎ HasFault bytes 
 abbrev pub Gives : Result ATrace TraceFault → Result ATrace TraceFault → Type 0
 Gives answer (Ok t) = answer ≡ Ok t
 Gives answer (Err e) = (e ≡ Memory) ⊎ (e ≡ ReadFailed) ⊎ (answer ≡ Err e)
+
+-- the bytes are this trace's text, or are cut at this place after its whole records
+abbrev pub BeginsAs : List ℕ → ATrace → Option ℕ → Type 0
+BeginsAs bytes t None = Says bytes (Ok t)
+BeginsAs bytes t (Some offset) = IsCutAfter bytes t offset
+
+-- what was read so far holds of the bytes: a cut is no fault
+abbrev pub AgreesSoFar : List ℕ → Result Partial TraceFault → Type 0
+AgreesSoFar bytes (Ok p) = BeginsAs bytes p.trace p.cut
+AgreesSoFar bytes (Err e) = (e ≡ Memory) ⊎ (e ≡ ReadFailed) ⊎ (HasFault bytes e × ((offset : ℕ) → e ≢ Cut offset))

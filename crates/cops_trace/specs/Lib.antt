@@ -1,3 +1,4 @@
+pub mod Faults
 pub mod Text
 pub mod Next
 pub mod Answer

@@ -1,8 +1,8 @@
 -- What is kept while a trace's text comes in pieces.
-use Rattle.std.specs.Prelude.{◌≡◌, ℕ, ◌+◌, ◌<◌, ◌≤◌, ◌⊎◌, Bool, true, false, List, [], ◌++◌, length, drop, Option, Some, None, Result, Ok, Err, option_map}
+use Rattle.std.specs.Prelude.{◌≡◌, ◌≢◌, ℕ, ◌+◌, ◌<◌, ◌≤◌, ◌⊎◌, Bool, true, false, List, [], ◌++◌, length, drop, Option, Some, None, Result, Ok, Err, option_map}
 use Rattle.cops_wire.specs.Field.{IsBytes}
 use Rattle.cops_trace.specs.declared.fault.TraceFault.{TraceFault}
-use Rattle.cops_trace.specs.declared.fault.TraceFault.TheVariants.{Memory}
+use Rattle.cops_trace.specs.declared.fault.TraceFault.TheVariants.{Memory, ReadFailed, Cut}
 use Rattle.cops_trace.specs.declared.found.Item.{Item}
 use Rattle.cops_trace.specs.declared.found.Item.TheVariants.{Head, Entry, End}
 use Rattle.cops_trace.specs.declared.found.Found.{Found}
@@ -83,7 +83,13 @@ IsSettledAt true s = s.rest ≡ []
 abbrev pub IsSettled : Stage → Type 0
 IsSettled s = IsSettledAt s.ended s
 
--- all whole items were taken, or there is a fault, whatever comes
+-- there is a fault, whatever comes, so it is no cut
+pub record HasFailed (fed : List ℕ) (e : TraceFault) : Type 0 where
+  pub no_cut : (offset : ℕ) → e ≢ Cut offset
+  pub device : e ≢ ReadFailed
+  pub stays : (more : List ℕ) → HasFault (fed ++ more) e
+
+-- all whole items were taken, or it has failed
 abbrev pub Advances : List ℕ → Result (Unit {0}) TraceFault → Stage → Type 0
 Advances fed (Ok u) new = Fed fed new × IsSettled new
-Advances fed (Err e) new = (e ≡ Memory) ⊎ ((more : List ℕ) → HasFault (fed ++ more) e)
+Advances fed (Err e) new = (e ≡ Memory) ⊎ HasFailed fed e

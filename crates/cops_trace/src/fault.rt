@@ -1,6 +1,8 @@
 //! Why bytes are no trace.
 ghost use Rattle.std.specs.Prelude.{◌≡◌};
 ghost use Rattle.cops_trace.specs.declared.fault.TraceFault.TheVariants.{Memory as OutOfMemory};
+ghost use Rattle.cops_trace.specs.declared.fault.WriteFault.TheVariants.{Memory as NoMemory};
+ghost use Rattle.cops_trace.specs.Faults.{offset_of};
 
 use cops_types::Memory;
 use cops_wire::WireFault;
@@ -46,6 +48,45 @@ pub enum TraceFault {
     /// 11: a later frame is neither a record nor the end.
     #[error("not a record at {offset}")]
     NotARecord { offset: u64 },
+}
+
+impl TraceFault {
+    /// The fault's place in the text, if it has one.
+    pub fn offset(&self) -> Option<u64>
+        ensures { result ≡ offset_of self.now }
+    {
+        match *self {
+            TraceFault::Memory | TraceFault::ReadFailed => None,
+            TraceFault::NoHead { offset }
+            | TraceFault::BadFormat { offset }
+            | TraceFault::ClientOutOfRange { offset }
+            | TraceFault::IndexOutOfTurn { offset }
+            | TraceFault::BadCount { offset }
+            | TraceFault::BytesAfterEnd { offset }
+            | TraceFault::Cut { offset }
+            | TraceFault::Frame { offset, .. }
+            | TraceFault::TooLong { offset }
+            | TraceFault::NotARecord { offset } => Some(offset),
+        }
+    }
+}
+
+/// Why no trace was written.
+#[derive(Clone, Copy, Debug, PartialEq, Eq, Error)]
+pub enum WriteFault {
+    #[error("out of memory")]
+    Memory,
+    /// 1: the writer failed, after exactly so many of the text's first bytes.
+    #[error("the writer failed after {written} bytes")]
+    WriteFailed { written: usize },
+}
+
+impl From<Memory> for WriteFault {
+    ghost from_gives = { λ _ e. e ≡ NoMemory };
+
+    fn from(_e: Memory) -> WriteFault {
+        WriteFault::Memory
+    }
 }
 
 impl From<Memory> for TraceFault {

@@ -11,13 +11,15 @@ mod parser;
 mod reading;
 mod record;
 mod trace;
+mod writing;
 
-pub use fault::TraceFault;
+pub use fault::{TraceFault, WriteFault};
 pub use found::{Found, Item};
 pub use lines::fault_line;
-pub use reading::read_trace;
+pub use reading::{read_so_far, read_trace};
 pub use record::Record;
-pub use trace::Trace;
+pub use trace::{Partial, Trace};
+pub use writing::{write_text, write_trace};
 
 #[cfg(test)]
 mod tests;

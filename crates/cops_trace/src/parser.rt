@@ -7,7 +7,7 @@ use crate::fault::TraceFault;
 use crate::finding::{first_found, later_found};
 use crate::found::{Found, Item};
 use crate::record::Record;
-use crate::trace::Trace;
+use crate::trace::{Partial, Trace};
 use cops_types::{Memory, TypeFault};
 use std::alloc::Global;
 use std::marker::Model;
@@ -37,7 +37,7 @@ impl Model for Parser {
 impl Parser {
     ghost use Rattle.std.specs.Prelude.{◌≡◌, ◌≤◌, ◌<◌, ◌^◌, ◌+◌, ◌++◌, [], None, false, length, OnOk, OnErr, IfOk, IsErrOf, Err, List, ℕ};
     ghost use Rattle.cops_trace.specs.Parsing.{Stage, progress_in, IsWithin, HasRoom, ItemHasRoom, with_item, is_end, StepGives, Fed, Advances, IsSettled};
-    ghost use Rattle.cops_trace.specs.Answer.{Says};
+    ghost use Rattle.cops_trace.specs.Answer.{Says, BeginsAs};
     ghost use Rattle.cops_trace.specs.Next.{Stands};
 
     pub(crate) fn new(alloc: Global) -> Parser
@@ -166,6 +166,34 @@ impl Parser {
         match begun {
             Some(trace) if ended => Ok(trace),
             _ => Err(TraceFault::Cut { offset: at }),
+        }
+    }
+
+    /// The whole records before a cut, or all of them.
+    pub(crate) fn so_far(self) -> Result<Partial, Memory>
+        ensures { (fed : List ℕ) → Fed fed self → IsSettled self → IfOk result (λ p. BeginsAs fed p.trace p.cut) }
+    {
+        let Parser {
+            alloc,
+            bytes: _,
+            start: _,
+            begun,
+            at,
+            ended,
+        } = self;
+        match begun {
+            Some(trace) if ended => Ok(Partial { trace, cut: None }),
+            Some(trace) => Ok(Partial {
+                trace,
+                cut: Some(at),
+            }),
+            None => {
+                let trace = Trace::new(alloc, 0)?;
+                Ok(Partial {
+                    trace,
+                    cut: Some(at),
+                })
+            }
         }
     }
 }

@@ -1,16 +1,16 @@
 //! A trace from a reader.
-ghost use Rattle.std.specs.Prelude.{◌≡◌, ◌⊎◌, ℕ, ◌<◌, List, Result, Ok, IfOk, IfErr, IfSome, IsErrOf};
+ghost use Rattle.std.specs.Prelude.{◌≡◌, ◌≢◌, ◌⊎◌, ℕ, ◌<◌, List, Result, Ok, IfOk, IfErr, IfSome, IsErrOf};
 ghost use Rattle.cops_types.specs.Failures.{Failed};
 ghost use Rattle.cops_types.specs.Counted.{failures, inner};
 ghost use Rattle.cops_trace.specs.declared.fault.TraceFault.{TraceFault as AFault};
 ghost use Rattle.cops_wire.specs.Field.{IsBytes};
 ghost use Rattle.cops_trace.specs.Text.{ATrace};
-ghost use Rattle.cops_trace.specs.Answer.{Says, Agrees, Gives, HasFault};
+ghost use Rattle.cops_trace.specs.Answer.{Says, Agrees, AgreesSoFar, Gives, HasFault};
 ghost use Rattle.cops_trace.specs.Parsing.{Fed, IsSettled};
 
 use crate::fault::TraceFault;
 use crate::parser::Parser;
-use crate::trace::Trace;
+use crate::trace::{Partial, Trace};
 use cops_types::Counted;
 use std::alloc::Global;
 use std::io::Read;
@@ -25,6 +25,7 @@ const READS: u64 = 1 << 40;
 fn read_items<R: Read>(alloc: Global, reader: &mut Counted<R>) -> Result<Parser, TraceFault>
     ensures ok { IfOk result (λ parser. IfSome (R.remaining (inner reader.old)) (λ bytes. Fed bytes parser × IsSettled parser)) }
     ensures err { IfErr result (λ e. (e ≡ TraceFault.Memory) ⊎ (e ≡ TraceFault.ReadFailed) ⊎ IfSome (R.remaining (inner reader.old)) (λ bytes. HasFault bytes e)) }
+    ensures no_cut { IfErr result (λ e. (offset : ℕ) → e ≢ TraceFault.Cut offset) }
     ensures failed { IsErrOf result TraceFault.ReadFailed → Failed (failures reader.old) (failures reader.new) }
 {
     let mut parser = Parser::new(alloc);
@@ -54,4 +55,15 @@ pub fn read_trace<R: Read>(alloc: Global, reader: &mut Counted<R>) -> Result<Tra
 {
     let parser = read_items(alloc, reader)?;
     parser.finish()
+}
+
+/// The whole records before a cut and the cut's place, for a whole text all its records and no place; each other fault
+/// as `read_trace` answers it. Where the head is cut there are no clients and no records.
+pub fn read_so_far<R: Read>(alloc: Global, reader: &mut Counted<R>) -> Result<Partial, TraceFault>
+    ensures says { IfSome (R.remaining (inner reader.old)) (λ bytes. AgreesSoFar bytes result) }
+    ensures failed { IsErrOf result TraceFault.ReadFailed → Failed (failures reader.old) (failures reader.new) }
+{
+    let parser = read_items(alloc, reader)?;
+    let partial = parser.so_far()?;
+    Ok(partial)
 }

@@ -1,6 +1,11 @@
-ghost use Rattle.cops_trace.specs.Text.{IsOp};
+ghost use Rattle.std.specs.Prelude.{◌≡◌, IfOk};
+ghost use Rattle.cops_types.specs.declared.format.Format.TheVariants.{One};
+ghost use Rattle.cops_wire.specs.Grammar.{grammar, IsMessage};
+ghost use Rattle.cops_wire.specs.Message.{parts};
+ghost use Rattle.cops_trace.specs.Text.{IsOp, op_message};
 
-use cops_types::{History, Memory, Op, TypeFault};
+use cops_types::{History, Memory, Op, OpName, TypeFault};
+use cops_wire::{Message, encode};
 use std::alloc::Global;
 use std::marker::Model;
 
@@ -24,9 +29,9 @@ impl Model for Trace {
 }
 
 impl Trace {
-    ghost use Rattle.std.specs.Prelude.{◌≡◌, ◌≤◌, ◌<◌, ◌↔◌, [], length, OnOk, OnErr, IfOk, IfErr, IsErrOf, ◌==◌};
+    ghost use Rattle.std.specs.Prelude.{◌≡◌, ◌≤◌, ◌<◌, ◌↔◌, [], ◌++◌, length, OnOk, OnErr, IfOk, IfErr, IsErrOf, ◌==◌};
     ghost use Rattle.cops_types.specs.TypeFaults.{IsHistoryFault};
-    ghost use Rattle.cops_trace.specs.Text.{IsTrace, sessions_of, turn};
+    ghost use Rattle.cops_trace.specs.Text.{IsTrace, sessions_of, turn, records_text};
     ghost use Rattle.cops_trace.specs.Kept.{grown, IsFull};
 
     /// A trace of so many clients, without operations.
@@ -87,11 +92,70 @@ impl Trace {
         self.arrivals.is_empty()
     }
 
+    /// Appends the records' spellings. The index of each is the number of its client's earlier ones.
+    pub(crate) fn append_records(&self, alloc: Global, out: &mut Vec<u8>) -> Result<(), Memory>
+        ensures { OnOk result (out.new.items ≡ out.old.items ++ records_text [] self.now.records) }
+    {
+        let mut turns = vec![in alloc; 0u32; self.history.clients()]?;
+        let mut at = 0;
+        while at < self.arrivals.len() {
+            let client = self.arrivals[at];
+            let index = turns[client as usize];
+            match self.history.op(OpName { client, index }) {
+                Some(op) => encode(&message(client, index, op)?, out)?,
+                None => unreachable!(),
+            }
+            turns[client as usize] = index + 1;
+            at += 1;
+        }
+        Ok(())
+    }
+
     /// How many operations the client has.
     pub(crate) fn turn(&self, client: u16) -> usize
         ensures { result ≡ turn client self.now.records }
     {
         self.history.session(client).len()
+    }
+}
+
+/// The whole records before a cut, and the cut's place in the bytes; of a whole text all records, and no place.
+#[derive(Debug, Drop)]
+pub struct Partial {
+    pub trace: Trace,
+    pub cut: Option<u64>,
+}
+
+/// An operation's record, with this index in the client's session.
+fn message(client: u16, index: u32, op: &Op) -> Result<Message, Memory>
+    ensures value { IfOk result (λ m. m ≡ op_message client index op.now) }
+    ensures legal { IsMessage (grammar One) (parts (op_message client index op.now)) }
+{
+    legal(op);
+    match op.clone()? {
+        Op::Put {
+            key,
+            value,
+            version,
+        } => Ok(Message::TracePut {
+            client,
+            index,
+            key,
+            value,
+            version,
+        }),
+        Op::Got {
+            key,
+            value,
+            version,
+        } => Ok(Message::TraceGot {
+            client,
+            index,
+            key,
+            value,
+            version,
+        }),
+        Op::Missed { key } => Ok(Message::TraceMissed { client, index, key }),
     }
 }
 

@@ -58,6 +58,7 @@ macro_rules! read_group {
     };
 }
 
+/// A match on the kind, which reads the fields from left to right.
 macro_rules! read {
     ($kind:ident, $rest:ident; $($number:literal => $name:ident { $($field:ident: $type:ident($($arg:literal),*)),* }),*) => {
         match $kind {

@@ -7,13 +7,6 @@ use crate::table::kinds;
 use cops_types::{Deps, Memory};
 use std::alloc::{AllocError, Global};
 
-/// A field with its name in the table.
-#[derive(Clone, Copy)]
-struct NamedField<'a> {
-    name: &'static str,
-    field: FieldRef<'a>,
-}
-
 /// Appends a line without its end: the kind's name, then for each field a space, the field's name, `=` and its text.
 /// Numbers are decimal, versions are `clock.node`, and dependencies are `[key@version,key@version]`. In keys and values
 /// the bytes of ASCII letters, digits, `-`, `.` and `_` stand as they are, and any other byte is `%` and two lower case
@@ -31,19 +24,23 @@ fn line_of(alloc: Global, message: &Message) -> Result<String, AllocError> {
     macro_rules! text {
         ($alloc:ident, $message:ident; $($group:ident { $($number:literal => $name:ident { $($field:ident: $type:ident($($arg:literal),*)),* }),* })*) => {
             match $message {
-                $($(Message::$name { $($field),* } => line($alloc, stringify!($name), &[$(NamedField { name: stringify!($field), field: as_written!($type $field) }),*]),)*)*
+                $($(Message::$name { $($field),* } => line($alloc, stringify!($name), &[$(stringify!($field)),*], &[$(as_written!($type $field)),*]),)*)*
             }
         };
     }
     kinds!(text alloc, message)
 }
 
-fn line(alloc: Global, kind: &str, fields: &[NamedField<'_>]) -> Result<String, AllocError> {
+fn line(
+    alloc: Global,
+    kind: &str,
+    names: &[&str],
+    fields: &[FieldRef<'_>],
+) -> Result<String, AllocError> {
     let mut line = String::from_str(alloc, kind)?;
-    for named in fields {
-        let name = named.name;
+    for (name, field) in names.iter().zip(fields) {
         write!(line, " {name}=")?;
-        push_field(&mut line, &named.field)?;
+        push_field(&mut line, field)?;
     }
     Ok(line)
 }

@@ -2,7 +2,7 @@ use Rattle.std.proofs.Common.{◌++◌, [], take, refl, sym, ◌∙◌, subst, a
 use Rattle.std.proofs.lemmas.Result.{err_from_is_err_and}
 use Rattle.std.proofs.lemmas.List.{length-append}
 use Rattle.cops_trace.specs.Parsing.{Fed, IsSettled}
-use Rattle.cops_trace.proofs.Feeding.{fed_none, none_settled, settled_len, consumed, consumed_none, all_read, fault_read, advance_device}
+use Rattle.cops_trace.proofs.Feeding.{fed_none, none_settled, settled_len, consumed, consumed_none, all_read, fault_read, advance_device, advance_no_cut}
 use Rattle.cops_trace.proofs.reading.read_items.Goals as goal
 
 pub loop-init : goal.loop-init
@@ -50,3 +50,10 @@ pub returns-clause-err : goal.returns-clause-err
 returns-clause-err g c =
     let r = c.loop.invariant.read in
     absurd (omega (arith, settled_len r.0 c.loop.parser r.2 c.loop.invariant.settled, r.3, c.loop-test.false))
+
+pub returns-in_err-take_piece-clause-no_cut : goal.returns-in_err-take_piece-clause-no_cut
+returns-in_err-take_piece-clause-no_cut g c =
+    let r = c.loop.invariant.read in
+    let p = err_from_is_err_and c.from_residual.result c.from_residual.ensures.1 in
+    let adv = c.in_err-take_piece.ensures r.0 r.2 in
+    rw (p.1, p.2) (λ offset. advance_no_cut _ c.in_err-take_piece.field-0.0 c.take_piece.new.self offset adv)

@@ -16,5 +16,5 @@ returns-clause-memory c = λ e.
     c.split_at-2.ensures.front
     ∙ ap (λ (n : ℕ). take n rest) len
     ∙ ap (take (length_at bytes)) c.split_at.ensures.back in
-    let long : 4 + length_at bytes ≤ length bytes = omega (arith, ap length c.split_at.ensures.back, length-drop 4 bytes, len, c.if-rest-len.false, c.if-bytes-lt4.false) in
-    known_frame (grammar c.args.format) bytes (λ i. omega (arith, c.type_inv.bytes i)) c.if-bytes-lt4.false (omega (arith, len)) (omega (arith, len)) long (subst (λ (t : List ℕ). IsSome (fields_of (grammar c.args.format) (get_or t 0 0))) text (c.body.ensures.memory e))
+    let long : 4 + length_at bytes ≤ length bytes = omega (arith, ap length c.split_at.ensures.back, length-drop 4 bytes, len) in
+    known_frame (grammar c.args.format) bytes (λ i. omega (arith, c.type_inv.bytes i)) (omega arith) (omega (arith, len)) (omega (arith, len)) long (subst (λ (t : List ℕ). IsSome (fields_of (grammar c.args.format) (get_or t 0 0))) text (c.body.ensures.memory e))

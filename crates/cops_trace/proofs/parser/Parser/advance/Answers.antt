@@ -2,9 +2,8 @@ use Rattle.std.proofs.Common.{◌≡◌, ◌≢◌, Bool, true, false, ◌++◌,
 use Rattle.std.proofs.lemmas.List.{length-drop, nil_from_length}
 use Rattle.std.proofs.lemmas.Result.{err_from_is_err_and}
 use Rattle.cops_trace.specs.declared.fault.TraceFault.TheVariants.{BytesAfterEnd}
-use Rattle.cops_trace.specs.Answer.{HasFault}
-use Rattle.cops_trace.specs.Parsing.{Stage, StepGives}
-use Rattle.cops_trace.proofs.Feeding.{step_fails, step_waits, step_takes, step_sum, fed_after_end, ends_settled}
+use Rattle.cops_trace.specs.Parsing.{Stage, StepGives, HasFailed}
+use Rattle.cops_trace.proofs.Feeding.{step_fails, step_waits, step_takes, step_sum, more_fails, ends_settled}
 use Rattle.cops_trace.proofs.parser.Parser.advance.Goals as goal
 
 pub returns-in_err-step : goal.returns-in_err-step
@@ -35,7 +34,7 @@ returns-then-self-len c = λ fed h.
     absurd (omega (arith, ap length e, length-drop c.self-2.inside.start items, c.self-2.inside.bytes.ok.0, c.len.ensures, c.if-self-len.true)) in
     let rest : c.loop-self.self.rest ≢ [] = λ e. some (ap (λ (s : Stage). s.rest) c.self-2.view_is ∙ e) in
     let at : c.loop-self.self.at ≡ c.self-2.inside.at = ap (λ (s : Stage). s.at) (sym c.self-2.view_is) in
-    inr (λ more. subst (λ (n : ℕ). HasFault (fed ++ more) (BytesAfterEnd n)) at (fed_after_end fed c.loop-self.self more (c.loop-self.invariant.fed fed h) ended rest))
+    inr (subst (λ (n : ℕ). HasFailed fed (BytesAfterEnd n)) at (more_fails fed c.loop-self.self (c.loop-self.invariant.fed fed h) ended rest))
 
 pub returns : goal.returns
 returns c = λ fed h.

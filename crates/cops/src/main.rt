@@ -1,0 +1,145 @@
+//! The program `cops`: it reads the words of the command line, opens what they name, runs the command over it, and ends
+//! with the command's status: 0 accepted, 1 refused, 2 faulty input or usage, 3 want of memory, 4 a device's fault.
+#![tactic(auto)]
+
+ghost use Rattle.std.specs.Prelude.{◌≡◌, IfSome};
+ghost use Rattle.cops_stream.specs.Audit.{SpellsConvergent};
+ghost use Rattle.cops.specs.Status.{status_of};
+
+use cops_line::{Job, LineFault, line};
+use cops_stream::{Answer, StreamFault, audit_stream, show_stream};
+use cops_types::{Counted, Memory};
+use std::alloc::AllocError;
+use std::fs::File;
+use std::io::{Read, Write};
+use std::process::ExitCode;
+use std::rt::{Env, Files};
+use std::{env, io};
+
+const ACCEPTED: u8 = 0;
+
+const REFUSED: u8 = 1;
+
+const FAULTY: u8 = 2;
+
+const NO_MEMORY: u8 = 3;
+
+const FAILED: u8 = 4;
+
+/// Prints why the program failed, and gives the status.
+fn failed<R: Eprint>(rt: &R, why: &str, status: u8) -> u8
+    ensures { result ≡ status }
+{
+    let _ = eprintln!(rt; "failed: {why}");
+    status
+}
+
+/// The status that an audit's answer ends with.
+fn status_of(answer: Answer) -> u8
+    ensures { result ≡ status_of answer }
+{
+    match answer {
+        Answer::Accepted => ACCEPTED,
+        Answer::Refused => REFUSED,
+        Answer::Faulty => FAULTY,
+    }
+}
+
+/// Audits the input, and gives the status: `ACCEPTED` only where the bytes spell one history, and it is causally
+/// convergent.
+fn audit<R: Print + Eprint + AllocGlobal, I: Read + Drop>(rt: &R, input: I) -> u8
+    ensures { result ≡ 0 → IfSome (I.remaining input) SpellsConvergent }
+{
+    let mut reader = Counted::new(input);
+    let mut writer = Counted::new(io::writer(rt));
+    match audit_stream(rt.alloc(), &mut reader, &mut writer) {
+        Ok(answer) => status_of(answer),
+        Err(StreamFault::Memory) => failed(rt, "memory", NO_MEMORY),
+        Err(StreamFault::ReadFailed) => failed(rt, "read", FAILED),
+        Err(StreamFault::WriteFailed) => failed(rt, "write", FAILED),
+    }
+}
+
+fn show<R, I, E>(rt: &R, input: I, errors: E) -> u8
+where
+    R: Print + Eprint + AllocGlobal,
+    I: Read + Drop,
+    E: Write + Drop,
+{
+    let mut reader = Counted::new(input);
+    let mut out = Counted::new(io::writer(rt));
+    let mut errors = Counted::new(errors);
+    match show_stream(rt.alloc(), &mut reader, &mut out, &mut errors) {
+        Ok(status) => status,
+        Err(Memory) => failed(rt, "memory", NO_MEMORY),
+    }
+}
+
+fn command<R, I, E>(rt: &R, job: Job<'_>, input: I, errors: E) -> u8
+where
+    R: Print + Eprint + AllocGlobal,
+    I: Read + Drop,
+    E: Write + Drop,
+{
+    match job {
+        Job::Audit { .. } => audit(rt, input),
+        Job::Show { .. } => show(rt, input, errors),
+    }
+}
+
+/// Runs the job over the file that it names, or over standard input where that is `-`.
+fn perform<R, E>(rt: &R, job: Job<'_>, errors: E) -> u8
+where
+    R: Files + Input + Print + Eprint + AllocGlobal,
+    E: Write + Drop,
+{
+    let (Job::Audit { trace } | Job::Show { trace }) = job;
+    if trace == "-" {
+        return command(rt, job, rt.reader(), errors);
+    }
+    match File::open(rt, trace) {
+        Ok(file) => command(rt, job, file, errors),
+        Err(_) => failed(rt, "open", FAILED),
+    }
+}
+
+/// Does what the words after the program's name ask for.
+fn run<R, E>(rt: &R, arguments: &[String], errors: E) -> Result<u8, AllocError>
+where
+    R: Files + Input + Print + Eprint + AllocGlobal,
+    E: Write + Drop,
+{
+    let words: Vec<&str> = arguments
+        .iter()
+        .skip(1)
+        .map(|word| word.as_str())
+        .collect(rt.alloc())?;
+    Ok(match line(rt.alloc(), words.as_slice()) {
+        Ok(job) => perform(rt, job, errors),
+        Err(LineFault::Help(text)) => {
+            let _ = print!(rt; "{text}");
+            ACCEPTED
+        }
+        Err(LineFault::Usage(text)) => {
+            let _ = eprint!(rt; "{text}");
+            FAULTY
+        }
+        Err(LineFault::Memory) => failed(rt, "memory", NO_MEMORY),
+    })
+}
+
+fn arguments<R: Env + AllocGlobal>(rt: &R) -> io::Result<Vec<String>> {
+    let words: Vec<String> = env::args(rt)?.collect(rt.alloc())?;
+    Ok(words)
+}
+
+fn main(rt: HostRuntime) -> ExitCode {
+    let status = match arguments(&rt) {
+        Ok(words) => match run(&rt, words.as_slice(), rt.stderr()) {
+            Ok(status) => status,
+            Err(_) => failed(&rt, "memory", NO_MEMORY),
+        },
+        Err(_) => failed(&rt, "memory", NO_MEMORY),
+    };
+    ExitCode::from(status)
+}

@@ -1,0 +1,71 @@
+-- Marks gained, one after another.
+use Rattle.std.proofs.Common.{◌≡◌, ◌∙◌, ◌⊎◌, List, [], ◌∷◌, ◌++◌, Option, Some, None, refl, sym, ap, subst, arith, inl, inr}
+use Rattle.std.specs.Prelude.{Contains}
+use Rattle.std.proofs.lemmas.List.{length_push}
+use Rattle.std.proofs.lemmas.List.Elements.{Contains-append_left, Contains-push, Contains-push_cases}
+use Rattle.cops_types.specs.declared.op.OpName.{OpName}
+use Rattle.cops_types.specs.Histories.{Sessions, Step}
+use Rattle.cops_report.specs.declared.marks.Mark.{Mark}
+use Rattle.cops_report.specs.Marks.{Table, Gains, HasPlace, IsMarked, mark_at, with_mark}
+use Rattle.cops_report.proofs.NameCases.{name_cases}
+use Rattle.cops_report.proofs.Tables.{mark_at-other, mark_at-same, open-with_mark, place-with_mark}
+
+pub gains_none : (h : Sessions) (mark : Mark) (t : Table) (names : List OpName) → Gains h mark t t names names
+gains_none h mark t names = record {
+  kept = λ n m e. e;
+  gained = λ n m e. inl e;
+  listed = λ n c. inl c;
+  stays = λ n c. c;
+  count = refl;
+  places = λ n. (λ p. p, λ p. p);
+}
+
+pub marked_or_not : (t : Table) (n : OpName) → IsMarked t n ⊎ (mark_at t n ≡ None)
+marked_or_not t n = go (mark_at t n) refl
+  where
+    go : (o : Option Mark) → mark_at t n ≡ o → IsMarked t n ⊎ (mark_at t n ≡ None)
+    go None e = inr e
+    go (Some m) e = inl (m, e)
+
+-- what has no mark later had none before
+still_none : (h : Sessions) (mark : Mark) (s t : Table) (names more : List OpName) (n : OpName) → Gains h mark s t names more → mark_at t n ≡ None → mark_at s n ≡ None
+still_none h mark s t names more n g none = elim (marked_or_not s n) [ inl m ↦ (let k = g.kept n m.0 m.1 in cc) | inr e ↦ e ]
+
+pub gains_more : (h : Sessions) (mark : Mark) (s t u : Table) (names more most : List OpName) → Gains h mark s t names more → Gains h mark t u more most → Gains h mark s u names most
+gains_more h mark s t u names more most a b = record {
+  kept = λ n m e. b.kept n m (a.kept n m e);
+  gained = λ n m e. elim (b.gained n m e) [
+    | inl old ↦ elim (a.gained n m old) [ inl older ↦ inl older | inr new ↦ inr (new.0, new.1, new.2, b.stays n new.3) ]
+    | inr new ↦ inr (still_none h mark s t names more n a new.0, new.1, new.2, new.3)
+  ];
+  listed = λ n c. elim (b.listed n c) [
+    | inl old ↦ elim (a.listed n old) [ inl older ↦ inl older | inr new ↦ inr (new.0, b.kept n mark new.1) ]
+    | inr new ↦ inr (still_none h mark s t names more n a new.0, new.1)
+  ];
+  stays = λ n c. b.stays n (a.stays n c);
+  count = omega (arith, a.count, b.count);
+  places = λ n. (λ p. (a.places n).0 ((b.places n).0 p), λ p. (b.places n).1 ((a.places n).1 p));
+}
+
+pub gains_one : (h : Sessions) (mark : Mark) (t : Table) (names : List OpName) (n : OpName) → HasPlace t n → mark_at t n ≡ None → Step h n mark.next
+    → Gains h mark t (with_mark t n mark) names (names ++ n ∷ [])
+gains_one h mark t names n there none st = record {
+  kept = λ k m e. elim (name_cases k n) [
+    | inl same ↦ (let at : mark_at t k ≡ None = ap (mark_at t) same ∙ none in absurd cc)
+    | inr other ↦ mark_at-other t n k mark other ∙ e
+  ];
+  gained = λ k m e. elim (name_cases k n) [
+    | inl same ↦
+        let at : mark_at (with_mark t n mark) k ≡ Some mark = ap (mark_at (with_mark t n mark)) same ∙ mark_at-same t n mark there in
+        let is : m ≡ mark = cc in
+        inr (ap (mark_at t) same ∙ none, is, subst (λ (x : OpName). Step h x mark.next) (sym same) st, subst (Contains (names ++ n ∷ [])) (sym same) (Contains-push names n))
+    | inr other ↦ inl (sym (mark_at-other t n k mark other) ∙ e)
+  ];
+  listed = λ k c. elim (Contains-push_cases names n k c) [
+    | inl old ↦ inl old
+    | inr same ↦ inr (ap (mark_at t) (sym same) ∙ none, ap (mark_at (with_mark t n mark)) (sym same) ∙ mark_at-same t n mark there)
+  ];
+  stays = λ k c. Contains-append_left names (n ∷ []) k c;
+  count = omega (arith, open-with_mark t n mark there none, length_push names n);
+  places = λ k. (λ p. omega (arith, place-with_mark t n k mark), λ p. omega (arith, place-with_mark t n k mark));
+}

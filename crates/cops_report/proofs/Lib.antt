@@ -1,0 +1,13 @@
+pub mod NameCases
+pub mod Tables
+pub mod GainLemmas
+pub mod StepLemmas
+pub mod SearchLemmas
+pub mod PutLemmas
+pub mod LevelLemmas
+pub mod OrderLemmas
+pub mod ChainLemmas
+pub mod LineLemmas
+pub mod StaleLemmas
+pub mod VerdictLemmas
+pub mod ChainLaws

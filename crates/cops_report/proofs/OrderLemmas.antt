@@ -1,0 +1,51 @@
+-- Names that were sorted stand in their order.
+use Rattle.std.proofs.Common.{◌≡◌, ◌≢◌, ◌∙◌, ◌+◌, ◌-◌, ◌<◌, ◌≤◌, ℕ, zero, suc, Bool, true, false, cond, List, length, get_or, refl, sym, ap, subst, arith, inl, inr, eqb, ltb, is_lt}
+use Rattle.std.specs.Ordering.{ordering_then, nat_cmp}
+use Rattle.std.specs.declared.cmp.Ordering.TheVariants.{Less, Equal, Greater}
+use Rattle.std.proofs.lemmas.Bool.{cases_eq, eqb-true, eqb-false, ltb-false}
+use Rattle.cops_types.specs.declared.op.OpName.{OpName}
+use Rattle.cops_types.specs.Faults.{IsBefore}
+use Rattle.cops_report.specs.Searches.{IsAtOrBefore, IsRising}
+use Rattle.cops_report.proofs.NameCases.{same_name}
+
+not_below : (a b : OpName) → is_lt (ordering_then (nat_cmp b.client a.client) (nat_cmp b.index a.index)) ≡ false → IsAtOrBefore a b
+not_below a b h = go (ltb b.client a.client) (eqb b.client a.client) (ltb b.index a.index) (eqb b.index a.index) refl refl refl h
+  where
+    go : (p q r s : Bool) → ltb b.client a.client ≡ p → eqb b.client a.client ≡ q → ltb b.index a.index ≡ r
+        → is_lt (ordering_then (cond p Less (cond q Equal Greater)) (cond r Less (cond s Equal Greater))) ≡ false → IsAtOrBefore a b
+    go true q r s ep eq er e = absurd cc
+    go false true true s ep eq er e = absurd cc
+    go false true false s ep eq er e =
+        let c : b.client ≡ a.client = eqb-true _ _ eq in
+        let i : a.index ≤ b.index = omega (arith, ltb-false _ _ er) in
+        elim (cases_eq a.index b.index) [ inl same ↦ inr (same_name a b (sym c) same) | inr other ↦ inl (inr (sym c, omega arith)) ]
+    go false false r s ep eq er e =
+        let le : a.client ≤ b.client = omega (arith, ltb-false _ _ ep) in
+        let ne : b.client ≢ a.client = eqb-false _ _ eq in
+        inl (inl (omega arith))
+
+at_or_before_joined : (a b c : OpName) → IsAtOrBefore a b → IsAtOrBefore b c → IsAtOrBefore a c
+at_or_before_joined a b c (inr e) second = subst (λ (x : OpName). IsAtOrBefore x c) (sym e) second
+at_or_before_joined a b c (inl p) (inr e) = inl (subst (IsBefore a) e p)
+at_or_before_joined a b c (inl (inl p)) (inl (inl q)) = inl (inl (omega arith))
+at_or_before_joined a b c (inl (inl p)) (inl (inr q)) = inl (inl (omega arith))
+at_or_before_joined a b c (inl (inr p)) (inl (inl q)) = inl (inl (omega arith))
+at_or_before_joined a b c (inl (inr p)) (inl (inr q)) = inl (inr (p.0 ∙ q.0, omega arith))
+
+abbrev compared : OpName → OpName → Bool
+compared a b = is_lt (ordering_then (nat_cmp a.client b.client) (nat_cmp a.index b.index))
+
+abbrev pub NeighboursSorted : List OpName → Type 0
+NeighboursSorted xs = (k : ℕ) (d : OpName) → 0 ≤ k → k + 1 < length xs → compared (get_or xs (k + 1) d) (get_or xs k d) ≡ false
+
+pub rising_sorted : (xs : List OpName) → NeighboursSorted xs → IsRising xs
+rising_sorted xs sorted j k d le lt = go (k - j) k (omega arith) lt
+  where
+    go : (n m : ℕ) → m ≡ j + n → m < length xs → IsAtOrBefore (get_or xs j d) (get_or xs m d)
+    go zero m e lt = (let same : j ≡ m = omega arith in inr (ap (λ (x : ℕ). get_or xs x d) same))
+    go (suc n) m e lt =
+        let before : j + n < length xs = omega arith in
+        let same : j + n + 1 ≡ m = omega arith in
+        let next = not_below (get_or xs (j + n) d) (get_or xs (j + n + 1) d) (sorted (j + n) d (omega arith) (omega arith)) in
+        at_or_before_joined (get_or xs j d) (get_or xs (j + n) d) (get_or xs m d) (go n (j + n) refl before)
+        (subst (λ (x : ℕ). IsAtOrBefore (get_or xs (j + n) d) (get_or xs x d)) same next)

@@ -1,0 +1,125 @@
+-- The puts by their versions.
+use Rattle.std.proofs.Common.{◌≡◌, ◌≢◌, ◌+◌, ◌-◌, ◌<◌, ◌≤◌, ℕ, Bool, true, false, List, [], Some, refl, sym, subst, arith, inl, inr, get_or, length, take, drop, ltb, ◌∙◌, ap}
+use Rattle.std.specs.List.Sorted.{IsNonDecreasingBy, IsPermutation, IsPartitionPoint}
+use Rattle.std.proofs.lemmas.Bool.{cases_lt, ltb-true, ltb-false}
+use Rattle.std.proofs.lemmas.List.{get_or_past, get_or_default, get_or-drop, length-drop, take_rest}
+use Rattle.std.proofs.lemmas.List.Sorted.{Contains-permutation}
+use Rattle.cops_types.specs.declared.op.Op.TheVariants.{Got}
+use Rattle.cops_types.specs.declared.op.OpName.{OpName}
+use Rattle.cops_types.specs.Histories.{Sessions, IsNamed, PutsVersion, SourceStep}
+use Rattle.cops_report.specs.declared.marks.Mark.{Mark}
+use Rattle.cops_report.specs.declared.puts.VersionedPut.{VersionedPut}
+use Rattle.cops_report.specs.Marks.{Table, Gains, IsMarked}
+use Rattle.cops_report.specs.Puts.{GetsVersion, HasPut, IsPutTable}
+use Rattle.cops_report.proofs.NameCases.{same_name}
+use Rattle.cops_report.proofs.StepLemmas.{name_at}
+use Rattle.cops_report.proofs.Tables.{named_index}
+
+-- an operation's client is there
+pub named_client : (h : Sessions) (n : OpName) → IsNamed h n → n.client < length h
+named_client h n named = elim (cases_lt n.client (length h)) [
+  | inl lt ↦ lt
+  | inr past ↦ (let none = get_or_past h n.client [] past in let i = named_index h n named in absurd (omega (arith, ap length none)))
+]
+
+pub version_named : (h : Sessions) (n : OpName) (v : ℕ) → PutsVersion h n v → IsNamed h n
+version_named h n v put = (_, put.2)
+
+pub source_named : (h : Sessions) (p g : OpName) → SourceStep h p g → IsNamed h p
+source_named h p g s = (_, s.put)
+
+abbrev put_of : OpName → ℕ → VersionedPut
+put_of n v = record { version = v; name = n }
+
+-- ---- client by client
+
+abbrev pub HasPuts : Sessions → ℕ → ℕ → List VersionedPut → Type 0
+HasPuts h client index puts = (k v : ℕ) → k < index → PutsVersion h (name_at client k) v → HasPut puts (name_at client k) v
+
+pub has_more : (h : Sessions) (client index : ℕ) (puts more : List VersionedPut) → ((n : OpName) (v : ℕ) → HasPut puts n v → HasPut more n v) → HasPuts h client index puts
+    → ((v : ℕ) → PutsVersion h (name_at client index) v → HasPut more (name_at client index) v) → HasPuts h client (index + 1) more
+has_more h client index puts more kept has here k v lt put = elim (cases_lt k index) [
+  | inl below ↦ kept (name_at client k) v (has k v below put)
+  | inr above ↦
+      let same : index ≡ k = omega arith in
+      subst (λ (x : ℕ). (v : ℕ) → PutsVersion h (name_at client x) v → HasPut more (name_at client x) v) same here v put
+]
+
+-- each put of a session is among its puts
+pub puts_of_client : (h : Sessions) (client index : ℕ) (puts : List VersionedPut) → length (get_or h client []) ≤ index → HasPuts h client index puts
+    → (n : OpName) (v : ℕ) → n.client ≡ client → PutsVersion h n v → HasPut puts n v
+puts_of_client h client index puts all has n v is put =
+    let same : name_at client n.index ≡ n = same_name (name_at client n.index) n (sym is) refl in
+    let lt = named_index h n (version_named h n v put) in
+    let e = ap (λ (c : ℕ). length (get_or h c [])) is in
+    subst (λ (x : OpName). HasPut puts x v) same (has n.index v (omega (arith, lt, e)) (subst (λ (x : OpName). PutsVersion h x v) (sym same) put))
+
+-- sorted, they are a table
+pub table_sorted : (h : Sessions) (client : ℕ) (xs ys : List VersionedPut) → length h ≤ client → ((n : OpName) (v : ℕ) → n.client < client → PutsVersion h n v → HasPut xs n v)
+    → IsPermutation xs ys → IsNonDecreasingBy (λ p. p.version) ys → IsPutTable h ys
+table_sorted h client xs ys all has permuted rising = record {
+  all = λ n v put. Contains-permutation xs ys (put_of n v) permuted (has n v (omega (arith, named_client h n (version_named h n v put))) put);
+  rising = rising;
+}
+
+-- ---- from a version on
+
+abbrev pub is_before : ℕ → VersionedPut → Bool
+is_before v p = ltb p.version v
+
+abbrev pub Parts : ℕ → List VersionedPut → ℕ → Type 0
+Parts v puts i = IsPartitionPoint (λ p. is_before v p ≡ true) (λ p. is_before v p ≡ false) puts i
+
+pub from_low : (puts : List VersionedPut) (v i : ℕ) → Parts v puts i → (k : ℕ) (d : VersionedPut) → k < length (take (length puts - i) (drop i puts)) → v ≤ (get_or (take (length puts - i) (drop i puts)) k d).version
+from_low puts v i parts = subst (λ (xs : List VersionedPut). (k : ℕ) (d : VersionedPut) → k < length xs → v ≤ (get_or xs k d).version) (sym (take_rest puts i)) go
+  where
+    go : (k : ℕ) (d : VersionedPut) → k < length (drop i puts) → v ≤ (get_or (drop i puts) k d).version
+    go k d lt =
+        let at = get_or-drop i puts k d in
+        let low = parts.1 (i + k) d (omega arith) (omega (arith, length-drop i puts)) in
+        let there : v ≤ (get_or puts (i + k) d).version = omega (arith, ltb-false _ _ low) in
+        subst (λ (p : VersionedPut). v ≤ p.version) (sym at) there
+
+pub from_all : (puts : List VersionedPut) (v i : ℕ) → Parts v puts i → (n : OpName) → HasPut puts n v → HasPut (take (length puts - i) (drop i puts)) n v
+from_all puts v i parts n has = subst (λ (xs : List VersionedPut). HasPut xs n v) (sym (take_rest puts i)) go
+  where
+    go : HasPut (drop i puts) n v
+    go = elim (cases_lt has.0 i) [
+      | inl below ↦
+          let low = parts.0 has.0 (put_of n v) (omega arith) below in
+          let e : (get_or puts has.0 (put_of n v)).version ≡ v = ap (λ (p : VersionedPut). p.version) has.2 in
+          absurd (omega (arith, ltb-true _ _ low))
+      | inr above ↦
+          let k : i + (has.0 - i) ≡ has.0 = omega arith in
+          (has.0 - i, omega (arith, length-drop i puts, has.1), get_or-drop i puts (has.0 - i) (put_of n v) ∙ ap (λ (x : ℕ). get_or puts x (put_of n v)) k ∙ has.2)
+    ]
+
+-- ---- sources
+
+-- a get has one version
+pub got_once : (h : Sessions) (p g : OpName) (v : ℕ) (s : SourceStep h p g) → GetsVersion h g v → s.version ≡ v
+got_once h p g v s got = (let e : Some (Got s.key s.value s.version) ≡ Some (Got got.0 got.1 v) = sym s.got ∙ got.2 in cc)
+
+-- the puts that stand first are marked where they are sources
+abbrev pub BearersMarked : Sessions → Table → Mark → List VersionedPut → ℕ → Type 0
+BearersMarked h t mark puts i = (k : ℕ) (d : VersionedPut) → k < i → SourceStep h (get_or puts k d).name mark.next → IsMarked t (get_or puts k d).name
+
+pub bearers_more : (h : Sessions) (mark : Mark) (s t : Table) (names more : List OpName) (puts : List VersionedPut) (i : ℕ) (d : VersionedPut) → i < length puts → BearersMarked h s mark puts i
+    → Gains h mark s t names more → (SourceStep h (get_or puts i d).name mark.next → IsMarked t (get_or puts i d).name) → BearersMarked h t mark puts (i + 1)
+bearers_more h mark s t names more puts i d lt all g here k e below st = elim (cases_lt k i) [
+  | inl low ↦ (let m = all k e low st in (m.0, g.kept (get_or puts k e).name m.0 m.1))
+  | inr high ↦
+      let same : i ≡ k = omega arith in
+      let is : get_or puts i d ≡ get_or puts k e = get_or_default puts i d e lt ∙ ap (λ (x : ℕ). get_or puts x e) same in
+      subst (λ (p : VersionedPut). IsMarked t p.name) is (here (subst (λ (p : VersionedPut). SourceStep h p.name mark.next) (sym is) st))
+]
+
+-- all sources are marked where those are that stand first, and no further one has the version
+pub bearers_all : (h : Sessions) (t : Table) (mark : Mark) (puts : List VersionedPut) (i v : ℕ) → BearersMarked h t mark puts i
+    → ((k : ℕ) (d : VersionedPut) → i ≤ k → k < length puts → (get_or puts k d).version ≢ v) → (n : OpName) → HasPut puts n v → SourceStep h n mark.next → IsMarked t n
+bearers_all h t mark puts i v marked further n has st = elim (cases_lt has.0 i) [
+  | inl below ↦
+      let at = has.2 in
+      subst (λ (p : VersionedPut). IsMarked t p.name) at (marked has.0 (put_of n v) below (subst (λ (p : VersionedPut). SourceStep h p.name mark.next) (sym at) st))
+  | inr above ↦ absurd (further has.0 (put_of n v) above has.1 (ap (λ (p : VersionedPut). p.version) has.2))
+]

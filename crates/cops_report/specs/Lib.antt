@@ -1,0 +1,5 @@
+pub mod Chains
+pub mod Marks
+pub mod Searches
+pub mod Reports
+pub mod Puts

@@ -1,0 +1,79 @@
+ghost use Rattle.std.specs.Prelude.{◌↔◌, IfOk, IsTrue, MatchOption};
+ghost use Rattle.cops_types.specs.Histories.{IsNamed};
+ghost use Rattle.cops_report.specs.Chains.{HasNoChain, IsFirstChain};
+ghost use Rattle.cops_report.specs.Marks.{IsMarked};
+ghost use Rattle.cops_report.specs.Puts.{IsPutTable};
+ghost use Rattle.cops_report.specs.Searches.{IsWalk, LeadsBack};
+
+use crate::marks::Marks;
+use crate::puts::{VersionedPut, put_table};
+use crate::search::search;
+use cops_types::{History, Memory, OpName};
+use std::alloc::{AllocError, Global};
+
+/// Whether there is an operation of that name.
+fn is_named(history: &History, name: OpName) -> bool
+    ensures { IsTrue result ↔ IsNamed history.now.sessions name }
+{
+    history.op(name).is_some()
+}
+
+/// The names from one that is marked to the end, from mark to mark.
+fn walk(alloc: Global, marks: &Marks, from: OpName, to: OpName) -> Result<Vec<OpName>, AllocError>
+    requires marked { IsMarked marks.now from }
+    requires back { LeadsBack marks.now to }
+    ensures { IfOk result (λ names. IsWalk marks.now to from names.items) }
+{
+    let mut names = vec![in alloc; from]?;
+    let mut mark = marks.get(from).unwrap();
+    while mark.steps > 0 {
+        names.push(mark.next)?;
+        mark = marks.get(mark.next).unwrap();
+    }
+    Ok(names)
+}
+
+/// As `chain`, with the puts of the history at hand.
+pub fn chain_by(
+    alloc: Global,
+    history: &History,
+    puts: &[VersionedPut],
+    from: OpName,
+    to: OpName,
+) -> Result<Option<Vec<OpName>>, Memory>
+    requires { IsPutTable history.now.sessions puts.now }
+    ensures { IfOk result (λ found. MatchOption found
+        (HasNoChain history.now.sessions from to)
+        (λ names. IsFirstChain history.now.sessions from to names.items)) }
+{
+    if !is_named(history, from) || !is_named(history, to) {
+        return Ok(None);
+    }
+    let marks = search(alloc, history, puts, from, to)?;
+    if marks.get(from).is_none() {
+        return Ok(None);
+    }
+    let names = walk(alloc, &marks, from, to)?;
+    Ok(Some(names))
+}
+
+/// A chain from the one operation to the other, in which each next name is one session step or one source step on: a
+/// shortest, and of the shortest the first by the order of names, compared one after another. From a name of the
+/// history to itself it is that name alone. `None` where no steps lead from the one to the other, `Memory` where a
+/// growth was refused.
+///
+/// The search goes backwards from `to` by levels, and over each operation once, so it takes time in proportion to the
+/// operations times a logarithm, where no version is borne by many puts.
+pub fn chain(
+    alloc: Global,
+    history: &History,
+    from: OpName,
+    to: OpName,
+) -> Result<Option<Vec<OpName>>, Memory>
+    ensures { IfOk result (λ found. MatchOption found
+        (HasNoChain history.now.sessions from to)
+        (λ names. IsFirstChain history.now.sessions from to names.items)) }
+{
+    let puts = put_table(alloc, history)?;
+    chain_by(alloc, history, &puts, from, to)
+}

@@ -1,0 +1,22 @@
+ghost use Rattle.std.specs.Prelude.{◌≡◌, ◌≤◌, List, length};
+ghost use Rattle.cops_types.specs.declared.op.OpName.{OpName};
+ghost use Rattle.cops_types.specs.Histories.{Past, Sessions};
+ghost use Rattle.cops_report.specs.Chains.{IsChain, IsFirstChain};
+
+/// A law of the definitions: of the shortest chains from one operation to another, one is the first.
+pub fn one_chain()
+    ensures { (h : Sessions) (from to : OpName) (a b : List OpName) →
+        IsFirstChain h from to a → IsFirstChain h from to b → a ≡ b }
+{}
+
+/// A law of the definitions: a chain of two names or more is evidence that its first is in the past of its last.
+pub fn chain_is_evidence()
+    ensures { (h : Sessions) (from to : OpName) (names : List OpName) →
+        IsChain h from to names → 2 ≤ length names → Past h from to }
+{}
+
+/// A law of the definitions: whatever is in the past of an operation has a chain to it.
+pub fn past_has_a_chain()
+    ensures { (h : Sessions) (from to : OpName) →
+        Past h from to → (names : List OpName) × IsChain h from to names }
+{}

@@ -1,0 +1,19 @@
+//! Reports: the text of a verdict on a history, and the chains of steps that show why a get is stale. Stands on
+//! cops_types and cops_audit. The layer above uses that the text is exactly that of the verdict's lines, and that a
+//! chain is the first of the shortest by which an operation is in the past of another.
+#![tactic(auto)]
+
+mod chains;
+mod laws;
+mod lines;
+mod marks;
+mod puts;
+mod reports;
+mod search;
+
+pub use chains::chain;
+pub use laws::{chain_is_evidence, one_chain, past_has_a_chain};
+pub use reports::report;
+
+#[cfg(test)]
+mod tests;

@@ -1,0 +1,91 @@
+//! The puts of a history, by their versions.
+ghost use Rattle.std.specs.Prelude.{◌≡◌, ◌<◌, ◌≤◌, ℕ, length, slice_index_or, Contains, IfOk, IfSome, IfNone, OnOk};
+ghost use Rattle.std.specs.List.Sorted.{IsNonDecreasingBy};
+ghost use Rattle.cops_types.specs.declared.op.OpName.{OpName};
+ghost use Rattle.cops_types.specs.Histories.{PutsVersion};
+ghost use Rattle.cops_report.specs.declared.puts.VersionedPut.{VersionedPut};
+ghost use Rattle.cops_report.specs.Puts.{GetsVersion, HasPut, IsPutTable};
+
+use cops_types::{History, Op, OpName, Version};
+use std::alloc::{AllocError, Global};
+
+/// A put's name with its version.
+#[derive(Clone, Copy, Debug, PartialEq, Eq)]
+pub struct VersionedPut {
+    pub version: Version,
+    pub name: OpName,
+}
+
+/// The version that a put bears.
+fn put_version(history: &History, name: OpName) -> Option<Version>
+    ensures put { IfSome result (PutsVersion history.now.sessions name) }
+    ensures none { IfNone result ((v : ℕ) → ¬ PutsVersion history.now.sessions name v) }
+{
+    match history.op(name) {
+        Some(Op::Put { version, .. }) => Some(*version),
+        _ => None,
+    }
+}
+
+/// The version that a get returned.
+pub fn got_version(history: &History, name: OpName) -> Option<Version>
+    ensures got { IfSome result (GetsVersion history.now.sessions name) }
+    ensures none { IfNone result ((v : ℕ) → ¬ GetsVersion history.now.sessions name v) }
+{
+    match history.op(name) {
+        Some(Op::Got { version, .. }) => Some(*version),
+        _ => None,
+    }
+}
+
+/// Adds the operation, if it is a put.
+fn push_put(puts: &mut Vec<VersionedPut>, history: &History, name: OpName) -> Result<(), AllocError>
+    ensures kept { OnOk result ((n : OpName) (v : ℕ) → HasPut puts.old.items n v → HasPut puts.new.items n v) }
+    ensures all { OnOk result ((v : ℕ) →
+        PutsVersion history.now.sessions name v → HasPut puts.new.items name v) }
+{
+    match put_version(history, name) {
+        Some(version) => {
+            puts.push(VersionedPut { version, name })?;
+            Ok(())
+        }
+        None => Ok(()),
+    }
+}
+
+/// Adds the puts of one client.
+fn push_puts(puts: &mut Vec<VersionedPut>, history: &History, client: u16) -> Result<(), AllocError>
+    ensures kept { OnOk result ((n : OpName) (v : ℕ) → HasPut puts.old.items n v → HasPut puts.new.items n v) }
+    ensures all { OnOk result ((n : OpName) (v : ℕ) → n.client ≡ client →
+        PutsVersion history.now.sessions n v → HasPut puts.new.items n v) }
+{
+    for index in 0..history.session(client).len() {
+        let index = index as u32;
+        push_put(puts, history, OpName { client, index })?;
+    }
+    Ok(())
+}
+
+/// All puts, in order of versions.
+pub fn put_table(alloc: Global, history: &History) -> Result<Vec<VersionedPut>, AllocError>
+    ensures { IfOk result (λ v. IsPutTable history.now.sessions v.items) }
+{
+    let mut puts = Vec::new(alloc);
+    for client in 0..history.clients() {
+        push_puts(&mut puts, history, client as u16)?;
+    }
+    puts.sort_unstable_by_key(|put| put.version.as_u64());
+    Ok(puts)
+}
+
+/// The puts from a version on.
+pub fn from_version(puts: &[VersionedPut], version: Version) -> &[VersionedPut]
+    requires { IsNonDecreasingBy (λ p. p.version) puts.now }
+    ensures rising { IsNonDecreasingBy (λ p. p.version) result.now }
+    ensures low { (k : ℕ) (d : VersionedPut) → k < length result.now →
+        version ≤ (slice_index_or result.now k d).version }
+    ensures all { (n : OpName) → HasPut puts.now n version → HasPut result.now n version }
+{
+    let start = puts.partition_point(|put| put.version.as_u64() < version.as_u64());
+    &puts[start..]
+}

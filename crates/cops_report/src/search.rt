@@ -1,0 +1,228 @@
+//! The search backwards from an operation, by the number of steps that lead to it.
+ghost use Rattle.std.specs.Prelude.{◌≡◌, ℕ, ◌+◌, ◌<◌, ◌≤◌, OnOk, IfOk, IsTrue, ◌↔◌, [], length, slice_index_or};
+ghost use Rattle.std.specs.List.Sorted.{IsNonDecreasingBy};
+ghost use Rattle.cops_types.specs.Histories.{Sessions, Step, SessionStep, SourceStep, IsNamed};
+ghost use Rattle.cops_types.specs.declared.op.OpName.{OpName};
+ghost use Rattle.cops_report.specs.declared.puts.VersionedPut.{VersionedPut};
+ghost use Rattle.cops_report.specs.Puts.{HasPut, IsPutTable};
+ghost use Rattle.cops_report.specs.Marks.{Gains, HasPlace, IsMarked, IsNearer, open_places, PlacesAll, SessionsMarked};
+ghost use Rattle.cops_report.specs.Searches.{IsFound, IsLevel, IsRising, IsSearch};
+
+use crate::marks::{Mark, Marks};
+use crate::puts::{VersionedPut, from_version, got_version};
+use cops_types::{History, Op, OpName, Version};
+use std::alloc::{AllocError, Global};
+
+/// Marks an operation that has no mark yet, and adds it to the names.
+fn mark_new(
+    marks: &mut Marks,
+    names: &mut Vec<OpName>,
+    name: OpName,
+    mark: Mark,
+) -> Result<(), AllocError>
+    requires { HasPlace marks.old name }
+    ensures gains { (h : Sessions) → Step h name mark.next →
+        OnOk result (Gains h mark marks.old marks.new names.old.items names.new.items) }
+    ensures marked { OnOk result (IsMarked marks.new name) }
+{
+    if marks.get(name).is_none() {
+        names.push(name)?;
+        marks.set(name, mark);
+    }
+    Ok(())
+}
+
+/// Whether the operation is marked with fewer steps.
+fn is_nearer(marks: &Marks, name: OpName, steps: u32) -> bool
+    ensures { IsTrue result ↔ IsNearer marks.now name steps }
+{
+    match marks.get(name) {
+        Some(known) => known.steps < steps,
+        None => false,
+    }
+}
+
+/// Marks the operations before the mark's next one in its session. All before one that is marked with fewer steps are
+/// marked already, so each operation is gone over once.
+fn mark_session(
+    history: &History,
+    marks: &mut Marks,
+    names: &mut Vec<OpName>,
+    mark: Mark,
+) -> Result<(), AllocError>
+    requires named { IsNamed history.now.sessions mark.next }
+    requires places { PlacesAll marks.old history.now.sessions }
+    requires nearer { SessionsMarked marks.old mark }
+    ensures gains { OnOk result
+        (Gains history.now.sessions mark marks.old marks.new names.old.items names.new.items) }
+    ensures all { OnOk result ((n : OpName) →
+        SessionStep history.now.sessions n mark.next → IsMarked marks.new n) }
+{
+    let client = mark.next.client;
+    for index in (0..mark.next.index).rev() {
+        let name = OpName { client, index };
+        if is_nearer(marks, name, mark.steps) {
+            return Ok(());
+        }
+        mark_new(marks, names, name, mark)?;
+    }
+    Ok(())
+}
+
+/// Whether the one is a put that the other returned.
+fn is_source(history: &History, put: OpName, got: OpName) -> bool
+    ensures { IsTrue result ↔ SourceStep history.now.sessions put got }
+{
+    match (history.op(put), history.op(got)) {
+        (
+            Some(
+                Op::Put {
+                    key,
+                    value,
+                    version,
+                },
+            ),
+            Some(
+                Op::Got {
+                    key: got_key,
+                    value: got_value,
+                    version: got_version,
+                },
+            ),
+        ) => key.is(got_key) && value.is(got_value) && *version == *got_version,
+        _ => false,
+    }
+}
+
+/// Marks the first of the puts that the mark's next one returned: those with its version.
+fn mark_bearers(
+    history: &History,
+    puts: &[VersionedPut],
+    version: Version,
+    marks: &mut Marks,
+    names: &mut Vec<OpName>,
+    mark: Mark,
+) -> Result<(), AllocError>
+    requires rising { IsNonDecreasingBy (λ p. p.version) puts.now }
+    requires low { (k : ℕ) (d : VersionedPut) → k < length puts.now →
+        version ≤ (slice_index_or puts.now k d).version }
+    requires all { (n : OpName) → SourceStep history.now.sessions n mark.next → HasPut puts.now n version }
+    requires places { PlacesAll marks.old history.now.sessions }
+    ensures gains { OnOk result
+        (Gains history.now.sessions mark marks.old marks.new names.old.items names.new.items) }
+    ensures all { OnOk result ((n : OpName) →
+        SourceStep history.now.sessions n mark.next → IsMarked marks.new n) }
+{
+    for put in puts {
+        if put.version.as_u64() != version.as_u64() {
+            return Ok(());
+        }
+        if is_source(history, put.name, mark.next) {
+            mark_new(marks, names, put.name, mark)?;
+        }
+    }
+    Ok(())
+}
+
+/// Marks the puts that the mark's next one returned.
+fn mark_sources(
+    history: &History,
+    puts: &[VersionedPut],
+    marks: &mut Marks,
+    names: &mut Vec<OpName>,
+    mark: Mark,
+) -> Result<(), AllocError>
+    requires puts { IsPutTable history.now.sessions puts.now }
+    requires places { PlacesAll marks.old history.now.sessions }
+    ensures gains { OnOk result
+        (Gains history.now.sessions mark marks.old marks.new names.old.items names.new.items) }
+    ensures all { OnOk result ((n : OpName) →
+        SourceStep history.now.sessions n mark.next → IsMarked marks.new n) }
+{
+    match got_version(history, mark.next) {
+        Some(version) => {
+            let bearers = from_version(puts, version);
+            mark_bearers(history, bearers, version, marks, names, mark)
+        }
+        None => Ok(()),
+    }
+}
+
+/// Marks the operations from which one step leads to the mark's next one.
+fn mark_before(
+    history: &History,
+    puts: &[VersionedPut],
+    marks: &mut Marks,
+    names: &mut Vec<OpName>,
+    mark: Mark,
+) -> Result<(), AllocError>
+    requires named { IsNamed history.now.sessions mark.next }
+    requires nearer { SessionsMarked marks.old mark }
+    requires puts { IsPutTable history.now.sessions puts.now }
+    requires places { PlacesAll marks.old history.now.sessions }
+    ensures gains { OnOk result
+        (Gains history.now.sessions mark marks.old marks.new names.old.items names.new.items) }
+    ensures all { OnOk result ((n : OpName) → Step history.now.sessions n mark.next → IsMarked marks.new n) }
+{
+    mark_session(history, marks, names, mark)?;
+    mark_sources(history, puts, marks, names, mark)?;
+    Ok(())
+}
+
+/// Marks the operations from which one step leads to a name of the level; they are the next level.
+fn mark_level(
+    alloc: Global,
+    history: &History,
+    puts: &[VersionedPut],
+    marks: &mut Marks,
+    level: &[OpName],
+    steps: u32,
+) -> Result<Vec<OpName>, AllocError>
+    requires fits { steps ≤ 16000000 }
+    requires puts { IsPutTable history.now.sessions puts.now }
+    requires places { PlacesAll marks.old history.now.sessions }
+    requires level { IsLevel marks.old steps level.now }
+    requires fresh { IsLevel marks.old (steps + 1) [] }
+    requires rising { IsRising level.now }
+    requires begun { (to : OpName) × IsSearch history.now.sessions to marks.old steps [] }
+    ensures search { IfOk result (λ _. (to : OpName) → IsSearch history.now.sessions to marks.old steps []
+        → IsSearch history.now.sessions to marks.new steps level.now) }
+    ensures next { IfOk result (λ v. IsLevel marks.new (steps + 1) v.items) }
+    ensures same { IfOk result (λ _. IsLevel marks.new steps level.now) }
+    ensures count { IfOk result (λ v. open_places marks.new + length v.items ≡ open_places marks.old) }
+    ensures places { IfOk result (λ _. PlacesAll marks.new history.now.sessions) }
+{
+    let mut names = Vec::new(alloc);
+    for next in level {
+        let mark = Mark {
+            steps: steps + 1,
+            next: *next,
+        };
+        mark_before(history, puts, marks, &mut names, mark)?;
+    }
+    Ok(names)
+}
+
+/// The marks of a search backwards from `to` that has come to `from`, or to all from which steps lead to `to`.
+pub fn search(
+    alloc: Global,
+    history: &History,
+    puts: &[VersionedPut],
+    from: OpName,
+    to: OpName,
+) -> Result<Marks, AllocError>
+    requires puts { IsPutTable history.now.sessions puts.now }
+    requires named { IsNamed history.now.sessions to }
+    ensures { IfOk result (IsFound history.now.sessions from to) }
+{
+    let mut marks = Marks::new(alloc, history)?;
+    marks.set(to, Mark { steps: 0, next: to });
+    let mut level = vec![in alloc; to]?;
+    let mut steps = 0u32;
+    while !level.is_empty() && marks.get(from).is_none() {
+        level = mark_level(alloc, history, puts, &mut marks, &level, steps)?;
+        level.sort_unstable();
+        steps += 1;
+    }
+    Ok(marks)
+}

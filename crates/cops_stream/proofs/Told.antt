@@ -1,0 +1,41 @@
+-- What is written, from what was read and told.
+use Rattle.std.proofs.Common.{◌≡◌, ℕ, List, ◌++◌, length, take, drop, Option, Some, None, Result, Ok, Err, refl, sym, ap, ◌∙◌, subst, inl, inr}
+use Rattle.std.specs.Prelude.{IfSome, IfOk}
+use Rattle.std.specs.Io.KnownBytes.{Appends}
+use Rattle.std.proofs.lemmas.List.{take-append-drop}
+use Rattle.cops_trace.specs.declared.fault.TraceFault.{TraceFault}
+use Rattle.cops_trace.specs.declared.fault.TraceFault.TheVariants.{Memory, ReadFailed}
+use Rattle.cops_trace.specs.Text.{ATrace, IsTrace, text}
+use Rattle.cops_trace.specs.Answer.{HasFault, Says, Agrees}
+use Rattle.cops_stream.specs.declared.audit.Answer.{Answer}
+use Rattle.cops_stream.specs.declared.audit.Answer.TheVariants.{Accepted}
+use Rattle.cops_stream.specs.Audit.{AuditSays, Writes, WritesFront, SpellsConvergent, Converges}
+
+pub told_writes : (a : Option (List ℕ)) (read : Result ATrace TraceFault) (answer : Answer) (told : List ℕ) (old new : Option (List ℕ)) → IfSome a (λ bytes. Agrees bytes read)
+    → ((bytes : List ℕ) → Agrees bytes read → AuditSays bytes answer told) → Appends old new told → IfSome a (λ bytes. Writes bytes answer old new)
+told_writes None read answer told old new agrees says w = tt
+told_writes (Some u) read answer told old new agrees says w = (told, says u agrees, w)
+
+pub told_front : (a : Option (List ℕ)) (read : Result ATrace TraceFault) (answer : Answer) (told : List ℕ) (n : ℕ) (old new : Option (List ℕ)) → IfSome a (λ bytes. Agrees bytes read)
+    → ((bytes : List ℕ) → Agrees bytes read → AuditSays bytes answer told) → Appends old new (take n told) → IfSome a (λ bytes. WritesFront bytes old new)
+told_front None read answer told n old new agrees says w = tt
+told_front (Some u) read answer told n old new agrees says w =
+    (answer, take n told, drop n told, subst (AuditSays u answer) (sym (take-append-drop n told)) (says u agrees), w)
+
+pub accepted_spells : (a : Option (List ℕ)) (read : Result ATrace TraceFault) (answer : Answer) → IfSome a (λ bytes. Agrees bytes read)
+    → IfOk read (λ t. IfSome a (λ bytes. (x : Result ATrace TraceFault) → Says bytes x → x ≡ Ok t)) → (answer ≡ Accepted → Converges read) → answer ≡ Accepted → IfSome a SpellsConvergent
+accepted_spells None read answer agrees one converges is = tt
+accepted_spells (Some u) (Ok t) answer agrees one converges is = record {
+  trace = t;
+  is_trace = agrees.0;
+  spells = agrees.1;
+  one = λ other h e. let same = one (Ok other) (h, e) in cc;
+  convergent = converges is;
+}
+accepted_spells (Some u) (Err e) answer agrees one converges is = absurd (converges is)
+
+-- a fault of the text is told by its line
+pub fault_told : (bytes : List ℕ) (e : TraceFault) → (e ≡ Memory → ⊥) → (e ≡ ReadFailed → ⊥) → Agrees bytes (Err e) → HasFault bytes e
+fault_told bytes e m r (inl h) = absurd (m h)
+fault_told bytes e m r (inr (inl h)) = absurd (r h)
+fault_told bytes e m r (inr (inr h)) = h

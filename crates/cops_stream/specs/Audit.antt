@@ -1,0 +1,53 @@
+-- What an audit says of bytes, and what it writes.
+use Rattle.std.specs.Prelude.{◌≡◌, ◌≢◌, ◌⊎◌, ℕ, List, ◌++◌, Option, Result, Ok, Err}
+use Rattle.std.specs.Io.KnownBytes.{Appends}
+use Rattle.cops_types.specs.Convergence.{IsCausallyConvergent}
+use Rattle.cops_audit.specs.declared.verdict.Verdict.{Verdict}
+use Rattle.cops_audit.specs.declared.verdict.Verdict.TheVariants as verdict
+use Rattle.cops_audit.specs.Verdicts.{IsVerdict}
+use Rattle.cops_report.specs.Reports.{IsReport}
+use Rattle.cops_trace.specs.declared.fault.TraceFault.{TraceFault}
+use Rattle.cops_trace.specs.Text.{ATrace, IsTrace, sessions_of, text}
+use Rattle.cops_trace.specs.Answer.{Says}
+use Rattle.cops_trace.specs.Lines.{fault_line}
+use Rattle.cops_stream.specs.declared.audit.Answer.{Answer}
+use Rattle.cops_stream.specs.declared.audit.Answer.TheVariants.{Accepted, Refused, Faulty}
+
+-- the answer that a verdict makes
+abbrev pub answer_of : Verdict → Answer
+answer_of (verdict.Accepted puts) = Accepted
+answer_of (verdict.Refused faults) = Refused
+
+-- of a trace: the report of the verdict on its sessions
+pub record IsTold (t : ATrace) (answer : Answer) (told : List ℕ) : Type 0 where
+  pub verdict : Verdict
+  pub is_verdict : IsVerdict (sessions_of t) verdict
+  pub is_report : IsReport (sessions_of t) verdict told
+  pub answer_is : answer ≡ answer_of verdict
+
+-- what was read is a trace whose history is causally convergent
+abbrev pub Converges : Result ATrace TraceFault → Type 0
+Converges (Ok t) = IsCausallyConvergent (sessions_of t)
+Converges (Err e) = ⊥
+
+-- of bytes: the report, where they are a trace's text, else the line of their first fault
+abbrev pub AuditSays : List ℕ → Answer → List ℕ → Type 0
+AuditSays bytes answer told =
+    ((t : ATrace) × Says bytes (Ok t) × IsTold t answer told)
+    ⊎ ((e : TraceFault) × Says bytes (Err e) × (answer ≡ Faulty) × (told ≡ fault_line e))
+
+-- the writer gained the whole text
+abbrev pub Writes : List ℕ → Answer → Option (List ℕ) → Option (List ℕ) → Type 0
+Writes bytes answer old new = (told : List ℕ) × AuditSays bytes answer told × Appends old new told
+
+-- the writer gained a front of the text
+abbrev pub WritesFront : List ℕ → Option (List ℕ) → Option (List ℕ) → Type 0
+WritesFront bytes old new = (answer : Answer) × (front : List ℕ) × (rest : List ℕ) × AuditSays bytes answer (front ++ rest) × Appends old new front
+
+-- the bytes are the text of one trace and no other, and its history is causally convergent
+pub record SpellsConvergent (bytes : List ℕ) : Type 0 where
+  pub trace : ATrace
+  pub is_trace : IsTrace trace
+  pub spells : bytes ≡ text trace
+  pub one : (other : ATrace) → IsTrace other → bytes ≡ text other → other ≡ trace
+  pub convergent : IsCausallyConvergent (sessions_of trace)

@@ -1,0 +1,117 @@
+//! The audit of a trace's bytes.
+ghost use Rattle.std.specs.Prelude.{◌≡◌, ◌⊎◌, List, ℕ, IfOk, IfErr, IfSome, IsErrOf, Ok, Err};
+ghost use Rattle.std.specs.Io.KnownBytes.{Keeps};
+ghost use Rattle.cops_types.specs.Failures.{Failed};
+ghost use Rattle.cops_types.specs.Counted.{failures, inner};
+ghost use Rattle.cops_trace.specs.Answer.{Agrees};
+ghost use Rattle.cops_stream.specs.Audit.{AuditSays, Writes, WritesFront, SpellsConvergent, IsTold, Converges};
+ghost use Rattle.cops_stream.specs.declared.audit.StreamFault.TheVariants.{Memory as OutOfMemory};
+
+use cops_audit::{Verdict, judge};
+use cops_report::report;
+use cops_trace::{Trace, TraceFault, fault_line, read_trace, write_text};
+use cops_types::{Counted, Memory};
+use std::alloc::Global;
+use std::io::{Read, Write};
+use thiserror::Error;
+
+/// What an audit says of a trace's bytes.
+#[derive(Clone, Copy, Debug, PartialEq, Eq)]
+pub enum Answer {
+    /// The bytes spell one history, and it is causally convergent.
+    Accepted,
+    /// The bytes spell one history, and it has faults.
+    Refused,
+    /// The bytes spell no history.
+    Faulty,
+}
+
+/// Why no audit was written. The numbers are the faults' codes.
+#[derive(Clone, Copy, Debug, PartialEq, Eq, Error)]
+pub enum StreamFault {
+    #[error("out of memory")]
+    Memory = 0,
+    #[error("the reader failed")]
+    ReadFailed = 3,
+    #[error("the writer failed")]
+    WriteFailed = 4,
+}
+
+impl From<Memory> for StreamFault {
+    ghost from_gives = { λ _ e. e ≡ OutOfMemory };
+
+    fn from(_e: Memory) -> StreamFault {
+        StreamFault::Memory
+    }
+}
+
+/// The answer for a trace, with its report.
+fn judged(alloc: Global, trace: &Trace) -> Result<(Answer, Vec<u8>), Memory>
+    ensures told { IfOk result (λ told. IsTold trace.now told.0 told.1.items) }
+    ensures convergent { IfOk result (λ told. told.0 ≡ Answer.Accepted → Converges (Ok trace.now)) }
+{
+    let history = trace.history();
+    let verdict = judge(alloc, history)?;
+    let text = report(alloc, history, &verdict)?;
+    match verdict {
+        Verdict::Accepted(_) => Ok((Answer::Accepted, text)),
+        Verdict::Refused(_) => Ok((Answer::Refused, text)),
+    }
+}
+
+/// The answer for what was read, with its text.
+fn told(
+    alloc: Global,
+    read: Result<Trace, TraceFault>,
+) -> Result<(Answer, Vec<u8>), StreamFault>
+    ensures says { (bytes : List ℕ) → Agrees bytes read → IfOk result (λ told. AuditSays bytes told.0 told.1.items) }
+    ensures convergent { IfOk result (λ told. told.0 ≡ Answer.Accepted → Converges read) }
+    ensures read_failed { IsErrOf result StreamFault.ReadFailed → read ≡ Err TraceFault.ReadFailed }
+    ensures no_write { ¬ IsErrOf result StreamFault.WriteFailed }
+{
+    match read {
+        Ok(trace) => {
+            let told = judged(alloc, &trace)?;
+            Ok(told)
+        }
+        Err(TraceFault::Memory) => Err(StreamFault::Memory),
+        Err(TraceFault::ReadFailed) => Err(StreamFault::ReadFailed),
+        Err(fault) => {
+            let mut text = Vec::new(alloc);
+            fault_line(alloc, &fault, &mut text)?;
+            Ok((Answer::Faulty, text))
+        }
+    }
+}
+
+/// Reads a trace to its end or its first fault, judges it, and writes the report or the fault's line, and nothing else.
+/// `ReadFailed` where a read failed, and `WriteFailed` where a write failed: neither is tried again. Nothing is written
+/// before the input's end. Where memory is refused nothing is written.
+pub fn audit_stream<R: Read, W: Write>(
+    alloc: Global,
+    reader: &mut Counted<R>,
+    writer: &mut Counted<W>,
+) -> Result<Answer, StreamFault>
+    // What is written is the audit's text of the reader's bytes, and the answer is the audit's.
+    ensures ok { IfOk result (λ answer. IfSome (R.remaining (inner reader.old)) (λ bytes.
+        Writes bytes answer (W.contents (inner writer.old)) (W.contents (inner writer.new)))) }
+
+    // Where it accepts, the bytes spell one history, and it is causally convergent.
+    ensures accepted { IfOk result (λ answer. answer ≡ Answer.Accepted → IfSome (R.remaining (inner reader.old)) SpellsConvergent) }
+
+    // A front of the text, where a write failed; else a fault writes nothing.
+    ensures write_failed { IsErrOf result StreamFault.WriteFailed → IfSome (R.remaining (inner reader.old)) (λ bytes.
+        WritesFront bytes (W.contents (inner writer.old)) (W.contents (inner writer.new))) }
+    ensures nothing { (IsErrOf result StreamFault.ReadFailed ⊎ IsErrOf result StreamFault.Memory)
+        → Keeps (W.contents (inner writer.old)) (W.contents (inner writer.new)) }
+
+    // The devices' faults are told only where they were met.
+    ensures write_count { IsErrOf result StreamFault.WriteFailed → Failed (failures writer.old) (failures writer.new) }
+    ensures read_count { IsErrOf result StreamFault.ReadFailed → Failed (failures reader.old) (failures reader.new) }
+{
+    let (answer, text) = told(alloc, read_trace(alloc, reader))?;
+    match write_text(writer, &text) {
+        Ok(()) => Ok(answer),
+        Err(_) => Err(StreamFault::WriteFailed),
+    }
+}

@@ -1,0 +1,81 @@
+use Rattle.std.proofs.Common.{◌≡◌, ℕ, suc, ◌+◌, ◌<◌, List, [], ◌++◌, length, take, get_or, Option, Some, None, Ok, refl, sym, ap, subst, ◌∙◌, append_assoc, arith, rules}
+use Rattle.std.specs.Prelude.{IfOk, OnOk}
+use Rattle.std.proofs.Math.ListN.{set, length-set}
+use Rattle.cops_types.specs.declared.op.Op.{Op}
+use Rattle.cops_types.specs.Histories.{op_at}
+use Rattle.cops_trace.specs.Text.{records_text, spelled, op_message}
+use Rattle.cops_trace.specs.Kept.{records_from, op_in}
+use Rattle.cops_trace.proofs.Lists.{times}
+use Rattle.cops_trace.proofs.Spellings.{client_inside, op_stands, turns_next, text_next, read_any}
+use Rattle.cops_trace.proofs.trace.Trace.append_records.Goals as goal
+
+-- src/trace.rt:103:25
+pub index-index-requires : goal.index-index-requires
+index-index-requires c =
+    let k = c.loop-at.invariant in
+    let cs = c.self.inside.arrivals.items in
+    let at = c.loop-at.at in
+    let lt : at < length cs = omega (arith, c.loop-at-test.true, c.len.ensures, c.self.inside.arrivals.ok.0) in
+    let client : c.index-client.result.now ≡ get_or cs at 0 = c.index-client.ensures ∙ read_any cs at c.index-client.result.now 0 lt in
+    let inside = client_inside c.self.inside.history.sessions cs at k.0 lt in
+    omega (arith, inside, k.1, client, c.loop-at.turns.ok.0)
+
+-- src/trace.rt:106:25
+pub unreachable-requires : goal.unreachable-requires
+unreachable-requires c =
+    let k = c.loop-at.invariant in
+    let h = c.self.inside.history.sessions in
+    let cs = c.self.inside.arrivals.items in
+    let at = c.loop-at.at in
+    let turns = c.loop-at.turns.items in
+    let d = c.index-client.result.now in
+    let n = c.index-index.result.now in
+    let lt : at < length cs = omega (arith, c.loop-at-test.true, c.len.ensures, c.self.inside.arrivals.ok.0) in
+    let there = op_stands h cs at k.0 lt in
+    let client : d ≡ get_or cs at 0 = c.index-client.ensures ∙ read_any cs at d 0 lt in
+    let inside : d < length turns = omega (arith, client, client_inside h cs at k.0 lt, k.1) in
+    let index : n ≡ times d (take at cs) = c.index-index.ensures ∙ read_any turns d n 0 inside ∙ k.2 d inside in
+    let none : None ≡ op_at h (record { client = d; index = n }) = c.in-None.ensures.operation in
+    let here : op_at h (record { client = d; index = times d (take at cs) }) ≡ Some (op_in h d (times d (take at cs)))
+    = subst (λ x. op_at h (record { client = x; index = times x (take at cs) }) ≡ Some (op_in h x (times x (take at cs)))) (sym client) there in
+    let both : None ≡ Some (op_in h d (times d (take at cs))) = none ∙ ap (λ x. op_at h (record { client = d; index = x })) index ∙ here in
+    cc
+
+-- src/trace.rt:101:9
+pub loop-at-preserved : goal.loop-at-preserved
+unfolding spelled
+loop-at-preserved c =
+    let k = c.loop-at.invariant in
+    let h = c.self.inside.history.sessions in
+    let cs = c.self.inside.arrivals.items in
+    let at = c.loop-at.at in
+    let turns = c.loop-at.turns.items in
+    let d = c.index-client.result.now in
+    let n = c.index-index.result.now in
+    let lt : at < length cs = omega (arith, c.loop-at-test.true, c.len.ensures, c.self.inside.arrivals.ok.0) in
+    let there = op_stands h cs at k.0 lt in
+    let client : d ≡ get_or cs at 0 = c.index-client.ensures ∙ read_any cs at d 0 lt in
+    let inside : d < length turns = omega (arith, client, client_inside h cs at k.0 lt, k.1) in
+    let index : n ≡ times d (take at cs) = c.index-index.ensures ∙ read_any turns d n 0 inside ∙ k.2 d inside in
+    let some : Some c.in-Some.op.now ≡ op_at h (record { client = d; index = n }) = c.in-Some.ensures.operation in
+    let here : op_at h (record { client = d; index = times d (take at cs) }) ≡ Some (op_in h d (times d (take at cs)))
+    = subst (λ x. op_at h (record { client = x; index = times x (take at cs) }) ≡ Some (op_in h x (times x (take at cs)))) (sym client) there in
+    let both : Some c.in-Some.op.now ≡ Some (op_in h d (times d (take at cs))) = some ∙ ap (λ x. op_at h (record { client = d; index = x })) index ∙ here in
+    let op : c.in-Some.op.now ≡ op_in h d (times d (take at cs)) = cc in
+    let m : c.in_ok-message-in-Some.field-0 ≡ op_message d n c.in-Some.op.now = c.in_ok-message-in-Some.ensures.value in
+    let e : c.encode.new.out.items ≡ c.loop-at.out.items ++ spelled c.in_ok-message-in-Some.field-0 = c.in_ok-encode-in-Some.ensures.ok in
+    let next : suc at ≡ at + 1 = omega arith in
+    let more : c.encode.new.out.items ≡ c.args.out.now.items ++ records_text [] (records_from h [] (take (suc at) cs)) =
+    e ∙ ap (λ x. c.loop-at.out.items ++ spelled x) (m ∙ ap (λ x. op_message d x c.in-Some.op.now) index ∙ ap (op_message d (times d (take at cs))) op)
+    ∙ ap (λ x. x ++ spelled (op_message d (times d (take at cs)) (op_in h d (times d (take at cs))))) k.3
+    ∙ append_assoc c.args.out.now.items (records_text [] (records_from h [] (take at cs))) (spelled (op_message d (times d (take at cs)) (op_in h d (times d (take at cs)))))
+    ∙ ap (λ x. c.args.out.now.items ++ (records_text [] (records_from h [] (take at cs)) ++ spelled (op_message x (times x (take at cs)) (op_in h x (times x (take at cs)))))) client
+    ∙ ap (λ x. c.args.out.now.items ++ x) (sym (text_next h cs at lt)) in
+    let counts = turns_next turns cs at lt (subst (λ x. x < length turns) client inside) k.2 in
+    let same : set turns (get_or cs at 0) (get_or turns (get_or cs at 0) 0 + 1) ≡ set turns d (n + 1) =
+    ap (λ x. set turns x (get_or turns x 0 + 1)) (sym client) ∙ ap (λ x. set turns d (x + 1)) (sym (c.index-index.ensures ∙ read_any turns d n 0 inside)) in (
+      k.0,
+      length-set turns d (n + 1) ∙ k.1,
+      λ x there. subst (λ l. get_or l x 0 ≡ times x (take (at + 1) cs)) same (subst (λ i. get_or (set turns (get_or cs at 0) (get_or turns (get_or cs at 0) 0 + 1)) x 0 ≡ times x (take i cs)) next (counts x (omega (arith, there, length-set turns d (n + 1))))),
+      subst (λ i. c.encode.new.out.items ≡ c.args.out.now.items ++ records_text [] (records_from h [] (take i cs))) next more,
+    )

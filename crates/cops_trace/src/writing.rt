@@ -1,0 +1,71 @@
+ghost use Rattle.std.specs.Prelude.{◌≡◌, ◌≢◌, ◌≤◌, ◌<◌, ℕ, length, take, OnOk, IfOk, IfErr, IsErrOf};
+ghost use Rattle.std.specs.Io.KnownBytes.{Appends, Keeps};
+ghost use Rattle.cops_trace.specs.Text.{text};
+ghost use Rattle.cops_types.specs.Failures.{Failed};
+ghost use Rattle.cops_types.specs.Counted.{failures, inner};
+
+use crate::fault::WriteFault;
+use crate::trace::Trace;
+use cops_types::{Counted, Memory};
+use cops_wire::{Message, encode};
+use std::alloc::Global;
+use std::io::Write;
+
+/// The number of the format that is written.
+const FORMAT: u16 = 1;
+
+/// A trace's text: the head, the records in order of arrival, and the end.
+fn text_of(alloc: Global, trace: &Trace) -> Result<Vec<u8>, Memory>
+    ensures { IfOk result (λ out. out.items ≡ text trace.now) }
+{
+    let mut out = Vec::new(alloc);
+    let head = Message::TraceHead {
+        format: FORMAT,
+        clients: trace.clients(),
+    };
+    encode(&head, &mut out)?;
+    trace.append_records(alloc, &mut out)?;
+    let end = Message::TraceEnd {
+        ops: trace.len() as u32,
+    };
+    encode(&end, &mut out)?;
+    Ok(out)
+}
+
+/// Writes a trace's text. For want of memory nothing is written. A failed write is not tried again.
+pub fn write_trace<W: Write>(
+    alloc: Global,
+    writer: &mut Counted<W>,
+    trace: &Trace,
+) -> Result<(), WriteFault>
+    ensures ok { OnOk result (Appends (W.contents (inner writer.old)) (W.contents (inner writer.new)) (text trace.now)) }
+    ensures memory { IsErrOf result WriteFault.Memory → Keeps (W.contents (inner writer.old)) (W.contents (inner writer.new)) }
+    ensures front { IfErr result (λ e. (n : ℕ) → e ≡ WriteFault.WriteFailed n
+        → (n < length (text trace.now)) × Appends (W.contents (inner writer.old)) (W.contents (inner writer.new)) (take n (text trace.now))) }
+    ensures failed { IfErr result (λ e. e ≢ WriteFault.Memory → Failed (failures writer.old) (failures writer.new)) }
+{
+    let text = text_of(alloc, trace)?;
+    match write_text(writer, &text) {
+        Ok(()) => Ok(()),
+        Err(written) => Err(WriteFault::WriteFailed { written }),
+    }
+}
+
+/// Writes all of a text, or tells how many of its first bytes were written, fewer than all. A failed write is not tried
+/// again.
+pub fn write_text<W: Write>(writer: &mut Counted<W>, text: &[u8]) -> Result<(), usize>
+    ensures ok { OnOk result (Appends (W.contents (inner writer.old)) (W.contents (inner writer.new)) text.now) }
+    ensures err { IfErr result (λ n. Appends (W.contents (inner writer.old)) (W.contents (inner writer.new)) (take n text.now)) }
+    ensures failed { IfErr result (λ n. (n < length text.now) × Failed (failures writer.old) (failures writer.new)) }
+{
+    let mut written = 0;
+    while written < text.len() {
+        let (_, rest) = text.split_at(written);
+        match writer.write(rest) {
+            Ok(0) => return Err(written),
+            Ok(count) => written += count,
+            Err(_) => return Err(written),
+        }
+    }
+    Ok(())
+}
