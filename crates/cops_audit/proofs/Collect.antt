@@ -1,5 +1,5 @@
 -- A loop over the names that collects the faults of a class.
-use Rattle.std.proofs.Common.{◌≡◌, ◌<◌, ◌≤◌, ◌+◌, ℕ, zero, suc, List, [], ◌∷◌, ◌++◌, length, get_or, take, take_all, refl, sym, ◌∙◌, ap, subst, inl, inr, arith, Contains, AllPairs}
+use Rattle.std.proofs.Common.{◌≡◌, ◌<◌, ◌≤◌, ◌+◌, ◌↔◌, ℕ, zero, suc, List, [], ◌∷◌, ◌++◌, length, get_or, take, take_all, refl, sym, ◌∙◌, ap, subst, inl, inr, arith, Contains, AllPairs}
 use Rattle.std.proofs.lemmas.List.Quantifiers.{all_pairs_push}
 use Rattle.std.proofs.lemmas.List.Elements.{Contains-append_left, Contains-push, Contains-push_cases, Contains-get_or}
 use Rattle.std.proofs.lemmas.List.{take_more}
@@ -61,6 +61,10 @@ get_or-default [] i d e inside = absurd (omega (arith, inside))
 get_or-default (x ∷ xs) zero d e inside = refl
 get_or-default (x ∷ xs) (suc i) d e inside = get_or-default xs i d e (omega (arith, inside))
 
+-- an element, read with another default
+pub item_at : {A : Type 0} (xs : List A) (i : ℕ) (x d : A) → i < length xs → x ≡ get_or xs i x → get_or xs i d ≡ x
+item_at xs i x d inside at = get_or-default xs i d x inside ∙ sym at
+
 -- the names so far come before the next one
 pub earlier_names : (names : List OpName) (i : ℕ) (d : OpName) → AllPairs IsBefore names → i < length names → (m : OpName) → Contains (take i names) m → IsBefore m (get_or names i d)
 earlier_names names i d in_order inside m at =
@@ -84,6 +88,21 @@ module _ {A : Type 0} (name_of : A → OpName) (IsFault : A → Type 0) (names :
       subst (λ ns. ListsAmong name_of IsFault ns (faults ++ y ∷ [])) (ap (λ m. take i names ++ m ∷ []) same ∙ sym (take_more names i d inside))
       (among_push name_of IsFault (take i names) faults y lists fault one
       (λ m there. subst (IsBefore m) (sym same) (earlier_names names i d in_order inside m there)))
+
+-- the list so far, at the end
+pub among_here : {A : Type 0} (name_of : A → OpName) (IsFault : A → Type 0) (names : List OpName) (i : ℕ) (faults : List A)
+    → length names ≤ i → ListsAmong name_of IsFault (take i names) faults → ListsAmong name_of IsFault names faults
+among_here name_of IsFault names i faults enough lists = subst (λ ns. ListsAmong name_of IsFault ns faults) (take_all i names enough) lists
+
+-- the faults of one class are those of the other
+pub among_same : {A : Type 0} (name_of : A → OpName) (F G : A → Type 0) (names : List OpName) (faults : List A) → ((x : A) → F x ↔ G x) → ListsAmong name_of F names faults → ListsAmong name_of G names faults
+among_same name_of F G names faults same lists = record {
+  members = λ x. (
+    (λ at. let o = (lists.members x).0 at in ((same x).0 o.0, o.1)),
+    (λ w. (lists.members x).1 ((same x).1 w.0, w.1)),
+  );
+  in_order = lists.in_order;
+}
 
 pub all_listed : {A : Type 0} (name_of : A → OpName) (IsFault : A → Type 0) (names : List OpName) (i : ℕ) (faults : List A)
     → length names ≤ i → ListsAmong name_of IsFault (take i names) faults

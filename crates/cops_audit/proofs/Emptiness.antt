@@ -23,7 +23,7 @@ module _ {A : Type 0} (name_of : A → OpName) (IsFault : A → Type 0) (faults 
       let zero_test : eqb n 0 ≡ true = eq-eqb n 0 e in
       absurd cc
 
-at_index : {A : Type 0} (xs : List A) (i : ℕ) (x d : A) → slice_get xs i ≡ Some x → (i < length xs) × (get_or xs i d ≡ x)
+pub at_index : {A : Type 0} (xs : List A) (i : ℕ) (x d : A) → slice_get xs i ≡ Some x → (i < length xs) × (get_or xs i d ≡ x)
 at_index [] i x d e = absurd cc
 at_index (y ∷ ys) zero x d e = (omega arith, let s : y ≡ x = cc in s)
 at_index (y ∷ ys) (suc i) x d e = let r = at_index ys i x d e in (omega (arith, r.0), r.1)
@@ -38,12 +38,12 @@ order_of_table h table by_version = record { members = λ p. (forth p, back p); 
         let inside : at.0 < length table = omega (arith, at.1, length-map table (λ (q : VersionedPut). q.name)) in
         let put = get_or table at.0 d in
         let same : put.name ≡ p = sym (get_or-map (λ (q : VersionedPut). q.name) table at.0 d p inside) ∙ at.2 in
-        (put.version, subst (λ n. PutsVersion h n put.version) same ((by_version.members put).0 (at.0, inside, get_or-default table at.0 put d inside)))
+        (put.version, subst (λ n. PutsVersion h n put.version) same ((by_version.table.members put).0 (at.0, inside, get_or-default table at.0 put d inside)))
 
     back : (p : OpName) → Puts h p → Contains (map (λ (q : VersionedPut). q.name) table) p
     back p put =
         let d : VersionedPut = record { version = put.0; name = p } in
-        let at = (by_version.members d).1 put.1 in
+        let at = (by_version.table.members d).1 put.1 in
         (at.0, omega (arith, at.1, length-map table (λ (q : VersionedPut). q.name)), get_or-map (λ (q : VersionedPut). q.name) table at.0 d p at.1 ∙ ap (λ (q : VersionedPut). q.name) at.2)
 
     rising : (p q : OpName) (v w : ℕ) → StandsBefore (map (λ (r : VersionedPut). r.name) table) p q → PutsVersion h p v → PutsVersion h q w → v < w
@@ -57,6 +57,6 @@ order_of_table h table by_version = record { members = λ p. (forth p, back p); 
         let put_q = get_or table b.1 d in
         let name_p : put_p.name ≡ p = sym (get_or-map (λ (r : VersionedPut). r.name) table b.0 d p in_p) ∙ at_p.1 in
         let name_q : put_q.name ≡ q = sym (get_or-map (λ (r : VersionedPut). r.name) table b.1 d p in_q) ∙ at_q.1 in
-        let version_p : put_p.version ≡ v = one_version h put_p.name p put_p.version v ((by_version.members put_p).0 (b.0, in_p, get_or-default table b.0 put_p d in_p)) first name_p in
-        let version_q : put_q.version ≡ w = one_version h put_q.name q put_q.version w ((by_version.members put_q).0 (b.1, in_q, get_or-default table b.1 put_q d in_q)) second name_q in
+        let version_p : put_p.version ≡ v = one_version h put_p.name p put_p.version v ((by_version.table.members put_p).0 (b.0, in_p, get_or-default table b.0 put_p d in_p)) first name_p in
+        let version_q : put_q.version ≡ w = one_version h put_q.name q put_q.version w ((by_version.table.members put_q).0 (b.1, in_q, get_or-default table b.1 put_q d in_q)) second name_q in
         omega (arith, by_version.rising b.0 b.1 d b.2 in_q, version_p, version_q)

@@ -62,7 +62,7 @@ one_listing name_of IsFault xs ys p q =
     (λ z there. mem_from_contains z ys ((q.members z).1 ((p.members z).0 (contains_from_mem z xs there))))
     (λ z there. mem_from_contains z xs ((p.members z).1 ((q.members z).0 (contains_from_mem z ys there))))
 
-stands : {A : Type 0} (xs : List A) (i : ℕ) (d : A) → i < length xs → slice_get xs i ≡ Some (get_or xs i d)
+pub stands : {A : Type 0} (xs : List A) (i : ℕ) (d : A) → i < length xs → slice_get xs i ≡ Some (get_or xs i d)
 stands [] i d inside = absurd (omega (arith, inside))
 stands (x ∷ xs) zero d inside = refl
 stands (x ∷ xs) (suc i) d inside = stands xs i d (omega (arith, inside))

@@ -1,4 +1,9 @@
-pub mod Counts
+pub mod Keys
 pub mod Names
+pub mod Notes
+pub mod Sweeps
 pub mod Tables
+pub mod Tallies
+pub mod Turns
 pub mod Verdicts
+pub mod Windows

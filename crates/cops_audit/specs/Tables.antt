@@ -1,5 +1,5 @@
 -- The puts by their versions.
-use Rattle.std.specs.Prelude.{◌<◌, ◌↔◌, ℕ, List, Contains, AllPairs}
+use Rattle.std.specs.Prelude.{◌≢◌, ◌<◌, ◌≤◌, ◌↔◌, ℕ, List, length, Contains, AllPairs}
 use Rattle.cops_types.specs.declared.op.OpName.{OpName}
 use Rattle.cops_types.specs.Histories.{Sessions, IsGot, PutsVersion}
 use Rattle.cops_audit.specs.declared.table.VersionedPut.{VersionedPut}
@@ -8,7 +8,22 @@ use Rattle.cops_audit.specs.declared.table.VersionedPut.{VersionedPut}
 abbrev pub GetsVersion : Sessions → OpName → ℕ → Type 0
 GetsVersion h name version = (key : List ℕ) × (value : List ℕ) × IsGot h name key value version
 
+-- in order of versions, where one may stand twice
+abbrev pub VersionsNeverFall : List VersionedPut → Type 0
+VersionsNeverFall puts = AllPairs (λ p q. p.version ≤ q.version) puts
+
+-- in order of versions, none twice
+abbrev pub Rises : List VersionedPut → Type 0
+Rises puts = AllPairs (λ p q. p.version < q.version) puts
+
+-- all puts with their versions, each once, in order of versions
+pub record IsPutTable (h : Sessions) (puts : List VersionedPut) : Type 0 where
+  pub members : (p : VersionedPut) → Contains puts p ↔ PutsVersion h p.name p.version
+  pub once : AllPairs (λ p q. p.name ≢ q.name) puts
+  pub in_order : VersionsNeverFall puts
+  pub few : length puts ≤ 16000000
+
 -- all puts with their versions, in order of versions, no version twice
 pub record IsVersionTable (h : Sessions) (puts : List VersionedPut) : Type 0 where
-  pub members : (p : VersionedPut) → Contains puts p ↔ PutsVersion h p.name p.version
-  pub rising : AllPairs (λ p q. p.version < q.version) puts
+  pub table : IsPutTable h puts
+  pub rising : Rises puts

@@ -1,14 +1,17 @@
 ghost use Rattle.std.specs.Prelude.{IfOk, ◌↔◌};
 ghost use Rattle.cops_types.specs.Convergence.{IsCausallyConvergent};
+ghost use Rattle.cops_types.specs.Histories.{IsNamed};
+ghost use Rattle.cops_types.specs.Faults.{Lists};
+ghost use Rattle.cops_audit.specs.Tables.{IsVersionTable};
 ghost use Rattle.cops_audit.specs.Verdicts.{IsVerdict, Accepts, ConvergesByVersions};
 
-use crate::causes::all_pasts;
-use crate::classes::{doubled, not_above, without_source};
 use crate::names::all_names;
-use crate::stale::stale;
-use crate::table::{put_names, version_table};
+use crate::notes::{Notes, without_source};
+use crate::rising::not_above;
+use crate::stale::stale_among;
+use crate::table::{VersionedPut, doubled, is_rising, put_names, puts_by_version};
 use crate::verdict::{Faults, Verdict};
-use cops_types::{History, Memory};
+use cops_types::{History, Memory, OpName};
 use std::alloc::Global;
 
 /// The verdict on a history. It is accepted exactly where no version is borne by two puts and the history converges by
@@ -26,25 +29,42 @@ pub fn judge(alloc: Global, history: &History) -> Result<Verdict, Memory>
 fn classify(alloc: Global, history: &History) -> Result<Verdict, Memory>
     ensures { IfOk result (IsVerdict history.now.sessions) }
 {
-    let names = all_names(alloc, history)?;
-    let faults = doubled(alloc, history, &names)?;
-    if !faults.is_empty() {
+    let list = all_names(alloc, history)?;
+    let names = list.as_slice();
+    let puts = puts_by_version(alloc, history, names)?;
+    let table = puts.as_slice();
+    if !is_rising(table) {
+        let faults = doubled(alloc, history, names, table)?;
         return Ok(Verdict::Refused(Faults::Doubled(faults)));
     }
-    let faults = without_source(alloc, history, &names)?;
+    let verdict = classify_gets(alloc, history, names, table)?;
+    Ok(verdict)
+}
+
+/// The same of a history in which no version is borne by two puts.
+fn classify_gets(
+    alloc: Global,
+    history: &History,
+    names: &[OpName],
+    table: &[VersionedPut],
+) -> Result<Verdict, Memory>
+    requires names { Lists (λ n. n) (IsNamed history.now.sessions) names.now }
+    requires table { IsVersionTable history.now.sessions table.now }
+    ensures { IfOk result (IsVerdict history.now.sessions) }
+{
+    let notes = Notes::new(alloc, history, table)?;
+    let faults = without_source(alloc, &notes, names)?;
     if !faults.is_empty() {
         return Ok(Verdict::Refused(Faults::NoSource(faults)));
     }
-    let faults = not_above(alloc, history, &names)?;
+    let faults = not_above(alloc, &notes, names)?;
     if !faults.is_empty() {
         return Ok(Verdict::Refused(Faults::NotAbove(faults)));
     }
-    let table = version_table(alloc, history, &names)?;
-    let pasts = all_pasts(alloc, history, &table)?;
-    let faults = stale(alloc, history, &names, &table, &pasts)?;
+    let faults = stale_among(alloc, history, table, &notes, names)?;
     if !faults.is_empty() {
         return Ok(Verdict::Refused(Faults::Stale(faults)));
     }
-    let puts = put_names(alloc, &table)?;
+    let puts = put_names(alloc, table)?;
     Ok(Verdict::Accepted(puts))
 }

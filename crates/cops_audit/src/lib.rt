@@ -2,25 +2,35 @@
 //! faults in order of names, or the puts in order of versions. A history that is accepted is causally convergent: in
 //! the sense of CCv (Bouajjani, Enea, Guerraoui, Hamza, POPL 2017), for puts that carry versions, with the order of
 //! versions as the arbitration. Stands on cops_types, which has the definitions. The layers above use the verdict, that
-//! it is the only one, and that acceptance is convergence by the order of versions.
+//! it is the only one, and that acceptance is convergence by the order of versions. A judge that shares the work uses
+//! the tables and the search for each class among given names.
 #![tactic(auto)]
 
-mod causes;
-mod classes;
-mod counts;
-mod faults;
 mod judging;
+mod keys;
 mod laws;
 mod names;
-mod pasts;
-mod sources;
+mod notes;
+mod ops;
+mod rising;
 mod stale;
+mod sweep;
 mod table;
+mod tally;
+mod turns;
 mod verdict;
+mod window;
 
 pub use judging::judge;
+pub use keys::{Keys, first_places, link};
 pub use laws::{accepted_exactly_where_convergent, one_verdict};
+pub use names::all_names;
+pub use notes::{Note, Notes, Seen, without_source};
+pub use rising::not_above;
+pub use stale::stale_among;
+pub use table::{VersionedPut, doubled, is_rising, put_names, puts_by_version};
 pub use verdict::{Faults, NotAbove, Stale, Verdict};
+pub use window::{Suspect, suspects};
 
 #[cfg(test)]
 mod tests;

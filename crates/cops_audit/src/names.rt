@@ -1,4 +1,4 @@
-ghost use Rattle.std.specs.Prelude.{IfOk, OnOk, ◌≡◌, length, slice_index_or, []};
+ghost use Rattle.std.specs.Prelude.{IfOk, OnOk, ◌≡◌, ◌+◌, ◌≤◌, length, vec_len, slice_index_or, []};
 ghost use Rattle.cops_types.specs.Histories.{IsNamed};
 ghost use Rattle.cops_types.specs.Faults.{Lists};
 ghost use Rattle.cops_audit.specs.Names.{ListsBefore};
@@ -9,7 +9,8 @@ use std::alloc::{AllocError, Global};
 /// Adds the names of one session.
 fn push_session(names: &mut Vec<OpName>, history: &History, client: u16) -> Result<(), AllocError>
     requires { ListsBefore history.now.sessions client 0 names.old.items }
-    ensures { OnOk result (ListsBefore history.now.sessions client (length (slice_index_or history.now.sessions client [])) names.new.items) }
+    ensures names { OnOk result (ListsBefore history.now.sessions client (length (slice_index_or history.now.sessions client [])) names.new.items) }
+    ensures count { OnOk result (vec_len names.new ≡ vec_len names.old + length (slice_index_or history.now.sessions client [])) }
 {
     for index in 0..history.session(client).len() {
         let index = index as u32;
@@ -20,7 +21,8 @@ fn push_session(names: &mut Vec<OpName>, history: &History, client: u16) -> Resu
 
 /// The names of all operations, in their order.
 pub fn all_names(alloc: Global, history: &History) -> Result<Vec<OpName>, AllocError>
-    ensures { IfOk result (λ v. Lists (λ n. n) (IsNamed history.now.sessions) v.items) }
+    ensures names { IfOk result (λ v. Lists (λ n. n) (IsNamed history.now.sessions) v.items) }
+    ensures few { IfOk result (λ v. vec_len v ≤ 16000000) }
 {
     let mut names = Vec::new(alloc);
     for client in 0..history.clients() {

@@ -1,98 +1,82 @@
-ghost use Rattle.std.specs.Prelude.{◌≡◌, ◌↔◌, ℕ, IsTrue, IfOk, IfSome, IfNone};
-ghost use Rattle.cops_types.specs.declared.op.OpName.{OpName};
-ghost use Rattle.cops_types.specs.Histories.{IsNamed, PutsVersion};
-ghost use Rattle.cops_types.specs.Faults.{IsNewer, IsStale, Lists};
-ghost use Rattle.cops_audit.specs.Counts.{Counted, IsPastOf, Knows, KnowsPasts, WouldBeNewer};
+ghost use Rattle.std.specs.Prelude.{◌<◌, ℕ, IfOk, length, map, AllPairs, slice_index_or};
+ghost use Rattle.cops_types.specs.Faults.{IsBefore, IsStale};
+ghost use Rattle.cops_types.specs.Verdicts.{AllAbove, AllHaveSources};
+ghost use Rattle.cops_audit.specs.declared.window.Suspect.{Suspect};
+ghost use Rattle.cops_audit.specs.Keys.{AreFirsts};
+ghost use Rattle.cops_audit.specs.Names.{ListsAmong};
+ghost use Rattle.cops_audit.specs.Notes.{IsNoted};
 ghost use Rattle.cops_audit.specs.Tables.{IsVersionTable};
+ghost use Rattle.cops_audit.specs.Windows.{IsSuspect};
 
-use crate::pasts::Pasts;
+use crate::keys::{first_places, link};
+use crate::notes::Notes;
+use crate::sweep::Sweep;
 use crate::table::VersionedPut;
+use crate::turns::{floors, judge_next};
 use crate::verdict::Stale;
-use cops_types::{History, Op, OpName};
+use crate::window::{Suspect, suspects};
+use cops_types::{History, OpName};
 use std::alloc::{AllocError, Global};
 
-/// Whether the counts have an operation.
-fn counts_have(counts: &[u32], name: OpName) -> bool
-    ensures { IsTrue result ↔ Counted counts.now name }
-{
-    match counts.get(name.client as usize) {
-        Some(count) => name.index < *count,
-        None => false,
-    }
-}
-
-/// Whether a put would be newer than what the operation returned.
-fn would_be_newer(history: &History, name: OpName, put: &VersionedPut) -> bool
-    requires { PutsVersion history.now.sessions put.now.name put.now.version }
-    ensures { IsTrue result ↔ WouldBeNewer history.now.sessions name put.now.name put.now.version }
-{
-    match (history.op(put.name), history.op(name)) {
-        (
-            Some(Op::Put { key, .. }),
-            Some(
-                Op::Got {
-                    key: got_key,
-                    version,
-                    ..
-                },
-            ),
-        ) => key.is(got_key) && version.as_u64() < put.version.as_u64(),
-        (Some(Op::Put { key, .. }), Some(Op::Missed { key: missed_key })) => key.is(missed_key),
-        _ => false,
-    }
-}
-
-/// Whether a put is in the past, and newer than what the operation returned.
-fn is_newer(history: &History, past: &[u32], name: OpName, put: &VersionedPut) -> bool
-    requires put { PutsVersion history.now.sessions put.now.name put.now.version }
-    requires past { IsPastOf history.now.sessions past.now name }
-    ensures { IsTrue result ↔ IsNewer history.now.sessions name put.now.name put.now.version }
-{
-    counts_have(past, put.name) && would_be_newer(history, name, put)
-}
-
-/// The newest put in the past that is newer than what the operation returned.
-fn newest_newer(
-    history: &History,
-    table: &[VersionedPut],
-    past: &[u32],
-    name: OpName,
-) -> Option<OpName>
-    requires table { IsVersionTable history.now.sessions table.now }
-    requires past { IsPastOf history.now.sessions past.now name }
-    ensures stale { IfSome result (λ newer. IsStale history.now.sessions name newer) }
-    ensures none { IfNone result ((newer : OpName) (version : ℕ) → ¬ IsNewer history.now.sessions name newer version) }
-{
-    for k in (0..table.len()).rev() {
-        let put = &table[k];
-        if is_newer(history, past, name, put) {
-            return Some(put.name);
-        }
-    }
-    None
-}
-
-/// The stale gets, each with the newest put on its key in its past.
-pub fn stale(
+/// The stale gets among the suspects, each with the newest put on its key in its past.
+fn judge_suspects(
     alloc: Global,
     history: &History,
-    names: &[OpName],
     table: &[VersionedPut],
-    pasts: &Pasts,
+    notes: &Notes,
+    firsts: &[u32],
+    suspects: &[Suspect],
 ) -> Result<Vec<Stale>, AllocError>
-    requires names { Lists (λ n. n) (IsNamed history.now.sessions) names.now }
     requires table { IsVersionTable history.now.sessions table.now }
-    requires known { KnowsPasts history.now.sessions pasts.now }
-    requires all { (n : OpName) → IsNamed history.now.sessions n → Knows pasts.now n }
-    ensures { IfOk result (λ v. Lists (λ f. f.op) (λ f. IsStale history.now.sessions f.op f.newer) v.items) }
+    requires notes { IsNoted history.now.sessions table.now notes.now }
+    requires sources { AllHaveSources history.now.sessions }
+    requires above { AllAbove history.now.sessions }
+    requires firsts { AreFirsts history.now.sessions table.now firsts.now }
+    requires suspects { (k : ℕ) (d : Suspect) → k < length suspects.now → IsSuspect history.now.sessions table.now (slice_index_or suspects.now k d) }
+    requires in_order { AllPairs (λ s t. IsBefore s.op t.op) suspects.now }
+    ensures { IfOk result (λ v. ListsAmong (λ f. f.op) (λ f. IsStale history.now.sessions f.op f.newer) (map (λ s. s.op) suspects.now) v.items) }
 {
+    let list = floors(alloc, suspects)?;
+    let floors = list.as_slice();
+    let mut sweep = Sweep::new(alloc, history.clients(), table.len())?;
     let mut faults = Vec::new(alloc);
-    for name in names {
-        if let Some(past) = pasts.get(*name) {
-            if let Some(newer) = newest_newer(history, table, past, *name) {
-                faults.push(Stale { op: *name, newer })?;
-            }
+    for k in 0..suspects.len() {
+        let op = suspects[k].op;
+        let found = judge_next(&mut sweep, table, notes, firsts, suspects, floors, k)?;
+        if let Some(place) = found {
+            let put = &table[place as usize];
+            faults.push(Stale {
+                op,
+                newer: put.name,
+            })?;
         }
     }
+    Ok(faults)
+}
+
+/// The stale gets among these names, each with the newest put on its key in its past.
+pub fn stale_among(
+    alloc: Global,
+    history: &History,
+    table: &[VersionedPut],
+    notes: &Notes,
+    names: &[OpName],
+) -> Result<Vec<Stale>, AllocError>
+    requires table { IsVersionTable history.now.sessions table.now }
+    requires notes { IsNoted history.now.sessions table.now notes.now }
+    requires sources { AllHaveSources history.now.sessions }
+    requires above { AllAbove history.now.sessions }
+    requires in_order { AllPairs IsBefore names.now }
+    ensures { IfOk result (λ v. ListsAmong (λ f. f.op) (λ f. IsStale history.now.sessions f.op f.newer) names.now v.items) }
+{
+    let keys = link(alloc, history, table)?;
+    let found = suspects(alloc, history, table, notes, &keys, names)?;
+    let suspects = found.as_slice();
+    if suspects.is_empty() {
+        return Ok(Vec::new(alloc));
+    }
+    let places = first_places(alloc, history, table, &keys)?;
+    let firsts = places.as_slice();
+    let faults = judge_suspects(alloc, history, table, notes, firsts, suspects)?;
     Ok(faults)
 }

@@ -1,11 +1,12 @@
-ghost use Rattle.std.specs.Prelude.{◌≡◌, ◌<◌, IfOk, IfSome, IfNone, map, AllPairs, Contains};
+ghost use Rattle.std.specs.Prelude.{◌≡◌, ◌≢◌, ◌⊎◌, ◌<◌, ◌≤◌, ◌+◌, ◌↔◌, ℕ, IfOk, IfSome, IfNone, IsTrue, length, map, AllPairs, vec_len, slice_index_or};
 ghost use Rattle.cops_types.specs.declared.op.OpName.{OpName};
 ghost use Rattle.cops_types.specs.Histories.{IsNamed, PutsVersion};
-ghost use Rattle.cops_types.specs.Faults.{Lists};
-ghost use Rattle.cops_types.specs.Verdicts.{NoneDoubled};
-ghost use Rattle.cops_audit.specs.Tables.{IsVersionTable};
+ghost use Rattle.cops_types.specs.Faults.{IsBefore, IsDoubled, Lists};
+ghost use Rattle.cops_audit.specs.Names.{ListsAmong};
+ghost use Rattle.cops_audit.specs.declared.table.VersionedPut.{VersionedPut};
+ghost use Rattle.cops_audit.specs.Tables.{IsPutTable, Rises, VersionsNeverFall};
 
-use crate::faults::put_version;
+use crate::ops::put_version;
 use cops_types::{History, OpName, Version};
 use std::alloc::{AllocError, Global};
 
@@ -23,7 +24,8 @@ fn all_puts(
     names: &[OpName],
 ) -> Result<Vec<VersionedPut>, AllocError>
     requires { Lists (λ n. n) (IsNamed history.now.sessions) names.now }
-    ensures { IfOk result (λ v. Lists (λ p. p.name) (λ p. PutsVersion history.now.sessions p.name p.version) v.items) }
+    ensures puts { IfOk result (λ v. Lists (λ p. p.name) (λ p. PutsVersion history.now.sessions p.name p.version) v.items) }
+    ensures few { IfOk result (λ v. vec_len v ≤ length names.now) }
 {
     let mut puts = Vec::new(alloc);
     for name in names {
@@ -38,18 +40,101 @@ fn all_puts(
 }
 
 /// The puts with their versions, in order of versions.
-pub fn version_table(
+pub fn puts_by_version(
     alloc: Global,
     history: &History,
     names: &[OpName],
 ) -> Result<Vec<VersionedPut>, AllocError>
     requires names { Lists (λ n. n) (IsNamed history.now.sessions) names.now }
-    requires once { NoneDoubled history.now.sessions }
-    ensures { IfOk result (λ v. IsVersionTable history.now.sessions v.items) }
+    requires few { length names.now ≤ 16000000 }
+    ensures { IfOk result (λ v. IsPutTable history.now.sessions v.items) }
 {
     let mut puts = all_puts(alloc, history, names)?;
     puts.sort_unstable_by_key(|put| put.version.as_u64());
     Ok(puts)
+}
+
+/// Whether no version stands twice in a table of puts in order of versions.
+pub fn is_rising(table: &[VersionedPut]) -> bool
+    ensures rising { IsTrue result → Rises table.now }
+    ensures equal { ¬ IsTrue result → (k : ℕ) × (k + 1 < length table.now) × ((d : VersionedPut) → (slice_index_or table.now (k + 1) d).version ≤ (slice_index_or table.now k d).version) }
+{
+    for k in 1..table.len() {
+        let before = &table[k - 1];
+        let put = &table[k];
+        if before.version.as_u64() >= put.version.as_u64() {
+            return false;
+        }
+    }
+    true
+}
+
+/// The place of a put that bears a version.
+pub fn place_of(table: &[VersionedPut], version: Version) -> Option<usize>
+    requires { VersionsNeverFall table.now }
+    ensures inside { IfSome result (λ place. place < length table.now) }
+    ensures found { IfSome result (λ place. (d : VersionedPut) → (slice_index_or table.now place d).version ≡ version) }
+    ensures none { IfNone result ((k : ℕ) (d : VersionedPut) → k < length table.now → (slice_index_or table.now k d).version ≢ version) }
+{
+    match table.binary_search_by_key(&version.as_u64(), |put| put.version.as_u64()) {
+        Ok(place) => Some(place),
+        Err(_) => None,
+    }
+}
+
+/// Whether a put at the place before or after bears the same version.
+fn has_equal_neighbour(table: &[VersionedPut], place: usize) -> bool
+    requires { place < length table.now }
+    ensures { IsTrue result ↔ ((k : ℕ) × (k < length table.now) × ((k + 1 ≡ place) ⊎ (place + 1 ≡ k)) × ((d : VersionedPut) → (slice_index_or table.now k d).version ≡ (slice_index_or table.now place d).version)) }
+{
+    let put = &table[place];
+    if place > 0 {
+        let before = &table[place - 1];
+        if before.version == put.version {
+            return true;
+        }
+    }
+    if place + 1 < table.len() {
+        let after = &table[place + 1];
+        if after.version == put.version {
+            return true;
+        }
+    }
+    false
+}
+
+/// Whether another put bears the put's version.
+fn is_doubled(history: &History, table: &[VersionedPut], name: OpName) -> bool
+    requires { IsPutTable history.now.sessions table.now }
+    ensures { IsTrue result ↔ IsDoubled history.now.sessions name }
+{
+    let Some(version) = put_version(history, name) else {
+        return false;
+    };
+    let Some(place) = place_of(table, version) else {
+        return false;
+    };
+    has_equal_neighbour(table, place)
+}
+
+/// The puts among these names whose versions other puts bear.
+pub fn doubled(
+    alloc: Global,
+    history: &History,
+    names: &[OpName],
+    table: &[VersionedPut],
+) -> Result<Vec<OpName>, AllocError>
+    requires in_order { AllPairs IsBefore names.now }
+    requires table { IsPutTable history.now.sessions table.now }
+    ensures { IfOk result (λ v. ListsAmong (λ n. n) (IsDoubled history.now.sessions) names.now v.items) }
+{
+    let mut faults = Vec::new(alloc);
+    for name in names {
+        if is_doubled(history, table, *name) {
+            faults.push(*name)?;
+        }
+    }
+    Ok(faults)
 }
 
 /// The names of the puts in order of versions.
@@ -57,16 +142,4 @@ pub fn put_names(alloc: Global, table: &[VersionedPut]) -> Result<Vec<OpName>, A
     ensures { IfOk result (λ v. v.items ≡ map (λ p. p.name) table.now) }
 {
     table.iter().map(|put| put.name).collect(alloc)
-}
-
-/// The name of the put that bears a version.
-pub fn put_of_version(table: &[VersionedPut], version: Version) -> Option<OpName>
-    requires { AllPairs (λ p q. p.version < q.version) table.now }
-    ensures found { IfSome result (λ name. Contains table.now (record { version = version; name = name })) }
-    ensures none { IfNone result ((name : OpName) → ¬ Contains table.now (record { version = version; name = name })) }
-{
-    match table.binary_search_by_key(&version.as_u64(), |put| put.version.as_u64()) {
-        Ok(place) => Some(table[place].name),
-        Err(_) => None,
-    }
 }

@@ -39,11 +39,8 @@ pub fn line<'a>(alloc: Global, words: &'a [&'a str]) -> Result<Job<'a>, LineFaul
     match command.try_get_matches_from(words) {
         Ok(matches) => match job_in(&matches) {
             Some(job) => Ok(job),
-            // Each subcommand has a job, but no clause of the parse says so of what it takes.
-            None => Err(LineFault::Usage(String::from_str(
-                alloc,
-                "error: no such command\n",
-            )?)),
+            // Not reached, though not proved so: no clause says that a subcommand's required argument has a value.
+            None => Err(LineFault::Usage(String::from_str(alloc, "error: no such command\n")?)),
         },
         Err(error) => Err(as_fault(alloc, error)),
     }

@@ -20,6 +20,7 @@ HasPlace t name = name.index < length (slice_index_or t name.client [])
 abbrev pub PlacesAll : Table → Sessions → Type 0
 PlacesAll t h = (n : OpName) → HasPlace t n ↔ IsNamed h n
 
+-- the table with this mark of the name
 abbrev pub with_mark : Table → OpName → Mark → Table
 with_mark t name mark = slice_set t name.client (slice_set (slice_index_or t name.client []) name.index (Some mark))
 

@@ -16,6 +16,7 @@ use Rattle.cops_audit.specs.declared.verdict.NotAbove.{NotAbove}
 use Rattle.cops_audit.specs.declared.verdict.Stale.{Stale}
 use Rattle.cops_report.specs.Chains.{IsFirstChain}
 
+-- whether an operation is a put
 abbrev pub is_put : Op → Bool
 is_put (Put key value version) = true
 is_put (Got key value version) = false
@@ -32,6 +33,7 @@ op_version (Some (Got key value version)) = version
 op_version (Some (Missed key)) = 0
 op_version None = 0
 
+-- the version of the operation of that name
 abbrev pub version_at : Sessions → OpName → ℕ
 version_at h name = op_version (op_at h name)
 
@@ -44,9 +46,11 @@ abbrev pub returned_text : Option Op → List ℕ
 returned_text (Some (Got key value version)) = version_text version
 returned_text _ = codes "nothing"
 
+-- the line of a history that is accepted
 abbrev pub accepted_line : ℕ → ℕ → List ℕ
 accepted_line operations puts = codes "accepted: " ⧺ decimal operations ⧺ codes " operations, " ⧺ decimal puts ⧺ codes " puts\n"
 
+-- the first line of a refusal
 abbrev pub refused_line : ℕ → ℕ → ℕ → List ℕ
 refused_line operations puts faults =
     codes "refused: " ⧺ decimal operations ⧺ codes " operations, " ⧺ decimal puts ⧺ codes " puts, " ⧺ decimal faults ⧺ codes " faults\n"
@@ -55,6 +59,7 @@ refused_line operations puts faults =
 abbrev pub named_line : List ℕ → Sessions → OpName → List ℕ
 named_line word h name = word ⧺ codes " " ⧺ name_text name ⧺ codes " at " ⧺ version_text (version_at h name) ⧺ codes "\n"
 
+-- a put, and the first earlier operation of its session that it is not above
 abbrev pub not_above_line : Sessions → NotAbove → List ℕ
 not_above_line h f =
     codes "not above " ⧺ name_text f.op ⧺ codes " at " ⧺ version_text (version_at h f.op)
@@ -70,6 +75,7 @@ stale_head h f =
     codes "stale " ⧺ name_text f.op ⧺ codes " returned " ⧺ returned_text (op_at h f.op)
     ⧺ codes ", newer " ⧺ name_text f.newer ⧺ codes " at " ⧺ version_text (version_at h f.newer) ⧺ codes ", chain"
 
+-- that, and the chain from the newer put to the get
 abbrev pub stale_line : Sessions → Stale → List OpName → List ℕ
 stale_line h f chain = stale_head h f ++ chain_text chain ++ codes "\n"
 
@@ -83,6 +89,7 @@ AreStaleLines h (f ∷ fs) text = (chain : List OpName) × (rest : List ℕ)
 abbrev pub AddsStaleLine : Sessions → Stale → List ℕ → List ℕ → Type 0
 AddsStaleLine h f old new = (chain : List OpName) × IsFirstChain h f.newer f.op chain × (new ≡ old ++ stale_line h f chain)
 
+-- a text with the lines of stale gets more
 abbrev pub AddsStaleLines : Sessions → List Stale → List ℕ → List ℕ → Type 0
 AddsStaleLines h faults old new = (lines : List ℕ) × AreStaleLines h faults lines × (new ≡ old ++ lines)
 
@@ -90,6 +97,7 @@ AddsStaleLines h faults old new = (lines : List ℕ) × AreStaleLines h faults l
 abbrev pub refusal : Sessions → ℕ → List ℕ → List ℕ
 refusal h faults lines = refused_line (count_of h) (put_count h) faults ++ lines
 
+-- the text of a refusal, by the class of its faults
 abbrev pub IsRefusal : Sessions → Faults → List ℕ → Type 0
 IsRefusal h (class.Doubled names) text = text ≡ refusal h (length names.items) (flat_map (named_line (codes "doubled") h) names.items)
 IsRefusal h (class.NoSource names) text = text ≡ refusal h (length names.items) (flat_map (named_line (codes "no source") h) names.items)

@@ -14,6 +14,7 @@ HasSteps t n k = (m : Mark) × (mark_at t n ≡ Some m) × (m.steps ≡ k)
 abbrev pub IsLevel : Table → ℕ → List OpName → Type 0
 IsLevel t k names = (n : OpName) → Contains names n ↔ HasSteps t n k
 
+-- the order of names, or the same name
 abbrev pub IsAtOrBefore : OpName → OpName → Type 0
 IsAtOrBefore a b = IsBefore a b ⊎ (a ≡ b)
 

@@ -1,6 +1,6 @@
 -- What is written, from what was read and told.
 use Rattle.std.proofs.Common.{◌≡◌, ℕ, List, ◌++◌, length, take, drop, Option, Some, None, Result, Ok, Err, refl, sym, ap, ◌∙◌, subst, inl, inr}
-use Rattle.std.specs.Prelude.{IfSome, IfOk}
+use Rattle.std.specs.Prelude.{IfSome, IfOk, IsErrOf}
 use Rattle.std.specs.Io.KnownBytes.{Appends}
 use Rattle.std.proofs.lemmas.List.{take-append-drop}
 use Rattle.cops_trace.specs.declared.fault.TraceFault.{TraceFault}
@@ -39,3 +39,11 @@ pub fault_told : (bytes : List ℕ) (e : TraceFault) → (e ≡ Memory → ⊥) 
 fault_told bytes e m r (inl h) = absurd (m h)
 fault_told bytes e m r (inr (inl h)) = absurd (r h)
 fault_told bytes e m r (inr (inr h)) = h
+
+-- an answer is no error
+pub answer_no_error : {T E : Type 0} (x : T) (e : E) → IsErrOf {T = T} {E = E} (Ok x) e → ⊥
+answer_no_error x e h = cc
+
+-- an error is the same error of another answer's type
+pub error_again : {T U E : Type 0} (x e : E) → IsErrOf {T = T} {E = E} (Err x) e → IsErrOf {T = U} {E = E} (Err x) e
+error_again x e h = let same : x ≡ e = cc in ap (λ y. Err y) same

@@ -67,6 +67,7 @@ fn told(
     ensures says { (bytes : List ℕ) → Agrees bytes read → IfOk result (λ told. AuditSays bytes told.0 told.1.items) }
     ensures convergent { IfOk result (λ told. told.0 ≡ Answer.Accepted → Converges read) }
     ensures read_failed { IsErrOf result StreamFault.ReadFailed → read ≡ Err TraceFault.ReadFailed }
+    ensures read_told { IsErrOf read TraceFault.ReadFailed → IsErrOf result StreamFault.ReadFailed }
     ensures no_write { ¬ IsErrOf result StreamFault.WriteFailed }
 {
     match read {
@@ -105,9 +106,11 @@ pub fn audit_stream<R: Read, W: Write>(
     ensures nothing { (IsErrOf result StreamFault.ReadFailed ⊎ IsErrOf result StreamFault.Memory)
         → Keeps (W.contents (inner writer.old)) (W.contents (inner writer.new)) }
 
-    // The devices' faults are told only where they were met.
+    // The devices' faults are told exactly where they were met.
     ensures write_count { IsErrOf result StreamFault.WriteFailed → Failed (failures writer.old) (failures writer.new) }
     ensures read_count { IsErrOf result StreamFault.ReadFailed → Failed (failures reader.old) (failures reader.new) }
+    ensures write_heard { IsErrOf result StreamFault.WriteFailed ⊎ (failures writer.new ≡ failures writer.old) }
+    ensures read_heard { IsErrOf result StreamFault.ReadFailed ⊎ (failures reader.new ≡ failures reader.old) }
 {
     let (answer, text) = told(alloc, read_trace(alloc, reader))?;
     match write_text(writer, &text) {

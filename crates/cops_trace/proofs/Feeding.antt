@@ -265,3 +265,10 @@ pub so_far_says : (a : Option (List ℕ)) (s : Stage) (p : Partial) → IfSome a
     → IfSome a (λ bytes. BeginsAs bytes p.trace p.cut)
 so_far_says None s p h says = tt
 so_far_says (Some u) s p h says = says u h.0 h.1
+
+pub so_far_fault : (a : Option (List ℕ)) (e : TraceFault) → (e ≡ Memory) ⊎ (e ≡ ReadFailed) ⊎ IfSome a (λ bytes. HasFault bytes e) → ((offset : ℕ) → e ≢ Cut offset)
+    → IfSome a (λ bytes. answer.AgreesSoFar bytes (Err e))
+so_far_fault None e h k = tt
+so_far_fault (Some u) e (inl m) k = inl m
+so_far_fault (Some u) e (inr (inl f)) k = inr (inl f)
+so_far_fault (Some u) e (inr (inr w)) k = inr (inr (w, k))

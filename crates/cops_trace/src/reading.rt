@@ -27,6 +27,7 @@ fn read_items<R: Read>(alloc: Global, reader: &mut Counted<R>) -> Result<Parser,
     ensures err { IfErr result (λ e. (e ≡ TraceFault.Memory) ⊎ (e ≡ TraceFault.ReadFailed) ⊎ IfSome (R.remaining (inner reader.old)) (λ bytes. HasFault bytes e)) }
     ensures no_cut { IfErr result (λ e. (offset : ℕ) → e ≢ TraceFault.Cut offset) }
     ensures failed { IsErrOf result TraceFault.ReadFailed → Failed (failures reader.old) (failures reader.new) }
+    ensures heard { IsErrOf result TraceFault.ReadFailed ⊎ (failures reader.new ≡ failures reader.old) }
 {
     let mut parser = Parser::new(alloc);
     let mut piece = [0u8; PIECE];
@@ -52,6 +53,7 @@ pub fn read_trace<R: Read>(alloc: Global, reader: &mut Counted<R>) -> Result<Tra
     ensures only { IfSome (R.remaining (inner reader.old)) (λ bytes. IsBytes bytes → (a : Result ATrace AFault) → Says bytes a → Gives a result) }
     ensures one { IfOk result (λ trace. IfSome (R.remaining (inner reader.old)) (λ bytes. (a : Result ATrace AFault) → Says bytes a → a ≡ Ok trace)) }
     ensures failed { IsErrOf result TraceFault.ReadFailed → Failed (failures reader.old) (failures reader.new) }
+    ensures heard { IsErrOf result TraceFault.ReadFailed ⊎ (failures reader.new ≡ failures reader.old) }
 {
     let parser = read_items(alloc, reader)?;
     parser.finish()
@@ -62,6 +64,7 @@ pub fn read_trace<R: Read>(alloc: Global, reader: &mut Counted<R>) -> Result<Tra
 pub fn read_so_far<R: Read>(alloc: Global, reader: &mut Counted<R>) -> Result<Partial, TraceFault>
     ensures says { IfSome (R.remaining (inner reader.old)) (λ bytes. AgreesSoFar bytes result) }
     ensures failed { IsErrOf result TraceFault.ReadFailed → Failed (failures reader.old) (failures reader.new) }
+    ensures heard { IsErrOf result TraceFault.ReadFailed ⊎ (failures reader.new ≡ failures reader.old) }
 {
     let parser = read_items(alloc, reader)?;
     let partial = parser.so_far()?;

@@ -43,6 +43,7 @@ pub fn write_trace<W: Write>(
     ensures front { IfErr result (λ e. (n : ℕ) → e ≡ WriteFault.WriteFailed n
         → (n < length (text trace.now)) × Appends (W.contents (inner writer.old)) (W.contents (inner writer.new)) (take n (text trace.now))) }
     ensures failed { IfErr result (λ e. e ≢ WriteFault.Memory → Failed (failures writer.old) (failures writer.new)) }
+    ensures heard { (OnOk result (failures writer.new ≡ failures writer.old)) × (IsErrOf result WriteFault.Memory → failures writer.new ≡ failures writer.old) }
 {
     let text = text_of(alloc, trace)?;
     match write_text(writer, &text) {
@@ -57,6 +58,7 @@ pub fn write_text<W: Write>(writer: &mut Counted<W>, text: &[u8]) -> Result<(), 
     ensures ok { OnOk result (Appends (W.contents (inner writer.old)) (W.contents (inner writer.new)) text.now) }
     ensures err { IfErr result (λ n. Appends (W.contents (inner writer.old)) (W.contents (inner writer.new)) (take n text.now)) }
     ensures failed { IfErr result (λ n. (n < length text.now) × Failed (failures writer.old) (failures writer.new)) }
+    ensures heard { OnOk result (failures writer.new ≡ failures writer.old) }
 {
     let mut written = 0;
     while written < text.len() {

@@ -1,4 +1,12 @@
--- The answer that some bytes have, by the six steps: each fault with its case.
+-- The answer that some bytes have. These steps are taken in order, and the first that applies is the answer:
+-- 1. fewer than four bytes: Short;
+-- 2. the length in the first four bytes is 0 or above the longest of a body: BadLength;
+-- 3. fewer bytes than four and that length: Short;
+-- 4. the body's first byte is no kind of the grammar: UnknownKind;
+-- 5. a field, from the left, that runs past the body's end or is not legal: BadField, with the place of that field's
+--    first byte, counted from the frame's first byte;
+-- 6. bytes of the body are left after the last field: TrailingBytes.
+-- Else it is the message, and how many bytes its frame has. What follows the frame is not looked at.
 use Rattle.std.specs.Prelude.{◌≡◌, ◌≢◌, ℕ, ◌+◌, ◌<◌, ◌≤◌, ◌⊎◌, List, [], ◌∷◌, ◌++◌, length, take, Some, None, IsSome, Result, Ok, Err}
 use Rattle.std.specs.Int.{w32, from_be_bytes}
 use Rattle.cops_wire.specs.declared.fault.WireFault.{WireFault}

@@ -1,5 +1,5 @@
 //! The one spelling of a message.
-ghost use Rattle.std.specs.Prelude.{◌≡◌, ◌+◌, ◌≤◌, ◌++◌, ◌^◌, length, vec_len, OnOk, OnErr};
+ghost use Rattle.std.specs.Prelude.{◌≡◌, ◌++◌, length, OnOk, OnErr};
 ghost use Rattle.cops_wire.specs.Grammar.{grammar, body, spelling, IsMessage};
 ghost use Rattle.cops_wire.specs.Message.{kind_of, parts};
 

@@ -2,7 +2,7 @@
 ghost use Rattle.std.specs.Prelude.{◌≡◌, ◌+◌, ◌*◌, ◌≤◌, ◌++◌, length, vec_len, vec_capacity, OnOk, OnErr};
 ghost use Rattle.std.specs.List.{flat_map};
 ghost use Rattle.cops_wire.specs.Field.{spelled_pair};
-ghost use Rattle.cops_wire.specs.Written.{spelled_field, spelled_fields, spelled_body, spelled_frame};
+ghost use Rattle.cops_wire.specs.Written.{spelled_field, spelled_body, spelled_frame};
 
 use crate::put;
 use cops_types::{Deps, Key, Memory, Value, Version};
@@ -34,7 +34,7 @@ macro_rules! as_written {
 
 pub(crate) use as_written;
 
-/// How many bytes a field takes.
+/// How many bytes a field takes: at most 18,690, a count and 256 pairs of 73 bytes.
 #[tactic(auto, unfolding(crate::specs::Field::spelled_number))]
 fn field_len(field: &FieldRef<'_>) -> usize
     ensures len { result ≡ length (spelled_field field.now) }

@@ -1,9 +1,9 @@
 //! The fields of a message, from the front of what is left of its body.
-ghost use Rattle.std.specs.Prelude.{◌≡◌, ◌<◌, ◌≤◌, List, length, take, drop, IfOk, Ok};
+ghost use Rattle.std.specs.Prelude.{◌≡◌, ◌<◌, ◌≤◌, length, take, drop, IfOk};
 ghost use Rattle.cops_wire.specs.Field.{u8, u16, u32, u64};
 ghost use Rattle.cops_types.specs.Format.{most_value, most_deps};
 ghost use Rattle.cops_wire.specs.Grammar.{grammar};
-ghost use Rattle.cops_wire.specs.Message.{kind_of, contents_of};
+ghost use Rattle.cops_wire.specs.Message.{kind_of};
 ghost use Rattle.cops_wire.specs.Reading.{GivesField, GivesContents, number_at, number_in_at, string_at, version_at, pair_at, pairs_at, deps_at, GivesPart};
 
 use crate::message::Message;

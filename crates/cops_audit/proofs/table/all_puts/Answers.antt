@@ -1,4 +1,4 @@
-use Rattle.std.proofs.Common.{◌≡◌, ℕ, arith, refl, subst, ap}
+use Rattle.std.proofs.Common.{◌≡◌, ◌∷◌, [], ℕ, arith, refl, subst, ap, length-append}
 use Rattle.cops_types.specs.declared.op.OpName.{OpName}
 use Rattle.cops_types.specs.Histories.{Sessions, PutsVersion}
 use Rattle.cops_audit.specs.declared.table.VersionedPut.{VersionedPut}
@@ -19,13 +19,19 @@ loop-name-preserved c =
     let h = c.args.history.now.sessions in
     elim c.match-put_version.branch [
       | in-Some+in_ok-push w ↦ rw (w.puts-is, w.in_ok-push.ensures.items)
-          (push_next (λ p. p.name) (λ p. PutsVersion h p.name p.version) c.args.names.now c.requires.in_order i c.loop-name-test.true c.loop-name.puts.items _ _ refl c.loop-name.invariant
-          w.in-Some.ensures.put (λ x f e. one_put h x _ f w.in-Some.ensures.put e))
+          record {
+            puts = push_next (λ p. p.name) (λ p. PutsVersion h p.name p.version) c.args.names.now c.requires.in_order i c.loop-name-test.true c.loop-name.puts.items _ _ refl c.loop-name.invariant.puts
+                w.in-Some.ensures.put (λ x f e. one_put h x _ f w.in-Some.ensures.put e);
+            few = omega (arith, length-append {A = VersionedPut}, c.loop-name.invariant.few);
+          }
       | in_default w ↦ rw w.puts-is
-          (skip_next (λ p. p.name) (λ p. PutsVersion h p.name p.version) c.args.names.now c.requires.in_order i c.loop-name-test.true c.loop-name.puts.items _ c.loop-name.invariant
-          (λ x f e. w.in_default.ensures.none x.version (subst (λ n. PutsVersion h n x.version) e f)))
+          record {
+            puts = skip_next (λ p. p.name) (λ p. PutsVersion h p.name p.version) c.args.names.now c.requires.in_order i c.loop-name-test.true c.loop-name.puts.items _ c.loop-name.invariant.puts
+                (λ x f e. w.in_default.ensures.none x.version (subst (λ n. PutsVersion h n x.version) e f));
+            few = omega (arith, c.loop-name.invariant.few);
+          }
     ]
 
-pub returns : goal.returns
-returns c = all_listed (λ p. p.name) (λ p. PutsVersion c.args.history.now.sessions p.name p.version) c.args.names.now c.loop-name.name-index _ (omega arith) c.loop-name.invariant
+pub returns-clause-puts : goal.returns-clause-puts
+returns-clause-puts c = all_listed (λ p. p.name) (λ p. PutsVersion c.args.history.now.sessions p.name p.version) c.args.names.now c.loop-name.name-index _ (omega arith) c.loop-name.invariant.puts
     (λ x f. (c.requires.members x.name).1 (_, f.2))

@@ -1,6 +1,7 @@
-use Rattle.std.proofs.Common.{sym, ap, ◌∙◌, subst, take}
+use Rattle.std.proofs.Common.{sym, ap, ◌∙◌, subst, take, inl, inr}
+use Rattle.std.proofs.lemmas.Result.{err_from_is_err_and}
 use Rattle.std.specs.Io.KnownBytes.{Appends}
-use Rattle.cops_stream.proofs.Told.{told_writes, told_front, accepted_spells}
+use Rattle.cops_stream.proofs.Told.{told_writes, told_front, accepted_spells, answer_no_error, error_again}
 use Rattle.cops_stream.proofs.audit.audit_stream.Goals as goal
 
 pub returns-in-Ok-clause-ok : goal.returns-in-Ok-clause-ok
@@ -14,3 +15,25 @@ returns-in-Ok-clause-accepted g c = accepted_spells _ c.read_trace.result c.in_o
 pub returns-clause-write_failed : goal.returns-clause-write_failed
 returns-clause-write_failed g c = λ e.
     told_front _ c.read_trace.result c.in_ok-answer.answer _ c.in-Err.field-0 _ _ c.read_trace.ensures.says c.in_ok-answer.ensures.says (rw c.deref.ensures.value at c.in-Err.ensures.err)
+
+pub returns-in_err-answer-clause-read_heard : goal.returns-in_err-answer-clause-read_heard
+returns-in_err-answer-clause-read_heard g c =
+    let p = err_from_is_err_and c.from_residual.result c.from_residual.ensures.1 in
+    elim c.read_trace.ensures.heard [
+      | inl r ↦ inl (rw (p.1, p.2) (error_again _ _ (c.in_err-answer.ensures.read_told r)))
+      | inr same ↦ inr same
+    ]
+
+pub returns-in-Ok-clause-read_heard : goal.returns-in-Ok-clause-read_heard
+returns-in-Ok-clause-read_heard g c =
+    elim c.read_trace.ensures.heard [
+      | inl r ↦ absurd (answer_no_error _ _ (c.in_ok-answer.ensures.read_told r))
+      | inr same ↦ inr same
+    ]
+
+pub returns-clause-read_heard : goal.returns-clause-read_heard
+returns-clause-read_heard g c =
+    elim c.read_trace.ensures.heard [
+      | inl r ↦ absurd (answer_no_error _ _ (c.in_ok-answer.ensures.read_told r))
+      | inr same ↦ inr same
+    ]

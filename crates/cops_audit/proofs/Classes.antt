@@ -1,0 +1,101 @@
+-- The classes of faults, as notes and suspects have them.
+use Rattle.std.proofs.Common.{◌≡◌, ◌≢◌, ◌<◌, ◌≤◌, ◌+◌, ◌↔◌, ℕ, zero, suc, List, [], ◌∷◌, length, get_or, map, refl, sym, ◌∙◌, ap, subst, inl, inr, arith, Contains, AllPairs}
+use Rattle.std.proofs.lemmas.List.{length-map, get_or-map}
+use Rattle.std.proofs.lemmas.List.Elements.{Contains-get_or}
+use Rattle.cops_types.specs.declared.op.OpName.{OpName}
+use Rattle.cops_types.specs.Histories.{Sessions, IsNamed}
+use Rattle.cops_types.specs.Faults.{HasNoSource, IsBefore, IsDoubled, IsNotAbove, IsStale, Lists}
+use Rattle.cops_types.specs.Verdicts.{AllHaveSources, NoneDoubled}
+use Rattle.cops_audit.specs.declared.table.VersionedPut.{VersionedPut}
+use Rattle.cops_audit.specs.declared.notes.Note.{Note}
+use Rattle.cops_audit.specs.declared.verdict.NotAbove.{NotAbove}
+use Rattle.cops_audit.specs.declared.verdict.Stale.{Stale}
+use Rattle.cops_audit.specs.declared.window.Suspect.{Suspect}
+use Rattle.cops_audit.specs.Names.{ListsAmong}
+use Rattle.cops_audit.specs.Notes.{IsNoted, IsSourceless, SeesNotAbove}
+use Rattle.cops_audit.specs.Tables.{IsPutTable, IsVersionTable}
+use Rattle.cops_audit.specs.Windows.{AreSuspects, IsSuspect}
+use Rattle.cops_audit.proofs.Acyclic.{same_name}
+use Rattle.cops_audit.proofs.Collect.{among_all, among_none, among_same, get_or-default}
+use Rattle.cops_audit.proofs.Emptiness.{none_there}
+use Rattle.cops_audit.proofs.PastOrder.{past_to}
+use Rattle.cops_audit.proofs.Places.{doubled_by_neighbour, neighbour_of_doubled, place_of_put, put_at}
+use Rattle.cops_audit.proofs.Reading.{above_same, sourceless_same}
+use Rattle.cops_audit.proofs.Clearing.{stands_for}
+
+-- an operation of a suspect
+op_listed : (suspects : List Suspect) (s : Suspect) → Contains suspects s → Contains (map (λ (x : Suspect). x.op) suspects) s.op
+op_listed suspects s at = (at.0, omega (arith, at.1, length-map suspects (λ (x : Suspect). x.op)), get_or-map (λ (x : Suspect). x.op) suspects at.0 s s.op at.1 ∙ ap (λ (x : Suspect). x.op) at.2)
+
+listed_op : (suspects : List Suspect) (n : OpName) → Contains (map (λ (x : Suspect). x.op) suspects) n → (s : Suspect) × Contains suspects s × (s.op ≡ n)
+listed_op suspects n at =
+    let inside : at.0 < length suspects = omega (arith, at.1, length-map suspects (λ (x : Suspect). x.op)) in
+    let d : Suspect = record { op = n; first = 0; from = 0 } in
+    (get_or suspects at.0 d, Contains-get_or suspects at.0 d inside, sym (get_or-map (λ (x : Suspect). x.op) suspects at.0 d n inside) ∙ at.2)
+
+-- what is stale among the suspects is what is stale among the names
+pub of_suspects : (h : Sessions) (table : List VersionedPut) (names : List OpName) (suspects : List Suspect) (faults : List Stale) → AreSuspects h table names suspects
+    → ListsAmong (λ f. f.op) (λ f. IsStale h f.op f.newer) (map (λ (s : Suspect). s.op) suspects) faults → ListsAmong (λ f. f.op) (λ f. IsStale h f.op f.newer) names faults
+of_suspects h table names suspects faults are lists = record {
+  members = λ x. (
+    (λ at.
+        let o = (lists.members x).0 at in
+        let s = listed_op suspects x.op o.1 in
+        (o.0, subst (Contains names) s.2 (are.each s.0 s.1).1)),
+    (λ w.
+        let s = are.others x.op x.newer w.0.version w.1 w.0.is_newer in
+        (lists.members x).1 (w.0, subst (Contains (map (λ (y : Suspect). y.op) suspects)) s.1 (op_listed suspects s.0 s.2))),
+  );
+  in_order = lists.in_order;
+}
+
+pub no_stale : (h : Sessions) (table : List VersionedPut) (names : List OpName) (suspects : List Suspect) → suspects ≡ [] → AreSuspects h table names suspects → ListsAmong {A = Stale} (λ f. f.op) (λ f. IsStale h f.op f.newer) names []
+no_stale h table names [] e are = of_suspects h table names [] [] are (among_none {A = Stale} (λ f. f.op) (λ f. IsStale h f.op f.newer))
+no_stale h table names (s ∷ ss) e are = absurd cc
+
+module _ (h : Sessions) (names : List OpName) (all : Lists (λ n. n) (IsNamed h) names) where
+  pub doubled_listed : (faults : List OpName) → ListsAmong (λ n. n) (IsDoubled h) names faults → Lists (λ n. n) (IsDoubled h) faults
+  doubled_listed faults lists = among_all (λ n. n) (IsDoubled h) names faults lists (λ x f. (all.members x).1 (_, f.put.2))
+
+  pub stale_listed : (faults : List Stale) → ListsAmong (λ f. f.op) (λ f. IsStale h f.op f.newer) names faults → Lists (λ f. f.op) (λ f. IsStale h f.op f.newer) faults
+  stale_listed faults lists = among_all (λ f. f.op) (λ f. IsStale h f.op f.newer) names faults lists (λ x f. (all.members x.op).1 (past_to h x.newer x.op f.is_newer.past))
+
+  module _ (table : List VersionedPut) (t : IsVersionTable h table) (notes : List (List Note)) (noted : IsNoted h table notes) where
+    pub sourceless_listed : (faults : List OpName) → ListsAmong (λ n. n) (IsSourceless notes) names faults → Lists (λ n. n) (HasNoSource h) faults
+    sourceless_listed faults lists = among_all (λ n. n) (HasNoSource h) names faults
+        (among_same (λ n. n) (IsSourceless notes) (HasNoSource h) names faults (sourceless_same h table t notes noted) lists) (λ x f. (all.members x).1 (_, f.got))
+
+    pub above_listed : AllHaveSources h → (faults : List NotAbove) → ListsAmong (λ f. f.op) (λ f. SeesNotAbove notes f.op f.earlier) names faults → Lists (λ f. f.op) (λ f. IsNotAbove h f.op f.earlier) faults
+    above_listed sources faults lists = among_all (λ f. f.op) (λ f. IsNotAbove h f.op f.earlier) names faults
+        (among_same (λ f. f.op) (λ f. SeesNotAbove notes f.op f.earlier) (λ f. IsNotAbove h f.op f.earlier) names faults (λ x. above_same h table t notes noted sources x.op x.earlier) lists)
+        (λ x f. (all.members x.op).1 (_, f.is_not_below.put.2))
+
+-- where versions rise, none is borne twice
+pub none_doubled : (h : Sessions) (table : List VersionedPut) → IsVersionTable h table → NoneDoubled h
+none_doubled h table t name f =
+    let at = place_of_put h table t.table name f.version f.put in
+    let d : VersionedPut = record { version = f.version; name = name } in
+    let beside = neighbour_of_doubled h table t.table name f.version at.0 at.1 (λ e. ap (λ (q : VersionedPut). q.version) (at.2 e)) f.put f in
+    elim beside.2 [
+      | inl e ↦ omega (arith, t.rising beside.0 at.0 d (omega (arith, e)) at.1, beside.3 d)
+      | inr e ↦ omega (arith, t.rising at.0 beside.0 d (omega (arith, e)) beside.1, beside.3 d)
+    ]
+
+-- where a version does not rise, it is borne twice
+pub some_doubled : (h : Sessions) (table : List VersionedPut) → IsPutTable h table → (k : ℕ) → k + 1 < length table → ((d : VersionedPut) → (get_or table (k + 1) d).version ≤ (get_or table k d).version) → (name : OpName) × IsDoubled h name
+some_doubled h table t k inside falls =
+    let d : VersionedPut = record { version = 0; name = record { client = 0; index = 0 } } in
+    let put = get_or table k d in
+    let in_k : k < length table = omega (arith, inside) in
+    let same : (e : VersionedPut) → (get_or table (k + 1) e).version ≡ (get_or table k e).version = λ e. omega (arith, falls e, t.in_order k (k + 1) e (omega arith) inside) in
+    (put.name, doubled_by_neighbour h table t put.name put.version (put_at h table t k d in_k) (k + 1) k inside in_k (inr refl) (λ e. ap (λ (q : VersionedPut). q.version) (get_or-default table k e d in_k)) same)
+
+pub some_listed : (h : Sessions) (faults : List OpName) → Lists (λ n. n) (IsDoubled h) faults → (name : OpName) × IsDoubled h name → faults ≢ []
+some_listed h faults lists some e =
+    let at = (lists.members some.0).1 some.1 in
+    let none : length faults ≡ 0 = ap length e in
+    omega (arith, at.1, none)
+
+pub empty_list : {A : Type 0} (xs : List A) → length xs ≡ 0 → xs ≡ []
+empty_list [] e = refl
+empty_list (x ∷ xs) e = absurd (omega (arith, e))

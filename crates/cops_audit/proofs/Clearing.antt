@@ -1,0 +1,66 @@
+-- Gets that the window on versions clears: no put in their past is newer.
+use Rattle.std.proofs.Common.{◌≡◌, ◌<◌, ◌≤◌, ◌+◌, ℕ, List, Some, None, Option, refl, sym, ◌∙◌, ap, inl, inr, arith}
+use Rattle.std.specs.Option.{IfNone}
+use Rattle.cops_types.specs.declared.op.OpName.{OpName}
+use Rattle.cops_types.specs.Histories.{Sessions, IsMissed, PutsVersion}
+use Rattle.cops_types.specs.Faults.{IsNewer}
+use Rattle.cops_types.specs.Verdicts.{AllAbove, AllHaveSources}
+use Rattle.cops_audit.specs.declared.table.VersionedPut.{VersionedPut}
+use Rattle.cops_audit.specs.declared.notes.Note.{Note}
+use Rattle.cops_audit.specs.declared.notes.Seen.{Seen}
+use Rattle.cops_audit.specs.declared.notes.Seen.TheVariants.{Put, Got, Missed, Sourceless}
+use Rattle.cops_audit.specs.Tables.{GetsVersion, IsPutTable, IsVersionTable}
+use Rattle.cops_audit.specs.Notes.{above, IsNoted, IsSeen, StandsAt, note_at}
+use Rattle.cops_audit.specs.Windows.{NoneWithin}
+use Rattle.cops_audit.proofs.Noting.{note_there}
+use Rattle.cops_audit.proofs.PastMarks.{mark_is, past_mark}
+use Rattle.cops_audit.proofs.Places.{place_of_put, same_place}
+use Rattle.cops_audit.proofs.Reading.{missed_gets_nothing, missed_puts_nothing, says, seen_got, seen_put}
+use Rattle.cops_audit.proofs.Unique.{stands}
+
+-- where a put stands
+pub stands_for : (h : Sessions) (table : List VersionedPut) → IsPutTable h table → (p : OpName) (v : ℕ) → PutsVersion h p v → (place : ℕ) × StandsAt table place p v
+stands_for h table t p v put =
+    let d : VersionedPut = record { version = v; name = p } in
+    let at = place_of_put h table t p v put in
+    (at.0, stands table at.0 d at.1 ∙ ap (λ (x : VersionedPut). Some x) (at.2 d))
+
+pub none_then : {A P Q : Type 0} (o : Option A) → IfNone o P → (P → Q) → IfNone o Q
+none_then None p f = f p
+none_then (Some x) p f = tt
+
+seen_missed : (h : Sessions) (table : List VersionedPut) (n : OpName) (k : List ℕ) (seen : Seen) → IsSeen h table n seen → IsMissed h n k → seen ≡ Missed
+seen_missed h table n k (Put p) s missed = absurd (missed_puts_nothing h n k s.0 missed s.1)
+seen_missed h table n k (Got p) s missed = absurd (missed_gets_nothing h n k s.1 missed s.3)
+seen_missed h table n k Missed s missed = refl
+seen_missed h table n k Sourceless s missed = absurd (missed_gets_nothing h n k s.version missed (s.key, s.value, s.got))
+
+module _ (h : Sessions) (table : List VersionedPut) (t : IsVersionTable h table) (notes : List (List Note)) (noted : IsNoted h table notes) (sources : AllHaveSources h) (above_all : AllAbove h) (op : OpName) where
+  -- a put in the past of an operation stands below its mark
+  pub below_mark : (note : Note) → note_at notes op ≡ Some note → (q : OpName) (w : ℕ) (f : IsNewer h op q w) (place : ℕ) → StandsAt table place q w → place < note.mark
+  below_mark note at q w f place stands_q =
+      let there = note_there h table notes noted q (_, f.put.1) in
+      let put = seen_put h table q w there.0.seen (says h table t notes noted q there.0 there.1) (f.key, f.put.0, f.put.1) in
+      let same : put.0 ≡ place = same_place table t.rising put.0 place q q w put.2 stands_q in
+      let high : above there.0.seen ≡ put.0 + 1 = ap above put.1 in
+      let own : above there.0.seen ≤ there.0.mark = mark_is h table t notes noted sources above_all q there.0 there.1 in
+      let le : there.0.mark ≤ note.mark = past_mark h table t notes noted sources above_all q f.past there.0 note there.1 at in
+      omega (arith, same, high, own, le)
+
+  pub clear : (note : Note) → note_at notes op ≡ Some note → NoneWithin h table op note.mark → (q : OpName) (w : ℕ) → ¬ IsNewer h op q w
+  clear note at none q w f =
+      let place = stands_for h table t.table q w (f.key, f.put.0, f.put.1) in
+      omega (arith, below_mark note at q w f place.0 place.1, none place.0 q w place.1 (f.key, f.put, f.returned))
+
+  -- what returned nothing is not stale
+  pub no_get : (note : Note) → note_at notes op ≡ Some note → ((p : ℕ) → ¬ (note.seen ≡ Got p)) → ¬ (note.seen ≡ Missed) → (q : OpName) (w : ℕ) → ¬ IsNewer h op q w
+  no_get note at not_got not_missed q w f = elim f.returned [
+    | inl g ↦ let r = seen_got h table op g.1 note.seen (sources op) (says h table t notes noted op note at) (f.key, g.0, g.2) in not_got r.0 r.2
+    | inr missed ↦ not_missed (seen_missed h table op f.key note.seen (says h table t notes noted op note at) missed)
+  ]
+
+  pub no_note : note_at notes op ≡ None → (q : OpName) (w : ℕ) → ¬ IsNewer h op q w
+  no_note none q w f = elim f.returned [
+    | inl g ↦ let there = note_there h table notes noted op (_, g.2) in let e : Some there.0 ≡ None = sym there.1 ∙ none in cc
+    | inr missed ↦ let there = note_there h table notes noted op (_, missed) in let e : Some there.0 ≡ None = sym there.1 ∙ none in cc
+  ]

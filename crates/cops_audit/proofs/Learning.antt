@@ -1,0 +1,80 @@
+-- What an operation saw is taken in.
+use Rattle.std.proofs.Common.{◌≡◌, ◌<◌, ◌≤◌, ◌+◌, ◌-◌, ◌*◌, ◌^◌, ◌⊎◌, ℕ, List, length, get_or, Some, refl, sym, ◌∙◌, ap, subst, inl, inr, arith, slice_get, vec_len, Vec, Global}
+use Rattle.std.specs.Prelude.{sum_by}
+use Rattle.cops_types.specs.declared.op.OpName.{OpName}
+use Rattle.cops_audit.specs.declared.table.VersionedPut.{VersionedPut}
+use Rattle.cops_audit.specs.declared.notes.Seen.{Seen}
+use Rattle.cops_audit.specs.declared.notes.Seen.TheVariants.{Put, Got, Missed, Sourceless}
+use Rattle.cops_audit.specs.declared.sweep.Range.{Range}
+use Rattle.cops_audit.specs.declared.sweep.Sweep.{Sweep}
+use Rattle.cops_audit.specs.Notes.{StandsAt}
+use Rattle.cops_audit.specs.Sweeps.{Counted, InSome, Learns, Raises, TakesPut, work_left}
+
+-- one put stands at a place
+pub one_put_at : (table : List VersionedPut) (i : ℕ) (p q : OpName) (v w : ℕ) → StandsAt table i p v → StandsAt table i q w → p ≡ q
+one_put_at table i p q v w a b =
+    let e : Some (let x : VersionedPut = record { version = v; name = p } in x) ≡ Some (let x : VersionedPut = record { version = w; name = q } in x) = sym a ∙ b in
+    let r : (let x : VersionedPut = record { version = v; name = p } in x) ≡ record { version = w; name = q } = cc in
+    ap (λ (x : VersionedPut). x.name) r
+
+put_place : (seen : Seen) (p q : ℕ) → seen ≡ Put p → seen ≡ Put q → p ≡ q
+put_place seen p q a b = let e : Put p ≡ Put q = sym a ∙ b in cc
+
+got_place : (seen : Seen) (p q : ℕ) → seen ≡ Got p → seen ≡ Got q → p ≡ q
+got_place seen p q a b = let e : Got p ≡ Got q = sym a ∙ b in cc
+
+put_no_got : (seen : Seen) (p q : ℕ) → seen ≡ Put p → seen ≡ Got q → ⊥
+put_no_got seen p q a b = let e : Put p ≡ Got q = sym a ∙ b in cc
+
+pub learns_put : (table : List VersionedPut) (firsts : List ℕ) (old new : Sweep) (seen : Seen) (place : ℕ) → seen ≡ Put place → new.counts ≡ old.counts → new.pending ≡ old.pending
+    → TakesPut firsts old.newest new.newest place → Learns table firsts old new seen
+learns_put table firsts old new seen place is counts pending takes = record {
+  counts = λ n there. inl (subst (λ cs. Counted cs n) counts there);
+  kept = λ n there. subst (λ cs. Counted cs n) (sym counts) there;
+  pending = λ n there. inl (subst (λ cs. Counted cs n) counts there);
+  still = λ n there. subst (λ (v : Vec Range Global). InSome v.items n) (sym pending) there;
+  pending_counted = λ n there. inl (subst (λ (v : Vec Range Global). InSome v.items n) pending there);
+  clients = ap length counts;
+  places = takes.width;
+  higher = takes.higher;
+  newest = λ first other at. elim (takes.only first other at) [
+    | inl was ↦ inl was
+    | inr now ↦ inr (subst (λ (k : ℕ). seen ≡ Put k) now.0 is, subst (λ (k : ℕ). slice_get firsts k ≡ Some first) now.0 now.1)
+  ];
+  learned = record {
+    put = λ other first is' at.
+        let same : place ≡ other = put_place seen place other is is' in
+        let l : place < get_or new.newest first 0 = takes.known first (subst (λ (k : ℕ). slice_get firsts k ≡ Some first) (sym same) at) in
+        omega (arith, l, same);
+    got = λ other put version is' at. absurd (put_no_got seen place other is is');
+  };
+  work =
+      let a : sum_by (λ k. 2 ^ 32 - k) new.counts ≡ sum_by (λ k. 2 ^ 32 - k) old.counts = ap (sum_by (λ k. 2 ^ 32 - k)) counts in
+      let b : vec_len new.pending ≡ vec_len old.pending = ap (λ (v : Vec Range Global). vec_len v) pending in
+      omega (arith, a, b);
+}
+
+pub learns_got : (table : List VersionedPut) (firsts : List ℕ) (old new : Sweep) (seen : Seen) (place : ℕ) (put : OpName) (version : ℕ) → seen ≡ Got place → StandsAt table place put version
+    → Raises old new put.client (put.index + 1) → Learns table firsts old new seen
+learns_got table firsts old new seen place put version is stands raises = record {
+  counts = λ n there. elim (raises.counts n there) [
+    | inl was ↦ inl was
+    | inr now ↦ inr (place, put, version, is, stands, now.0, omega (arith, now.1))
+  ];
+  kept = raises.kept;
+  pending = raises.pending;
+  still = raises.still;
+  pending_counted = raises.pending_counted;
+  clients = raises.width;
+  places = ap length raises.newest;
+  higher = λ first. let e : get_or new.newest first 0 ≡ get_or old.newest first 0 = ap (λ (l : List ℕ). get_or l first 0) raises.newest in omega (arith, e);
+  newest = λ first other at. inl (sym (ap (λ (l : List ℕ). get_or l first 0) raises.newest) ∙ at);
+  learned = record {
+    put = λ other first is' at. absurd (put_no_got seen other place is' is);
+    got = λ other p v is' at.
+        let same : place ≡ other = got_place seen place other is is' in
+        let e : put ≡ p = one_put_at table place put p version v stands (subst (λ (k : ℕ). StandsAt table k p v) (sym same) at) in
+        subst (Counted new.counts) e (raises.raised put refl (omega arith));
+  };
+  work = raises.work;
+}

@@ -1,0 +1,108 @@
+-- The puts on each key, from the last place down.
+use Rattle.std.proofs.Common.{◌≡◌, ◌≢◌, ◌<◌, ◌≤◌, ◌+◌, ◌-◌, ℕ, zero, suc, List, [], ◌∷◌, ◌++◌, length, length-append, Some, None, Option, unwrap_or, get_or, refl, sym, ◌∙◌, ap, subst, inl, inr, ◌⊎◌, arith, slice_get, slice_set}
+use Rattle.std.proofs.Math.Nat.{eq-or-lt_of_le}
+use Rattle.cops_types.specs.declared.op.Op.TheVariants.{Put}
+use Rattle.cops_types.specs.declared.op.OpName.{OpName}
+use Rattle.cops_types.specs.Histories.{Sessions, op_at, PutsKey}
+use Rattle.cops_audit.specs.declared.table.VersionedPut.{VersionedPut}
+use Rattle.cops_audit.specs.Notes.{StandsAt}
+use Rattle.cops_audit.specs.Keys.{AreNexts, IsFirstFrom, IsFirstOn, IsNext, OnKey}
+use Rattle.cops_audit.specs.Tables.{IsVersionTable, Rises}
+use Rattle.cops_audit.proofs.Places.{inside_table, same_put_at, stands_item}
+use Rattle.cops_audit.proofs.Acyclic.{one_version}
+use Rattle.cops_audit.proofs.Marks.{slice_get_push}
+use Rattle.cops_audit.proofs.Unique.{stands}
+
+-- a put has one key
+pub one_key : (h : Sessions) (p q : OpName) (a b : List ℕ) (v w : ℕ) → PutsKey h p a v → PutsKey h q b w → p ≡ q → a ≡ b
+one_key h p q a b v w first second e =
+    let at : Some (Put a first.0 v) ≡ Some (Put b second.0 w) = sym first.1 ∙ ap (op_at h) e ∙ second.1 in
+    cc
+
+module _ (h : Sessions) (table : List VersionedPut) (rising : Rises table) where
+  pub same_key : (t : ℕ) (a b : List ℕ) → OnKey h table t a → OnKey h table t b → a ≡ b
+  same_key t a b on_a on_b =
+      one_key h on_a.0 on_b.0 a b on_a.1 on_b.1 on_a.3 on_b.3 (same_put_at table rising t on_a.0 on_b.0 on_a.1 on_b.1 on_a.2 on_b.2).0
+
+  -- the first place on the key after a put is the next one
+  pub next_is : (k i : ℕ) (key : List ℕ) (found : Option ℕ) → i ≡ k + 1 → OnKey h table k key → IsFirstFrom h table i key found → IsNext h table k found
+  next_is k i key None e here none = λ other on later less there.
+      none later (omega (arith, less, e)) (subst (OnKey h table later) (same_key k other key on here) there)
+  next_is k i key (Some f) e here first = (
+    omega (arith, first.0, e),
+    λ other on.
+        let same : key ≡ other = same_key k key other here on in (
+          subst (OnKey h table f) same first.1,
+          λ later less there. first.2 later (omega (arith, less, e)) (subst (OnKey h table later) (sym same) there),
+        ),
+  )
+
+  pub first_here : (k : ℕ) (key : List ℕ) → OnKey h table k key → IsFirstFrom h table k key (Some k)
+  first_here k key here = (omega arith, here, λ t le there. le)
+
+  -- a put on another key changes nothing
+  pub first_kept : (k i : ℕ) (key other : List ℕ) (found : Option ℕ) → i ≡ k + 1 → OnKey h table k key → key ≢ other → IsFirstFrom h table i other found → IsFirstFrom h table k other found
+  first_kept k i key other None e here differ none = λ t le there. elim (eq-or-lt_of_le le) [
+    | inl same ↦ differ (same_key t key other (subst (λ (j : ℕ). OnKey h table j key) same here) there)
+    | inr less ↦ none t (omega (arith, less, e)) there
+  ]
+  first_kept k i key other (Some f) e here differ first = (
+    omega (arith, first.0, e),
+    first.1,
+    λ t le there. elim (eq-or-lt_of_le le) [
+      | inl same ↦ absurd (differ (same_key t key other (subst (λ (j : ℕ). OnKey h table j key) same here) there))
+      | inr less ↦ first.2 t (omega (arith, less, e)) there
+    ],
+  )
+
+-- the put at a place, with its key
+pub on_key : (h : Sessions) (table : List VersionedPut) → IsVersionTable h table → (k : ℕ) (put : VersionedPut) (key : List ℕ) (version : ℕ) → k < length table → put ≡ get_or table k put
+    → PutsKey h put.name key version → OnKey h table k key
+on_key h table t k put key version inside at puts =
+    let own = (t.table.members put).0 (k, inside, sym at) in
+    let same : version ≡ put.version = one_version h put.name put.name version put.version (key, puts.0, puts.1) own refl in
+    (put.name, put.version, stands_item table k put inside at, subst (PutsKey h put.name key) same puts)
+
+-- nothing stands past the end
+pub none_past_end : (h : Sessions) (table : List VersionedPut) (key : List ℕ) → IsFirstFrom h table (length table) key None
+none_past_end h table key t le on = let l : t < length table = inside_table table t on.0 on.1 on.2 in omega (arith, l, le)
+
+-- an element that is written at a place
+pub written : {A : Type 0} (xs : List A) (k i : ℕ) (x y : A) → slice_get (slice_set xs k x) i ≡ Some y → ((i ≡ k) × (x ≡ y)) ⊎ ((i ≢ k) × (slice_get xs i ≡ Some y))
+written [] k i x y e = absurd cc
+written (z ∷ zs) zero zero x y e = inl (refl, let s : x ≡ y = cc in s)
+written (z ∷ zs) zero (suc i) x y e = inr ((λ f. omega (arith, f)), e)
+written (z ∷ zs) (suc k) zero x y e = inr ((λ f. omega (arith, f)), e)
+written (z ∷ zs) (suc k) (suc i) x y e = elim (written zs k i x y e) [
+  | inl w ↦ inl (ap suc w.0, w.1)
+  | inr w ↦ inr ((λ f. w.0 (omega (arith, f))), w.1)
+]
+
+-- the next put on the key, as it was read
+pub next_at : (h : Sessions) (table : List VersionedPut) (nexts : List (Option ℕ)) → AreNexts h table nexts → (place : ℕ) → place < length table → (read found : Option ℕ)
+    → read ≡ get_or nexts place read → read ≡ found → IsNext h table place found
+next_at h table nexts are place inside read found at is =
+    are.each place found (stands nexts place read (omega (arith, inside, are.whole)) ∙ ap (λ (o : Option ℕ). Some o) (sym at ∙ is))
+
+-- the first place on a key, as it was read
+pub first_read : (h : Sessions) (table : List VersionedPut) (place : ℕ) (key : List ℕ) (o : Option ℕ) (x : ℕ) → IsFirstFrom h table 0 key o → OnKey h table place key → x ≡ unwrap_or o 0 → IsFirstOn h table key x
+first_read h table place key None x none on e = absurd (none place (omega arith) on)
+first_read h table place key (Some f) x is on e = subst (IsFirstOn h table key) (sym e) (record { on_key = is.1; least = λ other there. is.2 other (omega arith) there })
+
+-- the first places so far
+pub record FirstsTo (h : Sessions) (table : List VersionedPut) (firsts : List ℕ) (count : ℕ) : Type 0 where
+  pub whole : length firsts ≡ count
+  pub each : (place first : ℕ) (key : List ℕ) → slice_get firsts place ≡ Some first → OnKey h table place key → IsFirstOn h table key first
+
+pub one_first_more : (h : Sessions) (table : List VersionedPut) → Rises table → (firsts : List ℕ) (count x : ℕ) (key : List ℕ) → FirstsTo h table firsts count → OnKey h table count key → IsFirstOn h table key x
+    → FirstsTo h table (firsts ++ x ∷ []) (count + 1)
+one_first_more h table rising firsts count x key was on is = record {
+  whole = omega (arith, length-append firsts (x ∷ []), was.whole);
+  each = λ place first k at there. elim (slice_get_push firsts x first place at) [
+    | inl old ↦ was.each place first k old there
+    | inr last ↦
+        let here : OnKey h table place key = subst (λ (j : ℕ). OnKey h table j key) (sym (last.0 ∙ was.whole)) on in
+        let same : key ≡ k = same_key h table rising place key k here there in
+        subst (λ (f : ℕ). IsFirstOn h table k f) last.1 (subst (λ y. IsFirstOn h table y x) same is)
+  ];
+}

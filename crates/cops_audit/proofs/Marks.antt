@@ -1,0 +1,89 @@
+-- The mark of a session: what its operations saw stands below it.
+use Rattle.std.proofs.Common.{◌≡◌, ◌<◌, ◌≤◌, ◌+◌, ◌⊎◌, ℕ, zero, suc, List, [], ◌∷◌, ◌++◌, length, get_or, Some, refl, sym, ◌∙◌, ap, subst, inl, inr, arith, slice_get}
+use Rattle.std.proofs.Math.Nat.{eq-or-lt_of_le}
+use Rattle.cops_audit.specs.declared.notes.Note.{Note}
+use Rattle.cops_audit.specs.Notes.{above, AreMarks, IsMark}
+use Rattle.cops_audit.proofs.Unique.{stands}
+
+-- an element before the last one, and the last one
+pub slice_get_push : {A : Type 0} (xs : List A) (y q : A) (i : ℕ) → slice_get (xs ++ y ∷ []) i ≡ Some q → (slice_get xs i ≡ Some q) ⊎ ((i ≡ length xs) × (y ≡ q))
+slice_get_push [] y q zero e = inr (refl, let s : y ≡ q = cc in s)
+slice_get_push [] y q (suc i) e = absurd cc
+slice_get_push (x ∷ xs) y q zero e = inl e
+slice_get_push (x ∷ xs) y q (suc i) e = elim (slice_get_push xs y q i e) [ inl l ↦ inl l | inr r ↦ inr (ap suc r.0, r.1) ]
+
+pub slice_get_kept : {A : Type 0} (xs : List A) (y q : A) (i : ℕ) → slice_get xs i ≡ Some q → slice_get (xs ++ y ∷ []) i ≡ Some q
+slice_get_kept [] y q i e = absurd cc
+slice_get_kept (x ∷ xs) y q zero e = e
+slice_get_kept (x ∷ xs) y q (suc i) e = slice_get_kept xs y q i e
+
+pub slice_get_last : {A : Type 0} (xs : List A) (y : A) → slice_get (xs ++ y ∷ []) (length xs) ≡ Some y
+slice_get_last [] y = refl
+slice_get_last (x ∷ xs) y = slice_get_last xs y
+
+pub slice_get_inside : {A : Type 0} (xs : List A) (i : ℕ) (x : A) → slice_get xs i ≡ Some x → i < length xs
+slice_get_inside [] i x e = absurd cc
+slice_get_inside (y ∷ ys) zero x e = omega arith
+slice_get_inside (y ∷ ys) (suc i) x e = omega (arith, slice_get_inside ys i x e)
+
+pub mark_none : IsMark [] 0 0
+mark_none = record { bounds = λ i note less at. absurd (omega (arith, less)); reached = inl refl }
+
+-- a longer session leaves the marks that it had
+pub mark_kept : (session : List Note) (note : Note) (count mark : ℕ) → count ≤ length session → IsMark session count mark → IsMark (session ++ note ∷ []) count mark
+mark_kept session note count mark short m = record {
+  bounds = λ i x less at. elim (slice_get_push session note x i at) [ inl old ↦ m.bounds i x less old | inr new ↦ absurd (omega (arith, less, short, new.0)) ];
+  reached = elim m.reached [ inl none ↦ inl none | inr r ↦ inr (r.0, r.1, r.2, slice_get_kept session note r.1 r.0 r.3, r.4) ];
+}
+
+-- one more operation, whose place is not above the mark
+pub mark_stays : (session : List Note) (note : Note) (count mark : ℕ) → length session ≡ count → IsMark session count mark → above note.seen ≤ mark → IsMark (session ++ note ∷ []) (count + 1) mark
+mark_stays session note count mark len m low = record {
+  bounds = λ i x less at. elim (slice_get_push session note x i at) [
+    | inl old ↦ m.bounds i x (omega (arith, slice_get_inside session i x old, len)) old
+    | inr new ↦ subst (λ (y : Note). above y.seen ≤ mark) new.1 low
+  ];
+  reached = elim m.reached [ inl none ↦ inl none | inr r ↦ inr (r.0, r.1, omega (arith, r.2), slice_get_kept session note r.1 r.0 r.3, r.4) ];
+}
+
+-- one more operation, whose place is above it
+pub mark_rises : (session : List Note) (note : Note) (count mark : ℕ) → length session ≡ count → IsMark session count mark → mark < above note.seen → IsMark (session ++ note ∷ []) (count + 1) (above note.seen)
+mark_rises session note count mark len m high = record {
+  bounds = λ i x less at. elim (slice_get_push session note x i at) [
+    | inl old ↦ omega (arith, m.bounds i x (omega (arith, slice_get_inside session i x old, len)) old, high)
+    | inr new ↦ subst (λ (y : Note). above y.seen ≤ above note.seen) new.1 (omega arith)
+  ];
+  reached = inr (count, note, omega arith, ap (slice_get (session ++ note ∷ [])) (sym len) ∙ slice_get_last session note, refl);
+}
+
+-- the mark of more operations is not lower
+pub mark_grows : (session : List Note) (i j m n : ℕ) → IsMark session i m → IsMark session j n → i ≤ j → m ≤ n
+mark_grows session i j m n a b le = elim a.reached [
+  | inl none ↦ omega (arith, none)
+  | inr r ↦ omega (arith, b.bounds r.0 r.1 (omega (arith, r.2, le)) r.3, r.4)
+]
+
+-- marks do not fall along a session
+pub marks_rise : (session : List Note) → AreMarks session → (i j : ℕ) (d : Note) → i ≤ j → j < length session → (get_or session i d).mark ≤ (get_or session j d).mark
+marks_rise session marks i j d le inside =
+    mark_grows session (i + 1) (j + 1) (get_or session i d).mark (get_or session j d).mark
+    (marks i (get_or session i d) (stands session i d (omega (arith, le, inside)))) (marks j (get_or session j d) (stands session j d inside)) (omega (arith, le))
+
+-- where the mark first goes above a place, the operation itself saw that it does
+pub mark_crosses : (session : List Note) → AreMarks session → (i place : ℕ) (note : Note) → slice_get session i ≡ Some note → place < note.mark
+    → ((j : ℕ) (x : Note) → j < i → slice_get session j ≡ Some x → x.mark ≤ place) → place < above note.seen
+mark_crosses session marks i place note at high low =
+    let m = marks i note at in
+    elim m.reached [
+      | inl none ↦ absurd (omega (arith, none, high))
+      | inr r ↦ elim (eq-or-lt_of_le (let le : r.0 ≤ i = omega (arith, r.2) in le)) [
+        | inl same ↦
+            let e : Some r.1 ≡ Some note = sym r.3 ∙ ap (slice_get session) same ∙ at in
+            let e' : r.1 ≡ note = cc in
+            let s : above r.1.seen ≡ above note.seen = ap (λ (x : Note). above x.seen) e' in
+            omega (arith, s, r.4, high)
+        | inr before ↦
+            let own : above r.1.seen ≤ r.1.mark = (marks r.0 r.1 r.3).bounds r.0 r.1 (omega arith) r.3 in
+            absurd (omega (arith, own, low r.0 r.1 before r.3, r.4, high))
+      ]
+    ]

@@ -1,0 +1,95 @@
+-- Notes on a session, one operation after the other.
+use Rattle.std.proofs.Common.{◌≡◌, ◌<◌, ◌≤◌, ◌+◌, ◌⊎◌, ◌^◌, ℕ, zero, suc, List, [], ◌∷◌, ◌++◌, length, get_or, map, length-append, Some, refl, sym, ◌∙◌, ap, subst, inl, inr, arith, slice_get, slice_index_or}
+use Rattle.std.proofs.Math.Nat.{eq-or-lt_of_le}
+use Rattle.cops_types.specs.declared.op.OpName.{OpName}
+use Rattle.cops_types.specs.Histories.{Sessions, IsNamed}
+use Rattle.cops_audit.specs.declared.table.VersionedPut.{VersionedPut}
+use Rattle.cops_audit.specs.declared.notes.Note.{Note}
+use Rattle.cops_audit.specs.declared.notes.Seen.{Seen}
+use Rattle.cops_audit.specs.declared.notes.Seen.TheVariants.{Put, Got, Missed, Sourceless}
+use Rattle.cops_audit.specs.Tables.{IsVersionTable}
+use Rattle.cops_audit.specs.Notes.{above, IsMark, IsNoted, IsSeen, IsSessionNoted, note_at}
+use Rattle.cops_audit.proofs.Listing.{named_client, named_index, slice_get_there}
+use Rattle.cops_audit.proofs.Places.{inside_table}
+use Rattle.cops_audit.proofs.Marks.{mark_kept, mark_none, mark_rises, mark_stays, slice_get_push, slice_get_inside}
+
+-- places are below the greatest number of puts
+pub few_places : (h : Sessions) (table : List VersionedPut) → IsVersionTable h table → (name : OpName) (seen : Seen) → IsSeen h table name seen → above seen ≤ length table
+few_places h table t name (Put place) s = let l : place < length table = inside_table table place name s.0 s.2 in omega (arith, l)
+few_places h table t name (Got place) s = let l : place < length table = inside_table table place s.0 s.1 s.2 in omega (arith, l)
+few_places h table t name Missed s = omega arith
+few_places h table t name Sourceless s = omega arith
+
+-- the notes so far and one more
+pub record Noted (h : Sessions) (table : List VersionedPut) (client : ℕ) (session : List Note) (count mark : ℕ) : Type 0 where
+  pub whole : length session ≡ count
+  pub up_to : IsMark session count mark
+  pub seen : (i : ℕ) (note : Note) → slice_get session i ≡ Some note → IsSeen h table (record { client = client; index = i }) note.seen
+  pub marks : (i : ℕ) (note : Note) → slice_get session i ≡ Some note → IsMark session (i + 1) note.mark
+
+pub one_note_more : (h : Sessions) (table : List VersionedPut) (client : ℕ) (session : List Note) (count mark : ℕ) (note : Note) → Noted h table client session count mark
+    → IsSeen h table (record { client = client; index = count }) note.seen → IsMark (session ++ note ∷ []) (count + 1) note.mark → Noted h table client (session ++ note ∷ []) (count + 1) note.mark
+one_note_more h table client session count mark note n seen new = record {
+  whole = omega (arith, length-append session (note ∷ []), n.whole);
+  up_to = new;
+  seen = λ i x at. elim (slice_get_push session note x i at) [
+    | inl old ↦ n.seen i x old
+    | inr last ↦ subst (λ (y : Note). IsSeen h table (record { client = client; index = i }) y.seen) last.1
+        (subst (λ (j : ℕ). IsSeen h table (record { client = client; index = j }) note.seen) (sym (last.0 ∙ n.whole)) seen)
+  ];
+  marks = λ i x at. elim (slice_get_push session note x i at) [
+    | inl old ↦ mark_kept session note (i + 1) x.mark (let l : i < length session = slice_get_inside session i x old in omega (arith, l)) (n.marks i x old)
+    | inr last ↦ subst (λ (y : Note). IsMark (session ++ note ∷ []) (i + 1) y.mark) last.1
+        (subst (λ (j : ℕ). IsMark (session ++ note ∷ []) (j + 1) note.mark) (sym (last.0 ∙ n.whole)) new)
+  ];
+}
+
+pub no_notes : (h : Sessions) (table : List VersionedPut) (client : ℕ) → Noted h table client [] 0 0
+no_notes h table client = record { whole = refl; up_to = mark_none; seen = λ i x at. absurd cc; marks = λ i x at. absurd cc }
+
+module _ (h : Sessions) (table : List VersionedPut) (client : ℕ) (session : List Note) (count mark : ℕ) (seen : Seen) (n : Noted h table client session count mark) (is : IsSeen h table (record { client = client; index = count }) seen) where
+  -- a place above the mark becomes the mark
+  pub higher_note : (m a : ℕ) → m ≡ a → a ≡ above seen → mark < a → Noted h table client (session ++ record { seen = seen; mark = m } ∷ []) (count + 1) m
+  higher_note m a same is_above high =
+      one_note_more h table client session count mark (record { seen = seen; mark = m }) n is
+      (subst (λ (k : ℕ). IsMark (session ++ record { seen = seen; mark = m } ∷ []) (count + 1) k) (sym (same ∙ is_above)) (mark_rises session (record { seen = seen; mark = m }) count mark n.whole n.up_to (omega (arith, high, is_above))))
+
+  -- any other leaves it
+  pub lower_note : (m a : ℕ) → m ≡ mark → a ≡ above seen → a ≤ mark → Noted h table client (session ++ record { seen = seen; mark = m } ∷ []) (count + 1) m
+  lower_note m a same is_above low =
+      one_note_more h table client session count mark (record { seen = seen; mark = m }) n is
+      (subst (λ (k : ℕ). IsMark (session ++ record { seen = seen; mark = m } ∷ []) (count + 1) k) (sym same) (mark_stays session (record { seen = seen; mark = m }) count mark n.whole n.up_to (omega (arith, low, is_above))))
+
+pushed_old : {A B : Type 0} (f : A → B) (d : B) (xs : List A) (x : A) (c : ℕ) → c < length xs → get_or (map f (xs ++ x ∷ [])) c d ≡ get_or (map f xs) c d
+pushed_old f d [] x c inside = absurd (omega (arith, inside))
+pushed_old f d (y ∷ ys) x zero inside = refl
+pushed_old f d (y ∷ ys) x (suc c) inside = pushed_old f d ys x c (omega (arith, inside))
+
+pushed_new : {A B : Type 0} (f : A → B) (d : B) (xs : List A) (x : A) → get_or (map f (xs ++ x ∷ [])) (length xs) d ≡ f x
+pushed_new f d [] x = refl
+pushed_new f d (y ∷ ys) x = pushed_new f d ys x
+
+-- what holds of each element so far and of the next
+pub each_pushed : {A B : Type 0} (f : A → B) (d : B) (P : ℕ → B → Type 0) (xs : List A) (x : A) (count : ℕ) → length xs ≡ count
+    → ((c : ℕ) → c < count → P c (get_or (map f xs) c d)) → P count (f x) → (c : ℕ) → c < count + 1 → P c (get_or (map f (xs ++ x ∷ [])) c d)
+each_pushed f d P xs x count len old new c less = elim (eq-or-lt_of_le (let le : c ≤ count = omega (arith, less) in le)) [
+  | inl same ↦ subst (λ (k : ℕ). P k (get_or (map f (xs ++ x ∷ [])) k d)) (sym same)
+      (subst (P count) (sym (ap (λ (k : ℕ). get_or (map f (xs ++ x ∷ [])) k d) (sym len) ∙ pushed_new f d xs x)) new)
+  | inr before ↦ subst (P c) (sym (pushed_old f d xs x c (omega (arith, before, len)))) (old c before)
+]
+
+-- the note on an operation, and the session that it is in
+pub session_of : (h : Sessions) (table : List VersionedPut) (notes : List (List Note)) → IsNoted h table notes → (name : OpName) (note : Note) → note_at notes name ≡ Some note
+    → IsSessionNoted h table name.client (slice_index_or notes name.client [])
+session_of h table notes noted name note at = noted.sessions name.client (omega (arith, noted.clients, inside notes name.client name.index note at))
+  where
+    inside : (ss : List (List Note)) (c i : ℕ) (x : Note) → slice_get (slice_index_or ss c []) i ≡ Some x → c < length ss
+    inside [] c i x e = absurd cc
+    inside (s ∷ ss) zero i x e = omega arith
+    inside (s ∷ ss) (suc c) i x e = omega (arith, inside ss c i x e)
+
+-- each operation has a note
+pub note_there : (h : Sessions) (table : List VersionedPut) (notes : List (List Note)) → IsNoted h table notes → (name : OpName) → IsNamed h name → (note : Note) × (note_at notes name ≡ Some note)
+note_there h table notes noted name named =
+    let session = noted.sessions name.client (named_client h name named) in
+    slice_get_there (slice_index_or notes name.client []) name.index (omega (arith, session.whole, named_index h name named))

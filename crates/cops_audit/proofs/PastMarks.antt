@@ -1,0 +1,71 @@
+-- Marks do not fall along a past.
+use Rattle.std.proofs.Common.{◌≡◌, ◌<◌, ◌≤◌, ◌+◌, ◌⊎◌, ◌↔◌, ℕ, List, [], Some, refl, sym, ◌∙◌, ap, subst, inl, inr, arith, slice_index_or, slice_get}
+use Rattle.std.proofs.Math.Nat.{eq-or-lt_of_le}
+use Rattle.cops_types.specs.declared.op.OpName.{OpName}
+use Rattle.cops_types.specs.Histories.{Sessions, IsNamed, PutsVersion, SourceStep, SessionStep, Step, Past, step, more}
+use Rattle.cops_types.specs.Verdicts.{AllAbove, AllHaveSources}
+use Rattle.cops_audit.specs.declared.table.VersionedPut.{VersionedPut}
+use Rattle.cops_audit.specs.declared.notes.Note.{Note}
+use Rattle.cops_audit.specs.declared.notes.Seen.{Seen}
+use Rattle.cops_audit.specs.declared.notes.Seen.TheVariants.{Put, Got, Missed, Sourceless}
+use Rattle.cops_audit.specs.Tables.{IsVersionTable}
+use Rattle.cops_audit.specs.Notes.{above, AreMarks, IsNoted, SeesNotBelow, StandsAt, note_at}
+use Rattle.cops_audit.proofs.Firsts.{versions_rise}
+use Rattle.cops_audit.proofs.Marks.{mark_grows}
+use Rattle.cops_audit.proofs.Noting.{note_there, session_of}
+use Rattle.cops_audit.proofs.PastOrder.{past_to}
+use Rattle.cops_audit.proofs.Places.{same_place}
+use Rattle.cops_audit.proofs.Reading.{below_same, says, seen_got, seen_put}
+
+module _ (h : Sessions) (table : List VersionedPut) (t : IsVersionTable h table) (notes : List (List Note)) (noted : IsNoted h table notes) (sources : AllHaveSources h) (above_all : AllAbove h) where
+  -- the mark of an operation
+  pub mark_is : (n : OpName) (note : Note) → note_at notes n ≡ Some note → above note.seen ≤ note.mark
+  mark_is n note at = ((session_of h table notes noted n note at).marks n.index note at).bounds n.index note (omega arith) at
+
+  -- the mark of a put is just above its own place
+  pub put_mark : (n : OpName) (note : Note) (place : ℕ) → note_at notes n ≡ Some note → note.seen ≡ Put place → note.mark ≤ place + 1
+  put_mark n note place at is =
+      let m = (session_of h table notes noted n note at).marks n.index note at in
+      elim m.reached [
+        | inl none ↦ omega (arith, none)
+        | inr r ↦ elim (eq-or-lt_of_le (let le : r.0 ≤ n.index = omega (arith, r.2) in le)) [
+          | inl same ↦
+              let e : Some r.1 ≡ Some note = sym r.3 ∙ ap (slice_get (slice_index_or notes n.client [])) same ∙ at in
+              let e' : r.1 ≡ note = cc in
+              let s : above r.1.seen ≡ place + 1 = ap (λ (x : Note). above x.seen) e' ∙ ap above is in
+              omega (arith, s, r.4)
+          | inr before ↦
+              let other : OpName = record { client = n.client; index = r.0 } in
+              let not : ¬ (place < above r.1.seen) = λ less. versions_rise h above_all other n ((below_same h table t notes noted sources other n).0 (record {
+                place = place;
+                mark = note.mark;
+                put = at ∙ ap (λ (s : Seen). Some (let x : Note = record { seen = s; mark = note.mark } in x)) is;
+                note = r.1;
+                at = r.3;
+                same_client = refl;
+                before = before;
+                not_below = less;
+              })) in
+              omega (arith, not, r.4)
+        ]
+      ]
+
+  step_mark : (a b : OpName) (x y : Note) → Step h a b → note_at notes a ≡ Some x → note_at notes b ≡ Some y → x.mark ≤ y.mark
+  step_mark a b x y (inl s) at_a at_b =
+      let in_b : slice_get (slice_index_or notes a.client []) b.index ≡ Some y = ap (λ (k : ℕ). slice_get (slice_index_or notes k []) b.index) s.same_client ∙ at_b in
+      let session = session_of h table notes noted a x at_a in
+      mark_grows (slice_index_or notes a.client []) (a.index + 1) (b.index + 1) x.mark y.mark (session.marks a.index x at_a) (session.marks b.index y in_b) (omega (arith, s.earlier))
+  step_mark a b x y (inr s) at_a at_b =
+      let put = seen_put h table a s.version x.seen (says h table t notes noted a x at_a) (s.key, s.value, s.put) in
+      let got = seen_got h table b s.version y.seen (sources b) (says h table t notes noted b y at_b) (s.key, s.value, s.got) in
+      let same : put.0 ≡ got.0 = same_place table t.rising put.0 got.0 a got.1 s.version put.2 got.3 in
+      let high : above y.seen ≡ got.0 + 1 = ap above got.2 in
+      omega (arith, put_mark a x put.0 at_a put.1, mark_is b y at_b, high, same)
+
+  pub past_mark : (a : OpName) {b : OpName} → Past h a b → (x y : Note) → note_at notes a ≡ Some x → note_at notes b ≡ Some y → x.mark ≤ y.mark
+  past_mark a {b} (step s) x y at_a at_b = step_mark a b x y s at_a at_b
+  past_mark a {b} (more {by = by} p s) x y at_a at_b =
+      let there = note_there h table notes noted by (past_to h a by p) in
+      let first = past_mark a p x there.0 at_a there.1 in
+      let last = step_mark by b there.0 y s there.1 at_b in
+      omega (arith, first, last)

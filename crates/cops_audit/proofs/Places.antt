@@ -1,0 +1,178 @@
+-- Versions in a table of puts, by their places.
+use Rattle.std.proofs.Common.{◌≡◌, ◌≢◌, ◌<◌, ◌≤◌, ◌+◌, ◌-◌, ◌⊎◌, ◌↔◌, ℕ, zero, suc, List, get_or, length, AllPairs, Contains, Some, slice_get, refl, sym, ◌∙◌, ap, subst, inl, inr, arith}
+use native.Mathlib.Numerals.{unary_clauses}
+use Rattle.std.proofs.Math.Nat.{eq-or-lt_of_le}
+use Rattle.std.proofs.lemmas.Bool.{cases_lt}
+use Rattle.std.proofs.lemmas.Bool.Decides.{eqb_tells}
+use Rattle.cops_types.specs.declared.op.OpName.{OpName}
+use Rattle.cops_types.specs.Histories.{Sessions, PutsVersion}
+use Rattle.cops_types.specs.Faults.{IsDoubled}
+use Rattle.cops_audit.specs.declared.table.VersionedPut.{VersionedPut}
+use Rattle.cops_audit.specs.Tables.{IsPutTable, IsVersionTable, Rises, VersionsNeverFall}
+use Rattle.cops_audit.proofs.Acyclic.{one_version}
+use Rattle.cops_audit.specs.Notes.{StandsAt}
+use Rattle.cops_audit.proofs.Collect.{get_or-default, item_at}
+use Rattle.cops_audit.proofs.Emptiness.{at_index}
+use Rattle.cops_audit.proofs.Unique.{stands}
+
+-- each put below the next, so below each later one
+pub rises_by_neighbours : (table : List VersionedPut) → ((k : ℕ) (d : VersionedPut) → k + 1 < length table → (get_or table k d).version < (get_or table (k + 1) d).version) → Rises table
+rises_by_neighbours table next i zero d less inside = absurd (omega (arith, less))
+rises_by_neighbours table next i (suc j) d less inside =
+    let last' : (get_or table j d).version < (get_or table (suc j) d).version = simp unary_clauses at (next j d (omega (arith, inside))) in
+    elim (eq-or-lt_of_le (let le : i ≤ j = omega (arith, less) in le)) [
+      | inl same ↦ let e : (get_or table i d).version ≡ (get_or table j d).version = ap (λ k. (get_or table k d).version) same in omega (arith, e, last')
+      | inr before ↦ let first = rises_by_neighbours table next i j d before (omega (arith, inside)) in omega (arith, first, last')
+    ]
+
+-- a put of a version has a place
+pub place_of_put : (h : Sessions) (table : List VersionedPut) → IsPutTable h table → (p : OpName) (v : ℕ) → PutsVersion h p v
+    → (k : ℕ) × (k < length table) × ((d : VersionedPut) → get_or table k d ≡ (let q : VersionedPut = record { version = v; name = p } in q))
+place_of_put h table t p v put =
+    let q : VersionedPut = record { version = v; name = p } in
+    let at = (t.members q).1 put in
+    (at.0, at.1, λ d. get_or-default table at.0 d q at.1 ∙ at.2)
+
+-- the put at a place
+pub put_at : (h : Sessions) (table : List VersionedPut) → IsPutTable h table → (k : ℕ) (d : VersionedPut) → k < length table → PutsVersion h (get_or table k d).name (get_or table k d).version
+put_at h table t k d inside = (t.members (get_or table k d)).0 (k, inside, get_or-default table k (get_or table k d) d inside)
+
+-- two places with one version: each put of that version is doubled
+doubled_at : (h : Sessions) (table : List VersionedPut) → IsPutTable h table → (name : OpName) (v : ℕ) → PutsVersion h name v → (a b : ℕ) (d : VersionedPut) → a < b → b < length table
+    → (get_or table a d).version ≡ v → (get_or table b d).version ≡ v → IsDoubled h name
+doubled_at h table t name v put a b d less inside va vb =
+    let at = place_of_put h table t name v put in
+    let name_at : (k : ℕ) → k ≡ at.0 → (get_or table k d).name ≡ name = λ k e. ap (λ (q : VersionedPut). q.name) (ap (λ j. get_or table j d) e ∙ at.2 d) in
+    elim (either a at.0) [
+      | inl same ↦ record {
+        version = v;
+        put = put;
+        other = (get_or table b d).name;
+        other_put = subst (PutsVersion h (get_or table b d).name) vb (put_at h table t b d inside);
+        differs = λ e. t.once a b d less inside (name_at a same ∙ sym e);
+      }
+      | inr other ↦ record {
+        version = v;
+        put = put;
+        other = (get_or table a d).name;
+        other_put = subst (PutsVersion h (get_or table a d).name) va (put_at h table t a d (omega (arith, less, inside)));
+        differs = λ e. other (one_place (get_or table a d).name name a at.0 (omega (arith, less, inside)) at.1 refl (name_at at.0 refl) e);
+      }
+    ]
+  where
+    either : (i j : ℕ) → (i ≡ j) ⊎ (i ≢ j)
+    either i j = elim (eqb_tells i j) [ inl p ↦ inl p.1 | inr p ↦ inr p.1 ]
+
+    -- a name stands at one place
+    one_place : (m n : OpName) (i j : ℕ) → i < length table → j < length table → (get_or table i d).name ≡ m → (get_or table j d).name ≡ n → m ≡ n → i ≡ j
+    one_place m n i j in_i in_j at_i at_j same =
+        let not_before : ¬ (i < j) = λ l. t.once i j d l in_j (at_i ∙ same ∙ sym at_j) in
+        let not_after : ¬ (j < i) = λ l. t.once j i d l in_i (at_j ∙ sym same ∙ sym at_i) in
+        omega (arith, not_before, not_after)
+
+-- places next to each other, both ways round
+pub doubled_by_neighbour : (h : Sessions) (table : List VersionedPut) → IsPutTable h table → (name : OpName) (v : ℕ) → PutsVersion h name v → (k place : ℕ) → k < length table → place < length table
+    → ((k + 1 ≡ place) ⊎ (place + 1 ≡ k)) → ((d : VersionedPut) → (get_or table place d).version ≡ v) → ((d : VersionedPut) → (get_or table k d).version ≡ (get_or table place d).version) → IsDoubled h name
+doubled_by_neighbour h table t name v put k place in_k in_place (inl e) at same =
+    let d : VersionedPut = record { version = v; name = name } in
+    doubled_at h table t name v put k place d (omega (arith, e)) in_place (same d ∙ at d) (at d)
+doubled_by_neighbour h table t name v put k place in_k in_place (inr e) at same =
+    let d : VersionedPut = record { version = v; name = name } in
+    doubled_at h table t name v put place k d (omega (arith, e)) in_k (at d) (same d ∙ at d)
+
+-- the version of a place stands at a place next to it
+abbrev pub Beside : List VersionedPut → ℕ → Type 0
+Beside table place = (k : ℕ) × (k < length table) × ((k + 1 ≡ place) ⊎ (place + 1 ≡ k)) × ((d : VersionedPut) → (get_or table k d).version ≡ (get_or table place d).version)
+
+-- a doubled put's version stands at neighbouring places
+pub neighbour_of_doubled : (h : Sessions) (table : List VersionedPut) → IsPutTable h table → (name : OpName) (v place : ℕ) → place < length table → ((d : VersionedPut) → (get_or table place d).version ≡ v)
+    → PutsVersion h name v → IsDoubled h name → Beside table place
+neighbour_of_doubled h table t name v place inside at put f =
+    let same : f.version ≡ v = one_version h name name f.version v f.put put refl in
+    let a = place_of_put h table t name v put in
+    let b = place_of_put h table t f.other v (subst (PutsVersion h f.other) same f.other_put) in
+    let apart : a.0 ≢ b.0 = λ e. f.differs (ap (λ (q : VersionedPut). q.name) (sym (b.2 (record { version = v; name = name })) ∙ ap (λ j. get_or table j (record { version = v; name = name })) (sym e) ∙ a.2 (record { version = v; name = name }))) in
+    elim (eqb_tells a.0 place) [
+      | inl p ↦ beside b.0 b.1 (λ d. ap (λ (q : VersionedPut). q.version) (b.2 d)) (λ e. apart (p.1 ∙ sym e))
+      | inr p ↦ beside a.0 a.1 (λ d. ap (λ (q : VersionedPut). q.version) (a.2 d)) p.1
+    ]
+  where
+    -- what lies between two places of one version has it too
+    between : (i j k : ℕ) (d : VersionedPut) → i ≤ k → k ≤ j → j < length table → (get_or table i d).version ≡ v → (get_or table j d).version ≡ v → (get_or table k d).version ≡ v
+    between i j k d le le' in_j vi vj =
+        let low : ¬ ((get_or table k d).version < (get_or table i d).version) = λ l. elim (eq-or-lt_of_le le) [
+          | inl e ↦ let w : (get_or table i d).version ≡ (get_or table k d).version = ap (λ x. (get_or table x d).version) e in omega (arith, l, w)
+          | inr less ↦ omega (arith, l, t.in_order i k d less (omega (arith, le', in_j)))
+        ] in
+        let high : ¬ ((get_or table j d).version < (get_or table k d).version) = λ l. elim (eq-or-lt_of_le le') [
+          | inl e ↦ let w : (get_or table k d).version ≡ (get_or table j d).version = ap (λ x. (get_or table x d).version) e in omega (arith, l, w)
+          | inr less ↦ omega (arith, l, t.in_order k j d less in_j)
+        ] in
+        omega (arith, low, high, vi, vj)
+
+    beside : (q : ℕ) → q < length table → ((d : VersionedPut) → (get_or table q d).version ≡ v) → q ≢ place → Beside table place
+    beside q in_q at_q differs = elim (cases_lt q place) [
+      | inl less ↦ (place - 1, omega (arith, inside), inl (omega (arith, less)), λ d. between q place (place - 1) d (omega (arith, less)) (omega arith) inside (at_q d) (at d) ∙ sym (at d))
+      | inr le ↦ (place + 1, omega (arith, le, in_q, differs), inr refl, λ d. between place q (place + 1) d (omega arith) (omega (arith, le, differs)) in_q (at d) (at_q d) ∙ sym (at d))
+    ]
+
+-- what stands at a place is a put of that version, inside the table
+pub put_there : (h : Sessions) (table : List VersionedPut) → IsPutTable h table → (k : ℕ) (p : OpName) (v : ℕ) → StandsAt table k p v → PutsVersion h p v
+put_there h table t k p v at =
+    let q : VersionedPut = record { version = v; name = p } in
+    let here = at_index table k q q at in
+    (t.members q).0 (k, here.0, here.1)
+
+pub inside_table : (table : List VersionedPut) (k : ℕ) (p : OpName) (v : ℕ) → StandsAt table k p v → k < length table
+inside_table table k p v at = let q : VersionedPut = record { version = v; name = p } in (at_index table k q q at).0
+
+-- the put that was read at a place stands there
+pub stands_item : (table : List VersionedPut) (k : ℕ) (put : VersionedPut) → k < length table → put ≡ get_or table k put → StandsAt table k put.name put.version
+stands_item table k put inside at = stands table k put inside ∙ ap (λ (x : VersionedPut). Some x) (sym at)
+
+-- what stands at a place of a version
+pub stands_at : (table : List VersionedPut) (k : ℕ) (d : VersionedPut) → k < length table → StandsAt table k (get_or table k d).name (get_or table k d).version
+stands_at table k d inside = stands table k d inside
+
+-- where two puts stand, their versions are in the order of their places
+module _ (table : List VersionedPut) (rising : Rises table) where
+  pub version_rises : (i j : ℕ) (p q : OpName) (v w : ℕ) → StandsAt table i p v → StandsAt table j q w → i < j → v < w
+  version_rises i j p q v w at_i at_j less =
+      let d : VersionedPut = record { version = v; name = p } in
+      let a = at_index table i d d at_i in
+      let b = at_index table j _ d at_j in
+      let va : (get_or table i d).version ≡ v = ap (λ (x : VersionedPut). x.version) a.1 in
+      let vb : (get_or table j d).version ≡ w = ap (λ (x : VersionedPut). x.version) b.1 in
+      omega (arith, rising i j d less b.0, va, vb)
+
+  pub place_rises : (i j : ℕ) (p q : OpName) (v w : ℕ) → StandsAt table i p v → StandsAt table j q w → v < w → i < j
+  place_rises i j p q v w at_i at_j less =
+      let not : ¬ (j ≤ i) = λ le. elim (eq-or-lt_of_le le) [
+        | inl same ↦ let e : Some (let x : VersionedPut = record { version = w; name = q } in x) ≡ Some (let x : VersionedPut = record { version = v; name = p } in x) = sym at_j ∙ ap (slice_get table) same ∙ at_i in
+            let r : (let x : VersionedPut = record { version = w; name = q } in x) ≡ record { version = v; name = p } = cc in
+            let vw : w ≡ v = ap (λ (x : VersionedPut). x.version) r in omega (arith, vw, less)
+        | inr before ↦ omega (arith, less, version_rises j i q p w v at_j at_i before)
+      ] in
+      omega (arith, not)
+
+  pub same_place : (i j : ℕ) (p q : OpName) (v : ℕ) → StandsAt table i p v → StandsAt table j q v → i ≡ j
+  same_place i j p q v at_i at_j =
+      let not_before : ¬ (i < j) = λ l. omega (arith, version_rises i j p q v v at_i at_j l) in
+      let not_after : ¬ (j < i) = λ l. omega (arith, version_rises j i q p v v at_j at_i l) in
+      omega (arith, not_before, not_after)
+
+  pub same_put_at : (i : ℕ) (p q : OpName) (v w : ℕ) → StandsAt table i p v → StandsAt table i q w → (p ≡ q) × (v ≡ w)
+  same_put_at i p q v w a b =
+      let e : Some (let x : VersionedPut = record { version = v; name = p } in x) ≡ Some (let x : VersionedPut = record { version = w; name = q } in x) = sym a ∙ b in
+      let r : (let x : VersionedPut = record { version = v; name = p } in x) ≡ record { version = w; name = q } = cc in
+      (ap (λ (x : VersionedPut). x.name) r, ap (λ (x : VersionedPut). x.version) r)
+
+-- the place of a put of a version, from any place of that version
+pub place_for : (h : Sessions) (table : List VersionedPut) → IsVersionTable h table → (p : OpName) (v k : ℕ) → PutsVersion h p v → k < length table → ((d : VersionedPut) → (get_or table k d).version ≡ v) → StandsAt table k p v
+place_for h table t p v k put inside at =
+    let d : VersionedPut = record { version = v; name = p } in
+    let own = place_of_put h table t.table p v put in
+    let stands_own : StandsAt table own.0 p v = stands table own.0 d own.1 ∙ ap (λ (x : VersionedPut). Some x) (own.2 d) in
+    let here : StandsAt table k (get_or table k d).name v = stands table k d inside ∙ ap (λ (w : ℕ). Some (let x : VersionedPut = record { version = w; name = (get_or table k d).name } in x)) (at d) in
+    let e : own.0 ≡ k = same_place table t.rising own.0 k p (get_or table k d).name v stands_own here in
+    subst (λ j. StandsAt table j p v) e stands_own

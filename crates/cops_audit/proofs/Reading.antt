@@ -1,0 +1,114 @@
+-- What notes say of a history.
+use Rattle.std.proofs.Common.{◌≡◌, ◌<◌, ◌≤◌, ◌+◌, ◌⊎◌, ◌↔◌, ℕ, List, [], Some, refl, sym, ◌∙◌, ap, subst, inl, inr, arith, slice_index_or, slice_get}
+use Rattle.std.proofs.Math.Nat.{eq-or-lt_of_le}
+use Rattle.cops_types.specs.declared.op.Op.TheVariants as op
+use Rattle.cops_types.specs.declared.op.OpName.{OpName}
+use Rattle.cops_types.specs.Histories.{Sessions, op_at, IsMissed, IsNamed, PutsVersion, SourceStep, SessionStep, Step, Past, step, more}
+use Rattle.cops_types.specs.Faults.{HasNoSource, HasVersion, IsNotAbove, IsNotBelow}
+use Rattle.cops_types.specs.Verdicts.{AllHaveSources}
+use Rattle.cops_audit.specs.declared.table.VersionedPut.{VersionedPut}
+use Rattle.cops_audit.specs.declared.notes.Note.{Note}
+use Rattle.cops_audit.specs.declared.notes.Seen.{Seen}
+use Rattle.cops_audit.specs.declared.notes.Seen.TheVariants.{Put, Got, Missed, Sourceless}
+use Rattle.cops_audit.specs.Tables.{GetsVersion, IsVersionTable}
+use Rattle.cops_audit.specs.Notes.{above, IsNoted, IsSeen, IsSourceless, SeesNotAbove, SeesNotBelow, StandsAt, note_at}
+use Rattle.cops_audit.proofs.Acyclic.{VersionsRise, one_version, put_is_no_get, same_name}
+use Rattle.cops_audit.proofs.Gets.{one_get_version}
+use Rattle.cops_audit.proofs.Marks.{mark_grows}
+use Rattle.cops_audit.proofs.Noting.{note_there, session_of}
+use Rattle.cops_audit.proofs.Places.{place_rises, version_rises}
+
+-- an operation that missed is no put and no get
+pub missed_puts_nothing : (h : Sessions) (n : OpName) (k : List ℕ) (v : ℕ) → IsMissed h n k → PutsVersion h n v → ⊥
+missed_puts_nothing h n k v missed put = let e : Some (op.Missed k) ≡ Some (op.Put put.0 put.1 v) = sym missed ∙ put.2 in cc
+
+pub missed_gets_nothing : (h : Sessions) (n : OpName) (k : List ℕ) (v : ℕ) → IsMissed h n k → GetsVersion h n v → ⊥
+missed_gets_nothing h n k v missed got = let e : Some (op.Missed k) ≡ Some (op.Got got.0 got.1 v) = sym missed ∙ got.2 in cc
+
+module _ (h : Sessions) (table : List VersionedPut) where
+  -- a put is seen at its own place
+  pub seen_put : (n : OpName) (v : ℕ) (seen : Seen) → IsSeen h table n seen → PutsVersion h n v → (p : ℕ) × (seen ≡ Put p) × StandsAt table p n v
+  seen_put n v (Put p) s put = (p, refl, subst (StandsAt table p n) (one_version h n n s.0 v s.1 put refl) s.2)
+  seen_put n v (Got p) s put = absurd (put_is_no_get h n n v s.1 put s.3 refl)
+  seen_put n v Missed s put = absurd (missed_puts_nothing h n s.0 v s.1 put)
+  seen_put n v Sourceless s put = absurd (put_is_no_get h n n v s.version put (s.key, s.value, s.got) refl)
+
+  -- a get that has a source is seen at its source's place
+  pub seen_got : (n : OpName) (v : ℕ) (seen : Seen) → ¬ HasNoSource h n → IsSeen h table n seen → GetsVersion h n v → (p : ℕ) × (s : OpName) × (seen ≡ Got p) × StandsAt table p s v × SourceStep h s n
+  seen_got n v (Put p) some s got = absurd (put_is_no_get h n n s.0 v s.1 got refl)
+  seen_got n v (Got p) some s got = (p, s.0, refl, subst (StandsAt table p s.0) (one_get_version h n s.1 v s.3 got) s.2, s.4)
+  seen_got n v Missed some s got = absurd (missed_gets_nothing h n s.0 v s.1 got)
+  seen_got n v Sourceless some s got = absurd (some s)
+
+  -- a get without a source is seen to have none
+  seen_sourceless : (n : OpName) (seen : Seen) → IsSeen h table n seen → HasNoSource h n → seen ≡ Sourceless
+  seen_sourceless n (Put p) s f = absurd (put_is_no_get h n n s.0 f.version s.1 (f.key, f.value, f.got) refl)
+  seen_sourceless n (Got p) s f = absurd (f.none s.0 s.4)
+  seen_sourceless n Missed s f = absurd (missed_gets_nothing h n s.0 f.version s.1 (f.key, f.value, f.got))
+  seen_sourceless n Sourceless s f = refl
+
+module _ (h : Sessions) (table : List VersionedPut) (t : IsVersionTable h table) (notes : List (List Note)) (noted : IsNoted h table notes) where
+  -- what a note says
+  pub says : (n : OpName) (note : Note) → note_at notes n ≡ Some note → IsSeen h table n note.seen
+  says n note at = (session_of h table notes noted n note at).seen n.index note at
+
+  pub sourceless_same : (n : OpName) → IsSourceless notes n ↔ HasNoSource h n
+  sourceless_same n = (
+    (λ w. says n (record { seen = Sourceless; mark = w.0 }) w.1),
+    (λ f.
+        let there = note_there h table notes noted n (_, f.got) in
+        let is = seen_sourceless h table n there.0.seen (says n there.0 there.1) f in
+        (there.0.mark, there.1 ∙ ap (λ (s : Seen). Some (let x : Note = record { seen = s; mark = there.0.mark } in x)) is)),
+  )
+
+  -- a put at a place and what was seen not below it
+  above_version : (own place : ℕ) (name e : OpName) (seen : Seen) → StandsAt table place name own → IsSeen h table e seen → place < above seen → (w : ℕ) × HasVersion h e w × (own ≤ w)
+  above_version own place name e (Put p) at s less =
+      let not : ¬ (s.0 < own) = λ l. let q : p < place = place_rises table t.rising p place e name s.0 own s.2 at l in omega (arith, q, less) in
+      (s.0, inl s.1, omega (arith, not))
+  above_version own place name e (Got p) at s less =
+      let not : ¬ (s.1 < own) = λ l. let q : p < place = place_rises table t.rising p place s.0 name s.1 own s.2 at l in omega (arith, q, less) in
+      (s.1, inr s.3, omega (arith, not))
+  above_version own place name e Missed at s less = absurd (omega (arith, less))
+  above_version own place name e Sourceless at s less = absurd (omega (arith, less))
+
+  pub below_same : AllHaveSources h → (e n : OpName) → SeesNotBelow notes e n ↔ IsNotBelow h e n
+  below_same sources e n = (forth, back)
+    where
+      forth : SeesNotBelow notes e n → IsNotBelow h e n
+      forth w =
+          let own = says n (record { seen = Put w.place; mark = w.mark }) w.put in
+          let v = above_version own.0 w.place n e w.note.seen own.2 (says e w.note w.at) w.not_below in
+          record { version = v.0; own = own.0; put = own.1; has = v.1; same_client = w.same_client; before = w.before; not_below = v.2 }
+
+      place_of : (w : ℕ) (seen : Seen) → HasVersion h e w → IsSeen h table e seen → (p : ℕ) × (s : OpName) × (above seen ≡ p + 1) × StandsAt table p s w
+      place_of w seen (inl put) s = let r = seen_put h table e w seen s put in (r.0, e, ap above r.1, r.2)
+      place_of w seen (inr got) s = let r = seen_got h table e w seen (sources e) s got in (r.0, r.1, ap above r.2, r.3)
+
+      named_e : (w : ℕ) → HasVersion h e w → IsNamed h e
+      named_e w (inl put) = (_, put.2)
+      named_e w (inr got) = (_, got.2)
+
+      back : IsNotBelow h e n → SeesNotBelow notes e n
+      back f =
+          let at_n = note_there h table notes noted n (_, f.put.2) in
+          let own = seen_put h table n f.own at_n.0.seen (says n at_n.0 at_n.1) f.put in
+          let at_e = note_there h table notes noted e (named_e f.version f.has) in
+          let r = place_of f.version at_e.0.seen f.has (says e at_e.0 at_e.1) in
+          let not : ¬ (r.0 < own.0) = λ l. omega (arith, version_rises table t.rising r.0 own.0 r.1 n f.version f.own r.3 own.2 l, f.not_below) in
+          record {
+            place = own.0;
+            mark = at_n.0.mark;
+            put = at_n.1 ∙ ap (λ (s : Seen). Some (let x : Note = record { seen = s; mark = at_n.0.mark } in x)) own.1;
+            note = at_e.0;
+            at = at_e.1;
+            same_client = f.same_client;
+            before = f.before;
+            not_below = omega (arith, r.2, not);
+          }
+
+  pub above_same : AllHaveSources h → (n e : OpName) → SeesNotAbove notes n e ↔ IsNotAbove h n e
+  above_same sources n e = (
+    (λ w. record { is_not_below = (below_same sources e n).0 w.not_below; first = λ x f. w.first x ((below_same sources x n).1 f) }),
+    (λ f. record { not_below = (below_same sources e n).1 f.is_not_below; first = λ x w. f.first x ((below_same sources x n).0 w) }),
+  )

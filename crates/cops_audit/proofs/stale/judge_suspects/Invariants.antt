@@ -1,0 +1,11 @@
+use Rattle.std.proofs.Common.{map, take}
+use Rattle.cops_types.specs.Faults.{IsStale}
+use Rattle.cops_audit.specs.Names.{ListsAmong}
+use Rattle.cops_audit.specs.Turns.{IsAfter}
+use Rattle.cops_audit.proofs.stale.judge_suspects.Given as goal
+
+abbrev pub invariant-loop-k : goal.invariant-loop-k
+invariant-loop-k l = record {
+  faults : ListsAmong (λ f. f.op) (λ f. IsStale l.history.sessions f.op f.newer) (take l.k (map (λ s. s.op) l.suspects)) l.faults.items;
+  after : IsAfter l.table l.notes l.firsts l.suspects l.floors l.k l.sweep;
+}

@@ -1,0 +1,12 @@
+use Rattle.std.proofs.Common.{◌≤◌}
+use Rattle.cops_audit.specs.Sweeps.{Grows, IsSweeping, work_left}
+use Rattle.cops_audit.proofs.sweep.Sweep.drain.Given as goal
+
+abbrev pub invariant-loop-range : goal.invariant-loop-range
+invariant-loop-range l = record {
+  sweeping : IsSweeping l.table l.notes l.firsts l.floor l.self (λ _. ⊥);
+  grows : Grows l.table l.notes l.fn.self l.self;
+}
+
+abbrev pub decreases-loop-range : goal.decreases-loop-range
+decreases-loop-range l = work_left l.self

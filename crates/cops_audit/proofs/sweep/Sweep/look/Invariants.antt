@@ -1,0 +1,10 @@
+use Rattle.std.proofs.Common.{◌≤◌}
+use Rattle.cops_audit.specs.Sweeps.{Grows, InRange, IsSweeping, work_left}
+use Rattle.cops_audit.proofs.sweep.Sweep.look.Given as goal
+
+abbrev pub invariant-loop-index : goal.invariant-loop-index
+invariant-loop-index l = record {
+  sweeping : IsSweeping l.table l.notes l.firsts l.floor l.self (InRange (record { client = l.range.client; from = l.range.from; to = l.index }));
+  grows : Grows l.table l.notes l.fn.self l.self;
+  work : work_left l.self ≤ work_left l.fn.self;
+}

@@ -1,0 +1,20 @@
+use Rattle.std.proofs.Common.{◌≡◌, Some, sym, ◌∙◌}
+use Rattle.cops_audit.proofs.Clearing.{clear, no_get, no_note, none_then}
+use Rattle.cops_audit.proofs.window.find_suspect.Goals as goal
+
+pub returns-in_default-clause-none : goal.returns-in_default-clause-none
+returns-in_default-clause-none c =
+    no_note c.args.history.now.sessions c.args.table.now c.requires.table c.args.notes.now c.requires.notes c.requires.sources c.requires.above c.args.op (sym c.in_default.ensures)
+
+pub returns-in-Got-clause-none : goal.returns-in-Got-clause-none
+returns-in-Got-clause-none c = none_then c.got_suspect.result c.got_suspect.ensures.none
+    (clear c.args.history.now.sessions c.args.table.now c.requires.table c.args.notes.now c.requires.notes c.requires.sources c.requires.above c.args.op c.in-Some.note (sym c.in-Some.ensures))
+
+pub returns-in-Missed-clause-none : goal.returns-in-Missed-clause-none
+returns-in-Missed-clause-none c = none_then c.missed_suspect.result c.missed_suspect.ensures.none
+    (clear c.args.history.now.sessions c.args.table.now c.requires.table c.args.notes.now c.requires.notes c.requires.sources c.requires.above c.args.op c.in-Some.note (sym c.in-Some.ensures))
+
+pub returns-in_default-seen-clause-none : goal.returns-in_default-seen-clause-none
+returns-in_default-seen-clause-none c =
+    no_get c.args.history.now.sessions c.args.table.now c.requires.table c.args.notes.now c.requires.notes c.requires.sources c.requires.above c.args.op c.in-Some.note (sym c.in-Some.ensures)
+    c.in_default-seen.not-Got c.in_default-seen.not-Missed

@@ -1,0 +1,42 @@
+-- The puts on each key, by their places in the table of puts in order of versions.
+use Rattle.std.specs.Prelude.{◌≡◌, ◌<◌, ◌≤◌, ℕ, List, length, slice_get, Option, Some, None, nat_eq}
+use Rattle.std.specs.Borrow.{Bor}
+use Rattle.std.specs.Cmp.Lexicographic.{pointwise}
+use Rattle.std.specs.HashMap.{HashMap, get}
+use Rattle.cops_types.specs.declared.op.OpName.{OpName}
+use Rattle.cops_types.specs.Histories.{Sessions, PutsKey}
+use Rattle.cops_audit.specs.declared.table.VersionedPut.{VersionedPut}
+use Rattle.cops_audit.specs.Notes.{StandsAt}
+
+-- a put on this key stands at this place
+abbrev pub OnKey : Sessions → List VersionedPut → ℕ → List ℕ → Type 0
+OnKey h table place key = (put : OpName) × (version : ℕ) × StandsAt table place put version × PutsKey h put key version
+
+-- the first place on a key
+pub record IsFirstOn (h : Sessions) (table : List VersionedPut) (key : List ℕ) (first : ℕ) : Type 0 where
+  pub on_key : OnKey h table first key
+  pub least : (place : ℕ) → OnKey h table place key → first ≤ place
+
+-- the first place on a key among those from i on
+abbrev pub IsFirstFrom : Sessions → List VersionedPut → ℕ → List ℕ → Option ℕ → Type 0
+IsFirstFrom h table i key None = (place : ℕ) → i ≤ place → ¬ OnKey h table place key
+IsFirstFrom h table i key (Some first) = (i ≤ first) × OnKey h table first key × ((place : ℕ) → i ≤ place → OnKey h table place key → first ≤ place)
+
+-- of each key, the first put on it
+abbrev pub KnowsFirsts : {S : Type 0} → Sessions → List VersionedPut → HashMap (Bor (List ℕ)) ℕ S → Type 0
+KnowsFirsts h table firsts = (key : Bor (List ℕ)) → IsFirstFrom h table 0 key.now (get (λ x y. pointwise nat_eq x.now y.now) firsts key)
+
+-- no later put is on the key of the put at this place, or this one is the next
+abbrev pub IsNext : Sessions → List VersionedPut → ℕ → Option ℕ → Type 0
+IsNext h table place None = (key : List ℕ) → OnKey h table place key → (later : ℕ) → place < later → ¬ OnKey h table later key
+IsNext h table place (Some next) = (place < next) × ((key : List ℕ) → OnKey h table place key → OnKey h table next key × ((later : ℕ) → place < later → OnKey h table later key → next ≤ later))
+
+-- of each put, the next one on its key
+pub record AreNexts (h : Sessions) (table : List VersionedPut) (nexts : List (Option ℕ)) : Type 0 where
+  pub whole : length nexts ≡ length table
+  pub each : (place : ℕ) (next : Option ℕ) → slice_get nexts place ≡ Some next → IsNext h table place next
+
+-- of each put, the first one on its key
+pub record AreFirsts (h : Sessions) (table : List VersionedPut) (firsts : List ℕ) : Type 0 where
+  pub whole : length firsts ≡ length table
+  pub each : (place first : ℕ) (key : List ℕ) → slice_get firsts place ≡ Some first → OnKey h table place key → IsFirstOn h table key first

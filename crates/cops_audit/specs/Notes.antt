@@ -1,0 +1,72 @@
+-- What each operation did, by places in the table of puts in order of versions.
+use Rattle.std.specs.Prelude.{◌≡◌, ◌<◌, ◌≤◌, ◌+◌, ◌⊎◌, ℕ, List, [], length, slice_index_or, slice_get, Option, Some}
+use Rattle.cops_types.specs.declared.op.OpName.{OpName}
+use Rattle.cops_types.specs.Histories.{Sessions, IsMissed, PutsVersion, SourceStep}
+use Rattle.cops_types.specs.Faults.{HasNoSource}
+use Rattle.cops_audit.specs.declared.table.VersionedPut.{VersionedPut}
+use Rattle.cops_audit.specs.declared.notes.Note.{Note}
+use Rattle.cops_audit.specs.declared.notes.Seen.{Seen}
+use Rattle.cops_audit.specs.declared.notes.Seen.TheVariants.{Put, Got, Missed, Sourceless}
+use Rattle.cops_audit.specs.Tables.{GetsVersion}
+
+-- just above the place of what was seen, 0 where it has none
+abbrev pub above : Seen → ℕ
+above (Put place) = place + 1
+above (Got place) = place + 1
+above Missed = 0
+above Sourceless = 0
+
+-- this put of this version stands at this place
+abbrev pub StandsAt : List VersionedPut → ℕ → OpName → ℕ → Type 0
+StandsAt table place put version = slice_get table place ≡ Some (record { version = version; name = put })
+
+-- what an operation did: a put at its own place, a get at its source's
+abbrev pub IsSeen : Sessions → List VersionedPut → OpName → Seen → Type 0
+IsSeen h table name (Put place) = (version : ℕ) × PutsVersion h name version × StandsAt table place name version
+IsSeen h table name (Got place) = (put : OpName) × (version : ℕ) × StandsAt table place put version × GetsVersion h name version × SourceStep h put name
+IsSeen h table name Missed = (key : List ℕ) × IsMissed h name key
+IsSeen h table name Sourceless = HasNoSource h name
+
+-- the least number that is not below the places just above what the first operations of a session saw
+pub record IsMark (session : List Note) (count mark : ℕ) : Type 0 where
+  pub bounds : (i : ℕ) (note : Note) → i < count → slice_get session i ≡ Some note → above note.seen ≤ mark
+  pub reached : (mark ≡ 0) ⊎ ((i : ℕ) × (note : Note) × (i < count) × (slice_get session i ≡ Some note) × (above note.seen ≡ mark))
+
+-- the notes on a session, each with the mark up to it
+pub record IsSessionNoted (h : Sessions) (table : List VersionedPut) (client : ℕ) (session : List Note) : Type 0 where
+  pub whole : length session ≡ length (slice_index_or h client [])
+  pub seen : (i : ℕ) (note : Note) → slice_get session i ≡ Some note → IsSeen h table (record { client = client; index = i }) note.seen
+  pub marks : (i : ℕ) (note : Note) → slice_get session i ≡ Some note → IsMark session (i + 1) note.mark
+
+-- the note on an operation
+abbrev pub note_at : List (List Note) → OpName → Option Note
+note_at notes name = slice_get (slice_index_or notes name.client []) name.index
+
+-- the notes on all sessions
+pub record IsNoted (h : Sessions) (table : List VersionedPut) (notes : List (List Note)) : Type 0 where
+  pub clients : length notes ≡ length h
+  pub sessions : (client : ℕ) → client < length h → IsSessionNoted h table client (slice_index_or notes client [])
+
+-- a get that was seen to have no source
+abbrev pub IsSourceless : List (List Note) → OpName → Type 0
+IsSourceless notes name = (mark : ℕ) × (note_at notes name ≡ Some (record { seen = Sourceless; mark = mark }))
+
+-- each note has its mark
+abbrev pub AreMarks : List Note → Type 0
+AreMarks session = (i : ℕ) (note : Note) → slice_get session i ≡ Some note → IsMark session (i + 1) note.mark
+
+-- an earlier operation of a put's session saw a place that is not below the put's
+pub record SeesNotBelow (notes : List (List Note)) (earlier name : OpName) : Type 0 where
+  pub place : ℕ
+  pub mark : ℕ
+  pub put : note_at notes name ≡ Some (record { seen = Put place; mark = mark })
+  pub note : Note
+  pub at : note_at notes earlier ≡ Some note
+  pub same_client : earlier.client ≡ name.client
+  pub before : earlier.index < name.index
+  pub not_below : place < above note.seen
+
+-- the first such operation
+pub record SeesNotAbove (notes : List (List Note)) (name earlier : OpName) : Type 0 where
+  pub not_below : SeesNotBelow notes earlier name
+  pub first : (e : OpName) → SeesNotBelow notes e name → earlier.index ≤ e.index

@@ -1,0 +1,127 @@
+-- Pasts as counts, learned by walking notes backward.
+use Rattle.std.specs.Prelude.{◌≡◌, ◌<◌, ◌≤◌, ◌+◌, ◌-◌, ◌*◌, ◌^◌, ◌⊎◌, ℕ, List, [], length, slice_index, slice_index_or, slice_get, Some, Contains, sum_by, vec_len, replicate}
+use Rattle.cops_types.specs.declared.op.OpName.{OpName}
+use Rattle.cops_audit.specs.declared.table.VersionedPut.{VersionedPut}
+use Rattle.cops_audit.specs.declared.notes.Note.{Note}
+use Rattle.cops_audit.specs.declared.notes.Seen.{Seen}
+use Rattle.cops_audit.specs.declared.notes.Seen.TheVariants.{Put, Got, Missed, Sourceless}
+use Rattle.cops_audit.specs.declared.sweep.Range.{Range}
+use Rattle.cops_audit.specs.declared.sweep.Sweep.{Sweep}
+use Rattle.cops_audit.specs.Notes.{AreMarks, StandsAt, note_at}
+
+-- the names that counts stand for: of each client, so many of its first operations
+abbrev pub Counted : List ℕ → OpName → Type 0
+Counted counts name = name.index < slice_index counts name.client
+
+-- notes that fit the table, where each put is above all that its session saw before
+pub record AreRising (table : List VersionedPut) (notes : List (List Note)) : Type 0 where
+  pub marks : (client : ℕ) → AreMarks (slice_index_or notes client [])
+  pub puts : (place : ℕ) (put : OpName) (version : ℕ) → StandsAt table place put version → (mark : ℕ) × (note_at notes put ≡ Some (record { seen = Put place; mark = mark })) × (mark ≤ place + 1)
+  pub seen_puts : (name : OpName) (place mark : ℕ) → note_at notes name ≡ Some (record { seen = Put place; mark = mark }) → (version : ℕ) × StandsAt table place name version
+  pub seen_gets : (name : OpName) (place mark : ℕ) → note_at notes name ≡ Some (record { seen = Got place; mark = mark }) → (put : OpName) × (version : ℕ) × StandsAt table place put version
+  pub small : (name : OpName) (note : Note) → note_at notes name ≡ Some note → name.index < 1000000
+  pub few : length table ≤ 16000000
+
+-- from an operation to a later one of its session, or from a put to a get that returned it
+abbrev pub NoteStep : List VersionedPut → List (List Note) → OpName → OpName → Type 0
+NoteStep table notes from to =
+    ((from.client ≡ to.client) × (from.index < to.index) × (note : Note) × (note_at notes to ≡ Some note))
+    ⊎ ((place : ℕ) × (version : ℕ) × (mark : ℕ) × StandsAt table place from version × (note_at notes to ≡ Some (record { seen = Got place; mark = mark })))
+
+-- one or more such steps
+pub data NotePast (table : List VersionedPut) (notes : List (List Note)) (from : OpName) : OpName → Type 0 where
+  step : {to : OpName} → NoteStep table notes from to → NotePast table notes from to
+  more : {by to : OpName} → NotePast table notes from by → NoteStep table notes by to → NotePast table notes from to
+
+-- an operation that stands in a range, or in one of the ranges
+abbrev pub InRange : Range → OpName → Type 0
+InRange range name = (name.client ≡ range.client) × (range.from ≤ name.index) × (name.index < range.to)
+
+abbrev pub InSome : List Range → OpName → Type 0
+InSome ranges name = (range : Range) × Contains ranges range × InRange range name
+
+-- what an operation saw was taken in: of a put its place, of a get its source
+pub record IsLearned (table : List VersionedPut) (firsts : List ℕ) (sweep : Sweep) (seen : Seen) : Type 0 where
+  pub put : (place first : ℕ) → seen ≡ Put place → slice_get firsts place ≡ Some first → place < slice_index sweep.newest first
+  pub got : (place : ℕ) (put : OpName) (version : ℕ) → seen ≡ Got place → StandsAt table place put version → Counted sweep.counts put
+
+-- all that is counted and has a mark above the floor was taken in, but for what is still to be looked at
+pub record IsSweeping (table : List VersionedPut) (notes : List (List Note)) (firsts : List ℕ) (floor : ℕ) (sweep : Sweep) (IsOpen : OpName → Type 0) : Type 0 where
+  pub clients : length sweep.counts ≡ length notes
+  pub places : length sweep.newest ≡ length table
+  pub newest : (first place : ℕ) → slice_index sweep.newest first ≡ place + 1 → (put : OpName) × (version : ℕ) × StandsAt table place put version × Counted sweep.counts put × (slice_get firsts place ≡ Some first)
+  pub open_counted : (name : OpName) → IsOpen name → Counted sweep.counts name
+  pub pending_counted : (name : OpName) → InSome sweep.pending.items name → Counted sweep.counts name
+  pub learned : (name : OpName) (note : Note) → Counted sweep.counts name → note_at notes name ≡ Some note → floor < note.mark
+      → IsLearned table firsts sweep note.seen ⊎ (InSome sweep.pending.items name ⊎ IsOpen name)
+
+-- more is counted: what is new is in the past of what was counted
+pub record Grows (table : List VersionedPut) (notes : List (List Note)) (old new : Sweep) : Type 0 where
+  pub kept : (name : OpName) → Counted old.counts name → Counted new.counts name
+  pub past : (name : OpName) → Counted new.counts name → Counted old.counts name ⊎ ((by : OpName) × Counted old.counts by × NotePast table notes name by)
+
+-- how much there is still to count, and to look at
+abbrev pub work_left : Sweep → ℕ
+work_left sweep = 2 * sum_by (λ count. 2 ^ 32 - count) sweep.counts + vec_len sweep.pending
+
+-- counts with the first operations of a client, so many
+pub record Raises (old new : Sweep) (client to : ℕ) : Type 0 where
+  pub counts : (name : OpName) → Counted new.counts name → Counted old.counts name ⊎ ((name.client ≡ client) × (name.index < to))
+  pub kept : (name : OpName) → Counted old.counts name → Counted new.counts name
+  pub raised : (name : OpName) → name.client ≡ client → name.index < to → Counted new.counts name
+  pub pending : (name : OpName) → Counted new.counts name → Counted old.counts name ⊎ InSome new.pending.items name
+  pub still : (name : OpName) → InSome old.pending.items name → InSome new.pending.items name
+  pub pending_counted : (name : OpName) → InSome new.pending.items name → InSome old.pending.items name ⊎ Counted new.counts name
+  pub width : length new.counts ≡ length old.counts
+  pub newest : new.newest ≡ old.newest
+  pub work : work_left new ≤ work_left old
+
+-- the first places of puts are places
+pub record ArePlaces (table : List VersionedPut) (firsts : List ℕ) : Type 0 where
+  pub whole : length firsts ≡ length table
+  pub inside : (place first : ℕ) → slice_get firsts place ≡ Some first → first < length table
+
+-- a put at a place is the newest one of its key, where none newer was known
+pub record TakesPut (firsts old new : List ℕ) (place : ℕ) : Type 0 where
+  pub width : length new ≡ length old
+  pub higher : (first : ℕ) → slice_index old first ≤ slice_index new first
+  pub known : (first : ℕ) → slice_get firsts place ≡ Some first → place < slice_index new first
+  pub only : (first other : ℕ) → slice_index new first ≡ other + 1 → (slice_index old first ≡ other + 1) ⊎ ((place ≡ other) × (slice_get firsts place ≡ Some first))
+
+-- what an operation saw is taken in
+pub record Learns (table : List VersionedPut) (firsts : List ℕ) (old new : Sweep) (seen : Seen) : Type 0 where
+  pub counts : (name : OpName) → Counted new.counts name → Counted old.counts name
+      ⊎ ((place : ℕ) × (put : OpName) × (version : ℕ) × (seen ≡ Got place) × StandsAt table place put version × (name.client ≡ put.client) × (name.index ≤ put.index))
+  pub kept : (name : OpName) → Counted old.counts name → Counted new.counts name
+  pub pending : (name : OpName) → Counted new.counts name → Counted old.counts name ⊎ InSome new.pending.items name
+  pub still : (name : OpName) → InSome old.pending.items name → InSome new.pending.items name
+  pub pending_counted : (name : OpName) → InSome new.pending.items name → InSome old.pending.items name ⊎ Counted new.counts name
+  pub clients : length new.counts ≡ length old.counts
+  pub places : length new.newest ≡ length old.newest
+  pub higher : (first : ℕ) → slice_index old.newest first ≤ slice_index new.newest first
+  pub newest : (first place : ℕ) → slice_index new.newest first ≡ place + 1 → (slice_index old.newest first ≡ place + 1) ⊎ ((seen ≡ Put place) × (slice_get firsts place ≡ Some first))
+  pub learned : IsLearned table firsts new seen
+  pub work : work_left new ≤ work_left old
+
+-- an earlier operation of the session, or in the past of what is counted: all that is counted is in the past of an operation
+abbrev pub IsAbout : List VersionedPut → List (List Note) → Sweep → OpName → Type 0
+IsAbout table notes sweep op = (name : OpName) → Counted sweep.counts name → NotePast table notes name op
+
+-- a put at this place is in the past, and no put at a later place with this first place is
+pub record IsNewestIn (table : List VersionedPut) (notes : List (List Note)) (firsts : List ℕ) (op : OpName) (first place : ℕ) : Type 0 where
+  pub put : OpName
+  pub version : ℕ
+  pub stands : StandsAt table place put version
+  pub has_first : slice_get firsts place ≡ Some first
+  pub past : NotePast table notes put op
+  pub newest : (other : ℕ) (q : OpName) (w : ℕ) → StandsAt table other q w → slice_get firsts other ≡ Some first → place < other → ¬ NotePast table notes q op
+
+-- no put from a place on with this first place is in the past
+abbrev pub NoneFrom : List VersionedPut → List (List Note) → List ℕ → OpName → ℕ → ℕ → Type 0
+NoneFrom table notes firsts op first from = (place : ℕ) (put : OpName) (version : ℕ) → StandsAt table place put version → slice_get firsts place ≡ Some first → from ≤ place → ¬ NotePast table notes put op
+
+-- nothing is known, of so many clients and puts
+pub record IsFresh (clients puts : ℕ) (sweep : Sweep) : Type 0 where
+  pub counts : sweep.counts ≡ replicate clients 0
+  pub newest : sweep.newest ≡ replicate puts 0
+  pub pending : sweep.pending.items ≡ []

@@ -1,0 +1,7 @@
+-- Numbers that count only in the turn that they were written in.
+use Rattle.std.specs.Prelude.{ℕ, ◌==◌, if◌then◌else◌}
+use Rattle.cops_audit.specs.declared.tally.Entry.{Entry}
+
+-- the number, or 0 where it was written in another turn
+abbrev pub number_in : ℕ → Entry → ℕ
+number_in turn entry = if entry.turn == turn then entry.number else 0

@@ -1,0 +1,35 @@
+-- Gets that may be stale.
+use Rattle.std.specs.Prelude.{◌≡◌, ◌<◌, ◌≤◌, ◌⊎◌, ℕ, List, Contains, AllPairs}
+use Rattle.cops_types.specs.declared.op.OpName.{OpName}
+use Rattle.cops_types.specs.Histories.{Sessions, IsGot, IsMissed, IsNamed, PutsKey, SourceStep}
+use Rattle.cops_types.specs.Faults.{IsBefore, IsNewer}
+use Rattle.cops_audit.specs.declared.table.VersionedPut.{VersionedPut}
+use Rattle.cops_audit.specs.declared.window.Suspect.{Suspect}
+use Rattle.cops_audit.specs.Keys.{IsFirstOn, OnKey}
+use Rattle.cops_audit.specs.Notes.{StandsAt}
+
+-- a put of this version on the key, which is newer than what was returned if it is in the past
+abbrev pub WouldBeNewer : Sessions → OpName → OpName → ℕ → Type 0
+WouldBeNewer h name newer version = (key : List ℕ) × PutsKey h newer key version
+    × (((value : List ℕ) × (old : ℕ) × IsGot h name key value old × (old < version)) ⊎ IsMissed h name key)
+
+-- the put at this place is on the key whose first place this is
+abbrev pub HasFirst : Sessions → List VersionedPut → ℕ → ℕ → Type 0
+HasFirst h table place first = (key : List ℕ) → OnKey h table place key → IsFirstOn h table key first
+
+-- the puts that would be newer are those on its key from a place on, and its own source stands before them
+pub record IsSuspect (h : Sessions) (table : List VersionedPut) (suspect : Suspect) : Type 0 where
+  pub named : IsNamed h suspect.op
+  pub later : (place : ℕ) (put : OpName) (version : ℕ) → StandsAt table place put version → WouldBeNewer h suspect.op put version → (suspect.from ≤ place) × HasFirst h table place suspect.first
+  pub newer : (place : ℕ) (put : OpName) (version : ℕ) → StandsAt table place put version → suspect.from ≤ place → HasFirst h table place suspect.first → WouldBeNewer h suspect.op put version
+  pub source : (place : ℕ) (put : OpName) (version : ℕ) → StandsAt table place put version → SourceStep h put suspect.op → place < suspect.from
+
+-- no put that would be newer stands below the mark
+abbrev pub NoneWithin : Sessions → List VersionedPut → OpName → ℕ → Type 0
+NoneWithin h table name mark = (place : ℕ) (put : OpName) (version : ℕ) → StandsAt table place put version → WouldBeNewer h name put version → mark ≤ place
+
+-- the suspects among these names, in order of names: no other of them has a newer put in its past
+pub record AreSuspects (h : Sessions) (table : List VersionedPut) (names : List OpName) (suspects : List Suspect) : Type 0 where
+  pub each : (s : Suspect) → Contains suspects s → IsSuspect h table s × Contains names s.op
+  pub others : (name newer : OpName) (version : ℕ) → Contains names name → IsNewer h name newer version → (s : Suspect) × (s.op ≡ name) × Contains suspects s
+  pub in_order : AllPairs (λ s t. IsBefore s.op t.op) suspects

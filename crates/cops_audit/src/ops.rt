@@ -1,0 +1,40 @@
+ghost use Rattle.std.specs.Prelude.{◌≡◌, ◌↔◌, ℕ, IsTrue, IfSome, IfNone};
+ghost use Rattle.cops_types.specs.Histories.{PutsVersion, SourceStep};
+
+use cops_types::{History, Op, OpName, Version};
+
+/// The version that a put bears.
+pub fn put_version(history: &History, name: OpName) -> Option<Version>
+    ensures put { IfSome result (λ v. PutsVersion history.now.sessions name v) }
+    ensures none { IfNone result ((v : ℕ) → ¬ PutsVersion history.now.sessions name v) }
+{
+    match history.op(name) {
+        Some(Op::Put { version, .. }) => Some(*version),
+        _ => None,
+    }
+}
+
+/// Whether the one is a put that the other returned.
+pub fn is_source(history: &History, put: OpName, got: OpName) -> bool
+    ensures { IsTrue result ↔ SourceStep history.now.sessions put got }
+{
+    match (history.op(put), history.op(got)) {
+        (
+            Some(
+                Op::Put {
+                    key,
+                    value,
+                    version,
+                },
+            ),
+            Some(
+                Op::Got {
+                    key: got_key,
+                    value: got_value,
+                    version: got_version,
+                },
+            ),
+        ) => *version == *got_version && key.is(got_key) && value.is(got_value),
+        _ => false,
+    }
+}

@@ -1,0 +1,221 @@
+ghost use Rattle.std.specs.Prelude.{◌≡◌, ◌<◌, ◌≤◌, ◌+◌, ℕ, IfOk, IfSome, IfNone, OnOk, IsTrue, Some, length, slice_index, vec_len, replicate, []};
+ghost use Rattle.cops_types.specs.declared.op.OpName.{OpName};
+ghost use Rattle.cops_audit.specs.Notes.{above, StandsAt, note_at};
+ghost use Rattle.cops_audit.specs.declared.notes.Note.{Note};
+ghost use Rattle.cops_audit.specs.Sweeps.{ArePlaces, AreRising, Grows, InRange, IsAbout, IsFresh, IsNewestIn, IsSweeping, NoneFrom, Learns, Raises, TakesPut, work_left};
+
+use crate::notes::{Notes, Seen};
+use crate::table::VersionedPut;
+use crate::tally::Tally;
+use crate::window::Suspect;
+use cops_types::OpName;
+use std::alloc::{AllocError, Global};
+
+/// Operations of one client, from one place up to another.
+#[derive(Clone, Copy, Debug, PartialEq, Eq)]
+pub struct Range {
+    pub client: u16,
+    pub from: u32,
+    pub to: u32,
+}
+
+/// What is known of a past: of each client how many of its first operations are in it; of each key, by the place of
+/// its first put, just above the place of its newest put in it; and the operations that are still to be looked at.
+#[derive(Drop)]
+pub struct Sweep {
+    pub counts: Tally,
+    pub newest: Tally,
+    pub pending: Vec<Range>,
+}
+
+impl Sweep {
+    /// Nothing known, of so many clients and puts.
+    pub fn new(alloc: Global, clients: usize, puts: usize) -> Result<Self, AllocError>
+        ensures { IfOk result (IsFresh clients puts) }
+    {
+        let counts = Tally::new(alloc, clients)?;
+        let newest = Tally::new(alloc, puts)?;
+        Ok(Sweep {
+            counts,
+            newest,
+            pending: Vec::new(alloc),
+        })
+    }
+
+    /// Forgets all that is known.
+    pub fn restart(&mut self)
+        ensures { self.old.pending.items ≡ [] → IsFresh (length self.old.counts) (length self.old.newest) self.new }
+    {
+        self.counts.restart();
+        self.newest.restart();
+    }
+
+    /// Counts the first operations of a client, so many.
+    fn raise(&mut self, client: u16, to: u32) -> Result<(), AllocError>
+        requires { client < length self.old.counts }
+        ensures { OnOk result (Raises self.old self.new client to) }
+    {
+        let from = self.counts.get(client as usize);
+        if from < to {
+            self.pending.push(Range { client, from, to })?;
+            self.counts.set(client as usize, to);
+        }
+        Ok(())
+    }
+
+    /// Takes in a put at a place.
+    fn take_put(&mut self, firsts: &[u32], place: u32)
+        requires inside { place < length firsts.now }
+        requires small { place < 16000000 }
+        requires first { slice_index firsts.now place < length self.old.newest }
+        ensures counts { self.new.counts ≡ self.old.counts }
+        ensures pending { self.new.pending ≡ self.old.pending }
+        ensures newest { TakesPut firsts.now self.old.newest self.new.newest place }
+    {
+        let first = firsts[place as usize] as usize;
+        if self.newest.get(first) <= place {
+            self.newest.set(first, place + 1);
+        }
+    }
+
+    /// Takes in what an operation saw.
+    fn learn(
+        &mut self,
+        table: &[VersionedPut],
+        firsts: &[u32],
+        seen: Seen,
+    ) -> Result<(), AllocError>
+        requires few { length table.now ≤ 16000000 }
+        requires firsts { ArePlaces table.now firsts.now }
+        requires places { length self.old.newest ≡ length table.now }
+        requires puts { (place : ℕ) (put : OpName) (version : ℕ) → StandsAt table.now place put version → (put.client < length self.old.counts) × (put.index < 1000000) }
+        requires seen { above seen ≤ length table.now }
+        ensures { OnOk result (Learns table.now firsts.now self.old self.new seen) }
+    {
+        match seen {
+            Seen::Put(place) => {
+                self.take_put(firsts, place);
+                Ok(())
+            }
+            Seen::Got(place) => {
+                let put = &table[place as usize];
+                self.raise(put.name.client, put.name.index + 1)?;
+                Ok(())
+            }
+            _ => Ok(()),
+        }
+    }
+
+    /// Looks at an operation, the last one of those that are left of a range from a place on: whether its mark is above
+    /// the floor, so that the one before it is to be looked at too.
+    fn look_at(
+        &mut self,
+        table: &[VersionedPut],
+        notes: &Notes,
+        firsts: &[u32],
+        floor: u32,
+        from: u32,
+        name: OpName,
+    ) -> Result<bool, AllocError>
+        requires rising { AreRising table.now notes.now }
+        requires firsts { ArePlaces table.now firsts.now }
+        requires low { from ≤ name.index }
+        requires sweeping { IsSweeping table.now notes.now firsts.now floor self.old (InRange (record { client = name.client; from = from; to = name.index + 1 })) }
+        ensures on { IfOk result (λ on. IsTrue on → IsSweeping table.now notes.now firsts.now floor self.new (InRange (record { client = name.client; from = from; to = name.index }))) }
+        ensures done { IfOk result (λ on. ¬ IsTrue on → IsSweeping table.now notes.now firsts.now floor self.new (λ _. ⊥)) }
+        ensures grows { OnOk result (Grows table.now notes.now self.old self.new) }
+        ensures work { OnOk result (work_left self.new ≤ work_left self.old) }
+    {
+        let Some(note) = notes.get(name) else {
+            return Ok(true);
+        };
+        if note.mark <= floor {
+            return Ok(false);
+        }
+        self.learn(table, firsts, note.seen)?;
+        Ok(true)
+    }
+
+    /// Looks at the operations of a range, from the last one down, as far as their marks are above the floor.
+    fn look(
+        &mut self,
+        table: &[VersionedPut],
+        notes: &Notes,
+        firsts: &[u32],
+        floor: u32,
+        range: Range,
+    ) -> Result<(), AllocError>
+        requires rising { AreRising table.now notes.now }
+        requires firsts { ArePlaces table.now firsts.now }
+        requires sweeping { IsSweeping table.now notes.now firsts.now floor self.old (InRange range) }
+        ensures sweeping { OnOk result (IsSweeping table.now notes.now firsts.now floor self.new (λ _. ⊥)) }
+        ensures grows { OnOk result (Grows table.now notes.now self.old self.new) }
+        ensures work { OnOk result (work_left self.new ≤ work_left self.old) }
+    {
+        for index in (range.from..range.to).rev() {
+            let name = OpName {
+                client: range.client,
+                index,
+            };
+            let on = self.look_at(table, notes, firsts, floor, range.from, name)?;
+            if !on {
+                return Ok(());
+            }
+        }
+        Ok(())
+    }
+
+    /// Looks at all that is still to be looked at.
+    fn drain(
+        &mut self,
+        table: &[VersionedPut],
+        notes: &Notes,
+        firsts: &[u32],
+        floor: u32,
+    ) -> Result<(), AllocError>
+        requires rising { AreRising table.now notes.now }
+        requires firsts { ArePlaces table.now firsts.now }
+        requires sweeping { IsSweeping table.now notes.now firsts.now floor self.old (λ _. ⊥) }
+        ensures sweeping { OnOk result (IsSweeping table.now notes.now firsts.now floor self.new (λ _. ⊥)) }
+        ensures grows { OnOk result (Grows table.now notes.now self.old self.new) }
+        ensures empty { OnOk result (self.new.pending.items ≡ []) }
+    {
+        while let Some(range) = self.pending.pop() {
+            self.look(table, notes, firsts, floor, range)?;
+        }
+        Ok(())
+    }
+
+    /// The place of the newest put of a suspect's key in its past, if one stands where the suspect says or later.
+    pub fn newest_in_past(
+        &mut self,
+        table: &[VersionedPut],
+        notes: &Notes,
+        firsts: &[u32],
+        floor: u32,
+        suspect: Suspect,
+    ) -> Result<Option<u32>, AllocError>
+        requires rising { AreRising table.now notes.now }
+        requires firsts { ArePlaces table.now firsts.now }
+        requires sweeping { IsSweeping table.now notes.now firsts.now floor self.old (λ _. ⊥) }
+        requires empty { self.old.pending.items ≡ [] }
+        requires about { IsAbout table.now notes.now self.old suspect.op }
+        requires noted { (note : Note) × (note_at notes.now suspect.op ≡ Some note) }
+        requires low { floor ≤ suspect.from }
+        requires source { (place mark : ℕ) → note_at notes.now suspect.op ≡ Some (record { seen = Seen.Got place; mark = mark }) → place < suspect.from }
+        ensures sweeping { OnOk result (IsSweeping table.now notes.now firsts.now floor self.new (λ _. ⊥)) }
+        ensures empty { OnOk result (self.new.pending.items ≡ []) }
+        ensures about { OnOk result (IsAbout table.now notes.now self.new suspect.op) }
+        ensures found { IfOk result (λ found. IfSome found (λ place. (suspect.from ≤ place) × IsNewestIn table.now notes.now firsts.now suspect.op suspect.first place)) }
+        ensures none { IfOk result (λ found. IfNone found (NoneFrom table.now notes.now firsts.now suspect.op suspect.first suspect.from)) }
+    {
+        self.raise(suspect.op.client, suspect.op.index)?;
+        self.drain(table, notes, firsts, floor)?;
+        let newest = self.newest.get(suspect.first as usize);
+        if newest > suspect.from {
+            Ok(Some(newest - 1))
+        } else {
+            Ok(None)
+        }
+    }
+}
