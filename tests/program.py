@@ -34,7 +34,7 @@ def check(name, got, wanted):
         passed += 1
     else:
         failed += 1
-        print(f"FAILED {name}\n  got    {got}\n  wanted {wanted}")
+        print(f"FAILED {name}\n  got    {str(got)[:500]}\n  wanted {str(wanted)[:500]}")
 
 
 def example(name):
@@ -176,6 +176,18 @@ def devices():
             check(f"{command} to a full device", cops(command, path, stdout=full), (4, None, b"failed: write\n"))
 
 
+def generated():
+    """The benchmark's traces are accepted, but for the one fault that they are asked for."""
+    command = [sys.executable, os.path.join(ROOT, "bench", "generate.py"), "900", "30", "20", "5"]
+    for violation, status, faults in ((None, 0, 0), ("doubled", 1, 2), ("no_source", 1, 1), ("not_above", 1, 1), ("stale", 1, 1)):
+        made = subprocess.run(command + ([violation] if violation else []), stdout=subprocess.PIPE, check=True).stdout
+        got, out, _ = cops(stdin=made)
+        lines = out.decode().split("\n")
+        check(f"a generated trace, {violation}", (got, len(lines)), (status, 2 + faults))
+        if violation:
+            check(f"its faults, {violation}", all(line.startswith(violation.replace("_", " ")) for line in lines[1:-1]), True)
+
+
 def little_memory():
     """With too little memory the program says so, and writes nothing else; with enough it answers."""
     value = "v" * 4000
@@ -197,7 +209,7 @@ def little_memory():
     check("the most memory is enough", answers[-1], enough)
 
 
-for tests in (examples, long_chain, faults, shown, words, devices, little_memory):
+for tests in (examples, long_chain, faults, shown, words, devices, generated, little_memory):
     tests()
 print(f"{passed} passed, {failed} failed")
 sys.exit(1 if failed else 0)

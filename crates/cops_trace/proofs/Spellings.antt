@@ -1,15 +1,15 @@
 -- The records' spellings, one after another.
-use Rattle.std.proofs.Common.{◌≡◌, ℕ, zero, suc, ◌+◌, ◌^◌, ◌<◌, ◌≤◌, cond, eqb, List, [], ◌∷◌, ◌++◌, length, take, drop, get_or, Option, Some, None, refl, sym, ap, subst, ◌∙◌, append_assoc, arith, inl, inr, take-suc, get_or-set_same, get_or-set_other, eq-eqb, Bool, ◌≢◌}
+use Rattle.std.proofs.Common.{◌≡◌, ℕ, zero, suc, ◌+◌, ◌<◌, cond, eqb, List, [], ◌∷◌, ◌++◌, length, take, drop, get_or, Some, refl, sym, ap, ◌∙◌, arith, inl, inr, take-suc, get_or-set_same, get_or-set_other, eq-eqb, Bool, ◌≢◌}
 use Rattle.std.proofs.lemmas.Bool.{eqb-false}
 use Rattle.std.specs.Prelude.{slice_get}
 use Rattle.std.specs.List.{AllByRecursion}
-use Rattle.std.proofs.Math.ListN.{set, length-set}
+use Rattle.std.proofs.Math.ListN.{set}
 use Rattle.cops_types.specs.declared.op.Op.{Op}
 use Rattle.cops_types.specs.declared.op.Op.TheVariants.{Missed}
 use Rattle.cops_types.specs.Histories.{Sessions, op_at}
 use Rattle.cops_trace.specs.declared.record.Record.{Record}
-use Rattle.cops_trace.specs.Text.{IsOp, turn, records_text, record_text, spelled, op_message}
-use Rattle.cops_trace.specs.Kept.{op_in, records_from, trace_of, IsKept}
+use Rattle.cops_trace.specs.Text.{IsOp, records_text, spelled, op_message}
+use Rattle.cops_trace.specs.Kept.{op_in, records_from, IsKept}
 use Rattle.cops_trace.proofs.Lists.{same_or_other, times, times-cons, times-append, times-same}
 use Rattle.cops_trace.proofs.Growth.{records_text-push}
 use Rattle.cops_trace.proofs.Keeping.{kept_len, records_push, turn-records_from}

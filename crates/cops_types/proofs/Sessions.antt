@@ -1,6 +1,6 @@
 -- Sessions that are kept as vectors, and gain an operation.
 use Rattle.std.proofs.Common.{◌≡◌, ◌≢◌, ℕ, zero, suc, ◌+◌, ◌<◌, ◌≤◌, Bool, true, false, ltb, List, [], ◌∷◌, ◌++◌, map, length, get_or, replicate, Vec, Global, vec_len, vec_capacity, refl, sym, ap, ◌∙◌, subst, arith, get_or-set_same, get_or-set_other, inl, inr}
-use Rattle.std.specs.Prelude.{sum_by, ◌⊎◌, Result, Ok, Err, OnErr}
+use Rattle.std.specs.Prelude.{◌⊎◌, Result, Ok, Err, OnErr}
 use Rattle.std.proofs.Math.ListN.{set, length-set}
 use Rattle.std.proofs.Math.Seq.{map-set_same}
 use Rattle.std.proofs.lemmas.Bool.{cases_Bool, eqb-true, eqb-false, lt-ltb, ltb-true}

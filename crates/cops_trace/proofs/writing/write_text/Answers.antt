@@ -1,4 +1,4 @@
-use Rattle.std.proofs.Common.{◌≡◌, ◌++◌, List, ℕ, take, drop, sym, ap, ◌∙◌, rules, arith}
+use Rattle.std.proofs.Common.{sym, ◌∙◌, rules}
 use Rattle.std.proofs.Math.Seq.{take-add}
 use Rattle.std.specs.contracts.io.Error.{the_row}
 use Rattle.cops_trace.proofs.Writings.{appends_more, counted_some}

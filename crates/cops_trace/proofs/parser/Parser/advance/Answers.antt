@@ -1,4 +1,4 @@
-use Rattle.std.proofs.Common.{◌≡◌, ◌≢◌, Bool, true, false, ◌++◌, ℕ, [], length, drop, sym, ap, ◌∙◌, subst, inr, arith, Ok}
+use Rattle.std.proofs.Common.{◌≡◌, ◌≢◌, Bool, true, false, ℕ, [], length, drop, sym, ap, ◌∙◌, subst, inr, arith, Ok}
 use Rattle.std.proofs.lemmas.List.{length-drop, nil_from_length}
 use Rattle.std.proofs.lemmas.Result.{err_from_is_err_and}
 use Rattle.cops_trace.specs.declared.fault.TraceFault.TheVariants.{BytesAfterEnd}

@@ -1,4 +1,4 @@
-use Rattle.std.proofs.Common.{◌≡◌, ◌≤◌, replicate, map, length, []}
+use Rattle.std.proofs.Common.{◌≡◌, replicate, map, length, []}
 use Rattle.cops_types.proofs.history.History.new.Given as goal
 
 abbrev pub invariant-loop : goal.invariant-loop

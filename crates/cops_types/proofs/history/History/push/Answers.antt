@@ -1,4 +1,4 @@
-use Rattle.std.proofs.Common.{◌≡◌, ◌+◌, ◌<◌, length, [], get_or, List, ℕ, sym, ap, ◌∙◌, arith, subst, map}
+use Rattle.std.proofs.Common.{◌≡◌, ◌+◌, ◌<◌, length, sym, arith, subst, map}
 use Rattle.std.proofs.lemmas.List.{length-map}
 use Rattle.cops_types.specs.Histories.{Sessions}
 use Rattle.cops_types.specs.Recorded.{IsWithinLimits, count_of}

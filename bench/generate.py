@@ -1,0 +1,120 @@
+#!/usr/bin/env python3
+"""Writes a large trace of a store with four data centres, each of which sees the puts of the others a while later.
+
+usage: generate.py OPERATIONS CLIENTS KEYS VALUE_BYTES [VIOLATION] > TRACE
+
+Every put takes the next place of one log, and its version's clock is that place. A data centre sees its own puts at once,
+and the others' up to some place of the log. A get returns the newest put on its key that the client's data centre sees, so
+the trace is causally convergent. VIOLATION is one of doubled, no_source, not_above and stale: one fault of that class stands
+near the end.
+"""
+import random
+import struct
+import sys
+
+DATA_CENTRES = 4
+LAG = 64
+
+
+def frame(kind, fields):
+    return struct.pack(">IB", len(fields) + 1, kind) + fields
+
+
+def version(clock, node):
+    return clock * 65536 + node
+
+
+class Store:
+    """The log of puts, and what each data centre has seen of it."""
+
+    def __init__(self, keys):
+        self.log = []
+        self.seen = [0] * DATA_CENTRES
+        self.view = [{} for _ in range(DATA_CENTRES)]
+        self.keys = keys
+
+    def put(self, centre, client, key):
+        raw = version(len(self.log) + 1, centre * 64 + client % 64)
+        self.log.append((key, raw))
+        self.view[centre][key] = raw
+        return raw
+
+    def catch_up(self, centre, place):
+        view = self.view[centre]
+        for key, raw in self.log[self.seen[centre] : place]:
+            if view.get(key, 0) < raw:
+                view[key] = raw
+        self.seen[centre] = max(self.seen[centre], place)
+
+
+def value_of(raw, size):
+    """Each put's value is its own, as far as the size lets it be."""
+    return (raw.to_bytes(8, "big") * (size // 8 + 1))[:size]
+
+
+class Writer:
+    def __init__(self, out, clients, size):
+        self.out, self.size, self.records = out, size, 0
+        self.turn = [0] * clients
+        out.write(frame(17, struct.pack(">HH", 1, clients)))
+
+    def record(self, kind, client, key, raw):
+        name = b"k%d" % key
+        fields = struct.pack(">HIB", client, self.turn[client], len(name)) + name
+        if raw is not None:
+            fields += struct.pack(">H", self.size) + value_of(raw, self.size) + struct.pack(">Q", raw)
+        self.out.write(frame(kind, fields))
+        self.turn[client] += 1
+        self.records += 1
+
+    def put(self, client, key, raw):
+        self.record(18, client, key, raw)
+
+    def get(self, client, key, raw):
+        self.record(20 if raw is None else 19, client, key, raw)
+
+    def end(self):
+        self.out.write(frame(21, struct.pack(">I", self.records)))
+
+
+def violate(kind, store, writer):
+    """One fault by client 0, of data centre 0, on keys that nobody else uses."""
+    key = store.keys
+    old, new = store.put(0, 0, key), store.put(0, 0, key)
+    if kind == "doubled":
+        writer.put(0, key, old)
+        writer.put(0, key, old)
+    elif kind == "no_source":
+        writer.get(0, key, old)
+    elif kind == "not_above":
+        writer.put(0, key, new)
+        writer.put(0, key, old)
+    else:
+        writer.put(0, key, old)
+        writer.put(0, key, new)
+        writer.get(0, key, old)
+
+
+def generate(out, operations, clients, keys, size, violation=None, seed=1):
+    choose = random.Random(seed)
+    store, writer = Store(keys), Writer(out, clients, size)
+    at = operations - max(1, operations // 100) if violation else None
+    while writer.records < operations:
+        if at is not None and writer.records >= at:
+            violate(violation, store, writer)
+            at = None
+        client = choose.randrange(clients)
+        centre = client % DATA_CENTRES
+        key = choose.randrange(keys)
+        if choose.random() < 0.5:
+            writer.put(client, key, store.put(centre, client, key))
+        else:
+            store.catch_up(centre, len(store.log) - choose.randrange(LAG))
+            writer.get(client, key, store.view[centre].get(key))
+    writer.end()
+
+
+if __name__ == "__main__":
+    if len(sys.argv) not in (5, 6):
+        sys.exit(__doc__)
+    generate(sys.stdout.buffer, *(int(word) for word in sys.argv[1:5]), *sys.argv[5:6])

@@ -1,0 +1,62 @@
+-- A class of faults that is empty, or not; and the order of versions.
+use Rattle.std.proofs.Common.{◌≡◌, ◌≢◌, ◌<◌, ℕ, zero, suc, List, [], ◌∷◌, length, get_or, map, eqb, Bool, true, false, Some, sym, ◌∙◌, ap, subst, arith, slice_get, Contains}
+use Rattle.std.proofs.lemmas.Bool.{eqb-true, eq-eqb}
+use Rattle.std.proofs.lemmas.List.{length-map, get_or-map}
+use Rattle.cops_types.specs.declared.op.OpName.{OpName}
+use Rattle.cops_types.specs.Histories.{Sessions, Puts, PutsVersion}
+use Rattle.cops_types.specs.Convergence.{IsVersionOrder, StandsBefore}
+use Rattle.cops_types.specs.Faults.{Lists}
+use Rattle.cops_plain.specs.declared.table.VersionedPut.{VersionedPut}
+use Rattle.cops_plain.specs.Tables.{IsVersionTable}
+use Rattle.cops_audit.proofs.Acyclic.{one_version}
+use Rattle.cops_audit.proofs.Collect.{get_or-default}
+
+module _ {A : Type 0} (name_of : A → OpName) (IsFault : A → Type 0) (faults : List A) (empty : Bool) (n : ℕ) where
+  pub none_there : Lists name_of IsFault faults → empty ≡ true → empty ≡ eqb n 0 → n ≡ length faults → (x : A) → ¬ IsFault x
+  none_there lists is_empty test len x fault =
+      let e : n ≡ 0 = eqb-true n 0 (sym test ∙ is_empty) in
+      omega (arith, ((lists.members x).1 fault).1, e, len)
+
+  pub some_there : empty ≡ false → empty ≡ eqb n 0 → n ≡ length faults → faults ≢ []
+  some_there is_some test len same =
+      let e : n ≡ 0 = len ∙ ap length same in
+      let zero_test : eqb n 0 ≡ true = eq-eqb n 0 e in
+      absurd cc
+
+at_index : {A : Type 0} (xs : List A) (i : ℕ) (x d : A) → slice_get xs i ≡ Some x → (i < length xs) × (get_or xs i d ≡ x)
+at_index [] i x d e = absurd cc
+at_index (y ∷ ys) zero x d e = (omega arith, let s : y ≡ x = cc in s)
+at_index (y ∷ ys) (suc i) x d e = let r = at_index ys i x d e in (omega (arith, r.0), r.1)
+
+-- the names of a table of puts in order of versions
+pub order_of_table : (h : Sessions) (table : List VersionedPut) → IsVersionTable h table → IsVersionOrder h (map (λ p. p.name) table)
+order_of_table h table by_version = record { members = λ p. (forth p, back p); rising = rising }
+  where
+    forth : (p : OpName) → Contains (map (λ (q : VersionedPut). q.name) table) p → Puts h p
+    forth p at =
+        let d : VersionedPut = record { version = 0; name = p } in
+        let inside : at.0 < length table = omega (arith, at.1, length-map table (λ (q : VersionedPut). q.name)) in
+        let put = get_or table at.0 d in
+        let same : put.name ≡ p = sym (get_or-map (λ (q : VersionedPut). q.name) table at.0 d p inside) ∙ at.2 in
+        (put.version, subst (λ n. PutsVersion h n put.version) same ((by_version.members put).0 (at.0, inside, get_or-default table at.0 put d inside)))
+
+    back : (p : OpName) → Puts h p → Contains (map (λ (q : VersionedPut). q.name) table) p
+    back p put =
+        let d : VersionedPut = record { version = put.0; name = p } in
+        let at = (by_version.members d).1 put.1 in
+        (at.0, omega (arith, at.1, length-map table (λ (q : VersionedPut). q.name)), get_or-map (λ (q : VersionedPut). q.name) table at.0 d p at.1 ∙ ap (λ (q : VersionedPut). q.name) at.2)
+
+    rising : (p q : OpName) (v w : ℕ) → StandsBefore (map (λ (r : VersionedPut). r.name) table) p q → PutsVersion h p v → PutsVersion h q w → v < w
+    rising p q v w b first second =
+        let d : VersionedPut = record { version = 0; name = p } in
+        let at_p = at_index (map (λ (r : VersionedPut). r.name) table) b.0 p p b.3 in
+        let at_q = at_index (map (λ (r : VersionedPut). r.name) table) b.1 q p b.4 in
+        let in_p : b.0 < length table = omega (arith, at_p.0, length-map table (λ (r : VersionedPut). r.name)) in
+        let in_q : b.1 < length table = omega (arith, at_q.0, length-map table (λ (r : VersionedPut). r.name)) in
+        let put_p = get_or table b.0 d in
+        let put_q = get_or table b.1 d in
+        let name_p : put_p.name ≡ p = sym (get_or-map (λ (r : VersionedPut). r.name) table b.0 d p in_p) ∙ at_p.1 in
+        let name_q : put_q.name ≡ q = sym (get_or-map (λ (r : VersionedPut). r.name) table b.1 d p in_q) ∙ at_q.1 in
+        let version_p : put_p.version ≡ v = one_version h put_p.name p put_p.version v ((by_version.members put_p).0 (b.0, in_p, get_or-default table b.0 put_p d in_p)) first name_p in
+        let version_q : put_q.version ≡ w = one_version h put_q.name q put_q.version w ((by_version.members put_q).0 (b.1, in_q, get_or-default table b.1 put_q d in_q)) second name_q in
+        omega (arith, by_version.rising b.0 b.1 d b.2 in_q, version_p, version_q)
