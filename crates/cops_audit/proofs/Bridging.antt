@@ -1,19 +1,18 @@
 -- What notes say of a history, for sweeps: steps, pasts and newest puts.
-use Rattle.std.proofs.Common.{◌≡◌, ◌<◌, ◌≤◌, ◌+◌, ◌⊎◌, ◌↔◌, ℕ, zero, suc, List, [], ◌∷◌, length, get_or, Some, None, Option, refl, sym, ◌∙◌, ap, subst, inl, inr, arith, slice_index_or, slice_get}
+use Rattle.std.proofs.Common.{◌≡◌, ◌<◌, ◌≤◌, ℕ, zero, suc, List, [], ◌∷◌, length, get_or, Some, refl, ◌∙◌, ap, subst, inl, inr, arith, slice_index_or, slice_get}
 use Rattle.std.proofs.lemmas.Bool.{cases_lt}
-use Rattle.std.proofs.Math.Nat.{eq-or-lt_of_le}
 use Rattle.cops_types.specs.declared.op.OpName.{OpName}
-use Rattle.cops_types.specs.Histories.{Sessions, IsNamed, PutsKey, PutsVersion, SourceStep, SessionStep, Step, Past, step, more}
+use Rattle.cops_types.specs.Histories.{Sessions, IsNamed, SourceStep, Step, Past, step, more}
 use Rattle.cops_types.specs.Faults.{IsNewer, IsStale}
 use Rattle.cops_types.specs.Recorded.{IsWithinLimits}
 use Rattle.cops_types.specs.Verdicts.{AllAbove, AllHaveSources}
 use Rattle.cops_audit.specs.declared.table.VersionedPut.{VersionedPut}
 use Rattle.cops_audit.specs.declared.notes.Note.{Note}
 use Rattle.cops_audit.specs.declared.notes.Seen.{Seen}
-use Rattle.cops_audit.specs.declared.notes.Seen.TheVariants.{Put, Got, Missed, Sourceless}
+use Rattle.cops_audit.specs.declared.notes.Seen.TheVariants.{Put, Got}
 use Rattle.cops_audit.specs.declared.window.Suspect.{Suspect}
-use Rattle.cops_audit.specs.Keys.{AreFirsts, IsFirstOn, OnKey}
-use Rattle.cops_audit.specs.Notes.{AreMarks, IsNoted, IsSeen, StandsAt, note_at}
+use Rattle.cops_audit.specs.Keys.{AreFirsts, OnKey}
+use Rattle.cops_audit.specs.Notes.{AreMarks, IsNoted, StandsAt, note_at}
 use Rattle.cops_audit.specs.Sweeps as sweep
 use Rattle.cops_audit.specs.Sweeps.{ArePlaces, AreRising, IsNewestIn, NoneFrom, NotePast, NoteStep}
 use Rattle.cops_audit.specs.Tables.{IsVersionTable}
@@ -21,16 +20,15 @@ use Rattle.cops_audit.specs.Turns.{IsNotedSuspect}
 use Rattle.cops_audit.specs.Windows.{HasFirst, IsSuspect}
 use Rattle.cops_audit.proofs.Clearing.{stands_for}
 use Rattle.cops_audit.proofs.Learning.{one_put_at}
-use Rattle.cops_audit.proofs.Listing.{named_client, named_index, slice_get_there}
+use Rattle.cops_audit.proofs.Listing.{slice_get_there}
 use Rattle.cops_audit.proofs.Marks.{slice_get_inside}
 use Rattle.cops_audit.proofs.Noting.{note_there, session_of}
 use Rattle.cops_audit.proofs.PastMarks.{put_mark}
-use Rattle.cops_audit.proofs.PastOrder.{past_to}
-use Rattle.cops_audit.proofs.Places.{inside_table, place_rises, put_there, same_place, version_rises}
+use Rattle.cops_audit.proofs.Places.{inside_table, place_rises, put_there, same_place}
 use Rattle.cops_audit.proofs.Reading.{says, seen_got, seen_put}
 use Rattle.cops_audit.proofs.Unique.{stands}
 
-past_end : {A : Type 0} (xs : List A) (i : ℕ) (d : A) → length xs ≤ i → get_or xs i d ≡ d
+pub past_end : {A : Type 0} (xs : List A) (i : ℕ) (d : A) → length xs ≤ i → get_or xs i d ≡ d
 past_end [] i d le = refl
 past_end (x ∷ xs) zero d le = absurd (omega (arith, le))
 past_end (x ∷ xs) (suc i) d le = past_end xs i d (omega (arith, le))

@@ -1,10 +1,10 @@
 -- The classes of faults, as notes and suspects have them.
-use Rattle.std.proofs.Common.{◌≡◌, ◌≢◌, ◌<◌, ◌≤◌, ◌+◌, ◌↔◌, ℕ, zero, suc, List, [], ◌∷◌, length, get_or, map, refl, sym, ◌∙◌, ap, subst, inl, inr, arith, Contains, AllPairs}
+use Rattle.std.proofs.Common.{◌≡◌, ◌≢◌, ◌<◌, ◌≤◌, ◌+◌, ℕ, List, [], ◌∷◌, length, get_or, map, refl, sym, ◌∙◌, ap, subst, inl, inr, arith, Contains}
 use Rattle.std.proofs.lemmas.List.{length-map, get_or-map}
 use Rattle.std.proofs.lemmas.List.Elements.{Contains-get_or}
 use Rattle.cops_types.specs.declared.op.OpName.{OpName}
 use Rattle.cops_types.specs.Histories.{Sessions, IsNamed}
-use Rattle.cops_types.specs.Faults.{HasNoSource, IsBefore, IsDoubled, IsNotAbove, IsStale, Lists}
+use Rattle.cops_types.specs.Faults.{HasNoSource, IsDoubled, IsNotAbove, IsStale, Lists}
 use Rattle.cops_types.specs.Verdicts.{AllHaveSources, NoneDoubled}
 use Rattle.cops_audit.specs.declared.table.VersionedPut.{VersionedPut}
 use Rattle.cops_audit.specs.declared.notes.Note.{Note}
@@ -14,14 +14,11 @@ use Rattle.cops_audit.specs.declared.window.Suspect.{Suspect}
 use Rattle.cops_audit.specs.Names.{ListsAmong}
 use Rattle.cops_audit.specs.Notes.{IsNoted, IsSourceless, SeesNotAbove}
 use Rattle.cops_audit.specs.Tables.{IsPutTable, IsVersionTable}
-use Rattle.cops_audit.specs.Windows.{AreSuspects, IsSuspect}
-use Rattle.cops_audit.proofs.Acyclic.{same_name}
+use Rattle.cops_audit.specs.Windows.{AreSuspects}
 use Rattle.cops_audit.proofs.Collect.{among_all, among_none, among_same, get_or-default}
-use Rattle.cops_audit.proofs.Emptiness.{none_there}
 use Rattle.cops_audit.proofs.PastOrder.{past_to}
 use Rattle.cops_audit.proofs.Places.{doubled_by_neighbour, neighbour_of_doubled, place_of_put, put_at}
 use Rattle.cops_audit.proofs.Reading.{above_same, sourceless_same}
-use Rattle.cops_audit.proofs.Clearing.{stands_for}
 
 -- an operation of a suspect
 op_listed : (suspects : List Suspect) (s : Suspect) → Contains suspects s → Contains (map (λ (x : Suspect). x.op) suspects) s.op

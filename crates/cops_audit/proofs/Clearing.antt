@@ -9,7 +9,7 @@ use Rattle.cops_audit.specs.declared.table.VersionedPut.{VersionedPut}
 use Rattle.cops_audit.specs.declared.notes.Note.{Note}
 use Rattle.cops_audit.specs.declared.notes.Seen.{Seen}
 use Rattle.cops_audit.specs.declared.notes.Seen.TheVariants.{Put, Got, Missed, Sourceless}
-use Rattle.cops_audit.specs.Tables.{GetsVersion, IsPutTable, IsVersionTable}
+use Rattle.cops_audit.specs.Tables.{IsPutTable, IsVersionTable}
 use Rattle.cops_audit.specs.Notes.{above, IsNoted, IsSeen, StandsAt, note_at}
 use Rattle.cops_audit.specs.Windows.{NoneWithin}
 use Rattle.cops_audit.proofs.Noting.{note_there}

@@ -1,19 +1,16 @@
 -- A sweep that has nothing left to look at knows the past above its floor.
-use Rattle.std.proofs.Common.{◌≡◌, ◌<◌, ◌≤◌, ◌+◌, ◌-◌, ◌⊎◌, ℕ, zero, suc, List, [], ◌∷◌, length, get_or, Some, None, refl, sym, ◌∙◌, ap, subst, inl, inr, arith, slice_get, slice_index_or, Contains}
-use Rattle.std.proofs.lemmas.Bool.{cases_lt}
+use Rattle.std.proofs.Common.{◌≡◌, ◌<◌, ◌≤◌, ◌+◌, ℕ, List, [], ◌∷◌, length, get_or, Some, refl, sym, ◌∙◌, ap, subst, inl, inr, arith, slice_get, slice_index_or}
 use Rattle.cops_types.specs.declared.op.OpName.{OpName}
 use Rattle.cops_audit.specs.declared.table.VersionedPut.{VersionedPut}
 use Rattle.cops_audit.specs.declared.notes.Note.{Note}
 use Rattle.cops_audit.specs.declared.notes.Seen.{Seen}
-use Rattle.cops_audit.specs.declared.notes.Seen.TheVariants.{Put, Got, Missed, Sourceless}
+use Rattle.cops_audit.specs.declared.notes.Seen.TheVariants.{Put, Got}
 use Rattle.cops_audit.specs.declared.sweep.Range.{Range}
 use Rattle.cops_audit.specs.declared.sweep.Sweep.{Sweep}
 use Rattle.cops_audit.specs.Notes.{above, StandsAt, note_at}
-use Rattle.cops_audit.specs.Sweeps.{ArePlaces, AreRising, Counted, Grows, InSome, IsAbout, IsNewestIn, IsSweeping, NoneFrom, NotePast, NoteStep, Raises, step, more}
-use Rattle.cops_audit.proofs.Marks.{mark_grows, slice_get_inside}
+use Rattle.cops_audit.specs.Sweeps.{AreRising, Counted, Grows, InSome, IsAbout, IsNewestIn, IsSweeping, NoneFrom, NotePast, NoteStep, Raises, step, more}
+use Rattle.cops_audit.proofs.Marks.{mark_grows}
 use Rattle.cops_audit.proofs.Sweeping.{past_joined}
-use Rattle.cops_audit.proofs.Learning.{one_put_at}
-use Rattle.cops_audit.proofs.Listing.{slice_get_there}
 
 pub none_in_nothing : (ranges : List Range) (n : OpName) → ranges ≡ [] → ¬ InSome ranges n
 none_in_nothing [] n e w = omega (arith, w.1.1)

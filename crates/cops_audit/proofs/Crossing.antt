@@ -1,11 +1,10 @@
 -- The first operation of a session that sees a place above a put's.
-use Rattle.std.proofs.Common.{◌≡◌, ◌<◌, ◌≤◌, ◌+◌, ◌-◌, ◌⊎◌, ◌↔◌, ℕ, List, [], length, get_or, Some, refl, sym, ◌∙◌, ap, subst, inl, inr, arith, slice_get, slice_index_or}
-use Rattle.std.proofs.Math.Nat.{eq-or-lt_of_le}
+use Rattle.std.proofs.Common.{◌≡◌, ◌<◌, ◌≤◌, ◌-◌, ℕ, List, [], length, get_or, Some, refl, sym, ◌∙◌, ap, arith, slice_get, slice_index_or}
 use Rattle.cops_types.specs.declared.op.OpName.{OpName}
 use Rattle.cops_audit.specs.declared.notes.Note.{Note}
 use Rattle.cops_audit.specs.declared.notes.Seen.{Seen}
 use Rattle.cops_audit.specs.declared.notes.Seen.TheVariants.{Put}
-use Rattle.cops_audit.specs.Notes.{above, AreMarks, SeesNotAbove, SeesNotBelow, note_at}
+use Rattle.cops_audit.specs.Notes.{above, AreMarks, SeesNotAbove, note_at}
 use Rattle.cops_audit.proofs.Listing.{slice_get_there}
 use Rattle.cops_audit.proofs.Marks.{mark_crosses, slice_get_inside}
 use Rattle.cops_audit.proofs.Unique.{stands}

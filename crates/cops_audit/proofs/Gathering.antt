@@ -1,5 +1,5 @@
 -- A loop over names that gathers the suspects.
-use Rattle.std.proofs.Common.{◌≡◌, ◌<◌, ◌≤◌, ◌+◌, ℕ, List, [], ◌∷◌, ◌++◌, length, get_or, take, take_all, refl, sym, ◌∙◌, ap, subst, inl, inr, arith, Contains, AllPairs}
+use Rattle.std.proofs.Common.{◌≡◌, ◌<◌, ◌≤◌, ◌+◌, ℕ, List, [], ◌∷◌, ◌++◌, length, get_or, take, take_all, sym, ◌∙◌, ap, subst, inl, inr, Contains, AllPairs}
 use Rattle.std.proofs.lemmas.List.Quantifiers.{all_pairs_push}
 use Rattle.std.proofs.lemmas.List.Elements.{Contains-append_left, Contains-push, Contains-push_cases, Contains-get_or}
 use Rattle.std.proofs.lemmas.List.{take_more}
@@ -12,13 +12,6 @@ use Rattle.cops_audit.specs.Windows.{AreSuspects, IsSuspect}
 use Rattle.cops_audit.proofs.Collect.{earlier_names}
 
 module _ (h : Sessions) (table : List VersionedPut) where
-  pub no_suspects : AreSuspects h table [] []
-  no_suspects = record {
-    each = λ s at. absurd (omega (arith, at.1));
-    others = λ name newer version at f. absurd (omega (arith, at.1));
-    in_order = λ i j d less inside. absurd (omega (arith, inside));
-  }
-
   skipped : (names : List OpName) (n : OpName) (suspects : List Suspect) → AreSuspects h table names suspects → ((newer : OpName) (version : ℕ) → ¬ IsNewer h n newer version) → AreSuspects h table (names ++ n ∷ []) suspects
   skipped names n suspects are none = record {
     each = λ s at. let o = are.each s at in (o.0, Contains-append_left names (n ∷ []) s.op o.1);

@@ -1,15 +1,13 @@
 -- Gets and their sources in a table of puts in order of versions.
-use Rattle.std.proofs.Common.{◌≡◌, ◌<◌, ◌≤◌, ◌+◌, ◌⊎◌, ◌↔◌, ℕ, List, get_or, length, Some, slice_get, refl, sym, ◌∙◌, ap, subst, inl, inr, arith}
-use Rattle.cops_types.specs.declared.op.Op.TheVariants.{Put, Got, Missed}
+use Rattle.std.proofs.Common.{◌≡◌, ◌<◌, ℕ, List, get_or, length, Some, sym, ◌∙◌, ap, subst}
+use Rattle.cops_types.specs.declared.op.Op.TheVariants.{Got}
 use Rattle.cops_types.specs.declared.op.OpName.{OpName}
-use Rattle.cops_types.specs.Histories.{Sessions, op_at, IsMissed, PutsVersion, SourceStep}
+use Rattle.cops_types.specs.Histories.{Sessions, PutsVersion, SourceStep}
 use Rattle.cops_types.specs.Faults.{HasNoSource}
 use Rattle.cops_audit.specs.declared.table.VersionedPut.{VersionedPut}
-use Rattle.cops_audit.specs.Tables.{GetsVersion, IsPutTable, IsVersionTable, Rises}
+use Rattle.cops_audit.specs.Tables.{GetsVersion, IsVersionTable}
 use Rattle.cops_audit.specs.Notes.{StandsAt}
 use Rattle.cops_audit.proofs.Places.{place_for, place_of_put}
-use Rattle.cops_audit.proofs.Collect.{get_or-default}
-use Rattle.cops_audit.proofs.Unique.{stands}
 
 -- a get has one version
 pub one_get_version : (h : Sessions) (got : OpName) (v w : ℕ) → GetsVersion h got v → GetsVersion h got w → v ≡ w

@@ -31,3 +31,6 @@ pub mod Turning
 pub mod Bridging
 pub mod Telling
 pub mod Classes
+pub mod Searching
+pub mod Counting
+pub mod Finding

@@ -1,11 +1,10 @@
 -- The puts on each key, from the last place down.
-use Rattle.std.proofs.Common.{◌≡◌, ◌≢◌, ◌<◌, ◌≤◌, ◌+◌, ◌-◌, ℕ, zero, suc, List, [], ◌∷◌, ◌++◌, length, length-append, Some, None, Option, unwrap_or, get_or, refl, sym, ◌∙◌, ap, subst, inl, inr, ◌⊎◌, arith, slice_get, slice_set}
+use Rattle.std.proofs.Common.{◌≡◌, ◌≢◌, ◌<◌, ◌+◌, ℕ, zero, suc, List, [], ◌∷◌, ◌++◌, length, length-append, Some, None, Option, unwrap_or, get_or, refl, sym, ◌∙◌, ap, subst, inl, inr, ◌⊎◌, arith, slice_get, slice_set}
 use Rattle.std.proofs.Math.Nat.{eq-or-lt_of_le}
 use Rattle.cops_types.specs.declared.op.Op.TheVariants.{Put}
 use Rattle.cops_types.specs.declared.op.OpName.{OpName}
 use Rattle.cops_types.specs.Histories.{Sessions, op_at, PutsKey}
 use Rattle.cops_audit.specs.declared.table.VersionedPut.{VersionedPut}
-use Rattle.cops_audit.specs.Notes.{StandsAt}
 use Rattle.cops_audit.specs.Keys.{AreNexts, IsFirstFrom, IsFirstOn, IsNext, OnKey}
 use Rattle.cops_audit.specs.Tables.{IsVersionTable, Rises}
 use Rattle.cops_audit.proofs.Places.{inside_table, same_put_at, stands_item}

@@ -1,15 +1,15 @@
 -- Marks do not fall along a past.
-use Rattle.std.proofs.Common.{◌≡◌, ◌<◌, ◌≤◌, ◌+◌, ◌⊎◌, ◌↔◌, ℕ, List, [], Some, refl, sym, ◌∙◌, ap, subst, inl, inr, arith, slice_index_or, slice_get}
+use Rattle.std.proofs.Common.{◌≡◌, ◌<◌, ◌≤◌, ◌+◌, ℕ, List, [], Some, refl, sym, ◌∙◌, ap, inl, inr, arith, slice_index_or, slice_get}
 use Rattle.std.proofs.Math.Nat.{eq-or-lt_of_le}
 use Rattle.cops_types.specs.declared.op.OpName.{OpName}
-use Rattle.cops_types.specs.Histories.{Sessions, IsNamed, PutsVersion, SourceStep, SessionStep, Step, Past, step, more}
+use Rattle.cops_types.specs.Histories.{Sessions, Step, Past, step, more}
 use Rattle.cops_types.specs.Verdicts.{AllAbove, AllHaveSources}
 use Rattle.cops_audit.specs.declared.table.VersionedPut.{VersionedPut}
 use Rattle.cops_audit.specs.declared.notes.Note.{Note}
 use Rattle.cops_audit.specs.declared.notes.Seen.{Seen}
-use Rattle.cops_audit.specs.declared.notes.Seen.TheVariants.{Put, Got, Missed, Sourceless}
+use Rattle.cops_audit.specs.declared.notes.Seen.TheVariants.{Put}
 use Rattle.cops_audit.specs.Tables.{IsVersionTable}
-use Rattle.cops_audit.specs.Notes.{above, AreMarks, IsNoted, SeesNotBelow, StandsAt, note_at}
+use Rattle.cops_audit.specs.Notes.{above, IsNoted, note_at}
 use Rattle.cops_audit.proofs.Firsts.{versions_rise}
 use Rattle.cops_audit.proofs.Marks.{mark_grows}
 use Rattle.cops_audit.proofs.Noting.{note_there, session_of}

@@ -1,6 +1,7 @@
 -- Versions in a table of puts, by their places.
-use Rattle.std.proofs.Common.{◌≡◌, ◌≢◌, ◌<◌, ◌≤◌, ◌+◌, ◌-◌, ◌⊎◌, ◌↔◌, ℕ, zero, suc, List, get_or, length, AllPairs, Contains, Some, slice_get, refl, sym, ◌∙◌, ap, subst, inl, inr, arith}
+use Rattle.std.proofs.Common.{◌≡◌, ◌≢◌, ◌<◌, ◌≤◌, ◌+◌, ◌-◌, ◌⊎◌, ℕ, zero, suc, List, get_or, length, Some, slice_get, refl, sym, ◌∙◌, ap, subst, inl, inr, arith}
 use native.Mathlib.Numerals.{unary_clauses}
+use Rattle.std.specs.List.Sorted.{IsNonDecreasingBy}
 use Rattle.std.proofs.Math.Nat.{eq-or-lt_of_le}
 use Rattle.std.proofs.lemmas.Bool.{cases_lt}
 use Rattle.std.proofs.lemmas.Bool.Decides.{eqb_tells}
@@ -11,7 +12,7 @@ use Rattle.cops_audit.specs.declared.table.VersionedPut.{VersionedPut}
 use Rattle.cops_audit.specs.Tables.{IsPutTable, IsVersionTable, Rises, VersionsNeverFall}
 use Rattle.cops_audit.proofs.Acyclic.{one_version}
 use Rattle.cops_audit.specs.Notes.{StandsAt}
-use Rattle.cops_audit.proofs.Collect.{get_or-default, item_at}
+use Rattle.cops_audit.proofs.Collect.{get_or-default}
 use Rattle.cops_audit.proofs.Emptiness.{at_index}
 use Rattle.cops_audit.proofs.Unique.{stands}
 
@@ -176,3 +177,9 @@ place_for h table t p v k put inside at =
     let here : StandsAt table k (get_or table k d).name v = stands table k d inside ∙ ap (λ (w : ℕ). Some (let x : VersionedPut = record { version = w; name = (get_or table k d).name } in x)) (at d) in
     let e : own.0 ≡ k = same_place table t.rising own.0 k p (get_or table k d).name v stands_own here in
     subst (λ j. StandsAt table j p v) e stands_own
+
+pub never_falls : (table : List VersionedPut) → VersionsNeverFall table → IsNonDecreasingBy (λ (p : VersionedPut). p.version) table
+never_falls table in_order i j d le inside = elim (eq-or-lt_of_le le) [
+  | inl same ↦ let e : (get_or table i d).version ≡ (get_or table j d).version = ap (λ (k : ℕ). (get_or table k d).version) same in omega (arith, e)
+  | inr less ↦ in_order i j d less inside
+]

@@ -1,9 +1,8 @@
 -- What notes say of a history.
-use Rattle.std.proofs.Common.{◌≡◌, ◌<◌, ◌≤◌, ◌+◌, ◌⊎◌, ◌↔◌, ℕ, List, [], Some, refl, sym, ◌∙◌, ap, subst, inl, inr, arith, slice_index_or, slice_get}
-use Rattle.std.proofs.Math.Nat.{eq-or-lt_of_le}
+use Rattle.std.proofs.Common.{◌≡◌, ◌<◌, ◌≤◌, ◌+◌, ◌↔◌, ℕ, List, Some, refl, sym, ◌∙◌, ap, subst, inl, inr, arith}
 use Rattle.cops_types.specs.declared.op.Op.TheVariants as op
 use Rattle.cops_types.specs.declared.op.OpName.{OpName}
-use Rattle.cops_types.specs.Histories.{Sessions, op_at, IsMissed, IsNamed, PutsVersion, SourceStep, SessionStep, Step, Past, step, more}
+use Rattle.cops_types.specs.Histories.{Sessions, IsMissed, IsNamed, PutsVersion, SourceStep}
 use Rattle.cops_types.specs.Faults.{HasNoSource, HasVersion, IsNotAbove, IsNotBelow}
 use Rattle.cops_types.specs.Verdicts.{AllHaveSources}
 use Rattle.cops_audit.specs.declared.table.VersionedPut.{VersionedPut}
@@ -12,9 +11,8 @@ use Rattle.cops_audit.specs.declared.notes.Seen.{Seen}
 use Rattle.cops_audit.specs.declared.notes.Seen.TheVariants.{Put, Got, Missed, Sourceless}
 use Rattle.cops_audit.specs.Tables.{GetsVersion, IsVersionTable}
 use Rattle.cops_audit.specs.Notes.{above, IsNoted, IsSeen, IsSourceless, SeesNotAbove, SeesNotBelow, StandsAt, note_at}
-use Rattle.cops_audit.proofs.Acyclic.{VersionsRise, one_version, put_is_no_get, same_name}
+use Rattle.cops_audit.proofs.Acyclic.{one_version, put_is_no_get}
 use Rattle.cops_audit.proofs.Gets.{one_get_version}
-use Rattle.cops_audit.proofs.Marks.{mark_grows}
 use Rattle.cops_audit.proofs.Noting.{note_there, session_of}
 use Rattle.cops_audit.proofs.Places.{place_rises, version_rises}
 

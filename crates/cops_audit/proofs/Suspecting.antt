@@ -1,12 +1,11 @@
 -- Gets that may be stale, and gets that the window on versions clears.
-use Rattle.std.proofs.Common.{◌≡◌, ◌<◌, ◌≤◌, ◌+◌, ◌⊎◌, ℕ, List, Some, None, Option, refl, sym, ◌∙◌, ap, subst, inl, inr, arith}
-use Rattle.cops_types.specs.declared.op.Op.TheVariants.{Put, Got, Missed}
+use Rattle.std.proofs.Common.{◌≡◌, ◌<◌, ◌≤◌, ℕ, List, Some, None, refl, sym, ◌∙◌, subst, inl, inr, arith}
+use Rattle.cops_types.specs.declared.op.Op.TheVariants.{Got, Missed}
 use Rattle.cops_types.specs.declared.op.OpName.{OpName}
-use Rattle.cops_types.specs.Histories.{Sessions, op_at, IsGot, IsMissed, PutsKey, PutsVersion, SourceStep}
+use Rattle.cops_types.specs.Histories.{Sessions, IsGot, IsMissed, PutsKey, PutsVersion}
 use Rattle.cops_audit.specs.declared.table.VersionedPut.{VersionedPut}
 use Rattle.cops_audit.specs.declared.notes.Seen.TheVariants as seen
-use Rattle.cops_audit.specs.declared.window.Suspect.{Suspect}
-use Rattle.cops_audit.specs.Tables.{GetsVersion, IsVersionTable}
+use Rattle.cops_audit.specs.Tables.{IsVersionTable}
 use Rattle.cops_audit.specs.Notes.{IsSeen, StandsAt}
 use Rattle.cops_audit.specs.Keys.{IsFirstFrom, IsFirstOn, IsNext, OnKey}
 use Rattle.cops_audit.specs.Windows.{HasFirst, IsSuspect, NoneWithin, WouldBeNewer}

@@ -1,11 +1,11 @@
 -- A past that is learned by walking notes backward.
-use Rattle.std.proofs.Common.{◌≡◌, ◌<◌, ◌≤◌, ◌+◌, ◌-◌, ◌*◌, ◌^◌, ◌⊎◌, ℕ, List, [], ◌∷◌, ◌++◌, length, get_or, Some, None, refl, sym, ◌∙◌, ap, subst, inl, inr, arith, slice_get, slice_index_or, vec_len, Vec, Global}
+use Rattle.std.proofs.Common.{◌≡◌, ◌<◌, ◌≤◌, ◌+◌, ◌⊎◌, ℕ, List, [], ◌∷◌, ◌++◌, length, get_or, Some, None, refl, sym, ◌∙◌, ap, subst, inl, inr, arith, slice_get, slice_index_or}
 use Rattle.std.proofs.Math.Nat.{eq-or-lt_of_le}
 use Rattle.cops_types.specs.declared.op.OpName.{OpName}
 use Rattle.cops_audit.specs.declared.table.VersionedPut.{VersionedPut}
 use Rattle.cops_audit.specs.declared.notes.Note.{Note}
 use Rattle.cops_audit.specs.declared.notes.Seen.{Seen}
-use Rattle.cops_audit.specs.declared.notes.Seen.TheVariants.{Put, Got, Missed, Sourceless}
+use Rattle.cops_audit.specs.declared.notes.Seen.TheVariants.{Put, Got}
 use Rattle.cops_audit.specs.declared.sweep.Range.{Range}
 use Rattle.cops_audit.specs.declared.sweep.Sweep.{Sweep}
 use Rattle.cops_audit.specs.Notes.{StandsAt, note_at}
@@ -17,9 +17,6 @@ use Rattle.cops_audit.proofs.Raising.{in_some_cases, in_some_kept, in_some_last}
 pub past_joined : (table : List VersionedPut) (notes : List (List Note)) (a b : OpName) {c : OpName} → NotePast table notes a b → NotePast table notes b c → NotePast table notes a c
 past_joined table notes a b p (step s) = more p s
 past_joined table notes a b p (more q s) = more (past_joined table notes a b p q) s
-
-pub grows_not : (table : List VersionedPut) (notes : List (List Note)) (s : Sweep) → Grows table notes s s
-grows_not table notes s = record { kept = λ n there. there; past = λ n there. inl there }
 
 pub grows_on : (table : List VersionedPut) (notes : List (List Note)) (a b c : Sweep) → Grows table notes a b → Grows table notes b c → Grows table notes a c
 grows_on table notes a b c f g = record {

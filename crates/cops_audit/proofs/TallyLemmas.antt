@@ -1,5 +1,5 @@
 -- Numbers that count only in the turn that they were written in.
-use Rattle.std.proofs.Common.{◌≡◌, ◌≢◌, ◌<◌, ◌≤◌, ◌+◌, ℕ, zero, suc, List, [], ◌∷◌, length, map, replicate, Bool, cond, true, false, eqb, refl, sym, ◌∙◌, ap, arith, All, get_or}
+use Rattle.std.proofs.Common.{◌≡◌, ◌<◌, ℕ, zero, suc, List, [], ◌∷◌, length, map, replicate, Bool, cond, true, false, eqb, refl, ap, arith, All}
 use Rattle.std.proofs.lemmas.Bool.{eqb-true, eq-eqb, false_from_ne_true}
 use Rattle.cops_audit.specs.declared.tally.Entry.{Entry}
 use Rattle.cops_audit.specs.Tallies.{number_in}

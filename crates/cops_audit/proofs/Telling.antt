@@ -1,10 +1,10 @@
 -- Suspects that turn out to be stale, and those that do not.
-use Rattle.std.proofs.Common.{◌≡◌, ◌<◌, ◌≤◌, ◌+◌, ◌↔◌, ℕ, List, [], ◌∷◌, ◌++◌, length, get_or, map, take, Some, refl, sym, ◌∙◌, ap, subst, inl, inr, arith, slice_get, Contains, AllPairs}
+use Rattle.std.proofs.Common.{◌≡◌, ◌<◌, ◌≤◌, ◌+◌, ℕ, List, [], ◌∷◌, ◌++◌, length, get_or, map, take, sym, ◌∙◌, ap, subst, arith, AllPairs}
 use Rattle.std.proofs.lemmas.List.{length-map, get_or-map}
 use Rattle.cops_types.specs.declared.op.OpName.{OpName}
-use Rattle.cops_types.specs.Histories.{Sessions, PutsVersion}
+use Rattle.cops_types.specs.Histories.{Sessions}
 use Rattle.cops_types.specs.Faults.{IsBefore, IsNewer, IsStale}
-use Rattle.cops_types.specs.Verdicts.{AllAbove, AllHaveSources}
+use Rattle.cops_types.specs.Verdicts.{AllHaveSources}
 use Rattle.cops_audit.specs.declared.table.VersionedPut.{VersionedPut}
 use Rattle.cops_audit.specs.declared.notes.Note.{Note}
 use Rattle.cops_audit.specs.declared.verdict.Stale.{Stale}
@@ -14,10 +14,10 @@ use Rattle.cops_audit.specs.Names.{ListsAmong}
 use Rattle.cops_audit.specs.Notes.{IsNoted, StandsAt}
 use Rattle.cops_audit.specs.Sweeps.{IsNewestIn, NoneFrom}
 use Rattle.cops_audit.specs.Tables.{IsVersionTable}
-use Rattle.cops_audit.specs.Windows.{AreSuspects, IsSuspect}
+use Rattle.cops_audit.specs.Windows.{IsSuspect}
 use Rattle.cops_audit.proofs.Bridging.{none_told, stale_told}
 use Rattle.cops_audit.proofs.Clearing.{stands_for}
-use Rattle.cops_audit.proofs.Collect.{get_or-default, push_next, skip_next}
+use Rattle.cops_audit.proofs.Collect.{push_next, skip_next}
 use Rattle.cops_audit.proofs.Learning.{one_put_at}
 use Rattle.cops_audit.proofs.Places.{inside_table, same_place, stands_item}
 

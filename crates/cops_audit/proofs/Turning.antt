@@ -1,5 +1,5 @@
 -- Suspects that are judged in turn.
-use Rattle.std.proofs.Common.{◌≡◌, ◌≢◌, ◌<◌, ◌≤◌, ◌+◌, ◌-◌, ◌⊎◌, ℕ, zero, suc, List, [], length, get_or, replicate, Option, Some, None, refl, sym, ◌∙◌, ap, subst, inl, inr, arith, slice_get, slice_set, get_or-set_same, get_or-set_other, AllPairs}
+use Rattle.std.proofs.Common.{◌≡◌, ◌≢◌, ◌<◌, ◌≤◌, ◌+◌, ◌-◌, ℕ, zero, suc, List, length, get_or, replicate, Option, Some, None, refl, sym, ◌∙◌, ap, subst, inl, inr, arith, slice_set, get_or-set_same, get_or-set_other, AllPairs}
 use Rattle.std.specs.Option.{IfNone, IfSome}
 use Rattle.std.proofs.Math.Nat.{eq-or-lt_of_le}
 use Rattle.std.proofs.Math.ListN.{length-set}
@@ -11,7 +11,7 @@ use Rattle.cops_audit.specs.declared.notes.Note.{Note}
 use Rattle.cops_audit.specs.declared.sweep.Sweep.{Sweep}
 use Rattle.cops_audit.specs.declared.window.Suspect.{Suspect}
 use Rattle.cops_audit.specs.Notes.{note_at}
-use Rattle.cops_audit.specs.Sweeps.{Counted, InSome, IsAbout, IsFresh, IsSweeping, step, more}
+use Rattle.cops_audit.specs.Sweeps.{Counted, IsAbout, IsFresh, IsSweeping, more}
 use Rattle.cops_audit.specs.Turns.{AreFloors, IsAfter, IsNotedSuspect}
 use Rattle.cops_audit.proofs.Closing.{none_in_nothing}
 use Rattle.cops_audit.proofs.Collect.{get_or-default}
@@ -58,7 +58,7 @@ one_floor_more suspects floors i floor k x e next inside was low high = record {
     other : (j : ℕ) → j ≢ k → get_or (slice_set floors k x) j 0 ≡ get_or floors j 0
     other j differs = get_or-set_other floors k j x 0 differs
 
-zero_at : (n i : ℕ) → ◌≡◌ {A = ℕ} (get_or (replicate n 0) i 0) 0
+pub zero_at : (n i : ℕ) → ◌≡◌ {A = ℕ} (get_or (replicate n 0) i 0) 0
 zero_at zero i = refl
 zero_at (suc n) zero = refl
 zero_at (suc n) (suc i) = zero_at n i

@@ -1,6 +1,7 @@
 pub mod Keys
 pub mod Names
 pub mod Notes
+pub mod Searches
 pub mod Sweeps
 pub mod Tables
 pub mod Tallies

@@ -4,7 +4,7 @@ use Rattle.cops_types.specs.declared.op.OpName.{OpName}
 use Rattle.cops_audit.specs.declared.table.VersionedPut.{VersionedPut}
 use Rattle.cops_audit.specs.declared.notes.Note.{Note}
 use Rattle.cops_audit.specs.declared.notes.Seen.{Seen}
-use Rattle.cops_audit.specs.declared.notes.Seen.TheVariants.{Put, Got, Missed, Sourceless}
+use Rattle.cops_audit.specs.declared.notes.Seen.TheVariants.{Put, Got}
 use Rattle.cops_audit.specs.declared.sweep.Range.{Range}
 use Rattle.cops_audit.specs.declared.sweep.Sweep.{Sweep}
 use Rattle.cops_audit.specs.Notes.{AreMarks, StandsAt, note_at}

@@ -2,8 +2,8 @@
 //! faults in order of names, or the puts in order of versions. A history that is accepted is causally convergent: in
 //! the sense of CCv (Bouajjani, Enea, Guerraoui, Hamza, POPL 2017), for puts that carry versions, with the order of
 //! versions as the arbitration. Stands on cops_types, which has the definitions. The layers above use the verdict, that
-//! it is the only one, and that acceptance is convergence by the order of versions. A judge that shares the work uses
-//! the tables and the search for each class among given names.
+//! it is the only one, that acceptance is convergence by the order of versions, and the past of an operation. A judge
+//! that shares the work uses the tables and the search for each class among given names.
 #![tactic(auto)]
 
 mod judging;
@@ -13,6 +13,7 @@ mod names;
 mod notes;
 mod ops;
 mod rising;
+mod search;
 mod stale;
 mod sweep;
 mod table;
@@ -27,6 +28,7 @@ pub use laws::{accepted_exactly_where_convergent, one_verdict};
 pub use names::all_names;
 pub use notes::{Note, Notes, Seen, without_source};
 pub use rising::not_above;
+pub use search::past;
 pub use stale::stale_among;
 pub use table::{VersionedPut, doubled, is_rising, put_names, puts_by_version};
 pub use verdict::{Faults, NotAbove, Stale, Verdict};

@@ -1,5 +1,6 @@
-ghost use Rattle.std.specs.Prelude.{◌≡◌, ◌↔◌, ℕ, IsTrue, IfSome, IfNone};
+ghost use Rattle.std.specs.Prelude.{◌≡◌, ◌<◌, ◌↔◌, ℕ, IsTrue, IfSome, IfNone};
 ghost use Rattle.cops_types.specs.Histories.{PutsVersion, SourceStep};
+ghost use Rattle.cops_audit.specs.Tables.{GetsVersion};
 
 use cops_types::{History, Op, OpName, Version};
 
@@ -16,7 +17,8 @@ pub fn put_version(history: &History, name: OpName) -> Option<Version>
 
 /// Whether the one is a put that the other returned.
 pub fn is_source(history: &History, put: OpName, got: OpName) -> bool
-    ensures { IsTrue result ↔ SourceStep history.now.sessions put got }
+    ensures source { IsTrue result ↔ SourceStep history.now.sessions put got }
+    ensures limit { IsTrue result → put.index < 1000000 }
 {
     match (history.op(put), history.op(got)) {
         (
@@ -36,5 +38,16 @@ pub fn is_source(history: &History, put: OpName, got: OpName) -> bool
             ),
         ) => *version == *got_version && key.is(got_key) && value.is(got_value),
         _ => false,
+    }
+}
+
+/// The version of what a get returned.
+pub fn got_version(history: &History, name: OpName) -> Option<Version>
+    ensures got { IfSome result (λ v. GetsVersion history.now.sessions name v) }
+    ensures none { IfNone result ((v : ℕ) → ¬ GetsVersion history.now.sessions name v) }
+{
+    match history.op(name) {
+        Some(Op::Got { version, .. }) => Some(*version),
+        _ => None,
     }
 }

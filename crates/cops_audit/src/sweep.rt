@@ -51,7 +51,7 @@ impl Sweep {
     }
 
     /// Counts the first operations of a client, so many.
-    fn raise(&mut self, client: u16, to: u32) -> Result<(), AllocError>
+    pub fn raise(&mut self, client: u16, to: u32) -> Result<(), AllocError>
         requires { client < length self.old.counts }
         ensures { OnOk result (Raises self.old self.new client to) }
     {

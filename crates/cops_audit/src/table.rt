@@ -82,6 +82,16 @@ pub fn place_of(table: &[VersionedPut], version: Version) -> Option<usize>
     }
 }
 
+/// The first place of a put with this version or a later one.
+pub fn first_from(table: &[VersionedPut], version: Version) -> usize
+    requires { VersionsNeverFall table.now }
+    ensures before { (k : ℕ) (d : VersionedPut) → k < result → (slice_index_or table.now k d).version < version }
+    ensures from { (k : ℕ) (d : VersionedPut) → result ≤ k → k < length table.now → version ≤ (slice_index_or table.now k d).version }
+{
+    let version = version.as_u64();
+    table.partition_point(|put| put.version.as_u64() < version)
+}
+
 /// Whether a put at the place before or after bears the same version.
 fn has_equal_neighbour(table: &[VersionedPut], place: usize) -> bool
     requires { place < length table.now }

@@ -304,3 +304,93 @@ fn limits_of_keys_and_values(rt: HostRuntime) -> Result<(), Fail> {
     assert_eq!(rt; judge(a, &h)?, no_source(a, &[name(1, 1)])?);
     Ok(())
 }
+
+/// A chain of a hundred clients: client 0 puts x twice and then its own key, each next client gets the key of the one
+/// before and puts its own, and the last one gets the first x.
+fn chain(alloc: Global) -> Result<History, Fail> {
+    let mut history = History::new(alloc, 101)?;
+    history.push(0, op(alloc, Did::Put(b'x', 1, 1, 0))?)?;
+    history.push(0, op(alloc, Did::Put(b'x', 2, 2, 0))?)?;
+    history.push(0, op(alloc, Did::Put(128, 1, 3, 0))?)?;
+    for client in 1..100u8 {
+        let clock = u64::from(client) + 2;
+        history.push(
+            u16::from(client),
+            op(alloc, Did::Got(127 + client, 1, clock, 0))?,
+        )?;
+        history.push(
+            u16::from(client),
+            op(alloc, Did::Put(128 + client, 1, clock + 1, 0))?,
+        )?;
+    }
+    history.push(100, op(alloc, Did::Got(227, 1, 102, 0))?)?;
+    history.push(100, op(alloc, Did::Got(b'x', 1, 1, 0))?)?;
+    Ok(history)
+}
+
+#[test]
+fn stale_through_a_hundred_clients(rt: HostRuntime) -> Result<(), Fail> {
+    let a = rt.alloc();
+    let h = chain(a)?;
+    assert_eq!(rt; judge(a, &h)?, stale(a, &[(name(100, 1), name(0, 1))])?);
+    Ok(())
+}
+
+#[test]
+fn past_through_a_hundred_clients(rt: HostRuntime) -> Result<(), Fail> {
+    let a = rt.alloc();
+    let h = chain(a)?;
+    let mut expected = Vec::new(a);
+    expected.push((0u16, 3u32))?;
+    for client in 1..100u16 {
+        expected.push((client, 2))?;
+    }
+    expected.push((100, 1))?;
+    assert_eq!(rt; past(a, &h, name(100, 1))?, expected);
+    Ok(())
+}
+
+#[test]
+fn past_in_a_cycle(rt: HostRuntime) -> Result<(), Fail> {
+    let a = rt.alloc();
+    let h = history(
+        a,
+        3,
+        &[
+            (0, Did::Got(b'a', 2, 1, 64)),
+            (0, Did::Put(b'b', 1, 1, 0)),
+            (1, Did::Got(b'b', 1, 1, 0)),
+            (1, Did::Put(b'a', 2, 1, 64)),
+            (2, Did::Missed(b'a')),
+        ],
+    )?;
+    assert_eq!(rt;
+        past(a, &h, name(0, 0))?.as_slice(),
+        [(0, 2), (1, 2)].as_slice()
+    );
+    assert_eq!(rt; past(a, &h, name(2, 0))?.len(), 0);
+    assert_eq!(rt; past(a, &h, name(3, 0))?.len(), 0);
+    Ok(())
+}
+
+/// Each put that a get may have returned is in its past, where two bear one version.
+#[test]
+fn past_with_two_sources(rt: HostRuntime) -> Result<(), Fail> {
+    let a = rt.alloc();
+    let h = history(
+        a,
+        4,
+        &[
+            (0, Did::Put(b'x', 1, 1, 0)),
+            (1, Did::Missed(b'x')),
+            (1, Did::Put(b'x', 1, 1, 0)),
+            (2, Did::Put(b'x', 2, 1, 0)),
+            (3, Did::Got(b'x', 1, 1, 0)),
+        ],
+    )?;
+    assert_eq!(rt;
+        past(a, &h, name(3, 0))?.as_slice(),
+        [(0, 1), (1, 2)].as_slice()
+    );
+    Ok(())
+}

@@ -164,6 +164,10 @@ fn stale_gets(rt: HostRuntime) -> Result<(), Fail> {
     Ok(())
 }
 
+fn name(client: u16, index: u32) -> OpName {
+    OpName { client, index }
+}
+
 /// The chain from one name to another, as pairs of numbers.
 fn chain_of(
     alloc: Global,
@@ -187,24 +191,7 @@ fn chains(rt: HostRuntime) -> Result<(), Fail> {
     let alloc = rt.alloc();
     let history = behind(alloc, Done::Got(b'x', b'1', 1, 0))?;
     let names = chain_of(alloc, &history, (0, 1), (1, 1))?.ok_or("no chain")?;
-    let want = [
-        OpName {
-            client: 0,
-            index: 1,
-        },
-        OpName {
-            client: 0,
-            index: 2,
-        },
-        OpName {
-            client: 1,
-            index: 0,
-        },
-        OpName {
-            client: 1,
-            index: 1,
-        },
-    ];
+    let want = [name(0, 1), name(0, 2), name(1, 0), name(1, 1)];
     assert!(rt; names.as_slice() == want.as_slice());
     let itself = chain_of(alloc, &history, (1, 0), (1, 0))?.ok_or("no chain")?;
     assert!(rt;
@@ -239,48 +226,10 @@ fn the_first_of_the_shortest_chains(rt: HostRuntime) -> Result<(), Fail> {
         ],
     )?;
     let names = chain_of(alloc, &history, (0, 0), (3, 2))?.ok_or("no chain")?;
-    let want = [
-        OpName {
-            client: 0,
-            index: 0,
-        },
-        OpName {
-            client: 1,
-            index: 0,
-        },
-        OpName {
-            client: 1,
-            index: 1,
-        },
-        OpName {
-            client: 3,
-            index: 1,
-        },
-        OpName {
-            client: 3,
-            index: 2,
-        },
-    ];
+    let want = [name(0, 0), name(1, 0), name(1, 1), name(3, 1), name(3, 2)];
     assert!(rt; names.as_slice() == want.as_slice());
     let names = chain_of(alloc, &history, (2, 0), (3, 2))?.ok_or("no chain")?;
-    let want = [
-        OpName {
-            client: 2,
-            index: 0,
-        },
-        OpName {
-            client: 2,
-            index: 1,
-        },
-        OpName {
-            client: 3,
-            index: 0,
-        },
-        OpName {
-            client: 3,
-            index: 2,
-        },
-    ];
+    let want = [name(2, 0), name(2, 1), name(3, 0), name(3, 2)];
     assert!(rt; names.as_slice() == want.as_slice());
     Ok(())
 }
@@ -300,36 +249,10 @@ fn chains_where_steps_lead_back(rt: HostRuntime) -> Result<(), Fail> {
         ],
     )?;
     let names = chain_of(alloc, &history, (0, 1), (0, 0))?.ok_or("no chain")?;
-    let want = [
-        OpName {
-            client: 0,
-            index: 1,
-        },
-        OpName {
-            client: 1,
-            index: 0,
-        },
-        OpName {
-            client: 1,
-            index: 1,
-        },
-        OpName {
-            client: 0,
-            index: 0,
-        },
-    ];
+    let want = [name(0, 1), name(1, 0), name(1, 1), name(0, 0)];
     assert!(rt; names.as_slice() == want.as_slice());
     let doubled = chain_of(alloc, &history, (2, 0), (0, 0))?.ok_or("no chain")?;
-    let want = [
-        OpName {
-            client: 2,
-            index: 0,
-        },
-        OpName {
-            client: 0,
-            index: 0,
-        },
-    ];
+    let want = [name(2, 0), name(0, 0)];
     assert!(rt; doubled.as_slice() == want.as_slice());
     Ok(())
 }

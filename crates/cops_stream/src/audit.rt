@@ -60,10 +60,7 @@ fn judged(alloc: Global, trace: &Trace) -> Result<(Answer, Vec<u8>), Memory>
 }
 
 /// The answer for what was read, with its text.
-fn told(
-    alloc: Global,
-    read: Result<Trace, TraceFault>,
-) -> Result<(Answer, Vec<u8>), StreamFault>
+fn told(alloc: Global, read: Result<Trace, TraceFault>) -> Result<(Answer, Vec<u8>), StreamFault>
     ensures says { (bytes : List ℕ) → Agrees bytes read → IfOk result (λ told. AuditSays bytes told.0 told.1.items) }
     ensures convergent { IfOk result (λ told. told.0 ≡ Answer.Accepted → Converges read) }
     ensures read_failed { IsErrOf result StreamFault.ReadFailed → read ≡ Err TraceFault.ReadFailed }

@@ -7,10 +7,12 @@ use std::test::Fail;
 const EMPTY: &str = "000000051100010000000000051500000000";
 
 /// The first client puts 1 at x under 1.0, and the second gets it.
-const TWO: &str = "000000051100010002000000141200000000000001780001310000000000010000000000141300010000000001780001310000000000010000000000051500000002";
+const TWO: &str =
+    "000000051100010002000000141200000000000001780001310000000000010000000000141300010000000001780001310000000000010000000000051500000002";
 
 /// A get whose put is nowhere.
-const NO_SOURCE: &str = "000000051100010001000000141300000000000001780001310000000000010000000000051500000001";
+const NO_SOURCE: &str =
+    "000000051100010001000000141300000000000001780001310000000000010000000000051500000001";
 
 fn digit(c: u8) -> u8 {
     match c {
@@ -109,7 +111,8 @@ fn a_failed_write_leaves_a_front(rt: HostRuntime) -> Result<(), Fail> {
 
 #[test]
 fn shows(rt: HostRuntime) -> Result<(), Fail> {
-    let lines = "TraceHead format=1 clients=2\nTracePut client=0 index=0 key=x value=1 version=1.0\n";
+    let lines =
+        "TraceHead format=1 clients=2\nTracePut client=0 index=0 key=x value=1 version=1.0\n";
     let rest = "TraceGot client=1 index=0 key=x value=1 version=1.0\nTraceEnd ops=2\n";
     let bytes = from_hex(rt.alloc(), TWO)?;
     for (len, status, told) in [

@@ -1,5 +1,5 @@
 -- The records' spellings, one after another.
-use Rattle.std.proofs.Common.{◌≡◌, ℕ, zero, suc, ◌+◌, ◌<◌, cond, eqb, List, [], ◌∷◌, ◌++◌, length, take, drop, get_or, Some, refl, sym, ap, ◌∙◌, arith, inl, inr, take-suc, get_or-set_same, get_or-set_other, eq-eqb, Bool, ◌≢◌}
+use Rattle.std.proofs.Common.{◌≡◌, ℕ, zero, suc, ◌+◌, ◌<◌, cond, eqb, List, [], ◌∷◌, ◌++◌, length, take, drop, get_or, Some, refl, sym, ap, subst, ◌∙◌, arith, inl, inr, take-suc, get_or-set_same, get_or-set_other, eq-eqb, Bool, ◌≢◌}
 use Rattle.std.proofs.lemmas.Bool.{eqb-false}
 use Rattle.std.specs.Prelude.{slice_get}
 use Rattle.std.specs.List.{AllByRecursion}
@@ -81,3 +81,25 @@ pub read_any : (xs : List ℕ) (i d e : ℕ) → i < length xs → get_or xs i d
 read_any [] i d e lt = absurd (omega arith)
 read_any (x ∷ xs) zero d e lt = refl
 read_any (x ∷ xs) (suc i) d e lt = read_any xs i d e (omega arith)
+
+-- what is read of an arrival: its client, and how many of its client's operations came before it
+pub record IsArrival (h : Sessions) (cs turns : List ℕ) (at client index : ℕ) : Type 0 where
+  pub client_is : client ≡ get_or cs at 0
+  pub inside : client < length turns
+  pub index_is : index ≡ times client (take at cs)
+  pub is_there : op_at h (record { client = client; index = index }) ≡ Some (op_in h client index)
+
+pub arrival : (h : Sessions) (cs turns : List ℕ) (at client index : ℕ) → IsKept h cs → at < length cs → length turns ≡ length h
+    → ((c : ℕ) → c < length turns → get_or turns c 0 ≡ times c (take at cs)) → client ≡ get_or cs at client → index ≡ get_or turns client index → IsArrival h cs turns at client index
+arrival h cs turns at client index k lt width counts c i =
+    let client_is : client ≡ get_or cs at 0 = c ∙ read_any cs at client 0 lt in
+    let inside : client < length turns = omega (arith, client_is, client_inside h cs at k lt, width) in
+    let index_is : index ≡ times client (take at cs) = i ∙ read_any turns client index 0 inside ∙ counts client inside in
+    let stands : op_at h (record { client = client; index = times client (take at cs) }) ≡ Some (op_in h client (times client (take at cs)))
+    = subst (λ x. op_at h (record { client = x; index = times x (take at cs) }) ≡ Some (op_in h x (times x (take at cs)))) (sym client_is) (op_stands h cs at k lt) in
+    record {
+      client_is = client_is;
+      inside = inside;
+      index_is = index_is;
+      is_there = subst (λ n. op_at h (record { client = client; index = n }) ≡ Some (op_in h client n)) (sym index_is) stands;
+    }

@@ -1,4 +1,4 @@
-use Rattle.std.proofs.Common.{map, sym, subst}
+use Rattle.std.proofs.Common.{sym, subst}
 use Rattle.cops_types.specs.declared.op.OpName.{OpName}
 use Rattle.cops_types.specs.Convergence.{IsVersionOrder}
 use Rattle.cops_types.specs.Faults.{HasNoSource, IsNotAbove, IsStale}

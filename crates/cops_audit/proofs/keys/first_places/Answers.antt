@@ -1,6 +1,5 @@
-use Rattle.std.proofs.Common.{◌≡◌, ℕ, [], Option, unwrap_or, length, subst, sym, ◌∙◌, ap, refl, arith}
-use Rattle.cops_audit.specs.Keys.{IsFirstFrom}
-use Rattle.cops_audit.proofs.Linking.{FirstsTo, first_read, on_key, one_first_more}
+use Rattle.std.proofs.Common.{ℕ, Option, unwrap_or, sym, ◌∙◌, ap}
+use Rattle.cops_audit.proofs.Linking.{first_read, on_key, one_first_more}
 use Rattle.cops_audit.proofs.keys.first_places.Goals as goal
 
 pub put_key-key-requires : goal.put_key-key-requires

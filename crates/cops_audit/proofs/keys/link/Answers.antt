@@ -1,4 +1,4 @@
-use Rattle.std.proofs.Common.{◌≡◌, ◌≢◌, ◌≤◌, ◌+◌, ◌-◌, ℕ, List, Option, Some, None, length, slice_get, nat_eq, Bor, Bool, true, false, cond, refl, sym, ◌∙◌, ap, subst, inl, inr, arith}
+use Rattle.std.proofs.Common.{◌≡◌, ◌≢◌, ◌+◌, ◌-◌, ℕ, List, Some, None, length, nat_eq, Bor, cond, sym, ◌∙◌, ap, subst, inl, inr, arith}
 use Rattle.std.proofs.Math.ListN.{length-set}
 use Rattle.std.specs.Cmp.Lexicographic.{pointwise}
 use Rattle.std.specs.HashMap as hash
@@ -8,7 +8,6 @@ use Rattle.std.proofs.lemmas.Slice.Eq.{bytes_eq-Decides}
 use Rattle.cops_audit.specs.Keys.{IsFirstFrom, IsNext, OnKey}
 use Rattle.cops_audit.proofs.Linking.{next_is, on_key, first_here, first_kept, none_past_end, written}
 use Rattle.cops_audit.proofs.Marks.{slice_get_inside}
-use Rattle.cops_audit.proofs.Places.{put_at, stands_item}
 use Rattle.cops_audit.proofs.keys.link.Goals as goal
 
 pub loop-place-init : goal.loop-place-init

@@ -1,4 +1,4 @@
-use Rattle.std.proofs.Common.{◌≡◌, ◌+◌, ◌++◌, ◌∷◌, [], refl, arith, ap, length, length-append}
+use Rattle.std.proofs.Common.{◌∷◌, [], refl, arith, ap, length, length-append}
 use Rattle.cops_audit.proofs.Listing.{one_more}
 use Rattle.cops_audit.proofs.names.push_session.Goals as goal
 

@@ -1,4 +1,4 @@
-use Rattle.std.proofs.Common.{◌≡◌, ◌<◌, [], length, slice_index_or, arith, ap, subst, sym}
+use Rattle.std.proofs.Common.{[], length, slice_index_or, arith, ap, subst, sym}
 use Rattle.cops_audit.proofs.Listing.{slice_get_there}
 use Rattle.cops_audit.proofs.Noting.{Noted, few_places, no_notes, higher_note, lower_note}
 use Rattle.cops_audit.proofs.notes.note_session.Goals as goal

@@ -1,7 +1,6 @@
-use Rattle.std.proofs.Common.{◌≡◌, Some, sym, ◌∙◌, ap}
+use Rattle.std.proofs.Common.{Some, sym, ◌∙◌, ap}
 use Rattle.cops_types.specs.Histories.{PutsVersion}
 use Rattle.cops_audit.specs.declared.table.VersionedPut.{VersionedPut}
-use Rattle.cops_audit.specs.Tables.{GetsVersion}
 use Rattle.cops_audit.proofs.Places.{place_for, place_of_put}
 use Rattle.cops_audit.proofs.Gets.{sourceless}
 use Rattle.cops_audit.proofs.notes.see.Goals as goal

@@ -1,4 +1,4 @@
-use Rattle.std.proofs.Common.{◌≡◌, ◌<◌, ◌≤◌, ◌-◌, ℕ, List, [], Some, slice_get, slice_index_or, get_or, sym, ◌∙◌, subst, ap}
+use Rattle.std.proofs.Common.{◌<◌, ◌-◌, List, slice_get, get_or, sym, ◌∙◌, subst, ap}
 use Rattle.cops_audit.specs.declared.notes.Note.{Note}
 use Rattle.cops_audit.proofs.Crossing.{first_sees}
 use Rattle.cops_audit.proofs.rising.first_not_below.Goals as goal

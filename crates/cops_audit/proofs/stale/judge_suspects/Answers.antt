@@ -1,4 +1,4 @@
-use Rattle.std.proofs.Common.{◌≡◌, length, map, refl, arith}
+use Rattle.std.proofs.Common.{map, refl, arith}
 use Rattle.std.proofs.lemmas.List.{length-map}
 use Rattle.cops_types.specs.Faults.{IsStale}
 use Rattle.cops_audit.specs.declared.window.Suspect.{Suspect}

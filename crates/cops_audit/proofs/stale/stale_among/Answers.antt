@@ -1,9 +1,8 @@
-use Rattle.std.proofs.Common.{◌≡◌, ◌<◌, [], List, length, map, ap, sym, subst, ◌∙◌, arith}
+use Rattle.std.proofs.Common.{◌≡◌, [], sym, subst, ◌∙◌}
 use Rattle.std.proofs.lemmas.Bool.{eqb-true}
 use Rattle.std.proofs.lemmas.List.Elements.{Contains-get_or}
 use Rattle.cops_types.specs.Faults.{IsStale}
 use Rattle.cops_audit.specs.Names.{ListsAmong}
-use Rattle.cops_audit.specs.declared.window.Suspect.{Suspect}
 use Rattle.cops_audit.specs.Windows.{AreSuspects}
 use Rattle.cops_audit.proofs.Classes.{empty_list, no_stale, of_suspects}
 use Rattle.cops_audit.proofs.stale.stale_among.Goals as goal

@@ -1,4 +1,4 @@
-use Rattle.std.proofs.Common.{◌≡◌, ◌∷◌, [], ℕ, arith, refl, subst, ap, length-append}
+use Rattle.std.proofs.Common.{◌≡◌, ℕ, arith, refl, subst, ap, length-append}
 use Rattle.cops_types.specs.declared.op.OpName.{OpName}
 use Rattle.cops_types.specs.Histories.{Sessions, PutsVersion}
 use Rattle.cops_audit.specs.declared.table.VersionedPut.{VersionedPut}

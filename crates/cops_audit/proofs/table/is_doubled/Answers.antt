@@ -1,5 +1,4 @@
-use Rattle.std.proofs.Common.{◌≡◌, true, arith, ap, refl}
-use Rattle.cops_audit.proofs.Acyclic.{one_version}
+use Rattle.std.proofs.Common.{ap}
 use Rattle.cops_audit.specs.declared.table.VersionedPut.{VersionedPut}
 use Rattle.cops_audit.proofs.Places.{place_of_put, doubled_by_neighbour, neighbour_of_doubled}
 use Rattle.cops_audit.proofs.table.is_doubled.Goals as goal

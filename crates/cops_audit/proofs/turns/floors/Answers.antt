@@ -1,4 +1,4 @@
-use Rattle.std.proofs.Common.{◌≡◌, ◌≤◌, ◌+◌, ◌-◌, get_or, true, arith}
+use Rattle.std.proofs.Common.{◌≡◌, ◌-◌, true, arith}
 use Rattle.cops_audit.specs.declared.window.Suspect.{Suspect}
 use Rattle.cops_audit.proofs.Turning.{one_floor_more}
 use Rattle.cops_audit.proofs.turns.floors.Goals as goal

@@ -1,4 +1,4 @@
-use Rattle.std.proofs.Common.{◌≡◌, Some, sym, ◌∙◌}
+use Rattle.std.proofs.Common.{sym}
 use Rattle.cops_audit.proofs.Clearing.{clear, no_get, no_note, none_then}
 use Rattle.cops_audit.proofs.window.find_suspect.Goals as goal
 

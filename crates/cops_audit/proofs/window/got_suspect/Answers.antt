@@ -1,5 +1,5 @@
-use Rattle.std.proofs.Common.{◌≡◌, ◌<◌, List, Option, Some, None, length, subst, sym, ◌∙◌, refl, arith}
-use Rattle.cops_audit.specs.Keys.{IsFirstFrom, IsNext, OnKey}
+use Rattle.std.proofs.Common.{◌≡◌, Some, None, subst, sym, ◌∙◌, refl, arith}
+use Rattle.cops_audit.specs.Keys.{IsFirstFrom, OnKey}
 use Rattle.cops_audit.proofs.Linking.{next_at, on_key, same_key}
 use Rattle.cops_audit.proofs.Places.{inside_table}
 use Rattle.cops_audit.proofs.Suspecting.{got_clear, got_far, got_is, on_source}

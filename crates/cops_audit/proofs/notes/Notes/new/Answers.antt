@@ -1,4 +1,4 @@
-use Rattle.std.proofs.Common.{◌≡◌, ◌<◌, ◌∷◌, [], List, Vec, Global, length, length-append, arith, ap, subst, sym}
+use Rattle.std.proofs.Common.{◌∷◌, [], Vec, Global, length, length-append, arith, ap}
 use Rattle.std.proofs.lemmas.List.{length-map}
 use Rattle.cops_audit.specs.declared.notes.Note.{Note}
 use Rattle.cops_audit.specs.Notes.{IsSessionNoted}

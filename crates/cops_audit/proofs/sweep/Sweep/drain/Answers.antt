@@ -1,4 +1,4 @@
-use Rattle.std.proofs.Common.{refl, arith}
+use Rattle.std.proofs.Common.{refl}
 use Rattle.cops_audit.proofs.Sweeping.{grows_on, popped}
 use Rattle.cops_audit.proofs.sweep.Sweep.drain.Goals as goal
 

@@ -1,4 +1,3 @@
-use Rattle.std.proofs.Common.{◌≤◌}
 use Rattle.cops_audit.specs.Sweeps.{Grows, IsSweeping, work_left}
 use Rattle.cops_audit.proofs.sweep.Sweep.drain.Given as goal
 

@@ -1,4 +1,4 @@
-use Rattle.std.proofs.Common.{◌+◌, sym, arith, refl}
+use Rattle.std.proofs.Common.{sym, arith, refl}
 use Rattle.cops_audit.proofs.Sweeping.{sweep_on, sweep_grows, sweep_past, none_open, low_range}
 use Rattle.cops_audit.proofs.sweep.Sweep.look_at.Goals as goal
 

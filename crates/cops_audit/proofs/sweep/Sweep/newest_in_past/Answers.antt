@@ -1,4 +1,4 @@
-use Rattle.std.proofs.Common.{◌≡◌, ◌≤◌, ◌+◌, ◌-◌, ℕ, get_or, sym, arith}
+use Rattle.std.proofs.Common.{◌≡◌, ◌≤◌, ◌+◌, ◌-◌, get_or, arith}
 use Rattle.cops_audit.proofs.Closing.{raised_sweeping, raised_about, grown_about, none_from, newest_in}
 use Rattle.cops_audit.proofs.sweep.Sweep.newest_in_past.Goals as goal
 

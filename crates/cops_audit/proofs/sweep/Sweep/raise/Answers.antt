@@ -1,9 +1,7 @@
-use Rattle.std.proofs.Common.{◌≡◌, ◌+◌, ◌-◌, ◌*◌, ◌^◌, ◌<◌, ◌≤◌, ℕ, List, ◌++◌, ◌∷◌, [], length, length-append, get_or, slice_set, refl, sym, ◌∙◌, ap, subst, inl, inr, arith}
-use Rattle.std.specs.Prelude.{sum_by}
+use Rattle.std.proofs.Common.{◌≡◌, ◌^◌, ◌<◌, ℕ, ◌++◌, ◌∷◌, [], get_or, refl, sym, ◌∙◌, ap, subst, inl, inr, arith}
 use Rattle.std.proofs.Math.ListN.{length-set}
-use Rattle.cops_types.specs.declared.op.OpName.{OpName}
 use Rattle.cops_audit.specs.declared.sweep.Range.{Range}
-use Rattle.cops_audit.specs.Sweeps.{Counted, InRange, InSome}
+use Rattle.cops_audit.specs.Sweeps.{InSome}
 use Rattle.cops_audit.proofs.Raising.{counted_then, counted_kept, counted_raised, newly_in_range, room_falls, in_some_kept, in_some_last, in_some_cases}
 use Rattle.cops_audit.proofs.sweep.Sweep.raise.Goals as goal
 

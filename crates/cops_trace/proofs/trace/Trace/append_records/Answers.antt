@@ -4,7 +4,7 @@ use Rattle.cops_types.specs.Histories.{op_at}
 use Rattle.cops_trace.specs.Text.{records_text, spelled, op_message}
 use Rattle.cops_trace.specs.Kept.{records_from, op_in}
 use Rattle.cops_trace.proofs.Lists.{times}
-use Rattle.cops_trace.proofs.Spellings.{client_inside, op_stands, turns_next, text_next, read_any}
+use Rattle.cops_trace.proofs.Spellings.{client_inside, arrival, turns_next, text_next, read_any}
 use Rattle.cops_trace.proofs.trace.Trace.append_records.Goals as goal
 
 -- src/trace.rt:103:25
@@ -24,19 +24,12 @@ unreachable-requires c =
     let k = c.loop-at.invariant in
     let h = c.self.inside.history.sessions in
     let cs = c.self.inside.arrivals.items in
-    let at = c.loop-at.at in
-    let turns = c.loop-at.turns.items in
     let d = c.index-client.result.now in
     let n = c.index-index.result.now in
-    let lt : at < length cs = omega (arith, c.loop-at-test.true, c.len.ensures, c.self.inside.arrivals.ok.0) in
-    let there = op_stands h cs at k.0 lt in
-    let client : d ≡ get_or cs at 0 = c.index-client.ensures ∙ read_any cs at d 0 lt in
-    let inside : d < length turns = omega (arith, client, client_inside h cs at k.0 lt, k.1) in
-    let index : n ≡ times d (take at cs) = c.index-index.ensures ∙ read_any turns d n 0 inside ∙ k.2 d inside in
+    let lt : c.loop-at.at < length cs = omega (arith, c.loop-at-test.true, c.len.ensures, c.self.inside.arrivals.ok.0) in
+    let a = arrival h cs c.loop-at.turns.items c.loop-at.at d n k.0 lt k.1 k.2 c.index-client.ensures c.index-index.ensures in
     let none : None ≡ op_at h (record { client = d; index = n }) = c.in-None.ensures.operation in
-    let here : op_at h (record { client = d; index = times d (take at cs) }) ≡ Some (op_in h d (times d (take at cs)))
-    = subst (λ x. op_at h (record { client = x; index = times x (take at cs) }) ≡ Some (op_in h x (times x (take at cs)))) (sym client) there in
-    let both : None ≡ Some (op_in h d (times d (take at cs))) = none ∙ ap (λ x. op_at h (record { client = d; index = x })) index ∙ here in
+    let both : None ≡ Some (op_in h d n) = none ∙ a.is_there in
     cc
 
 -- src/trace.rt:101:9
@@ -51,14 +44,12 @@ loop-at-preserved c =
     let d = c.index-client.result.now in
     let n = c.index-index.result.now in
     let lt : at < length cs = omega (arith, c.loop-at-test.true, c.len.ensures, c.self.inside.arrivals.ok.0) in
-    let there = op_stands h cs at k.0 lt in
-    let client : d ≡ get_or cs at 0 = c.index-client.ensures ∙ read_any cs at d 0 lt in
-    let inside : d < length turns = omega (arith, client, client_inside h cs at k.0 lt, k.1) in
-    let index : n ≡ times d (take at cs) = c.index-index.ensures ∙ read_any turns d n 0 inside ∙ k.2 d inside in
+    let a = arrival h cs turns at d n k.0 lt k.1 k.2 c.index-client.ensures c.index-index.ensures in
+    let client = a.client_is in
+    let inside = a.inside in
+    let index = a.index_is in
     let some : Some c.in-Some.op.now ≡ op_at h (record { client = d; index = n }) = c.in-Some.ensures.operation in
-    let here : op_at h (record { client = d; index = times d (take at cs) }) ≡ Some (op_in h d (times d (take at cs)))
-    = subst (λ x. op_at h (record { client = x; index = times x (take at cs) }) ≡ Some (op_in h x (times x (take at cs)))) (sym client) there in
-    let both : Some c.in-Some.op.now ≡ Some (op_in h d (times d (take at cs))) = some ∙ ap (λ x. op_at h (record { client = d; index = x })) index ∙ here in
+    let both : Some c.in-Some.op.now ≡ Some (op_in h d (times d (take at cs))) = some ∙ a.is_there ∙ ap (λ x. Some (op_in h d x)) index in
     let op : c.in-Some.op.now ≡ op_in h d (times d (take at cs)) = cc in
     let m : c.in_ok-message-in-Some.field-0 ≡ op_message d n c.in-Some.op.now = c.in_ok-message-in-Some.ensures.value in
     let e : c.encode.new.out.items ≡ c.loop-at.out.items ++ spelled c.in_ok-message-in-Some.field-0 = c.in_ok-encode-in-Some.ensures.ok in

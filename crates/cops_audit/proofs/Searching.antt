@@ -1,0 +1,186 @@
+-- Pasts of any history, found by a search.
+use Rattle.std.proofs.Common.{◌≡◌, ◌<◌, ◌≤◌, ◌+◌, ℕ, List, [], ◌∷◌, ◌++◌, length, get_or, refl, sym, ◌∙◌, ap, subst, inl, inr, arith}
+use Rattle.std.proofs.Math.Nat.{eq-or-lt_of_le}
+use Rattle.std.proofs.lemmas.Bool.{cases_lt}
+use Rattle.cops_types.specs.declared.op.OpName.{OpName}
+use Rattle.cops_types.specs.Histories.{Sessions, PutsVersion, SourceStep, Past, step, more}
+use Rattle.cops_audit.specs.declared.table.VersionedPut.{VersionedPut}
+use Rattle.cops_audit.specs.declared.sweep.Range.{Range}
+use Rattle.cops_audit.specs.declared.sweep.Sweep.{Sweep}
+use Rattle.cops_audit.specs.Searches.{Finds, IsSearching, TakesSources}
+use Rattle.cops_audit.specs.Sweeps.{Counted, InRange, InSome, Raises}
+use Rattle.cops_audit.specs.Tables.{GetsVersion, IsPutTable}
+use Rattle.cops_audit.proofs.Acyclic.{one_version, same_name}
+use Rattle.cops_audit.proofs.Closing.{none_in_nothing}
+use Rattle.cops_audit.proofs.Gets.{one_get_version}
+use Rattle.cops_audit.proofs.Places.{place_of_put, put_at}
+use Rattle.cops_audit.proofs.Raising.{in_some_cases, in_some_kept, in_some_last}
+
+pub past_through : (h : Sessions) (a b : OpName) {c : OpName} → Past h a b → Past h b c → Past h a c
+past_through h a b p (step s) = more p s
+past_through h a b p (more q s) = more (past_through h a b p q) s
+
+module _ (h : Sessions) where
+  pub takes_put : (name put : OpName) (old new : Sweep) → SourceStep h put name → Raises old new put.client (put.index + 1) → TakesSources h name old new
+  takes_put name put old new source raises = record {
+    clients = raises.width;
+    kept = raises.kept;
+    past = λ n there. elim (raises.counts n there) [
+      | inl was ↦ inl was
+      | inr now ↦ inr (elim (eq-or-lt_of_le (let le : n.index ≤ put.index = omega (arith, now.1) in le)) [
+        | inl same ↦ subst (λ x. Past h x name) (sym (same_name n put now.0 same)) (step (inr source))
+        | inr less ↦ more (step (inl (record { same_client = now.0; earlier = less; is_there = (_, source.put) }))) (inr source)
+      ])
+    ];
+    pending = raises.pending;
+    still = raises.still;
+    pending_counted = raises.pending_counted;
+  }
+
+  pub takes_nothing : (name : OpName) (s : Sweep) → TakesSources h name s s
+  takes_nothing name s = record {
+    clients = refl;
+    kept = λ n there. there;
+    past = λ n there. inl there;
+    pending = λ n there. inl there;
+    still = λ n there. there;
+    pending_counted = λ n there. inl there;
+  }
+
+  pub takes_on : (name : OpName) (a b c : Sweep) → TakesSources h name a b → TakesSources h name b c → TakesSources h name a c
+  takes_on name a b c f g = record {
+    clients = g.clients ∙ f.clients;
+    kept = λ n there. g.kept n (f.kept n there);
+    past = λ n there. elim (g.past n there) [ inl was ↦ f.past n was | inr p ↦ inr p ];
+    pending = λ n there. elim (g.pending n there) [
+      | inl was ↦ elim (f.pending n was) [ inl first ↦ inl first | inr p ↦ inr (g.still n p) ]
+      | inr p ↦ inr p
+    ];
+    still = λ n there. g.still n (f.still n there);
+    pending_counted = λ n there. elim (g.pending_counted n there) [
+      | inl was ↦ elim (f.pending_counted n was) [ inl first ↦ inl first | inr now ↦ inr (g.kept n now) ]
+      | inr now ↦ inr now
+    ];
+  }
+
+  -- the sources of a get bear its version
+  source_version : (put name : OpName) (own version : ℕ) → PutsVersion h put own → GetsVersion h name version → SourceStep h put name → own ≡ version
+  source_version put name own version puts gets s =
+      one_version h put put own s.version puts (s.key, s.value, s.put) refl ∙ one_get_version h name s.version version (s.key, s.value, s.got) gets
+
+  -- the sources at the places so far are counted
+  abbrev pub CountedTo : List VersionedPut → OpName → ℕ → Sweep → Type 0
+  CountedTo table name count s = (k : ℕ) (d : VersionedPut) → k < count → k < length table → SourceStep h (get_or table k d).name name → Counted s.counts (get_or table k d).name
+
+  module _ (table : List VersionedPut) (t : IsPutTable h table) (name : OpName) (version : ℕ) (gets : GetsVersion h name version) where
+    at_version : (k : ℕ) (d : VersionedPut) → k < length table → SourceStep h (get_or table k d).name name → (get_or table k d).version ≡ version
+    at_version k d inside s = source_version (get_or table k d).name name (get_or table k d).version version (put_at h table t k d inside) gets s
+
+    pub none_before : (first : ℕ) (s : Sweep) → ((k : ℕ) (d : VersionedPut) → k < first → (get_or table k d).version < version) → CountedTo table name first s
+    none_before first s low k d less inside source = absurd (omega (arith, low k d less, at_version k d inside source))
+
+    -- no source stands from a place with a higher version on
+    pub none_after : (place : ℕ) (s : Sweep) → place < length table → ((d : VersionedPut) → version < (get_or table place d).version) → CountedTo table name place s → (put : OpName) → SourceStep h put name → Counted s.counts put
+    none_after place s inside high so_far put source = by_place (place_of_put h table t put version (subst (PutsVersion h put) (one_get_version h name source.version version (source.key, source.value, source.got) gets) (source.key, source.value, source.put)))
+      where
+        by_place : (at : (k : ℕ) × (k < length table) × ((d : VersionedPut) → get_or table k d ≡ (let q : VersionedPut = record { version = version; name = put } in q))) → Counted s.counts put
+        by_place at =
+            let d : VersionedPut = record { version = version; name = put } in
+            let own : (get_or table at.0 d).version ≡ version = ap (λ (q : VersionedPut). q.version) (at.2 d) in
+            let is : (get_or table at.0 d).name ≡ put = ap (λ (q : VersionedPut). q.name) (at.2 d) in
+            elim (cases_lt at.0 place) [
+              | inl before ↦ subst (Counted s.counts) is (so_far at.0 d before at.1 (subst (λ x. SourceStep h x name) (sym is) source))
+              | inr le ↦ elim (eq-or-lt_of_le le) [
+                | inl same ↦ let e : (get_or table place d).version ≡ (get_or table at.0 d).version = ap (λ (k : ℕ). (get_or table k d).version) same in absurd (omega (arith, e, own, high d))
+                | inr less ↦ absurd (omega (arith, t.in_order place at.0 d less at.1, own, high d))
+              ]
+            ]
+
+    pub all_sources : (place : ℕ) (s : Sweep) → length table ≤ place → CountedTo table name place s → (put : OpName) → SourceStep h put name → Counted s.counts put
+    all_sources place s enough so_far put source =
+        let at = place_of_put h table t put version (subst (PutsVersion h put) (one_get_version h name source.version version (source.key, source.value, source.got) gets) (source.key, source.value, source.put)) in
+        let d : VersionedPut = record { version = version; name = put } in
+        let is : (get_or table at.0 d).name ≡ put = ap (λ (q : VersionedPut). q.name) (at.2 d) in
+        subst (Counted s.counts) is (so_far at.0 d (omega (arith, at.1, enough)) at.1 (subst (λ x. SourceStep h x name) (sym is) source))
+
+  -- one operation of a range is looked at
+  pub search_on : (old new : Sweep) (name : OpName) (to : ℕ) → name.index < to → IsSearching h old (InRange (record { client = name.client; from = name.index; to = to })) → TakesSources h name old new
+      → ((put : OpName) → SourceStep h put name → Counted new.counts put) → IsSearching h new (InRange (record { client = name.client; from = name.index + 1; to = to }))
+  search_on old new name to inside was takes sources = record {
+    clients = takes.clients ∙ was.clients;
+    open_counted = λ n there. takes.kept n (was.open_counted n (there.0, omega (arith, there.1), there.2));
+    pending_counted = λ n there. elim (takes.pending_counted n there) [ inl before ↦ takes.kept n (was.pending_counted n before) | inr now ↦ now ];
+    sources = λ n put counted source. elim (takes.pending n counted) [
+      | inr pending ↦ inr (inl pending)
+      | inl before ↦ elim (was.sources n put before source) [
+        | inl there ↦ inl (takes.kept put there)
+        | inr left ↦ elim left [
+          | inl pending ↦ inr (inl (takes.still n pending))
+          | inr range ↦ elim (eq-or-lt_of_le range.1) [
+            | inl same ↦ inl (sources put (subst (SourceStep h put) (same_name n name range.0 (sym same)) source))
+            | inr less ↦ inr (inr (range.0, omega (arith, less), range.2))
+          ]
+        ]
+      ]
+    ];
+  }
+
+  pub search_finds : (old new : Sweep) (name : OpName) → Counted old.counts name → TakesSources h name old new → Finds h old new
+  search_finds old new name there takes = record {
+    kept = takes.kept;
+    past = λ n now. elim (takes.past n now) [ inl was ↦ inl was | inr p ↦ inr (name, there, p) ];
+  }
+
+  pub finds_on : (a b c : Sweep) → Finds h a b → Finds h b c → Finds h a c
+  finds_on a b c f g = record {
+    kept = λ n there. g.kept n (f.kept n there);
+    past = λ n there. elim (g.past n there) [
+      | inl was ↦ f.past n was
+      | inr w ↦ elim (f.past w.0 w.1) [
+        | inl was ↦ inr (w.0, was, w.2)
+        | inr v ↦ inr (v.0, v.1, past_through h n w.0 w.2 v.2)
+      ]
+    ];
+  }
+
+  -- nothing is left open
+  pub search_ends : (s : Sweep) (IsOpen : OpName → Type 0) → ((n : OpName) → ¬ IsOpen n) → IsSearching h s IsOpen → IsSearching h s (λ _. ⊥)
+  search_ends s IsOpen none was = record {
+    clients = was.clients;
+    open_counted = λ n there. absurd there;
+    pending_counted = was.pending_counted;
+    sources = λ n put counted source. elim (was.sources n put counted source) [
+      | inl there ↦ inl there
+      | inr left ↦ elim left [ inl pending ↦ inr (inl pending) | inr open' ↦ absurd (none n open') ]
+    ];
+  }
+
+  -- a range that is taken from those that are pending
+  pub search_popped : (old new : Sweep) (range : Range) → new.counts ≡ old.counts → old.pending.items ≡ new.pending.items ++ range ∷ [] → IsSearching h old (λ _. ⊥) → IsSearching h new (InRange range)
+  search_popped old new range counts pending was = record {
+    clients = ap length counts ∙ was.clients;
+    open_counted = λ n there. now n (was.pending_counted n (subst (λ rs. InSome rs n) (sym pending) (in_some_last new.pending.items range n there)));
+    pending_counted = λ n there. now n (was.pending_counted n (subst (λ rs. InSome rs n) (sym pending) (in_some_kept new.pending.items range n there)));
+    sources = λ n put counted source. elim (was.sources n put (subst (λ cs. Counted cs n) counts counted) source) [
+      | inl there ↦ inl (now put there)
+      | inr left ↦ elim left [
+        | inl there ↦ inr (in_some_cases new.pending.items range n (subst (λ rs. InSome rs n) pending there))
+        | inr none ↦ absurd none
+      ]
+    ];
+  }
+    where
+      now : (n : OpName) → Counted old.counts n → Counted new.counts n
+      now n there = subst (λ cs. Counted cs n) (sym counts) there
+
+  -- where nothing is left to look at
+  pub search_done : (old new : Sweep) → new.counts ≡ old.counts → old.pending.items ≡ [] → new.pending.items ≡ [] → IsSearching h old (λ _. ⊥) → IsSearching h new (λ _. ⊥)
+  search_done old new counts empty still was = record {
+    clients = ap length counts ∙ was.clients;
+    open_counted = λ n there. absurd there;
+    pending_counted = λ n there. absurd (none_in_nothing new.pending.items n still there);
+    sources = λ n put counted source. elim (was.sources n put (subst (λ cs. Counted cs n) counts counted) source) [
+      | inl there ↦ inl (subst (λ cs. Counted cs put) (sym counts) there)
+      | inr left ↦ elim left [ inl there ↦ absurd (none_in_nothing old.pending.items n empty there) | inr none ↦ absurd none ]
+    ];
+  }
