@@ -11,7 +11,7 @@ use cops_stream::{Answer, StreamFault, audit_stream, show_stream};
 use cops_types::{Counted, Memory};
 use std::alloc::AllocError;
 use std::fs::File;
-use std::io::{Read, Write};
+use std::io::{ErrorKind, Read, Write};
 use std::process::ExitCode;
 use std::rt::{Env, Files};
 use std::{env, io};
@@ -133,13 +133,24 @@ fn arguments<R: Env + AllocGlobal>(rt: &R) -> io::Result<Vec<String>> {
     Ok(words)
 }
 
+/// Tells why there are no words, and gives the status.
+fn no_words<R: Eprint>(rt: &R, fault: io::Error) -> u8 {
+    if fault.kind() == ErrorKind::InvalidData {
+        let why = "error: invalid UTF-8 was detected in one or more arguments";
+        let _ = eprintln!(rt; "{why}\n\nFor more information, try '--help'.");
+        FAULTY
+    } else {
+        failed(rt, "memory", NO_MEMORY)
+    }
+}
+
 fn main(rt: HostRuntime) -> ExitCode {
     let status = match arguments(&rt) {
         Ok(words) => match run(&rt, words.as_slice(), rt.stderr()) {
             Ok(status) => status,
             Err(_) => failed(&rt, "memory", NO_MEMORY),
         },
-        Err(_) => failed(&rt, "memory", NO_MEMORY),
+        Err(fault) => no_words(&rt, fault),
     };
     ExitCode::from(status)
 }

@@ -1,0 +1,59 @@
+-- Lists of pairs, none twice, and one more.
+use Rattle.std.proofs.Common.{◌≡◌, ◌<◌, Bool, true, false, ◌||◌, List, [], ◌∷◌, ◌++◌, if◌then◌else◌, nat_lt, Option, None, Some, is_none, length, refl, ap, ◌∙◌, arith, rules, length-append}
+use borrow.Author.Tests.{ltb-true}
+use Rattle.std.specs.Cmp.{IsEquivalence}
+use Rattle.std.specs.Cmp.Rules.{comparing}
+use Rattle.std.specs.List.{AllByRecursion, IsDistinct, list_any}
+use Rattle.cops_types.specs.declared.dep.Dep.{Dep}
+use Rattle.cops_types.specs.Dep.{is_same_dep}
+use Rattle.cops_context.specs.Context.{IsContext, has_pair, with_pair, and_beside}
+
+module _ {K : Type 0} {e : K → K → Bool} (o : IsEquivalence e) where
+  each_push : (P : K → Type 0) (xs : List K) (y : K) → AllByRecursion P xs → P y → AllByRecursion P (xs ++ y ∷ [])
+  each_push P [] y h k = (k, tt)
+  each_push P (x ∷ xs) y h k = (h.0, each_push P xs y h.1 k)
+
+  last_of : (P : K → Type 0) (xs : List K) (y : K) → AllByRecursion P (xs ++ y ∷ []) → P y
+  last_of P [] y h = h.0
+  last_of P (x ∷ xs) y h = last_of P xs y h.1
+
+  or_false : (a b : Bool) → (a || b) ≡ false → (a ≡ false) × (b ≡ false)
+  or_false true b h = absurd cc
+  or_false false b h = (refl, h)
+
+  -- a key that is none of these goes last
+  distinct_push : (xs : List K) (y : K) → IsDistinct e xs → list_any (e y) xs ≡ false → IsDistinct e (xs ++ y ∷ [])
+  unfolding IsDistinct
+  distinct_push [] y h k = (tt, tt)
+  distinct_push (x ∷ xs) y h k =
+      let none = or_false (e y x) (list_any (e y) xs) k in
+      (each_push (λ z. e x z ≡ false) xs y h.0 (o.symm x y ∙ none.0), distinct_push xs y h.1 none.1)
+
+  -- the last key is none of those before it
+  absent_before : (xs : List K) (y : K) → IsDistinct e (xs ++ y ∷ []) → list_any (e y) xs ≡ false
+  unfolding IsDistinct
+  absent_before [] y h = refl
+  absent_before (x ∷ xs) y h =
+      let here : e y x ≡ false = o.symm y x ∙ last_of (λ z. e x z ≡ false) xs y h.0 in
+      ap (λ b. b || list_any (e y) xs) here ∙ absent_before xs y h.1
+
+-- being the same pair is an equivalence
+same_pairs : IsEquivalence is_same_dep
+same_pairs = search (comparing, rules) depth 9
+
+-- a context with a new pair
+pub context_push : (pairs : List Dep) (pair : Dep) → IsContext pairs → has_pair pairs pair ≡ false → length pairs < 256 → IsContext (pairs ++ pair ∷ [])
+context_push pairs pair h new few = record {
+  few = omega (arith, length-append pairs (pair ∷ []));
+  distinct = distinct_push same_pairs pairs pair h.distinct new;
+}
+
+-- the last pair of a context is new to those before it
+pub new_last : (pairs : List Dep) (pair : Dep) → IsContext (pairs ++ pair ∷ []) → with_pair pairs pair ≡ pairs ++ pair ∷ []
+new_last pairs pair h = ap (λ b. if b then pairs else pairs ++ pair ∷ []) (absent_before same_pairs pairs pair h.distinct)
+
+-- a new pair beside the set, in the place that was empty
+pub context_beside : (pairs : List Dep) (beside : Option Dep) (pair : Dep) → is_none beside ≡ true → has_pair (and_beside pairs beside) pair ≡ false
+    → nat_lt (length (and_beside pairs beside)) 256 ≡ true → IsContext (and_beside pairs beside) → IsContext (pairs ++ pair ∷ [])
+context_beside pairs None pair empty new few h = context_push pairs pair h new (ltb-true _ _ few)
+context_beside pairs (Some other) pair empty new few h = absurd cc

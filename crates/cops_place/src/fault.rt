@@ -1,0 +1,12 @@
+//! Why data centres and splits make no place.
+
+use thiserror::Error;
+
+/// Why no place was made. The numbers are the faults' codes.
+#[derive(Clone, Copy, Debug, PartialEq, Eq, Error)]
+pub enum PlaceFault {
+    #[error("there are not 1 to 16 data centres, or more than 63 split keys")]
+    BadCount = 1,
+    #[error("a split key is not above the one before it")]
+    SplitsNotAscending = 2,
+}
