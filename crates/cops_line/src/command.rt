@@ -6,11 +6,10 @@ ghost use Rattle.cops_line.specs.Commands.{positional, cops_top, cops_app, audit
 use clap::{Arg, ArgAction, Command};
 use std::alloc::{AllocError, Global};
 
-const ABOUT: &str =
-    "A key-value store spread over data centres, and the auditor that judges recorded histories";
+const ABOUT: &str = "An auditor of the histories that the clients of a key-value store recorded";
 
 const LONG_ABOUT: &str = "\
-A key-value store spread over data centres, and the auditor that judges recorded histories.
+An auditor of the histories that the clients of a key-value store recorded.
 
 A trace is a file that records what each client of a store put and got. The auditor accepts it
 where the history in it is causally convergent, and else names the operations at fault.
