@@ -3,14 +3,18 @@
 
 Prints a line for each test that fails, and at the end `N passed, M failed`.
 """
+import json
 import os
+import random
 import resource
 import subprocess
 import sys
 import tempfile
 
 ROOT = os.path.dirname(os.path.dirname(os.path.abspath(__file__)))
-sys.path.insert(0, os.path.join(ROOT, "examples"))
+sys.dont_write_bytecode = True
+sys.path[:0] = [os.path.join(ROOT, "examples"), os.path.join(ROOT, "bench")]
+from events import scenario  # noqa: E402
 from write_trace import trace  # noqa: E402
 
 passed, failed = 0, 0
@@ -156,12 +160,177 @@ def shown():
     check("show, other bytes in a key", cops("show", "-", stdin=key), (2, text, b""))
 
 
+SCENARIOS = [
+    (
+        "newer_put_elsewhere",
+        "done 1.0, done 2.0, done 3.0, done 1.64, done 2.64, held, settled, held, yes, marked, settled, held, wait, missed, "
+        "held, settled, held, yes, marked, settled, yes, marked, settled, got 3.0, got 2.64, got 1.0",
+        "accepted: 9 operations, 5 puts\n",
+    ),
+    (
+        "two_versions_of_a_key",
+        "done 1.0, done 2.0, done 1.64, done 2.64, got 2.0, held, settled, held, yes, marked, settled, got 2.64, done 3.0, "
+        "held, settled, held, yes, marked, settled, held, wait, yes, marked, refused 7, refused 8",
+        "accepted: 7 operations, 5 puts\n",
+    ),
+    (
+        "repeated_delivery",
+        "done 1.0, done 2.0, done 3.0, done 1.64, done 2.64, held, settled, held, yes, marked, settled, held, repeat, repeat, "
+        "wait, missed, held, settled, held, yes, marked, settled, yes, marked, settled, repeat, got 3.0, got 2.64, got 1.0",
+        "accepted: 9 operations, 5 puts\n",
+    ),
+]
+
+
+def ran(text):
+    """What `cops run` of the scenario answers, and the trace that it writes."""
+    with tempfile.NamedTemporaryFile(suffix=".trace") as file:
+        answer = cops("run", "-", file.name, stdin=text)
+        return answer, file.read()
+
+
+def scenarios():
+    for name, outcomes, report in SCENARIOS:
+        lines = "".join(f"{n} {outcome}\n" for n, outcome in enumerate(outcomes.split(", "))) + report
+        answer, recorded = ran(example(f"{name}.json"))
+        check(f"run of {name}", answer, (0, lines.encode(), b""))
+        check(f"audit of {name}", cops("audit", "-", stdin=recorded), (0, report.encode(), b""))
+        path = os.path.join(ROOT, "examples", f"{name}.json")
+        with tempfile.NamedTemporaryFile(suffix=".trace") as file:
+            check(f"run of {name}, by file", cops("run", path, file.name), (0, lines.encode(), b""))
+            check(f"trace of {name}, by file", file.read(), recorded)
+
+
+def events(*given, data_centres=1, clients=({"at": 0},), **more):
+    return json.dumps({"data_centres": data_centres, "clients": list(clients), "events": list(given), **more}).encode()
+
+
+def outcomes_of(*given, **more):
+    """The outcomes of a scenario's events, without the report."""
+    (status, out, err), _ = ran(events(*given, **more))
+    lines = out.decode().split("\n")[: len(given)]
+    return status, [line.split(" ", 1)[1] for line in lines], err
+
+
+def refusals():
+    put, get = {"put": [0, "x", "1"]}, {"get": [0, "x"]}
+    two = {"data_centres": 2, "clients": ({"at": 0}, {"at": 1})}
+    deliver = {"deliver": [1, "1.0"]}
+    cases = [
+        ("no such client", [{"put": [1, "x", "1"]}, {"get": [65535, "x"]}], {}, ["refused 3", "refused 3"]),
+        ("no such data centre", [put, {"deliver": [1, "1.0"]}, {"ask": [255, "x", "1.0"]}], {}, ["done 1.0", "refused 10", "refused 10"]),
+        ("nor there", [{"mark": [1, "1.0", 0]}, {"settle": [1, "1.0"]}], {}, ["refused 10", "refused 10"]),
+        ("never sent", [put, {"deliver": [1, "2.0"]}], two, ["done 1.0", "refused 4"]),
+        ("not held", [put, {"mark": [1, "1.0", 0]}, {"settle": [1, "1.0"]}], two, ["done 1.0", "refused 5", "refused 5"]),
+        ("no such node", [put, {"mark": [1, "1.5", 0]}, {"settle": [1, "1.5"]}], two, ["done 1.0", "refused 5", "refused 5"]),
+        ("no such dependency", [put, deliver, {"mark": [1, "1.0", 0]}], two, ["done 1.0", "held", "refused 6"]),
+        (
+            "no yes, and dependencies open",
+            [put, {"put": [0, "y", "2"]}, {"deliver": [1, "2.0"]}, {"mark": [1, "2.0", 0]}, {"settle": [1, "2.0"]}],
+            two,
+            ["done 1.0", "done 2.0", "held", "refused 7", "refused 8"],
+        ),
+        (
+            "a full context",
+            [{"put": [0, f"k{n}", "1"]} for n in range(257)] + [{"get": [1, f"k{n}"]} for n in range(257)] + [{"put": [1, "a", ""]}, {"get": [1, "k0"]}],
+            {"clients": ({"at": 0}, {"at": 0})},
+            [f"done {n + 1}.0" for n in range(257)] + [f"got {n + 1}.0" for n in range(256)] + ["refused 2", "done 258.0", "got 1.0"],
+        ),
+    ]
+    for name, given, more, wanted in cases:
+        check(f"refusal: {name}", outcomes_of(*given, **more), (0, wanted, b""))
+    split = {"splits": ["g", "p"]}
+    given = [{"put": [0, key, ""]} for key in ("a", "g", "o", "p", "z")]
+    check("places of keys", outcomes_of(*given, **split), (0, ["done 1.0", "done 2.1", "done 3.1", "done 4.2", "done 5.2"], b""))
+    check("a get of an empty value", outcomes_of({"put": [0, "x", ""]}, get), (0, ["done 1.0", "got 1.0"], b""))
+
+
+def faulty_scenarios():
+    whole = {"data_centres": 2, "clients": [{"at": 0}], "events": []}
+
+    def field(name, wanted, **changes):
+        changed = {key: value for key, value in {**whole, **changes}.items() if value != "missing"}
+        text = f"faulty: scenario field {wanted}\n".encode()
+        check(f"scenario, {name}", ran(json.dumps(changed).encode()), ((2, text, b""), b""))
+
+    for value in ("missing", 0, 17, -1, 1.5, "2", None, [2]):
+        field(f"data centres {value}", "data_centres", data_centres=value)
+    for value in (None, "g", [""], ["k" * 65], ["b", "a"], ["a", "a"], [1], [chr(256 + n) for n in range(64)]):
+        field(f"splits {value}", "splits", splits=value)
+    for value in (0, 1025, None, 2.0, "16"):
+        field(f"link {value}", "link", link=value)
+    for value in (0, 1_000_000_001, None):
+        field(f"turns {value}", "turns", turns=value)
+    bad_clients = ("missing", None, {}, [1], [{}], [{"at": 2}], [{"at": -1}], [{"at": 0}] * 65, [{"at": 0, "script": None}])
+    for value in bad_clients:
+        field(f"clients {str(value)[:40]}", "clients", clients=value)
+    for operation in ({"put": ["x"]}, {"put": ["x", "1", "2"]}, {"get": ["x"]}, {"get": ""}, {"del": "x"}, {"get": "x", "put": ["x", "1"]}, {}, 1):
+        field(f"script with {operation}", "clients", clients=[{"at": 0, "script": [operation]}])
+    long_script = [{"at": 0, "script": [{"get": "x"}] * 10_001}]
+    field("a long script", "clients", clients=long_script)
+    for event in (
+        {"put": [0, "x"]}, {"put": [65536, "x", "1"]}, {"get": "x"}, {"get": [0, "x", 1]}, {"deliver": [256, "1.0"]}, {"deliver": [0, "0.0"]},
+        {"deliver": [0, "1"]}, {"deliver": [0, "01.0"]}, {"deliver": [0, "1.00"]}, {"deliver": [0, "1.1024"]}, {"deliver": [0, "+1.0"]},
+        {"deliver": [0, "281474976710656.0"]}, {"ask": [0, "", "1.0"]}, {"mark": [0, "1.0", 65536]}, {"settle": ["0", "1.0"]},
+        {"put": [0, "x", "v" * 4097]}, {"stop": []}, {}, [], {"get": [0, "x"], "put": [0, "x", "1"]},
+    ):
+        field(f"event {str(event)[:40]}", "events", events=[event])
+    for value in ("missing", None, {}, [{"get": [0, "x"]}] * 100_001):
+        field(f"events {str(value)[:40]}", "events", events=value)
+    field("a script beside events", "events", clients=[{"at": 0, "script": []}])
+    field("the first of two", "splits", splits=0, link=0)
+    for text in (b"[]", b"1", b"null"):
+        check(f"scenario {text}", ran(text), ((2, b"faulty: scenario field root\n", b""), b""))
+    for name, text in (("no bytes", b""), ("not UTF-8", b'"\xff"'), ("cut", b"{"), ("too deep", b"[" * 128 + b"]" * 128), ("two values", b"{} {}")):
+        check(f"scenario, {name}", ran(text), ((2, b"faulty: scenario is not JSON\n", b""), b""))
+    check("scenario of 100 MB", ran(b" " * 100_000_000), ((2, b"faulty: scenario is not JSON\n", b""), b""))
+    for digits, words in ((30, b"field data_centres"), (400, b"is not JSON")):
+        text = b'{"data_centres":' + b"9" * digits + b"}"
+        check(f"a number of {digits} digits", ran(text), ((2, b"faulty: scenario " + words + b"\n", b""), b""))
+    check("unknown members", ran(events({"get": [0, "x"]}, colour="blue", clients=({"at": 0, "name": "a"},)))[0], (0, b"0 missed\naccepted: 1 operations, 0 puts\n", b""))
+    check("of a member that stands twice, the last", ran(b'{"data_centres":0,"data_centres":1,"clients":[],"events":[]}')[0], (0, b"accepted: 0 operations, 0 puts\n", b""))
+
+
+def random_events(seed, count, data_centres=3, clients=6):
+    """So many events that a cluster could meet, in an order of no sense."""
+    pick = random.Random(seed)
+    keys, versions = [f"k{n}" for n in range(5)], ["1.0"]
+    made, clocks = [], [0] * data_centres
+    for _ in range(count):
+        dc, client = pick.randrange(data_centres), pick.randrange(clients)
+        kind = pick.randrange(6)
+        if kind == 0:
+            made.append({"put": [client, pick.choice(keys), str(len(made))]})
+            clocks[client % data_centres] += 1
+            versions.append(f"{max(clocks)}.{64 * (client % data_centres)}")
+        elif kind == 1:
+            made.append({"get": [client, pick.choice(keys)]})
+        else:
+            version = pick.choice(versions[-12:])
+            made.append([{"deliver": [dc, version]}, {"ask": [dc, pick.choice(keys), version]}, {"mark": [dc, version, pick.randrange(3)]}, {"settle": [dc, version]}][kind - 2])
+    return events(*made, data_centres=data_centres, clients=[{"at": n % data_centres} for n in range(clients)])
+
+
+def random_scenarios():
+    """Event lists of no sense, and event lists of a working cluster, where nothing is refused: all are accepted."""
+    for seed in range(100):
+        (status, out, err), recorded = ran(random_events(seed, 300))
+        report = out.decode().split("\n")[-2]
+        check(f"random events {seed}", (status, report.split(":")[0], err), (0, "accepted", b""))
+        check(f"their trace {seed}", cops("audit", "-", stdin=recorded), (0, report.encode() + b"\n", b""))
+    for seed in range(20):
+        (status, out, err), recorded = ran(scenario(500, keys=4, seed=seed).encode())
+        report = out.decode().split("\n")[-2]
+        check(f"a working cluster {seed}", (status, report.split(":")[0], b"refused" in out, b"wait" in out), (0, "accepted", False, False))
+        check(f"its trace {seed}", cops("audit", "-", stdin=recorded), (0, report.encode() + b"\n", b""))
+
+
 def words():
     path = os.path.join(ROOT, "examples", "empty.trace")
-    for given in (["audit"], ["audit", b"\xff"], [b"\xff"], ["nothing"], ["audit", path, "more"], ["audit", "--nothing", path], ["show"], ["run", "a", "b"]):
+    for given in (["audit"], ["audit", b"\xff"], [b"\xff"], ["nothing"], ["audit", path, "more"], ["audit", "--nothing", path], ["show"], ["run", "a"], ["judge", "a", "b"]):
         status, out, err = cops(*given)
         check(f"usage of {given}", (status, out, err != b""), (2, b"", True))
-    for given in (["--help"], ["audit", "--help"], ["show", "--help"], ["help"]):
+    for given in (["--help"], ["audit", "--help"], ["show", "--help"], ["run", "--help"], ["help"]):
         status, out, err = cops(*given)
         check(f"help of {given}", (status, b"Usage: cops" in out, err), (0, True, b""))
 
@@ -174,6 +343,13 @@ def devices():
     for command in ("audit", "show"):
         with open("/dev/full", "wb") as full:
             check(f"{command} to a full device", cops(command, path, stdout=full), (4, None, b"failed: write\n"))
+    events_file = os.path.join(ROOT, "examples", "newer_put_elsewhere.json")
+    check("no such scenario", cops("run", "/nothing/there", "/tmp/none.trace"), (4, b"", b"failed: open\n"))
+    check("a trace in no folder", cops("run", events_file, "/nothing/there"), (4, b"", b"failed: open\n"))
+    check("a scenario that is a folder", cops("run", ROOT, "/dev/null"), (4, b"", b"failed: read\n"))
+    check("a trace to a full device", cops("run", events_file, "/dev/full"), (4, b"", b"failed: write\n"))
+    with open("/dev/full", "wb") as full:
+        check("a run to a full device", cops("run", events_file, "/dev/null", stdout=full), (4, None, b"failed: write\n"))
 
 
 def generated():
@@ -209,7 +385,9 @@ def little_memory():
     check("the most memory is enough", answers[-1], enough)
 
 
-for tests in (examples, long_chain, faults, shown, words, devices, generated, little_memory):
+for tests in (
+    examples, long_chain, faults, shown, scenarios, refusals, faulty_scenarios, random_scenarios, words, devices, generated, little_memory,
+):
     tests()
 print(f"{passed} passed, {failed} failed")
 sys.exit(1 if failed else 0)

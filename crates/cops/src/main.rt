@@ -7,7 +7,7 @@ ghost use Rattle.cops_stream.specs.Audit.{SpellsConvergent};
 ghost use Rattle.cops.specs.Status.{status_of};
 
 use cops_line::{Job, LineFault, line};
-use cops_stream::{Answer, StreamFault, audit_stream, show_stream};
+use cops_stream::{Answer, StreamFault, audit_stream, run_stream, show_stream};
 use cops_types::{Counted, Memory};
 use std::alloc::AllocError;
 use std::fs::File;
@@ -75,15 +75,36 @@ where
     }
 }
 
+/// Runs the scenario that the input holds, and writes its trace to the file of that name.
+fn run_scenario<R, I, E>(rt: &R, input: I, trace: &str, errors: E) -> u8
+where
+    R: Files + Print + Eprint + AllocGlobal,
+    I: Read + Drop,
+    E: Write + Drop,
+{
+    let Ok(file) = File::create(rt, trace) else {
+        return failed(rt, "open", FAILED);
+    };
+    let mut reader = Counted::new(input);
+    let mut trace = Counted::new(file);
+    let mut out = Counted::new(io::writer(rt));
+    let mut errors = Counted::new(errors);
+    match run_stream(rt.alloc(), &mut reader, &mut trace, &mut out, &mut errors) {
+        Ok(status) => status,
+        Err(Memory) => failed(rt, "memory", NO_MEMORY),
+    }
+}
+
 fn command<R, I, E>(rt: &R, job: Job<'_>, input: I, errors: E) -> u8
 where
-    R: Print + Eprint + AllocGlobal,
+    R: Files + Print + Eprint + AllocGlobal,
     I: Read + Drop,
     E: Write + Drop,
 {
     match job {
         Job::Audit { .. } => audit(rt, input),
         Job::Show { .. } => show(rt, input, errors),
+        Job::Run { trace, .. } => run_scenario(rt, input, trace, errors),
     }
 }
 
@@ -93,11 +114,16 @@ where
     R: Files + Input + Print + Eprint + AllocGlobal,
     E: Write + Drop,
 {
-    let (Job::Audit { trace } | Job::Show { trace }) = job;
-    if trace == "-" {
+    let (Job::Audit { trace: input }
+    | Job::Show { trace: input }
+    | Job::Run {
+        scenario: input,
+        ..
+    }) = job;
+    if input == "-" {
         return command(rt, job, rt.reader(), errors);
     }
-    match File::open(rt, trace) {
+    match File::open(rt, input) {
         Ok(file) => command(rt, job, file, errors),
         Err(_) => failed(rt, "open", FAILED),
     }

@@ -5,11 +5,12 @@ use Rattle.cops_types.specs.declared.op.OpName.{OpName}
 use Rattle.cops_types.specs.Histories.{Sessions, IsNamed, SourceStep, Step, Past, step, more}
 use Rattle.cops_types.specs.Faults.{IsNewer, IsStale}
 use Rattle.cops_types.specs.Recorded.{IsWithinLimits}
-use Rattle.cops_types.specs.Verdicts.{AllAbove, AllHaveSources}
+use Rattle.cops_types.specs.Verdicts.{AllAbove}
+use Rattle.cops_audit.specs.SoFar.{HaveSourcesOrWait}
 use Rattle.cops_audit.specs.declared.table.VersionedPut.{VersionedPut}
 use Rattle.cops_audit.specs.declared.notes.Note.{Note}
 use Rattle.cops_audit.specs.declared.notes.Seen.{Seen}
-use Rattle.cops_audit.specs.declared.notes.Seen.TheVariants.{Put, Got}
+use Rattle.cops_audit.specs.declared.notes.Seen.TheVariants.{Put, Got, Sourceless}
 use Rattle.cops_audit.specs.declared.window.Suspect.{Suspect}
 use Rattle.cops_audit.specs.Keys.{AreFirsts, OnKey}
 use Rattle.cops_audit.specs.Notes.{AreMarks, IsNoted, StandsAt, note_at}
@@ -49,7 +50,7 @@ module _ (h : Sessions) (table : List VersionedPut) (t : IsVersionTable h table)
       let session = session_of h table notes noted n note at in
       slice_get_there (slice_index_or h n.client []) n.index (omega (arith, session.whole, slice_get_inside (slice_index_or notes n.client []) n.index note at))
 
-  module _ (sources : AllHaveSources h) where
+  module _ (sources : HaveSourcesOrWait h) where
     -- the note on a put that stands at a place
     put_noted : (place : ℕ) (put : OpName) (version : ℕ) → StandsAt table place put version → (note : Note) × (note_at notes put ≡ Some note) × (note.seen ≡ Put place)
     put_noted place put version stands_at =
@@ -66,6 +67,7 @@ module _ (h : Sessions) (table : List VersionedPut) (t : IsVersionTable h table)
           (n.0.mark, n.1 ∙ ap (λ (s : Seen). Some (let x : Note = record { seen = s; mark = n.0.mark } in x)) n.2, put_mark h table t notes noted sources above_all put n.0 place n.1 n.2);
       seen_puts = λ name place mark at. let s = says h table t notes noted name (record { seen = Put place; mark = mark }) at in (s.0, s.2);
       seen_gets = λ name place mark at. let s = says h table t notes noted name (record { seen = Got place; mark = mark }) at in (s.0, s.1, s.2);
+      seen_sourceless = λ name place mark at. (says h table t notes noted name (record { seen = Sourceless place; mark = mark }) at).1.inside;
       small = λ name note at.
           let session = session_of h table notes noted name note at in
           omega (arith, slice_get_inside (slice_index_or notes name.client []) name.index note at, session.whole, limits.each name.client);
@@ -89,7 +91,7 @@ module _ (h : Sessions) (table : List VersionedPut) (t : IsVersionTable h table)
         let at_a = note_there h table notes noted a (_, s.put) in
         let at_b = note_there h table notes noted b (_, s.got) in
         let put = seen_put h table a s.version at_a.0.seen (says h table t notes noted a at_a.0 at_a.1) (s.key, s.value, s.put) in
-        let got = seen_got h table b s.version at_b.0.seen (sources b) (says h table t notes noted b at_b.0 at_b.1) (s.key, s.value, s.got) in
+        let got = seen_got h table b s.version at_b.0.seen (λ f. f.none a s) (says h table t notes noted b at_b.0 at_b.1) (s.key, s.value, s.got) in
         let same : put.0 ≡ got.0 = same_place table t.rising put.0 got.0 a got.1 s.version put.2 got.3 in
         inr (got.0, s.version, at_b.0.mark, subst (λ (p : ℕ). StandsAt table p a s.version) same put.2, at_b.1 ∙ ap (λ (x : Seen). Some (let y : Note = record { seen = x; mark = at_b.0.mark } in y)) got.2)
 
@@ -135,7 +137,7 @@ module _ (h : Sessions) (table : List VersionedPut) (t : IsVersionTable h table)
       let same : there.0 ≡ first = omega (arith, a.least first b.on_key, b.least there.0 a.on_key) in
       there.1 ∙ ap (λ (x : ℕ). Some x) same
 
-  module _ (notes : List (List Note)) (noted : IsNoted h table notes) (sources : AllHaveSources h) (s : Suspect) (is : IsSuspect h table s) where
+  module _ (notes : List (List Note)) (noted : IsNoted h table notes) (sources : HaveSourcesOrWait h) (s : Suspect) (is : IsSuspect h table s) where
     later_place : (q : OpName) (w : ℕ) → IsNewer h s.op q w → (place : ℕ) × StandsAt table place q w × (s.from ≤ place) × (slice_get firsts place ≡ Some s.first) × NotePast table notes q s.op
     later_place q w f =
         let at = stands_for h table t.table q w (f.key, f.put.0, f.put.1) in

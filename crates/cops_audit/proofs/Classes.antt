@@ -6,6 +6,7 @@ use Rattle.cops_types.specs.declared.op.OpName.{OpName}
 use Rattle.cops_types.specs.Histories.{Sessions, IsNamed}
 use Rattle.cops_types.specs.Faults.{HasNoSource, IsDoubled, IsNotAbove, IsStale, Lists}
 use Rattle.cops_types.specs.Verdicts.{AllHaveSources, NoneDoubled}
+use Rattle.cops_audit.specs.SoFar.{HaveSourcesOrWait}
 use Rattle.cops_audit.specs.declared.table.VersionedPut.{VersionedPut}
 use Rattle.cops_audit.specs.declared.notes.Note.{Note}
 use Rattle.cops_audit.specs.declared.verdict.NotAbove.{NotAbove}
@@ -19,6 +20,10 @@ use Rattle.cops_audit.proofs.Collect.{among_all, among_none, among_same, get_or-
 use Rattle.cops_audit.proofs.PastOrder.{past_to}
 use Rattle.cops_audit.proofs.Places.{doubled_by_neighbour, neighbour_of_doubled, place_of_put, put_at}
 use Rattle.cops_audit.proofs.Reading.{above_same, sourceless_same}
+
+-- where each get has a source, none waits
+pub sourced_wait : (h : Sessions) → AllHaveSources h → HaveSourcesOrWait h
+sourced_wait h sources n f = absurd (sources n f)
 
 -- an operation of a suspect
 op_listed : (suspects : List Suspect) (s : Suspect) → Contains suspects s → Contains (map (λ (x : Suspect). x.op) suspects) s.op
@@ -62,7 +67,7 @@ module _ (h : Sessions) (names : List OpName) (all : Lists (λ n. n) (IsNamed h)
     sourceless_listed faults lists = among_all (λ n. n) (HasNoSource h) names faults
         (among_same (λ n. n) (IsSourceless notes) (HasNoSource h) names faults (sourceless_same h table t notes noted) lists) (λ x f. (all.members x).1 (_, f.got))
 
-    pub above_listed : AllHaveSources h → (faults : List NotAbove) → ListsAmong (λ f. f.op) (λ f. SeesNotAbove notes f.op f.earlier) names faults → Lists (λ f. f.op) (λ f. IsNotAbove h f.op f.earlier) faults
+    pub above_listed : HaveSourcesOrWait h → (faults : List NotAbove) → ListsAmong (λ f. f.op) (λ f. SeesNotAbove notes f.op f.earlier) names faults → Lists (λ f. f.op) (λ f. IsNotAbove h f.op f.earlier) faults
     above_listed sources faults lists = among_all (λ f. f.op) (λ f. IsNotAbove h f.op f.earlier) names faults
         (among_same (λ f. f.op) (λ f. SeesNotAbove notes f.op f.earlier) (λ f. IsNotAbove h f.op f.earlier) names faults (λ x. above_same h table t notes noted sources x.op x.earlier) lists)
         (λ x f. (all.members x.op).1 (_, f.is_not_below.put.2))

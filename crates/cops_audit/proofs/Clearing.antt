@@ -4,7 +4,8 @@ use Rattle.std.specs.Option.{IfNone}
 use Rattle.cops_types.specs.declared.op.OpName.{OpName}
 use Rattle.cops_types.specs.Histories.{Sessions, IsMissed, PutsVersion}
 use Rattle.cops_types.specs.Faults.{IsNewer}
-use Rattle.cops_types.specs.Verdicts.{AllAbove, AllHaveSources}
+use Rattle.cops_types.specs.Verdicts.{AllAbove}
+use Rattle.cops_audit.specs.SoFar.{HaveSourcesOrWait}
 use Rattle.cops_audit.specs.declared.table.VersionedPut.{VersionedPut}
 use Rattle.cops_audit.specs.declared.notes.Note.{Note}
 use Rattle.cops_audit.specs.declared.notes.Seen.{Seen}
@@ -15,7 +16,7 @@ use Rattle.cops_audit.specs.Windows.{NoneWithin}
 use Rattle.cops_audit.proofs.Noting.{note_there}
 use Rattle.cops_audit.proofs.PastMarks.{mark_is, past_mark}
 use Rattle.cops_audit.proofs.Places.{place_of_put, same_place}
-use Rattle.cops_audit.proofs.Reading.{missed_gets_nothing, missed_puts_nothing, says, seen_got, seen_put}
+use Rattle.cops_audit.proofs.Reading.{missed_gets_nothing, missed_puts_nothing, says, seen_get, seen_put}
 use Rattle.cops_audit.proofs.Unique.{stands}
 
 -- where a put stands
@@ -33,9 +34,9 @@ seen_missed : (h : Sessions) (table : List VersionedPut) (n : OpName) (k : List 
 seen_missed h table n k (Put p) s missed = absurd (missed_puts_nothing h n k s.0 missed s.1)
 seen_missed h table n k (Got p) s missed = absurd (missed_gets_nothing h n k s.1 missed s.3)
 seen_missed h table n k Missed s missed = refl
-seen_missed h table n k Sourceless s missed = absurd (missed_gets_nothing h n k s.version missed (s.key, s.value, s.got))
+seen_missed h table n k (Sourceless p) s missed = absurd (missed_gets_nothing h n k s.0.version missed (s.0.key, s.0.value, s.0.got))
 
-module _ (h : Sessions) (table : List VersionedPut) (t : IsVersionTable h table) (notes : List (List Note)) (noted : IsNoted h table notes) (sources : AllHaveSources h) (above_all : AllAbove h) (op : OpName) where
+module _ (h : Sessions) (table : List VersionedPut) (t : IsVersionTable h table) (notes : List (List Note)) (noted : IsNoted h table notes) (sources : HaveSourcesOrWait h) (above_all : AllAbove h) (op : OpName) where
   -- a put in the past of an operation stands below its mark
   pub below_mark : (note : Note) → note_at notes op ≡ Some note → (q : OpName) (w : ℕ) (f : IsNewer h op q w) (place : ℕ) → StandsAt table place q w → place < note.mark
   below_mark note at q w f place stands_q =
@@ -53,9 +54,9 @@ module _ (h : Sessions) (table : List VersionedPut) (t : IsVersionTable h table)
       omega (arith, below_mark note at q w f place.0 place.1, none place.0 q w place.1 (f.key, f.put, f.returned))
 
   -- what returned nothing is not stale
-  pub no_get : (note : Note) → note_at notes op ≡ Some note → ((p : ℕ) → ¬ (note.seen ≡ Got p)) → ¬ (note.seen ≡ Missed) → (q : OpName) (w : ℕ) → ¬ IsNewer h op q w
-  no_get note at not_got not_missed q w f = elim f.returned [
-    | inl g ↦ let r = seen_got h table op g.1 note.seen (sources op) (says h table t notes noted op note at) (f.key, g.0, g.2) in not_got r.0 r.2
+  pub no_get : (note : Note) → note_at notes op ≡ Some note → ((p : ℕ) → ¬ (note.seen ≡ Got p)) → ((p : ℕ) → ¬ (note.seen ≡ Sourceless p)) → ¬ (note.seen ≡ Missed) → (q : OpName) (w : ℕ) → ¬ IsNewer h op q w
+  no_get note at not_got not_sourceless not_missed q w f = elim f.returned [
+    | inl g ↦ elim (seen_get h table op g.1 note.seen (says h table t notes noted op note at) (f.key, g.0, g.2)) [ inl r ↦ not_got r.0 r.1 | inr r ↦ not_sourceless r.0 r.1 ]
     | inr missed ↦ not_missed (seen_missed h table op f.key note.seen (says h table t notes noted op note at) missed)
   ]
 

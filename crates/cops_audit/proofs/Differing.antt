@@ -12,6 +12,15 @@ pub before_differs : (a b : OpName) → IsBefore a b → a ≢ b
 before_differs a b (inl less) same = omega (arith, less, ap (λ (x : OpName). x.client) same)
 before_differs a b (inr less) same = omega (arith, less.1, ap (λ (x : OpName). x.index) same)
 
+pub name_cases : (a b : OpName) → (a ≡ b) ⊎ (a ≢ b)
+name_cases a b = by_cases (eqb_tells a.client b.client) (eqb_tells a.index b.index)
+  where
+    by_cases : ((eqb a.client b.client ≡ true) × (a.client ≡ b.client)) ⊎ ((eqb a.client b.client ≡ false) × (a.client ≢ b.client))
+        → ((eqb a.index b.index ≡ true) × (a.index ≡ b.index)) ⊎ ((eqb a.index b.index ≡ false) × (a.index ≢ b.index)) → (a ≡ b) ⊎ (a ≢ b)
+    by_cases (inl c) (inl i) = inl (same_name a b c.1 i.1)
+    by_cases (inl c) (inr i) = inr (λ e. i.1 (ap (λ (x : OpName). x.index) e))
+    by_cases (inr c) i = inr (λ e. c.1 (ap (λ (x : OpName). x.client) e))
+
 is_same : OpName → OpName → Bool
 is_same a b = eqb a.client b.client && eqb a.index b.index
 

@@ -1,13 +1,14 @@
 -- Gets and their sources in a table of puts in order of versions.
-use Rattle.std.proofs.Common.{◌≡◌, ◌<◌, ℕ, List, get_or, length, Some, sym, ◌∙◌, ap, subst}
+use Rattle.std.proofs.Common.{◌≡◌, ◌<◌, ◌≤◌, ℕ, List, get_or, length, Some, sym, ◌∙◌, ap, subst, inl, inr, arith}
+use Rattle.std.proofs.Math.Nat.{eq-or-lt_of_le}
 use Rattle.cops_types.specs.declared.op.Op.TheVariants.{Got}
 use Rattle.cops_types.specs.declared.op.OpName.{OpName}
 use Rattle.cops_types.specs.Histories.{Sessions, PutsVersion, SourceStep}
 use Rattle.cops_types.specs.Faults.{HasNoSource}
 use Rattle.cops_audit.specs.declared.table.VersionedPut.{VersionedPut}
 use Rattle.cops_audit.specs.Tables.{GetsVersion, IsVersionTable}
-use Rattle.cops_audit.specs.Notes.{StandsAt}
-use Rattle.cops_audit.proofs.Places.{place_for, place_of_put}
+use Rattle.cops_audit.specs.Notes.{Divides, StandsAt}
+use Rattle.cops_audit.proofs.Places.{inside_table, place_for, place_of_put, same_put_at, version_at, version_rises}
 
 -- a get has one version
 pub one_get_version : (h : Sessions) (got : OpName) (v w : ℕ) → GetsVersion h got v → GetsVersion h got w → v ≡ w
@@ -33,4 +34,30 @@ sourceless h table t got v gets none = record {
       let at = place_of_put h table t.table put v (subst (PutsVersion h put) (one_get_version h got s.version v (s.key, s.value, s.got) gets) (s.key, s.value, s.put)) in
       let d : VersionedPut = record { version = v; name = put } in
       none at.0 d at.1 (ap (λ (q : VersionedPut). q.version) (at.2 d));
+}
+
+-- it has no source, and its version divides the puts where a search says so
+pub sourceless_at : (h : Sessions) (table : List VersionedPut) (t : IsVersionTable h table) (got : OpName) (v : ℕ) → GetsVersion h got v
+    → ((k : ℕ) (d : VersionedPut) → k < length table → ¬ ((get_or table k d).version ≡ v)) → (place : ℕ) → Divides table place v → (f : HasNoSource h got) × Divides table place f.version
+unfolding sourceless
+sourceless_at h table t got v gets none place divides = (sourceless h table t got v gets none, divides)
+
+-- a put's place divides the puts by its version
+pub divides_at : (h : Sessions) (table : List VersionedPut) → IsVersionTable h table → (place : ℕ) (put : OpName) (version : ℕ) → StandsAt table place put version → Divides table place version
+divides_at h table t place put version at = record {
+  inside = let l : place < length table = inside_table table place put version at in omega (arith, l);
+  before = λ k q own at_k less. version_rises table t.rising k place q put own version at_k at less;
+  from = λ k q own at_k le. elim (eq-or-lt_of_le le) [
+    | inl same ↦ let e = (same_put_at table t.rising place put q version own at (subst (λ (j : ℕ). StandsAt table j q own) (sym same) at_k)).1 in omega (arith, e)
+    | inr less ↦ let l : version < own = version_rises table t.rising place k put q version own at at_k less in omega (arith, l)
+  ];
+}
+
+-- a place that a search among the versions gave divides them
+pub divides_found : (table : List VersionedPut) (place version : ℕ) → place ≤ length table → ((k : ℕ) (d : VersionedPut) → k < place → (get_or table k d).version < version)
+    → ((k : ℕ) (d : VersionedPut) → place ≤ k → k < length table → version ≤ (get_or table k d).version) → Divides table place version
+divides_found table place version le low high = record {
+  inside = le;
+  before = λ k put own at less. let e = version_at table k put own at in let l = low k (record { version = own; name = put }) less in omega (arith, l, e);
+  from = λ k put own at le'. let e = version_at table k put own at in let l = high k (record { version = own; name = put }) le' (inside_table table k put own at) in omega (arith, l, e);
 }

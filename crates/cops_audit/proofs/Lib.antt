@@ -19,6 +19,7 @@ pub mod Crossing
 pub mod Reading
 pub mod TallyLemmas
 pub mod Linking
+pub mod Passing
 pub mod PastMarks
 pub mod Suspecting
 pub mod Clearing
@@ -34,3 +35,5 @@ pub mod Classes
 pub mod Searching
 pub mod Counting
 pub mod Finding
+pub mod Continuing
+pub mod Lasting

@@ -1,6 +1,9 @@
 -- Notes on a session, one operation after the other.
-use Rattle.std.proofs.Common.{◌≡◌, ◌<◌, ◌≤◌, ◌+◌, ℕ, zero, suc, List, [], ◌∷◌, ◌++◌, length, get_or, map, length-append, Some, refl, sym, ◌∙◌, ap, subst, inl, inr, arith, slice_get, slice_index_or}
+use Rattle.std.proofs.Common.{◌≡◌, ◌≢◌, ◌<◌, ◌≤◌, ◌+◌, ◌-◌, ℕ, zero, suc, List, [], ◌∷◌, ◌++◌, length, get_or, map, length-append, Some, refl, sym, ◌∙◌, ap, subst, inl, inr, arith, slice_get, slice_index_or, slice_set}
+use Rattle.std.proofs.Math.ListN.{length-set}
 use Rattle.std.proofs.Math.Nat.{eq-or-lt_of_le}
+use Rattle.std.proofs.lemmas.Bool.{cases_order}
+use Rattle.std.proofs.lemmas.List.{length-map}
 use Rattle.cops_types.specs.declared.op.OpName.{OpName}
 use Rattle.cops_types.specs.Histories.{Sessions, IsNamed}
 use Rattle.cops_audit.specs.declared.table.VersionedPut.{VersionedPut}
@@ -8,9 +11,10 @@ use Rattle.cops_audit.specs.declared.notes.Note.{Note}
 use Rattle.cops_audit.specs.declared.notes.Seen.{Seen}
 use Rattle.cops_audit.specs.declared.notes.Seen.TheVariants.{Put, Got, Missed, Sourceless}
 use Rattle.cops_audit.specs.Tables.{IsVersionTable}
-use Rattle.cops_audit.specs.Notes.{above, IsMark, IsNoted, IsSeen, IsSessionNoted, note_at}
+use Rattle.cops_audit.specs.Notes.{above, AreFrontsNoted, AreLongEnough, AreMarks, IsFrontNoted, IsMark, IsNoted, IsSeen, IsSessionNoted, note_at}
 use Rattle.cops_audit.proofs.Listing.{named_client, named_index, slice_get_there}
 use Rattle.cops_audit.proofs.Places.{inside_table}
+use Rattle.cops_audit.proofs.Unique.{stands}
 use Rattle.cops_audit.proofs.Marks.{mark_kept, mark_none, mark_rises, mark_stays, slice_get_push, slice_get_inside}
 
 -- places are below the greatest number of puts
@@ -18,7 +22,7 @@ pub few_places : (h : Sessions) (table : List VersionedPut) → IsVersionTable h
 few_places h table t name (Put place) s = let l : place < length table = inside_table table place name s.0 s.2 in omega (arith, l)
 few_places h table t name (Got place) s = let l : place < length table = inside_table table place s.0 s.1 s.2 in omega (arith, l)
 few_places h table t name Missed s = omega arith
-few_places h table t name Sourceless s = omega arith
+few_places h table t name (Sourceless place) s = s.1.inside
 
 -- the notes so far and one more
 pub record Noted (h : Sessions) (table : List VersionedPut) (client : ℕ) (session : List Note) (count mark : ℕ) : Type 0 where
@@ -60,6 +64,25 @@ module _ (h : Sessions) (table : List VersionedPut) (client : ℕ) (session : Li
       one_note_more h table client session count mark (record { seen = seen; mark = m }) n is
       (subst (λ (k : ℕ). IsMark (session ++ record { seen = seen; mark = m } ∷ []) (count + 1) k) (sym same) (mark_stays session (record { seen = seen; mark = m }) count mark n.whole n.up_to (omega (arith, low, is_above))))
 
+-- the mark of the last note
+pub mark_of_last : (session : List Note) (d : Note) → AreMarks session → 0 < length session → IsMark session (length session) (get_or session (length session - 1) d).mark
+mark_of_last session d marks some =
+    let e : length session - 1 + 1 ≡ length session = omega arith in
+    subst (λ (k : ℕ). IsMark session k (get_or session (length session - 1) d).mark) e (marks (length session - 1) (get_or session (length session - 1) d) (stands session (length session - 1) d (omega (arith, some))))
+
+pub mark_of_none : (session : List Note) → length session ≡ 0 → IsMark session (length session) 0
+mark_of_none [] e = mark_none
+mark_of_none (x ∷ xs) e = absurd (omega (arith, e))
+
+-- a front of the notes on a session, with its mark
+pub front_noted : (h : Sessions) (table : List VersionedPut) (client : ℕ) (session : List Note) (count mark : ℕ) → IsFrontNoted h table client session → length session ≡ count → IsMark session (length session) mark
+    → Noted h table client session count mark
+front_noted h table client session count mark front len up_to = record { whole = len; up_to = subst (λ (k : ℕ). IsMark session k mark) len up_to; seen = front.seen; marks = front.marks }
+
+-- no notes are a front
+pub front_of_none : (h : Sessions) (table : List VersionedPut) (client : ℕ) (session : List Note) → session ≡ [] → IsFrontNoted h table client session
+front_of_none h table client session e = subst (IsFrontNoted h table client) (sym e) (record { within = omega arith; seen = λ i x at. absurd cc; marks = λ i x at. absurd cc })
+
 pushed_old : {A B : Type 0} (f : A → B) (d : B) (xs : List A) (x : A) (c : ℕ) → c < length xs → get_or (map f (xs ++ x ∷ [])) c d ≡ get_or (map f xs) c d
 pushed_old f d [] x c inside = absurd (omega (arith, inside))
 pushed_old f d (y ∷ ys) x zero inside = refl
@@ -93,3 +116,60 @@ pub note_there : (h : Sessions) (table : List VersionedPut) (notes : List (List 
 note_there h table notes noted name named =
     let session = noted.sessions name.client (named_client h name named) in
     slice_get_there (slice_index_or notes name.client []) name.index (omega (arith, session.whole, named_index h name named))
+
+-- a list with one element written
+set_here : {A B : Type 0} (f : A → B) (d : B) (xs : List A) (k : ℕ) (x : A) → k < length xs → get_or (map f (slice_set xs k x)) k d ≡ f x
+set_here f d [] k x inside = absurd (omega (arith, inside))
+set_here f d (y ∷ ys) zero x inside = refl
+set_here f d (y ∷ ys) (suc k) x inside = set_here f d ys k x (omega (arith, inside))
+
+set_other : {A B : Type 0} (f : A → B) (d : B) (xs : List A) (k c : ℕ) (x : A) → c ≢ k → get_or (map f (slice_set xs k x)) c d ≡ get_or (map f xs) c d
+set_other f d [] k c x differs = refl
+set_other f d (y ∷ ys) zero zero x differs = absurd (differs refl)
+set_other f d (y ∷ ys) zero (suc c) x differs = refl
+set_other f d (y ∷ ys) (suc k) zero x differs = refl
+set_other f d (y ∷ ys) (suc k) (suc c) x differs = set_other f d ys k c x (λ e. differs (ap suc e))
+
+module _ {A : Type 0} (f : A → List Note) (h : Sessions) (table : List VersionedPut) (xs : List A) (k : ℕ) (x : A) (inside : k < length xs) where
+  pub fronts_set : AreFrontsNoted h table (map f xs) → IsFrontNoted h table k (f x) → AreFrontsNoted h table (map f (slice_set xs k x))
+  fronts_set fronts front = record {
+    clients = omega (arith, length-map (slice_set xs k x) f, length-set xs k x, length-map xs f, fronts.clients);
+    sessions = λ c less. elim (cases_order c k) [
+      | inl same ↦ subst (λ (n : ℕ). IsFrontNoted h table n (get_or (map f (slice_set xs k x)) n [])) (sym same) (subst (IsFrontNoted h table k) (sym (set_here f [] xs k x inside)) front)
+      | inr other ↦
+          let differs : c ≢ k = λ e. elim other [ inl l ↦ omega (arith, l, e) | inr m ↦ omega (arith, m, e) ] in
+          subst (IsFrontNoted h table c) (sym (set_other f [] xs k c x differs)) (fronts.sessions c less)
+    ];
+  }
+
+  pub whole_set : (count : ℕ) → AreLongEnough h count k (map f xs) → (length (slice_index_or h k []) ≤ count → length (slice_index_or h k []) ≤ length (f x)) → AreLongEnough h count (k + 1) (map f (slice_set xs k x))
+  whole_set count whole here = λ c less le. elim (eq-or-lt_of_le (let l : c ≤ k = omega (arith, less) in l)) [
+    | inl same ↦ subst (λ (n : ℕ). length (slice_index_or h n []) ≤ length (get_or (map f (slice_set xs k x)) n [])) (sym same)
+        (subst (λ (s : List Note). length (slice_index_or h k []) ≤ length s) (sym (set_here f [] xs k x inside)) (here (subst (λ (n : ℕ). length (slice_index_or h n []) ≤ count) same le)))
+    | inr before ↦ subst (λ (s : List Note). length (slice_index_or h c []) ≤ length s) (sym (set_other f [] xs k c x (λ e. omega (arith, before, e)))) (whole c before le)
+  ]
+
+-- where no session has notes, the fronts are empty
+pub fronts_of_none : {A : Type 0} (f : A → List Note) (h : Sessions) (table : List VersionedPut) (xs : List A) → length xs ≡ length h → ((k : ℕ) (d : A) → k < length xs → f (get_or xs k d) ≡ []) → AreFrontsNoted h table (map f xs)
+fronts_of_none {A = A} f h table xs len none = record {
+  clients = omega (arith, length-map xs f, len);
+  sessions = λ c less. front_of_none h table c (get_or (map f xs) c []) (each c (omega (arith, less, len)));
+}
+  where
+    each : (c : ℕ) → c < length xs → get_or (map f xs) c [] ≡ []
+    each c inside = at xs c inside (λ d. none c d inside)
+      where
+        at : (ys : List A) (k : ℕ) → k < length ys → ((d : A) → f (get_or ys k d) ≡ []) → get_or (map f ys) k [] ≡ []
+        at [] k l e = refl
+        at (y ∷ ys) zero l e = e y
+        at (y ∷ ys) (suc k) l e = at ys k (omega (arith, l)) e
+
+-- fronts that are long enough are the notes on all
+pub noted_whole : (h : Sessions) (table : List VersionedPut) (notes : List (List Note)) (count : ℕ) → AreFrontsNoted h table notes → AreLongEnough h count (length h) notes
+    → ((c : ℕ) → length (slice_index_or h c []) ≤ count) → IsNoted h table notes
+noted_whole h table notes count fronts whole each = record {
+  clients = fronts.clients;
+  sessions = λ c less.
+      let front = fronts.sessions c less in
+      record { whole = omega (arith, front.within, whole c less (each c)); seen = front.seen; marks = front.marks };
+}

@@ -3,7 +3,8 @@ use Rattle.std.proofs.Common.{◌≡◌, ◌<◌, ◌≤◌, ◌+◌, ℕ, List,
 use Rattle.std.proofs.Math.Nat.{eq-or-lt_of_le}
 use Rattle.cops_types.specs.declared.op.OpName.{OpName}
 use Rattle.cops_types.specs.Histories.{Sessions, Step, Past, step, more}
-use Rattle.cops_types.specs.Verdicts.{AllAbove, AllHaveSources}
+use Rattle.cops_types.specs.Verdicts.{AllAbove}
+use Rattle.cops_audit.specs.SoFar.{HaveSourcesOrWait}
 use Rattle.cops_audit.specs.declared.table.VersionedPut.{VersionedPut}
 use Rattle.cops_audit.specs.declared.notes.Note.{Note}
 use Rattle.cops_audit.specs.declared.notes.Seen.{Seen}
@@ -17,7 +18,7 @@ use Rattle.cops_audit.proofs.PastOrder.{past_to}
 use Rattle.cops_audit.proofs.Places.{same_place}
 use Rattle.cops_audit.proofs.Reading.{below_same, says, seen_got, seen_put}
 
-module _ (h : Sessions) (table : List VersionedPut) (t : IsVersionTable h table) (notes : List (List Note)) (noted : IsNoted h table notes) (sources : AllHaveSources h) (above_all : AllAbove h) where
+module _ (h : Sessions) (table : List VersionedPut) (t : IsVersionTable h table) (notes : List (List Note)) (noted : IsNoted h table notes) (sources : HaveSourcesOrWait h) (above_all : AllAbove h) where
   -- the mark of an operation
   pub mark_is : (n : OpName) (note : Note) → note_at notes n ≡ Some note → above note.seen ≤ note.mark
   mark_is n note at = ((session_of h table notes noted n note at).marks n.index note at).bounds n.index note (omega arith) at
@@ -57,7 +58,7 @@ module _ (h : Sessions) (table : List VersionedPut) (t : IsVersionTable h table)
       mark_grows (slice_index_or notes a.client []) (a.index + 1) (b.index + 1) x.mark y.mark (session.marks a.index x at_a) (session.marks b.index y in_b) (omega (arith, s.earlier))
   step_mark a b x y (inr s) at_a at_b =
       let put = seen_put h table a s.version x.seen (says h table t notes noted a x at_a) (s.key, s.value, s.put) in
-      let got = seen_got h table b s.version y.seen (sources b) (says h table t notes noted b y at_b) (s.key, s.value, s.got) in
+      let got = seen_got h table b s.version y.seen (λ f. f.none a s) (says h table t notes noted b y at_b) (s.key, s.value, s.got) in
       let same : put.0 ≡ got.0 = same_place table t.rising put.0 got.0 a got.1 s.version put.2 got.3 in
       let high : above y.seen ≡ got.0 + 1 = ap above got.2 in
       omega (arith, put_mark a x put.0 at_a put.1, mark_is b y at_b, high, same)

@@ -127,6 +127,10 @@ put_there h table t k p v at =
 pub inside_table : (table : List VersionedPut) (k : ℕ) (p : OpName) (v : ℕ) → StandsAt table k p v → k < length table
 inside_table table k p v at = let q : VersionedPut = record { version = v; name = p } in (at_index table k q q at).0
 
+-- the version of the put at a place
+pub version_at : (table : List VersionedPut) (k : ℕ) (p : OpName) (v : ℕ) → StandsAt table k p v → (get_or table k (record { version = v; name = p })).version ≡ v
+version_at table k p v at = let q : VersionedPut = record { version = v; name = p } in ap (λ (x : VersionedPut). x.version) (at_index table k q q at).1
+
 -- the put that was read at a place stands there
 pub stands_item : (table : List VersionedPut) (k : ℕ) (put : VersionedPut) → k < length table → put ≡ get_or table k put → StandsAt table k put.name put.version
 stands_item table k put inside at = stands table k put inside ∙ ap (λ (x : VersionedPut). Some x) (sym at)

@@ -1,10 +1,10 @@
 -- What notes say of a history.
-use Rattle.std.proofs.Common.{◌≡◌, ◌<◌, ◌≤◌, ◌+◌, ◌↔◌, ℕ, List, Some, refl, sym, ◌∙◌, ap, subst, inl, inr, arith}
+use Rattle.std.proofs.Common.{◌≡◌, ◌≢◌, ◌<◌, ◌≤◌, ◌↔◌, ◌⊎◌, ℕ, List, Some, refl, sym, ◌∙◌, ap, subst, inl, inr, arith}
 use Rattle.cops_types.specs.declared.op.Op.TheVariants as op
 use Rattle.cops_types.specs.declared.op.OpName.{OpName}
 use Rattle.cops_types.specs.Histories.{Sessions, IsMissed, IsNamed, PutsVersion, SourceStep}
 use Rattle.cops_types.specs.Faults.{HasNoSource, HasVersion, IsNotAbove, IsNotBelow}
-use Rattle.cops_types.specs.Verdicts.{AllHaveSources}
+use Rattle.cops_audit.specs.SoFar.{HaveSourcesOrWait}
 use Rattle.cops_audit.specs.declared.table.VersionedPut.{VersionedPut}
 use Rattle.cops_audit.specs.declared.notes.Note.{Note}
 use Rattle.cops_audit.specs.declared.notes.Seen.{Seen}
@@ -29,21 +29,28 @@ module _ (h : Sessions) (table : List VersionedPut) where
   seen_put n v (Put p) s put = (p, refl, subst (StandsAt table p n) (one_version h n n s.0 v s.1 put refl) s.2)
   seen_put n v (Got p) s put = absurd (put_is_no_get h n n v s.1 put s.3 refl)
   seen_put n v Missed s put = absurd (missed_puts_nothing h n s.0 v s.1 put)
-  seen_put n v Sourceless s put = absurd (put_is_no_get h n n v s.version put (s.key, s.value, s.got) refl)
+  seen_put n v (Sourceless p) s put = absurd (put_is_no_get h n n v s.0.version put (s.0.key, s.0.value, s.0.got) refl)
 
   -- a get that has a source is seen at its source's place
   pub seen_got : (n : OpName) (v : ℕ) (seen : Seen) → ¬ HasNoSource h n → IsSeen h table n seen → GetsVersion h n v → (p : ℕ) × (s : OpName) × (seen ≡ Got p) × StandsAt table p s v × SourceStep h s n
   seen_got n v (Put p) some s got = absurd (put_is_no_get h n n s.0 v s.1 got refl)
   seen_got n v (Got p) some s got = (p, s.0, refl, subst (StandsAt table p s.0) (one_get_version h n s.1 v s.3 got) s.2, s.4)
   seen_got n v Missed some s got = absurd (missed_gets_nothing h n s.0 v s.1 got)
-  seen_got n v Sourceless some s got = absurd (some s)
+  seen_got n v (Sourceless p) some s got = absurd (some s.0)
+
+  -- a get is seen at its source's place or without one
+  pub seen_get : (n : OpName) (v : ℕ) (seen : Seen) → IsSeen h table n seen → GetsVersion h n v → ((p : ℕ) × (seen ≡ Got p)) ⊎ ((p : ℕ) × (seen ≡ Sourceless p))
+  seen_get n v (Put p) s got = absurd (put_is_no_get h n n s.0 v s.1 got refl)
+  seen_get n v (Got p) s got = inl (p, refl)
+  seen_get n v Missed s got = absurd (missed_gets_nothing h n s.0 v s.1 got)
+  seen_get n v (Sourceless p) s got = inr (p, refl)
 
   -- a get without a source is seen to have none
-  seen_sourceless : (n : OpName) (seen : Seen) → IsSeen h table n seen → HasNoSource h n → seen ≡ Sourceless
+  seen_sourceless : (n : OpName) (seen : Seen) → IsSeen h table n seen → HasNoSource h n → (p : ℕ) × (seen ≡ Sourceless p)
   seen_sourceless n (Put p) s f = absurd (put_is_no_get h n n s.0 f.version s.1 (f.key, f.value, f.got) refl)
   seen_sourceless n (Got p) s f = absurd (f.none s.0 s.4)
   seen_sourceless n Missed s f = absurd (missed_gets_nothing h n s.0 f.version s.1 (f.key, f.value, f.got))
-  seen_sourceless n Sourceless s f = refl
+  seen_sourceless n (Sourceless p) s f = (p, refl)
 
 module _ (h : Sessions) (table : List VersionedPut) (t : IsVersionTable h table) (notes : List (List Note)) (noted : IsNoted h table notes) where
   -- what a note says
@@ -52,11 +59,11 @@ module _ (h : Sessions) (table : List VersionedPut) (t : IsVersionTable h table)
 
   pub sourceless_same : (n : OpName) → IsSourceless notes n ↔ HasNoSource h n
   sourceless_same n = (
-    (λ w. says n (record { seen = Sourceless; mark = w.0 }) w.1),
+    (λ w. (says n (record { seen = Sourceless w.0; mark = w.1 }) w.2).0),
     (λ f.
         let there = note_there h table notes noted n (_, f.got) in
         let is = seen_sourceless h table n there.0.seen (says n there.0 there.1) f in
-        (there.0.mark, there.1 ∙ ap (λ (s : Seen). Some (let x : Note = record { seen = s; mark = there.0.mark } in x)) is)),
+        (is.0, there.0.mark, there.1 ∙ ap (λ (s : Seen). Some (let x : Note = record { seen = s; mark = there.0.mark } in x)) is.1)),
   )
 
   -- a put at a place and what was seen not below it
@@ -68,9 +75,9 @@ module _ (h : Sessions) (table : List VersionedPut) (t : IsVersionTable h table)
       let not : ¬ (s.1 < own) = λ l. let q : p < place = place_rises table t.rising p place s.0 name s.1 own s.2 at l in omega (arith, q, less) in
       (s.1, inr s.3, omega (arith, not))
   above_version own place name e Missed at s less = absurd (omega (arith, less))
-  above_version own place name e Sourceless at s less = absurd (omega (arith, less))
+  above_version own place name e (Sourceless p) at s less = let l = s.1.before place name own at less in (s.0.version, inr (s.0.key, s.0.value, s.0.got), omega (arith, l))
 
-  pub below_same : AllHaveSources h → (e n : OpName) → SeesNotBelow notes e n ↔ IsNotBelow h e n
+  pub below_same : HaveSourcesOrWait h → (e n : OpName) → SeesNotBelow notes e n ↔ IsNotBelow h e n
   below_same sources e n = (forth, back)
     where
       forth : SeesNotBelow notes e n → IsNotBelow h e n
@@ -79,9 +86,25 @@ module _ (h : Sessions) (table : List VersionedPut) (t : IsVersionTable h table)
           let v = above_version own.0 w.place n e w.note.seen own.2 (says e w.note w.at) w.not_below in
           record { version = v.0; own = own.0; put = own.1; has = v.1; same_client = w.same_client; before = w.before; not_below = v.2 }
 
-      place_of : (w : ℕ) (seen : Seen) → HasVersion h e w → IsSeen h table e seen → (p : ℕ) × (s : OpName) × (above seen ≡ p + 1) × StandsAt table p s w
-      place_of w seen (inl put) s = let r = seen_put h table e w seen s put in (r.0, e, ap above r.1, r.2)
-      place_of w seen (inr got) s = let r = seen_got h table e w seen (sources e) s got in (r.0, r.1, ap above r.2, r.3)
+      -- a put that is not above a version stands below what was seen with it
+      below : (own place w : ℕ) (seen : Seen) → PutsVersion h n own → StandsAt table place n own → own ≤ w → HasVersion h e w → IsSeen h table e seen → place < above seen
+      below own place w (Put p) puts at le has s =
+          let same : s.0 ≡ w = elim has [ inl put ↦ one_version h e e s.0 w s.1 put refl | inr got ↦ absurd (put_is_no_get h e e s.0 w s.1 got refl) ] in
+          let not : ¬ (p < place) = λ l. let v : s.0 < own = version_rises table t.rising p place e n s.0 own s.2 at l in omega (arith, v, le, same) in
+          omega (arith, not)
+      below own place w (Got p) puts at le has s =
+          let same : s.1 ≡ w = elim has [ inl put ↦ absurd (put_is_no_get h e e w s.1 put s.3 refl) | inr got ↦ one_get_version h e s.1 w s.3 got ] in
+          let not : ¬ (p < place) = λ l. let v : s.1 < own = version_rises table t.rising p place s.0 n s.1 own s.2 at l in omega (arith, v, le, same) in
+          omega (arith, not)
+      below own place w Missed puts at le has s = elim has [ inl put ↦ absurd (missed_puts_nothing h e s.0 w s.1 put) | inr got ↦ absurd (missed_gets_nothing h e s.0 w s.1 got) ]
+      below own place w (Sourceless p) puts at le has s =
+          let waits = sources e s.0 in
+          let gets : GetsVersion h e s.0.version = (s.0.key, s.0.value, s.0.got) in
+          let same : s.0.version ≡ w = elim has [ inl put ↦ absurd (put_is_no_get h e e w s.0.version put gets refl) | inr got ↦ one_get_version h e s.0.version w gets got ] in
+          let late : waits.version ≡ s.0.version = one_get_version h e waits.version s.0.version waits.gets gets in
+          let differs : own ≢ s.0.version = λ e'. waits.none n (subst (PutsVersion h n) (e' ∙ sym late) puts) in
+          let not : ¬ (p ≤ place) = λ l. let v : s.0.version ≤ own = s.1.from place n own at l in omega (arith, v, le, same, differs) in
+          omega (arith, not)
 
       named_e : (w : ℕ) → HasVersion h e w → IsNamed h e
       named_e w (inl put) = (_, put.2)
@@ -92,8 +115,6 @@ module _ (h : Sessions) (table : List VersionedPut) (t : IsVersionTable h table)
           let at_n = note_there h table notes noted n (_, f.put.2) in
           let own = seen_put h table n f.own at_n.0.seen (says n at_n.0 at_n.1) f.put in
           let at_e = note_there h table notes noted e (named_e f.version f.has) in
-          let r = place_of f.version at_e.0.seen f.has (says e at_e.0 at_e.1) in
-          let not : ¬ (r.0 < own.0) = λ l. omega (arith, version_rises table t.rising r.0 own.0 r.1 n f.version f.own r.3 own.2 l, f.not_below) in
           record {
             place = own.0;
             mark = at_n.0.mark;
@@ -102,10 +123,10 @@ module _ (h : Sessions) (table : List VersionedPut) (t : IsVersionTable h table)
             at = at_e.1;
             same_client = f.same_client;
             before = f.before;
-            not_below = omega (arith, r.2, not);
+            not_below = below f.own own.0 f.version at_e.0.seen f.put own.2 f.not_below f.has (says e at_e.0 at_e.1);
           }
 
-  pub above_same : AllHaveSources h → (n e : OpName) → SeesNotAbove notes n e ↔ IsNotAbove h n e
+  pub above_same : HaveSourcesOrWait h → (n e : OpName) → SeesNotAbove notes n e ↔ IsNotAbove h n e
   above_same sources n e = (
     (λ w. record { is_not_below = (below_same sources e n).0 w.not_below; first = λ x f. w.first x ((below_same sources x n).1 f) }),
     (λ f. record { not_below = (below_same sources e n).1 f.is_not_below; first = λ x w. f.first x ((below_same sources x n).0 w) }),

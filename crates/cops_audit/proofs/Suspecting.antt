@@ -1,11 +1,13 @@
 -- Gets that may be stale, and gets that the window on versions clears.
-use Rattle.std.proofs.Common.{◌≡◌, ◌<◌, ◌≤◌, ℕ, List, Some, None, refl, sym, ◌∙◌, subst, inl, inr, arith}
+use Rattle.std.proofs.Common.{◌≡◌, ◌≢◌, ◌<◌, ◌≤◌, ℕ, List, Some, None, refl, sym, ◌∙◌, subst, inl, inr, arith}
 use Rattle.cops_types.specs.declared.op.Op.TheVariants.{Got, Missed}
 use Rattle.cops_types.specs.declared.op.OpName.{OpName}
 use Rattle.cops_types.specs.Histories.{Sessions, IsGot, IsMissed, PutsKey, PutsVersion}
+use Rattle.cops_types.specs.Faults.{HasNoSource}
 use Rattle.cops_audit.specs.declared.table.VersionedPut.{VersionedPut}
 use Rattle.cops_audit.specs.declared.notes.Seen.TheVariants as seen
-use Rattle.cops_audit.specs.Tables.{IsVersionTable}
+use Rattle.cops_audit.specs.SoFar.{IsWaiting}
+use Rattle.cops_audit.specs.Tables.{GetsVersion, IsVersionTable}
 use Rattle.cops_audit.specs.Notes.{IsSeen, StandsAt}
 use Rattle.cops_audit.specs.Keys.{IsFirstFrom, IsFirstOn, IsNext, OnKey}
 use Rattle.cops_audit.specs.Windows.{HasFirst, IsSuspect, NoneWithin, WouldBeNewer}
@@ -24,6 +26,10 @@ one_got : (h : Sessions) (n : OpName) (a b x y : List ℕ) (v w : ℕ) → IsGot
 one_got h n a b x y v w first second =
     let e : Some (Got a x v) ≡ Some (Got b y w) = sym first ∙ second in
     (let k : a ≡ b = cc in k, let s : v ≡ w = cc in s)
+
+-- the key that was read of a get is its key
+pub got_is_own : (h : Sessions) (n : OpName) (k : List ℕ) (f : HasNoSource h n) → ((value : List ℕ) × (version : ℕ) × IsGot h n k value version) → k ≡ f.key
+got_is_own h n k f got = (one_got h n k f.key got.0 f.value got.1 f.version got.2 f.got).0
 
 module _ (h : Sessions) (table : List VersionedPut) (t : IsVersionTable h table) where
   -- the first place on a key is that of each put on it
@@ -57,6 +63,32 @@ module _ (h : Sessions) (table : List VersionedPut) (t : IsVersionTable h table)
       later = λ p put version at would. let on = would_missed p put version at would in (is.2 p (omega arith) on, has_first p first k on is);
       newer = λ p put version at le has. (k, on_first p first k put version at has is.1, inr missed);
       source = λ p put version at s. absurd (missed_is_no_get h op k s.key s.value s.version missed s.got);
+    }
+
+  module _ (op : OpName) (place : ℕ) (got : IsSeen h table op (seen.Sourceless place)) (waits : IsWaiting h op) where
+    would_wait : (p : ℕ) (put : OpName) (version : ℕ) → StandsAt table p put version → WouldBeNewer h op put version → OnKey h table p got.0.key × (place ≤ p)
+    would_wait p put version at (key', puts, inr missed) = absurd (missed_is_no_get h op key' got.0.key got.0.value got.0.version missed got.0.got)
+    would_wait p put version at (key', puts, inl g) =
+        let same = one_got h op key' got.0.key g.0 got.0.value g.1 got.0.version g.2 got.0.got in
+        let not : ¬ (p < place) = λ l. let low = got.1.before p put version at l in omega (arith, low, same.1, g.3) in
+        ((put, version, at, subst (λ x. PutsKey h put x version) same.0 puts), omega (arith, not))
+
+    pub waiting_clear : (mark : ℕ) → IsFirstFrom h table 0 got.0.key None → NoneWithin h table op mark
+    waiting_clear mark none p put version at would = absurd (none p (omega arith) (would_wait p put version at would).0)
+
+    pub waiting_far : (mark : ℕ) → mark ≤ place → NoneWithin h table op mark
+    waiting_far mark far p put version at would = omega (arith, far, (would_wait p put version at would).1)
+
+    pub waiting_is : (first : ℕ) → IsFirstFrom h table 0 got.0.key (Some first) → IsSuspect h table (record { op = op; first = first; from = place })
+    waiting_is first is = record {
+      named = (_, got.0.got);
+      later = λ p put version at would. let w = would_wait p put version at would in (w.1, has_first p first got.0.key w.0 is);
+      newer = λ p put version at le has.
+          let gets : GetsVersion h op got.0.version = (got.0.key, got.0.value, got.0.got) in
+          let late : waits.version ≡ got.0.version = one_get_version h op waits.version got.0.version waits.gets gets in
+          let differs : version ≢ got.0.version = λ e. waits.none put (subst (PutsVersion h put) (e ∙ sym late) (put_there h table t.table p put version at)) in
+          (got.0.key, on_first p first got.0.key put version at has is.1, inl (got.0.value, got.0.version, got.0.got, let l = got.1.from p put version at le in omega (arith, l, differs)));
+      source = λ p put version at s. absurd (got.0.none put s);
     }
 
   module _ (op : OpName) (place : ℕ) (got : IsSeen h table op (seen.Got place)) where

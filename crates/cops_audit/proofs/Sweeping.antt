@@ -5,13 +5,14 @@ use Rattle.cops_types.specs.declared.op.OpName.{OpName}
 use Rattle.cops_audit.specs.declared.table.VersionedPut.{VersionedPut}
 use Rattle.cops_audit.specs.declared.notes.Note.{Note}
 use Rattle.cops_audit.specs.declared.notes.Seen.{Seen}
-use Rattle.cops_audit.specs.declared.notes.Seen.TheVariants.{Put, Got}
+use Rattle.cops_audit.specs.declared.notes.Seen.TheVariants.{Put, Got, Missed, Sourceless}
 use Rattle.cops_audit.specs.declared.sweep.Range.{Range}
 use Rattle.cops_audit.specs.declared.sweep.Sweep.{Sweep}
-use Rattle.cops_audit.specs.Notes.{StandsAt, note_at}
+use Rattle.cops_audit.specs.Notes.{StandsAt, above, note_at}
 use Rattle.cops_audit.specs.Sweeps.{AreRising, Counted, Grows, InRange, InSome, IsLearned, IsSweeping, Learns, NotePast, NoteStep, step, more}
 use Rattle.cops_audit.proofs.Acyclic.{same_name}
 use Rattle.cops_audit.proofs.Marks.{mark_grows}
+use Rattle.cops_audit.proofs.Places.{inside_table}
 use Rattle.cops_audit.proofs.Raising.{in_some_cases, in_some_kept, in_some_last}
 
 pub past_joined : (table : List VersionedPut) (notes : List (List Note)) (a b : OpName) {c : OpName} → NotePast table notes a b → NotePast table notes b c → NotePast table notes a c
@@ -29,6 +30,13 @@ grows_on table notes a b c f g = record {
     ]
   ];
 }
+
+-- what was seen is not above the table
+pub above_few : (table : List VersionedPut) (notes : List (List Note)) → AreRising table notes → (n : OpName) (seen : Seen) (mark : ℕ) → note_at notes n ≡ Some (record { seen = seen; mark = mark }) → above seen ≤ length table
+above_few table notes rising n (Put place) mark at = let s = rising.seen_puts n place mark at in let l : place < length table = inside_table table place n s.0 s.1 in omega (arith, l)
+above_few table notes rising n (Got place) mark at = let s = rising.seen_gets n place mark at in let l : place < length table = inside_table table place s.0 s.1 s.2 in omega (arith, l)
+above_few table notes rising n Missed mark at = omega arith
+above_few table notes rising n (Sourceless place) mark at = rising.seen_sourceless n place mark at
 
 -- a note is one
 one_note : (notes : List (List Note)) (n : OpName) (x y : Note) → note_at notes n ≡ Some x → note_at notes n ≡ Some y → x ≡ y

@@ -4,7 +4,7 @@ use Rattle.std.proofs.lemmas.List.{length-map, get_or-map}
 use Rattle.cops_types.specs.declared.op.OpName.{OpName}
 use Rattle.cops_types.specs.Histories.{Sessions}
 use Rattle.cops_types.specs.Faults.{IsBefore, IsNewer, IsStale}
-use Rattle.cops_types.specs.Verdicts.{AllHaveSources}
+use Rattle.cops_audit.specs.SoFar.{HaveSourcesOrWait}
 use Rattle.cops_audit.specs.declared.table.VersionedPut.{VersionedPut}
 use Rattle.cops_audit.specs.declared.notes.Note.{Note}
 use Rattle.cops_audit.specs.declared.verdict.Stale.{Stale}
@@ -43,7 +43,7 @@ ops_in_order suspects in_order i j d less inside =
     subst (λ x. IsBefore x (get_or (map (λ (s : Suspect). s.op) suspects) j d)) (sym (get_or-map (λ (s : Suspect). s.op) suspects i e d (omega (arith, less, in_j))))
     (subst (λ x. IsBefore (get_or suspects i e).op x) (sym (get_or-map (λ (s : Suspect). s.op) suspects j e d in_j)) (in_order i j e less in_j))
 
-module _ (h : Sessions) (table : List VersionedPut) (t : IsVersionTable h table) (notes : List (List Note)) (noted : IsNoted h table notes) (sources : AllHaveSources h) (firsts : List ℕ) (are : AreFirsts h table firsts)
+module _ (h : Sessions) (table : List VersionedPut) (t : IsVersionTable h table) (notes : List (List Note)) (noted : IsNoted h table notes) (sources : HaveSourcesOrWait h) (firsts : List ℕ) (are : AreFirsts h table firsts)
     (suspects : List Suspect) (in_order : AllPairs (λ s t. IsBefore s.op t.op) suspects) (k : ℕ) (inside : k < length suspects) (d : Suspect) (is : IsSuspect h table (get_or suspects k d)) (faults : List Stale)
     (lists : ListsAmong (λ f. f.op) (λ f. IsStale h f.op f.newer) (take k (map (λ (s : Suspect). s.op) suspects)) faults) where
   in_ops : k < length (map (λ (s : Suspect). s.op) suspects)

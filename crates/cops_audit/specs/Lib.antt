@@ -2,6 +2,7 @@ pub mod Keys
 pub mod Names
 pub mod Notes
 pub mod Searches
+pub mod SoFar
 pub mod Sweeps
 pub mod Tables
 pub mod Tallies

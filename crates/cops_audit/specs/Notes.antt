@@ -9,23 +9,29 @@ use Rattle.cops_audit.specs.declared.notes.Seen.{Seen}
 use Rattle.cops_audit.specs.declared.notes.Seen.TheVariants.{Put, Got, Missed, Sourceless}
 use Rattle.cops_audit.specs.Tables.{GetsVersion}
 
--- just above the place of what was seen, 0 where it has none
+-- just above the place of what was seen: of a get without a source above the puts of lower versions, 0 where nothing was found
 abbrev pub above : Seen → ℕ
 above (Put place) = place + 1
 above (Got place) = place + 1
 above Missed = 0
-above Sourceless = 0
+above (Sourceless place) = place
 
 -- this put of this version stands at this place
 abbrev pub StandsAt : List VersionedPut → ℕ → OpName → ℕ → Type 0
 StandsAt table place put version = slice_get table place ≡ Some (record { version = version; name = put })
 
--- what an operation did: a put at its own place, a get at its source's
+-- the puts before a place are those of lower versions
+pub record Divides (table : List VersionedPut) (place version : ℕ) : Type 0 where
+  pub inside : place ≤ length table
+  pub before : (k : ℕ) (put : OpName) (own : ℕ) → StandsAt table k put own → k < place → own < version
+  pub from : (k : ℕ) (put : OpName) (own : ℕ) → StandsAt table k put own → place ≤ k → version ≤ own
+
+-- what an operation did: a put at its own place, a get at its source's, or without a source where its version divides the puts
 abbrev pub IsSeen : Sessions → List VersionedPut → OpName → Seen → Type 0
 IsSeen h table name (Put place) = (version : ℕ) × PutsVersion h name version × StandsAt table place name version
 IsSeen h table name (Got place) = (put : OpName) × (version : ℕ) × StandsAt table place put version × GetsVersion h name version × SourceStep h put name
 IsSeen h table name Missed = (key : List ℕ) × IsMissed h name key
-IsSeen h table name Sourceless = HasNoSource h name
+IsSeen h table name (Sourceless place) = (f : HasNoSource h name) × Divides table place f.version
 
 -- the least number that is not below the places just above what the first operations of a session saw
 pub record IsMark (session : List Note) (count mark : ℕ) : Type 0 where
@@ -38,6 +44,21 @@ pub record IsSessionNoted (h : Sessions) (table : List VersionedPut) (client : �
   pub seen : (i : ℕ) (note : Note) → slice_get session i ≡ Some note → IsSeen h table (record { client = client; index = i }) note.seen
   pub marks : (i : ℕ) (note : Note) → slice_get session i ≡ Some note → IsMark session (i + 1) note.mark
 
+-- the notes on the first operations of a session, each with the mark up to it
+pub record IsFrontNoted (h : Sessions) (table : List VersionedPut) (client : ℕ) (session : List Note) : Type 0 where
+  pub within : length session ≤ length (slice_index_or h client [])
+  pub seen : (i : ℕ) (note : Note) → slice_get session i ≡ Some note → IsSeen h table (record { client = client; index = i }) note.seen
+  pub marks : (i : ℕ) (note : Note) → slice_get session i ≡ Some note → IsMark session (i + 1) note.mark
+
+-- the notes on the first operations of each session
+pub record AreFrontsNoted (h : Sessions) (table : List VersionedPut) (notes : List (List Note)) : Type 0 where
+  pub clients : length notes ≡ length h
+  pub sessions : (client : ℕ) → client < length h → IsFrontNoted h table client (slice_index_or notes client [])
+
+-- the notes on the sessions below a client are whole where the sessions are not longer than so many operations
+abbrev pub AreLongEnough : Sessions → ℕ → ℕ → List (List Note) → Type 0
+AreLongEnough h count below notes = (client : ℕ) → client < below → length (slice_index_or h client []) ≤ count → length (slice_index_or h client []) ≤ length (slice_index_or notes client [])
+
 -- the note on an operation
 abbrev pub note_at : List (List Note) → OpName → Option Note
 note_at notes name = slice_get (slice_index_or notes name.client []) name.index
@@ -49,7 +70,7 @@ pub record IsNoted (h : Sessions) (table : List VersionedPut) (notes : List (Lis
 
 -- a get that was seen to have no source
 abbrev pub IsSourceless : List (List Note) → OpName → Type 0
-IsSourceless notes name = (mark : ℕ) × (note_at notes name ≡ Some (record { seen = Sourceless; mark = mark }))
+IsSourceless notes name = (place : ℕ) × (mark : ℕ) × (note_at notes name ≡ Some (record { seen = Sourceless place; mark = mark }))
 
 -- each note has its mark
 abbrev pub AreMarks : List Note → Type 0

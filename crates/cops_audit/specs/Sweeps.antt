@@ -4,7 +4,7 @@ use Rattle.cops_types.specs.declared.op.OpName.{OpName}
 use Rattle.cops_audit.specs.declared.table.VersionedPut.{VersionedPut}
 use Rattle.cops_audit.specs.declared.notes.Note.{Note}
 use Rattle.cops_audit.specs.declared.notes.Seen.{Seen}
-use Rattle.cops_audit.specs.declared.notes.Seen.TheVariants.{Put, Got}
+use Rattle.cops_audit.specs.declared.notes.Seen.TheVariants.{Put, Got, Sourceless}
 use Rattle.cops_audit.specs.declared.sweep.Range.{Range}
 use Rattle.cops_audit.specs.declared.sweep.Sweep.{Sweep}
 use Rattle.cops_audit.specs.Notes.{AreMarks, StandsAt, note_at}
@@ -19,6 +19,7 @@ pub record AreRising (table : List VersionedPut) (notes : List (List Note)) : Ty
   pub puts : (place : ℕ) (put : OpName) (version : ℕ) → StandsAt table place put version → (mark : ℕ) × (note_at notes put ≡ Some (record { seen = Put place; mark = mark })) × (mark ≤ place + 1)
   pub seen_puts : (name : OpName) (place mark : ℕ) → note_at notes name ≡ Some (record { seen = Put place; mark = mark }) → (version : ℕ) × StandsAt table place name version
   pub seen_gets : (name : OpName) (place mark : ℕ) → note_at notes name ≡ Some (record { seen = Got place; mark = mark }) → (put : OpName) × (version : ℕ) × StandsAt table place put version
+  pub seen_sourceless : (name : OpName) (place mark : ℕ) → note_at notes name ≡ Some (record { seen = Sourceless place; mark = mark }) → place ≤ length table
   pub small : (name : OpName) (note : Note) → note_at notes name ≡ Some note → name.index < 1000000
   pub few : length table ≤ 16000000
 

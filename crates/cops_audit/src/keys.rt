@@ -41,9 +41,8 @@ pub fn link<'a>(
     for place in (0..table.len()).rev() {
         let put = &table[place];
         let key = put_key(history, put.name);
-        let next = firsts.get(&key).copied();
+        let next = firsts.insert(key, place as u32)?;
         nexts[place] = next;
-        firsts.insert(key, place as u32)?;
     }
     Ok(Keys { nexts, firsts })
 }
@@ -64,6 +63,39 @@ pub fn first_places(
         let key = put_key(history, put.name);
         let first = keys.firsts.get(&key).copied();
         places.push(first.unwrap_or(0))?;
+    }
+    Ok(places)
+}
+
+/// So many places, each with itself.
+fn own_places(alloc: Global, count: usize) -> Result<Vec<u32>, AllocError>
+    requires { count ≤ 16000000 }
+    ensures { IfOk result (λ v. (length v.items ≡ count) × ((k : ℕ) → k < count → slice_get v.items k ≡ Some k)) }
+{
+    let mut places = Vec::with_capacity(alloc, count)?;
+    for place in 0..count {
+        places.push(place as u32)?;
+    }
+    Ok(places)
+}
+
+/// The same from the links alone: each put passes the first place on its key on to the next put.
+pub fn passed_firsts(
+    alloc: Global,
+    history: &History,
+    table: &[VersionedPut],
+    nexts: &[Option<u32>],
+) -> Result<Vec<u32>, AllocError>
+    requires table { IsVersionTable history.now.sessions table.now }
+    requires nexts { AreNexts history.now.sessions table.now nexts.now }
+    ensures { IfOk result (λ v. AreFirsts history.now.sessions table.now v.items) }
+{
+    let _history = history;
+    let mut places = own_places(alloc, table.len())?;
+    for place in 0..table.len() {
+        if let Some(next) = nexts[place] {
+            places[next as usize] = places[place];
+        }
     }
     Ok(places)
 }

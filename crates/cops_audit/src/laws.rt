@@ -4,7 +4,9 @@ ghost use Rattle.cops_types.specs.Histories.{Sessions};
 ghost use Rattle.cops_types.specs.Convergence.{ConvergesBy, IsVersionOrder};
 ghost use Rattle.cops_types.specs.Verdicts.{IsAccepted, NoneDoubled};
 ghost use Rattle.cops_audit.specs.declared.verdict.Verdict.{Verdict};
-ghost use Rattle.cops_audit.specs.Verdicts.{IsVerdict, SameVerdict};
+ghost use Rattle.cops_audit.specs.declared.verdict.SoFar.{SoFar};
+ghost use Rattle.cops_audit.specs.SoFar.{Continues, IsSoFar};
+ghost use Rattle.cops_audit.specs.Verdicts.{Accepts, IsVerdict, SameVerdict};
 
 /// A law of the definitions: a history is accepted exactly where no version is borne by two puts and it is causally
 /// convergent with the version order as its arbitration.
@@ -16,4 +18,14 @@ pub fn accepted_exactly_where_convergent()
 /// A law of the definitions: a history has one verdict.
 pub fn one_verdict()
     ensures { (h : Sessions) (v w : Verdict) → IsVerdict h v → IsVerdict h w → SameVerdict v w }
+{}
+
+/// A law of the definitions: what is clean so far is exactly what is accepted.
+pub fn clean_exactly_where_accepted()
+    ensures { (h : Sessions) (v : Verdict) → IsVerdict h v → IsSoFar h SoFar.Clean ↔ Accepts v }
+{}
+
+/// A law of the definitions: what is refused so far is refused however it goes on.
+pub fn refused_stays_refused()
+    ensures { (h longer : Sessions) (v : Verdict) → IsSoFar h SoFar.Refused → Continues h longer → IsVerdict longer v → ¬ Accepts v }
 {}

@@ -6,11 +6,14 @@
 //! that shares the work uses the tables and the search for each class among given names.
 #![tactic(auto)]
 
+mod assessing;
+mod hints;
 mod judging;
 mod keys;
 mod laws;
 mod names;
 mod notes;
+mod online;
 mod ops;
 mod rising;
 mod search;
@@ -22,16 +25,21 @@ mod turns;
 mod verdict;
 mod window;
 
+pub use assessing::assess;
 pub use judging::judge;
 pub use keys::{Keys, first_places, link};
-pub use laws::{accepted_exactly_where_convergent, one_verdict};
+pub use laws::{
+    accepted_exactly_where_convergent, clean_exactly_where_accepted, one_verdict,
+    refused_stays_refused,
+};
 pub use names::all_names;
 pub use notes::{Note, Notes, Seen, without_source};
+pub use online::Online;
 pub use rising::not_above;
 pub use search::past;
 pub use stale::stale_among;
 pub use table::{VersionedPut, doubled, is_rising, put_names, puts_by_version};
-pub use verdict::{Faults, NotAbove, Stale, Verdict};
+pub use verdict::{Faults, NotAbove, SoFar, Stale, Verdict};
 pub use window::{Suspect, suspects};
 
 #[cfg(test)]

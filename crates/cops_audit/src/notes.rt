@@ -1,15 +1,16 @@
-ghost use Rattle.std.specs.Prelude.{◌≡◌, ◌<◌, ◌+◌, ◌^◌, ◌↔◌, IfOk, IsTrue, length, AllPairs, slice_index_or, []};
+ghost use Rattle.std.specs.Prelude.{◌≡◌, ◌<◌, ◌≤◌, ◌+◌, ◌^◌, ◌↔◌, IfOk, OnOk, IsTrue, length, map, vec_len, All, AllPairs, slice_index_or, []};
 ghost use Rattle.cops_types.specs.declared.op.OpName.{OpName};
 ghost use Rattle.cops_types.specs.Histories.{IsNamed};
 ghost use Rattle.cops_types.specs.Faults.{IsBefore};
 ghost use Rattle.cops_audit.specs.Names.{ListsAmong};
-ghost use Rattle.cops_audit.specs.Notes.{above as above_of, IsNoted, IsSeen, IsSessionNoted, IsSourceless};
+ghost use Rattle.cops_audit.specs.Notes.{above as above_of, AreFrontsNoted, AreLongEnough, AreMarks, IsFrontNoted, IsMark, IsSeen, IsSourceless};
 ghost use Rattle.cops_audit.specs.Tables.{GetsVersion, IsVersionTable};
 ghost use Rattle.cops_audit.specs.declared.table.VersionedPut.{VersionedPut};
 
+use crate::hints::Hints;
 use crate::ops::is_source;
-use crate::table::{VersionedPut, place_of};
-use cops_types::{History, Op, OpName};
+use crate::table::{VersionedPut, first_from};
+use cops_types::{History, MAX_CLIENT_OPS, Op, OpName};
 use std::alloc::{AllocError, Global};
 use std::marker::Model;
 
@@ -22,8 +23,8 @@ pub enum Seen {
     Got(u32),
     /// A get that found nothing.
     Missed,
-    /// A get that no put is the source of.
-    Sourceless,
+    /// A get that no put is the source of: the puts before this place have lower versions.
+    Sourceless(u32),
 }
 
 /// What an operation did, and the least number above the places of all that its session saw up to it.
@@ -33,20 +34,24 @@ pub struct Note {
     pub mark: u32,
 }
 
+/// How many operations of a session are noted in a row, before it is another session's turn: operations that are near in
+/// time look up what lies near together.
+const STRETCH: usize = 4;
+
 /// What an operation did.
-fn see(history: &History, table: &[VersionedPut], name: OpName) -> Seen
+fn see(history: &History, table: &[VersionedPut], hints: &Hints, name: OpName) -> Seen
     requires table { IsVersionTable history.now.sessions table.now }
     requires named { IsNamed history.now.sessions name }
     ensures { IsSeen history.now.sessions table.now name result }
 {
     match history.op(name) {
-        Some(Op::Put { version, .. }) => match place_of(table, *version) {
+        Some(Op::Put { version, .. }) => match hints.place_of(table, name, *version) {
             Some(place) => Seen::Put(place as u32),
             None => Seen::Missed,
         },
-        Some(Op::Got { version, .. }) => match place_of(table, *version) {
+        Some(Op::Got { version, .. }) => match hints.place_of(table, name, *version) {
             Some(place) => see_source(history, table, name, place),
-            None => Seen::Sourceless,
+            None => Seen::Sourceless(first_from(table, *version) as u32),
         },
         _ => Seen::Missed,
     }
@@ -63,45 +68,92 @@ fn see_source(history: &History, table: &[VersionedPut], got: OpName, place: usi
     if is_source(history, put.name, got) {
         Seen::Got(place as u32)
     } else {
-        Seen::Sourceless
+        Seen::Sourceless(place as u32)
     }
 }
 
 impl Seen {
-    /// Just above the place, 0 where there is none.
+    /// Just above the place of what was seen, 0 where nothing was found.
     fn above(self) -> u32
         requires { above_of self < 2 ^ 32 }
         ensures { result ≡ above_of self }
     {
         match self {
             Seen::Put(place) | Seen::Got(place) => place + 1,
-            Seen::Missed | Seen::Sourceless => 0,
+            Seen::Sourceless(place) => place,
+            Seen::Missed => 0,
         }
     }
 }
 
-/// The notes on one session.
-fn note_session(
-    alloc: Global,
+/// The last note's mark.
+fn last_mark(notes: &[Note]) -> u32
+    ensures { AreMarks notes.now → IsMark notes.now (length notes.now) result }
+{
+    if notes.is_empty() {
+        return 0;
+    }
+    notes[notes.len() - 1].mark
+}
+
+/// Notes the next operations of a session, up to so many of its first ones.
+fn note_on(
+    notes: &mut Vec<Note>,
     history: &History,
     table: &[VersionedPut],
+    hints: &Hints,
     client: u16,
-) -> Result<Vec<Note>, AllocError>
-    requires { IsVersionTable history.now.sessions table.now }
-    ensures { IfOk result (λ v. IsSessionNoted history.now.sessions table.now client v.items) }
+    count: usize,
+) -> Result<(), AllocError>
+    requires table { IsVersionTable history.now.sessions table.now }
+    requires front { IsFrontNoted history.now.sessions table.now client notes.old.items }
+    ensures front { OnOk result (IsFrontNoted history.now.sessions table.now client notes.new.items) }
+    ensures whole { OnOk result (length (slice_index_or history.now.sessions client []) ≤ count → length (slice_index_or history.now.sessions client []) ≤ vec_len notes.new) }
 {
-    let mut notes = Vec::new(alloc);
-    let mut mark = 0;
-    for index in 0..history.session(client).len() {
+    let end = history.session(client).len().min(count);
+    let mut mark = last_mark(notes.as_slice());
+    for index in notes.len()..end {
         let index = index as u32;
-        let seen = see(history, table, OpName { client, index });
+        let seen = see(history, table, hints, OpName { client, index });
         let above = seen.above();
         if mark < above {
             mark = above;
         }
         notes.push(Note { seen, mark })?;
     }
-    Ok(notes)
+    Ok(())
+}
+
+/// Notes the next operations of each session, up to so many of its first ones.
+fn note_all(
+    sessions: &mut Vec<Vec<Note>>,
+    history: &History,
+    table: &[VersionedPut],
+    hints: &Hints,
+    count: usize,
+) -> Result<(), AllocError>
+    requires table { IsVersionTable history.now.sessions table.now }
+    requires fronts { AreFrontsNoted history.now.sessions table.now (map (λ s. s.items) sessions.old.items) }
+    ensures fronts { OnOk result (AreFrontsNoted history.now.sessions table.now (map (λ s. s.items) sessions.new.items)) }
+    ensures whole { OnOk result (AreLongEnough history.now.sessions count (length history.now.sessions) (map (λ s. s.items) sessions.new.items)) }
+{
+    for client in 0..history.clients() {
+        let notes = &mut sessions[client];
+        note_on(notes, history, table, hints, client as u16, count)?;
+    }
+    Ok(())
+}
+
+/// No notes yet, with room for those on each session.
+fn no_notes(alloc: Global, history: &History) -> Result<Vec<Vec<Note>>, AllocError>
+    ensures { IfOk result (λ v. (length v.items ≡ length history.now.sessions) × All (λ s. s.items ≡ []) v.items) }
+{
+    let mut sessions = Vec::new(alloc);
+    for client in 0..history.clients() {
+        let notes = Vec::with_capacity(alloc, history.session(client as u16).len())?;
+        sessions.push(notes)?;
+    }
+    Ok(sessions)
 }
 
 /// The notes on the operations of a history, by client and index.
@@ -130,11 +182,13 @@ impl Notes {
         requires { IsVersionTable history.now.sessions table.now }
         ensures { IfOk result (λ notes. IsNoted history.now.sessions table.now notes) }
     {
-        let mut sessions = Vec::new(alloc);
-        for client in 0..history.clients() {
-            let session = note_session(alloc, history, table, client as u16)?;
-            sessions.push(session)?;
+        let hints = Hints::new(alloc, history, table)?;
+        let mut sessions = no_notes(alloc, history)?;
+        let turns = history.len() / (STRETCH * history.clients().max(1));
+        for turn in 0..turns {
+            note_all(&mut sessions, history, table, &hints, STRETCH * turn)?;
         }
+        note_all(&mut sessions, history, table, &hints, MAX_CLIENT_OPS)?;
         Ok(Notes { sessions })
     }
 
@@ -164,7 +218,7 @@ fn is_sourceless(notes: &Notes, name: OpName) -> bool
         return false;
     };
     match note.seen {
-        Seen::Sourceless => true,
+        Seen::Sourceless(_) => true,
         _ => false,
     }
 }

@@ -1,6 +1,7 @@
 ghost use Rattle.std.specs.Prelude.{◌<◌, ℕ, IfOk, length, map, AllPairs, slice_index_or};
 ghost use Rattle.cops_types.specs.Faults.{IsBefore, IsStale};
-ghost use Rattle.cops_types.specs.Verdicts.{AllAbove, AllHaveSources};
+ghost use Rattle.cops_types.specs.Verdicts.{AllAbove};
+ghost use Rattle.cops_audit.specs.SoFar.{HaveSourcesOrWait};
 ghost use Rattle.cops_audit.specs.declared.window.Suspect.{Suspect};
 ghost use Rattle.cops_audit.specs.Keys.{AreFirsts};
 ghost use Rattle.cops_audit.specs.Names.{ListsAmong};
@@ -8,7 +9,7 @@ ghost use Rattle.cops_audit.specs.Notes.{IsNoted};
 ghost use Rattle.cops_audit.specs.Tables.{IsVersionTable};
 ghost use Rattle.cops_audit.specs.Windows.{IsSuspect};
 
-use crate::keys::{first_places, link};
+use crate::keys::{link, passed_firsts};
 use crate::notes::Notes;
 use crate::sweep::Sweep;
 use crate::table::VersionedPut;
@@ -29,7 +30,7 @@ fn judge_suspects(
 ) -> Result<Vec<Stale>, AllocError>
     requires table { IsVersionTable history.now.sessions table.now }
     requires notes { IsNoted history.now.sessions table.now notes.now }
-    requires sources { AllHaveSources history.now.sessions }
+    requires sources { HaveSourcesOrWait history.now.sessions }
     requires above { AllAbove history.now.sessions }
     requires firsts { AreFirsts history.now.sessions table.now firsts.now }
     requires suspects { (k : ℕ) (d : Suspect) → k < length suspects.now → IsSuspect history.now.sessions table.now (slice_index_or suspects.now k d) }
@@ -64,7 +65,7 @@ pub fn stale_among(
 ) -> Result<Vec<Stale>, AllocError>
     requires table { IsVersionTable history.now.sessions table.now }
     requires notes { IsNoted history.now.sessions table.now notes.now }
-    requires sources { AllHaveSources history.now.sessions }
+    requires sources { HaveSourcesOrWait history.now.sessions }
     requires above { AllAbove history.now.sessions }
     requires in_order { AllPairs IsBefore names.now }
     ensures { IfOk result (λ v. ListsAmong (λ f. f.op) (λ f. IsStale history.now.sessions f.op f.newer) names.now v.items) }
@@ -75,7 +76,7 @@ pub fn stale_among(
     if suspects.is_empty() {
         return Ok(Vec::new(alloc));
     }
-    let places = first_places(alloc, history, table, &keys)?;
+    let places = passed_firsts(alloc, history, table, keys.nexts.as_slice())?;
     let firsts = places.as_slice();
     let faults = judge_suspects(alloc, history, table, notes, firsts, suspects)?;
     Ok(faults)

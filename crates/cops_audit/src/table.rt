@@ -85,6 +85,7 @@ pub fn place_of(table: &[VersionedPut], version: Version) -> Option<usize>
 /// The first place of a put with this version or a later one.
 pub fn first_from(table: &[VersionedPut], version: Version) -> usize
     requires { VersionsNeverFall table.now }
+    ensures inside { result ≤ length table.now }
     ensures before { (k : ℕ) (d : VersionedPut) → k < result → (slice_index_or table.now k d).version < version }
     ensures from { (k : ℕ) (d : VersionedPut) → result ≤ k → k < length table.now → version ≤ (slice_index_or table.now k d).version }
 {

@@ -1,5 +1,5 @@
 use super::*;
-use cops_types::{History, Key, Op, OpName, Value, Version};
+use cops_types::{History, Key, Op, OpName, TypeFault, Value, Version};
 use std::alloc::Global;
 use std::test::Fail;
 
@@ -392,5 +392,78 @@ fn past_with_two_sources(rt: HostRuntime) -> Result<(), Fail> {
         past(a, &h, name(3, 0))?.as_slice(),
         [(0, 1), (1, 2)].as_slice()
     );
+    Ok(())
+}
+
+/// What is said so far of these operations, fed in this order, and their verdict.
+fn fed(alloc: Global, clients: u16, entries: &[(u16, Did)]) -> Result<(SoFar, Verdict), Fail> {
+    let mut online = Online::new(alloc, clients)?;
+    for (client, did) in entries {
+        online.feed(*client, op(alloc, *did)?)?;
+    }
+    let so_far = online.so_far()?;
+    Ok((so_far, online.finish()?))
+}
+
+#[test]
+fn a_put_and_a_get_in_both_orders(rt: HostRuntime) -> Result<(), Fail> {
+    let a = rt.alloc();
+    let put = (0, Did::Put(b'x', 1, 1, 0));
+    let got = (1, Did::Got(b'x', 1, 1, 0));
+    assert_eq!(rt;
+        fed(a, 2, &[put, got])?,
+        (SoFar::Clean, accepted(a, &[name(0, 0)])?)
+    );
+    assert_eq!(rt;
+        fed(a, 2, &[got, put])?,
+        (SoFar::Clean, accepted(a, &[name(0, 0)])?)
+    );
+    assert_eq!(rt;
+        fed(a, 2, &[got])?,
+        (SoFar::Waiting(1), no_source(a, &[name(1, 0)])?)
+    );
+    Ok(())
+}
+
+#[test]
+fn refused_while_a_get_waits(rt: HostRuntime) -> Result<(), Fail> {
+    let a = rt.alloc();
+    let entries = [
+        (0, Did::Put(b'x', 1, 1, 0)),
+        (0, Did::Put(b'x', 2, 2, 0)),
+        (1, Did::Got(b'y', 9, 9, 0)),
+        (1, Did::Got(b'x', 2, 2, 0)),
+        (1, Did::Got(b'x', 1, 1, 0)),
+    ];
+    assert_eq!(rt;
+        fed(a, 2, &entries)?,
+        (SoFar::Refused, no_source(a, &[name(1, 0)])?)
+    );
+    let (before, _verdict) = fed(a, 2, &entries[..4])?;
+    assert_eq!(rt; before, SoFar::Waiting(1));
+    Ok(())
+}
+
+#[test]
+fn faults_that_last(rt: HostRuntime) -> Result<(), Fail> {
+    let a = rt.alloc();
+    let put = (0, Did::Put(b'x', 1, 1, 0));
+    let (doubled, _verdict) = fed(a, 2, &[put, (1, Did::Put(b'x', 2, 1, 0))])?;
+    assert_eq!(rt; doubled, SoFar::Refused);
+    let (other_value, _verdict) = fed(a, 2, &[put, (1, Did::Got(b'x', 2, 1, 0))])?;
+    assert_eq!(rt; other_value, SoFar::Refused);
+    let (not_above, _verdict) = fed(a, 1, &[(0, Did::Got(b'y', 2, 2, 0)), put])?;
+    assert_eq!(rt; not_above, SoFar::Refused);
+    Ok(())
+}
+
+#[test]
+fn clients_that_are_not_there(rt: HostRuntime) -> Result<(), Fail> {
+    let a = rt.alloc();
+    let mut online = Online::new(a, 1)?;
+    let refused = online.feed(1, op(a, Did::Missed(b'x'))?);
+    assert_eq!(rt; refused, Err(TypeFault::UnknownClient));
+    assert_eq!(rt; online.so_far()?, SoFar::Clean);
+    let _verdict = online.finish()?;
     Ok(())
 }

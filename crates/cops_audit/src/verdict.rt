@@ -23,6 +23,17 @@ pub enum Faults {
     Stale(Vec<Stale>),
 }
 
+/// What is said of a history that goes on.
+#[derive(Clone, Copy, Debug, PartialEq, Eq)]
+pub enum SoFar {
+    /// It is accepted.
+    Clean,
+    /// It has no lasting fault, and so many gets, above 0, have no put of their version yet.
+    Waiting(usize),
+    /// It has a fault that no further operation takes away.
+    Refused,
+}
+
 /// What the auditor says of a history.
 #[derive(Debug, Drop, PartialEq, Eq)]
 pub enum Verdict {

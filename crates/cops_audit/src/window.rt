@@ -1,8 +1,9 @@
 ghost use Rattle.std.specs.Prelude.{◌≡◌, ◌≤◌, ℕ, List, IfOk, IfSome, IfNone, Some, AllPairs};
 ghost use Rattle.cops_types.specs.declared.op.OpName.{OpName};
-ghost use Rattle.cops_types.specs.Histories.{IsMissed, IsNamed};
+ghost use Rattle.cops_types.specs.Histories.{IsGot, IsMissed, IsNamed};
 ghost use Rattle.cops_types.specs.Faults.{IsBefore, IsNewer};
-ghost use Rattle.cops_types.specs.Verdicts.{AllAbove, AllHaveSources};
+ghost use Rattle.cops_types.specs.Verdicts.{AllAbove};
+ghost use Rattle.cops_audit.specs.SoFar.{HaveSourcesOrWait, IsWaiting};
 ghost use Rattle.cops_audit.specs.Keys.{AreNexts, IsFirstFrom, KnowsFirsts, OnKey};
 ghost use Rattle.cops_audit.specs.Notes.{IsNoted, IsSeen};
 ghost use Rattle.cops_audit.specs.Tables.{IsVersionTable};
@@ -91,6 +92,48 @@ fn missed_suspect(
     })
 }
 
+/// The key of a get that returned a value.
+fn got_key(history: &History, name: OpName) -> &[u8]
+    requires { (key : List ℕ) × (value : List ℕ) × (version : ℕ) × IsGot history.now.sessions name key value version }
+    ensures { (value : List ℕ) × (version : ℕ) × IsGot history.now.sessions name result.now value version }
+{
+    match history.op(name) {
+        Some(Op::Got { key, .. }) => key.as_bytes(),
+        _ => &[],
+    }
+}
+
+/// A get that waits for its source, whose version divides the puts at a place: no suspect where the place is not below
+/// the mark, or there is no put on the key.
+fn waiting_suspect(
+    history: &History,
+    table: &[VersionedPut],
+    keys: &Keys,
+    op: OpName,
+    place: u32,
+    mark: u32,
+) -> Option<Suspect>
+    requires table { IsVersionTable history.now.sessions table.now }
+    requires firsts { KnowsFirsts history.now.sessions table.now keys.now.firsts }
+    requires seen { IsSeen history.now.sessions table.now op (Seen.Sourceless place) }
+    requires waiting { IsWaiting history.now.sessions op }
+    ensures suspect { IfSome result (λ s. (s.op ≡ op) × IsSuspect history.now.sessions table.now s) }
+    ensures none { IfNone result (NoneWithin history.now.sessions table.now op mark) }
+{
+    if place >= mark {
+        return None;
+    }
+    let key = got_key(history, op);
+    let Some(first) = keys.firsts.get(&key).copied() else {
+        return None;
+    };
+    Some(Suspect {
+        op,
+        first,
+        from: place,
+    })
+}
+
 /// The suspect that an operation is, if it is one: else no put in its past is newer than what it returned.
 fn find_suspect(
     history: &History,
@@ -103,7 +146,7 @@ fn find_suspect(
     requires notes { IsNoted history.now.sessions table.now notes.now }
     requires nexts { AreNexts history.now.sessions table.now keys.now.nexts.items }
     requires firsts { KnowsFirsts history.now.sessions table.now keys.now.firsts }
-    requires sources { AllHaveSources history.now.sessions }
+    requires sources { HaveSourcesOrWait history.now.sessions }
     requires above { AllAbove history.now.sessions }
     ensures suspect { IfSome result (λ s. (s.op ≡ op) × IsSuspect history.now.sessions table.now s) }
     ensures none { IfNone result ((newer : OpName) (version : ℕ) → ¬ IsNewer history.now.sessions op newer version) }
@@ -114,6 +157,7 @@ fn find_suspect(
     match note.seen {
         Seen::Got(place) => got_suspect(history, table, keys, op, place, note.mark),
         Seen::Missed => missed_suspect(history, table, keys, op, note.mark),
+        Seen::Sourceless(place) => waiting_suspect(history, table, keys, op, place, note.mark),
         _ => None,
     }
 }
@@ -131,7 +175,7 @@ pub fn suspects(
     requires notes { IsNoted history.now.sessions table.now notes.now }
     requires nexts { AreNexts history.now.sessions table.now keys.now.nexts.items }
     requires firsts { KnowsFirsts history.now.sessions table.now keys.now.firsts }
-    requires sources { AllHaveSources history.now.sessions }
+    requires sources { HaveSourcesOrWait history.now.sessions }
     requires above { AllAbove history.now.sessions }
     requires in_order { AllPairs IsBefore names.now }
     ensures { IfOk result (λ v. AreSuspects history.now.sessions table.now names.now v.items) }

@@ -16,6 +16,10 @@ audit_app = with_rule (new_app (codes "audit")) (positional (codes "trace"))
 abbrev pub show_app : App
 show_app = with_rule (new_app (codes "show")) (positional (codes "trace"))
 
+-- `run SCENARIO TRACE`
+abbrev pub run_app : App
+run_app = with_rule (with_rule (new_app (codes "run")) (positional (codes "scenario"))) (positional (codes "trace"))
+
 -- the words of a subcommand alone
 abbrev pub cops_top : App
 cops_top = record {
@@ -25,4 +29,4 @@ cops_top = record {
 
 -- one of the subcommands
 unfoldable pub cops_app : App
-cops_app = with_subcommand (with_subcommand cops_top audit_app.top) show_app.top
+cops_app = with_subcommand (with_subcommand (with_subcommand cops_top audit_app.top) show_app.top) run_app.top

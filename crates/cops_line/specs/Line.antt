@@ -4,7 +4,7 @@ use Rattle.clap.specs.Words.{Row, Text, first_of, subcommand_of, fault_of, IsAmo
 use Rattle.clap.specs.declared.error.kind.ErrorKind.{ErrorKind}
 use Rattle.clap.specs.declared.error.kind.ErrorKind.TheVariants.{DisplayHelp, OutOfMemory}
 use Rattle.cops_line.specs.declared.job.Job.{Job}
-use Rattle.cops_line.specs.declared.job.Job.TheVariants.{Audit, Show}
+use Rattle.cops_line.specs.declared.job.Job.TheVariants.{Audit, Show, Run}
 use Rattle.cops_line.specs.declared.fault.LineFault.{LineFault}
 use Rattle.cops_line.specs.declared.fault.LineFault.TheVariants.{Memory, Usage, Help}
 use Rattle.cops_line.specs.Commands.{cops_app}
@@ -13,6 +13,7 @@ use Rattle.cops_line.specs.Commands.{cops_app}
 abbrev pub IsJobOf : Text → List Row → Job → Type 0
 IsJobOf name rows (Audit trace) = (name ≡ codes "audit") × (first_of (codes "trace") rows ≡ Some trace.now)
 IsJobOf name rows (Show trace) = (name ≡ codes "show") × (first_of (codes "trace") rows ≡ Some trace.now)
+IsJobOf name rows (Run scenario trace) = (name ≡ codes "run") × (first_of (codes "scenario") rows ≡ Some scenario.now) × (first_of (codes "trace") rows ≡ Some trace.now)
 
 -- no job has this subcommand and these values
 abbrev pub HasNoJob : Text → List Row → Type 0
@@ -30,6 +31,7 @@ HasNoJobIn met = (job : Job) → ¬ IsJobIn met job
 abbrev pub IsDefault : Job → Type 0
 IsDefault (Audit trace) = trace.now ≡ codes "-"
 IsDefault (Show trace) = ⊥
+IsDefault (Run scenario trace) = ⊥
 
 -- the program's command takes the words, and they name a subcommand with the job's values
 abbrev pub IsRead : List Text → Job → Type 0

@@ -1,19 +1,21 @@
 ghost use Rattle.std.specs.Prelude.{◌≡◌, IfOk, codes, false};
 ghost use Rattle.clap.specs.Words.{app_of, rule_of};
 ghost use Rattle.clap.specs.declared.builder.command.Command.TheViews.{out-Command as fields_of};
-ghost use Rattle.cops_line.specs.Commands.{positional, cops_top, cops_app, audit_app, show_app};
+ghost use Rattle.cops_line.specs.Commands.{positional, cops_top, cops_app, audit_app, show_app, run_app};
 
 use clap::{Arg, ArgAction, Command};
 use std::alloc::{AllocError, Global};
 
-const ABOUT: &str = "An auditor of the histories that the clients of a key-value store recorded";
+const ABOUT: &str =
+    "A COPS cluster in one process, and an auditor of the histories that clients recorded";
 
 const LONG_ABOUT: &str = "\
-An auditor of the histories that the clients of a key-value store recorded.
+A COPS cluster in one process, and an auditor of the histories that clients recorded.
 
 A trace is a file that records what each client of a store put and got. The auditor accepts it
 where the history in it is causally convergent, and else names the operations at fault.
-With no words at all, cops judges the trace on standard input.
+With no words at all, cops judges the trace on standard input. A scenario is a file that says
+what a cluster is made of and what happens in it; cops runs it and records a trace.
 
 The exit status is 0 where the trace is accepted or the command did its work, 1 where the trace
 is refused, 2 where the input or the words are faulty, 3 where memory ran out, and 4 where a
@@ -32,18 +34,29 @@ Prints a trace as text: a line for each frame, with its kind and its fields.
 Where the file is no whole trace, the frames before the fault are printed, and then one line,
 `faulty: ..`, that says what is wrong and at which byte.";
 
+const RUN_LONG_ABOUT: &str = "\
+Runs the cluster that a scenario describes, and records what its clients saw.
+
+Prints a line for each event with its outcome, and then the report of the recorded history. The
+trace file is written anew. A scenario that is mistaken is answered with one line, `faulty: ..`,
+that names the field.";
+
 const TRACE_HELP: &str = "The trace file, or `-` for standard input";
 
-/// The argument TRACE of a subcommand, which has to be there.
-fn trace_arg<'a>(alloc: Global) -> Arg<'a>
-    ensures rule { rule_of result ≡ positional (codes "trace") }
+const NEW_TRACE_HELP: &str = "The trace file to write";
+
+const SCENARIO_HELP: &str = "The scenario file, or `-` for standard input";
+
+/// An argument of a subcommand, which has to be there.
+fn file_arg<'a>(alloc: Global, id: &'static str, name: &'static str, help: &'static str) -> Arg<'a>
+    ensures rule { rule_of result ≡ positional id.now }
     ensures local { result.global ≡ false }
 {
-    Arg::new(alloc, "trace")
+    Arg::new(alloc, id)
         .required(true)
         .action(ArgAction::Set)
-        .value_name("TRACE")
-        .help(TRACE_HELP)
+        .value_name(name)
+        .help(help)
 }
 
 fn audit_command<'a>(alloc: Global) -> Result<Command<'a>, AllocError>
@@ -53,7 +66,7 @@ fn audit_command<'a>(alloc: Global) -> Result<Command<'a>, AllocError>
     Command::new(alloc, "audit")
         .about("Judges whether a recorded history is causally convergent")
         .long_about(AUDIT_LONG_ABOUT)
-        .arg(trace_arg(alloc))
+        .arg(file_arg(alloc, "trace", "TRACE", TRACE_HELP))
 }
 
 fn show_command<'a>(alloc: Global) -> Result<Command<'a>, AllocError>
@@ -63,7 +76,18 @@ fn show_command<'a>(alloc: Global) -> Result<Command<'a>, AllocError>
     Command::new(alloc, "show")
         .about("Prints a trace as text, a line for each frame")
         .long_about(SHOW_LONG_ABOUT)
-        .arg(trace_arg(alloc))
+        .arg(file_arg(alloc, "trace", "TRACE", TRACE_HELP))
+}
+
+fn run_command<'a>(alloc: Global) -> Result<Command<'a>, AllocError>
+    ensures app { IfOk result (λ c. app_of c ≡ run_app) }
+    ensures local { IfOk result (λ c. (fields_of c).has_globals ≡ false) }
+{
+    Command::new(alloc, "run")
+        .about("Runs a scenario, and records what its clients saw")
+        .long_about(RUN_LONG_ABOUT)
+        .arg(file_arg(alloc, "scenario", "SCENARIO", SCENARIO_HELP))?
+        .arg(file_arg(alloc, "trace", "TRACE", NEW_TRACE_HELP))
 }
 
 fn top_command<'a>(alloc: Global) -> Result<Command<'a>, AllocError>
@@ -84,5 +108,9 @@ pub fn cops_command<'a>(alloc: Global) -> Result<Command<'a>, AllocError>
 {
     let audit = audit_command(alloc)?;
     let show = show_command(alloc)?;
-    top_command(alloc)?.subcommand(audit)?.subcommand(show)
+    let run = run_command(alloc)?;
+    top_command(alloc)?
+        .subcommand(audit)?
+        .subcommand(show)?
+        .subcommand(run)
 }

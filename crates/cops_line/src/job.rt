@@ -11,6 +11,8 @@ pub enum Job<'a> {
     Audit { trace: &'a str },
     /// Print a trace, a line for each frame. `-` is standard input.
     Show { trace: &'a str },
+    /// Run a scenario, print what came of it, and write the trace of it to a file. `-` as the scenario is standard input.
+    Run { scenario: &'a str, trace: &'a str },
 }
 
 /// The first value of an argument.
@@ -36,6 +38,15 @@ fn show_job<'a>(matches: &ArgMatches<'a>) -> Option<Job<'a>>
     Some(Job::Show { trace })
 }
 
+fn run_job<'a>(matches: &ArgMatches<'a>) -> Option<Job<'a>>
+    ensures some { IfSome result (IsJobOf (codes "run") (rows_of (found_of matches.now))) }
+    ensures none { IfNone result (HasNoJob (codes "run") (rows_of (found_of matches.now))) }
+{
+    let scenario = value(matches, "scenario")?;
+    let trace = value(matches, "trace")?;
+    Some(Job::Run { scenario, trace })
+}
+
 fn job_of<'a>(name: &str, matches: &ArgMatches<'a>) -> Option<Job<'a>>
     ensures some { IfSome result (IsJobOf name.now (rows_of (found_of matches.now))) }
     ensures none { IfNone result (HasNoJob name.now (rows_of (found_of matches.now))) }
@@ -43,6 +54,7 @@ fn job_of<'a>(name: &str, matches: &ArgMatches<'a>) -> Option<Job<'a>>
     match name {
         "audit" => audit_job(matches),
         "show" => show_job(matches),
+        "run" => run_job(matches),
         _ => None,
     }
 }

@@ -24,7 +24,7 @@ fn as_fault(alloc: Global, error: Error) -> LineFault
     }
 }
 
-/// The job that the words ask for: `audit TRACE`, `show TRACE`, or none, which is as `audit -`. `words` are those after
+/// The job that the words ask for: `audit TRACE`, `show TRACE`, `run SCENARIO TRACE`, or none, which is as `audit -`. `words` are those after
 /// the program's name. `Usage` where they are no job, and `Help` where they ask for help, by `--help`, `-h` or `help`,
 /// each with `clap`'s text; `Memory` where a growth was refused. No words that tell a job are answered with `Usage` or
 /// `Help`, and words that only ask for help are not answered with `Usage`.

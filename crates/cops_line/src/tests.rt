@@ -32,6 +32,13 @@ fn words_tell_jobs(rt: HostRuntime) -> Result<(), Fail> {
         line(rt.alloc(), &["show", "--", "-x"])?,
         Job::Show { trace: "-x" }
     );
+    assert_eq!(rt;
+        line(rt.alloc(), &["run", "a.json", "a.trace"])?,
+        Job::Run {
+            scenario: "a.json",
+            trace: "a.trace"
+        }
+    );
     Ok(())
 }
 
@@ -46,6 +53,7 @@ fn help_names_every_word(rt: HostRuntime) -> Result<(), Fail> {
             "Usage: cops <COMMAND>",
             "audit",
             "show",
+            "run",
             "help",
             "-h, --help",
         ] {
@@ -86,11 +94,13 @@ fn mistakes_are_answered_with_usage(rt: HostRuntime) -> Result<(), Fail> {
         "error: unrecognized subcommand 'judge'\n\nUsage: cops <COMMAND>\n\nFor more information, try '--help'.\n"
     );
     static TWO: [&str; 3] = ["show", "a", "b"];
+    static ONE: [&str; 2] = ["run", "a"];
     static OPTION: [&str; 3] = ["audit", "a", "--all"];
     static EMPTY: [&str; 1] = [""];
     static TOPIC: [&str; 2] = ["help", "judge"];
     for words in [
         TWO.as_slice(),
+        ONE.as_slice(),
         OPTION.as_slice(),
         EMPTY.as_slice(),
         TOPIC.as_slice(),

@@ -3,6 +3,7 @@ ghost use Rattle.cops_place.specs.Place.{AreAscending, primary, is_at_most, is_b
 
 use crate::fault::PlaceFault;
 use cops_types::Key;
+use std::alloc::AllocError;
 use std::marker::Model;
 
 /// The most data centres.
@@ -82,6 +83,24 @@ impl Place {
         ensures range { result < 1024 }
     {
         u16::from(dc) * 64 + u16::from(self.primary(key))
+    }
+}
+
+/// A copy that equals it.
+impl Clone for Place {
+    ghost use Rattle.std.specs.Prelude.{◌≡◌};
+
+    ghost is_clone = { λ s t. t ≡ s };
+
+    fn clone(&self) -> Result<Place, AllocError> {
+        let mut splits = Vec::new(*self.splits.allocator());
+        for split in &self.splits {
+            splits.push(split.clone()?)?;
+        }
+        Ok(Place {
+            dcs: self.dcs,
+            splits,
+        })
     }
 }
 

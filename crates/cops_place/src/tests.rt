@@ -22,6 +22,7 @@ fn primaries(rt: HostRuntime) -> Result<(), Fail> {
     }
     assert_eq!(rt; place.node(2, &Key::new(alloc, b"z")?), 130);
     let whole = Place::new(1, Vec::new(alloc))?;
+    assert_eq!(rt; place.clone()?.node(2, &Key::new(alloc, b"z")?), 130);
     assert_eq!(rt; whole.nodes(), 1);
     assert_eq!(rt; whole.node(0, &Key::new(alloc, b"z")?), 0);
     Ok(())

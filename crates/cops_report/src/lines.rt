@@ -12,14 +12,24 @@ use cops_audit::{NotAbove, Stale};
 use cops_types::{History, Op, OpName, Version};
 use std::alloc::{AllocError, Global};
 
+/// Whether it is a put.
+fn is_put(op: &Op) -> bool
+    ensures { result ≡ is_put op.now }
+{
+    matches!(op, Op::Put { .. })
+}
+
 /// How many puts are among the operations.
 fn session_puts(session: &[Op]) -> usize
     ensures { result ≡ count_by is_put session.now }
 {
-    session
-        .iter()
-        .filter(|op| matches!(op, Op::Put { .. }))
-        .count()
+    let mut puts = 0;
+    for op in session {
+        if is_put(op) {
+            puts += 1;
+        }
+    }
+    puts
 }
 
 /// How many puts there are.

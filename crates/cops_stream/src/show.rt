@@ -1,19 +1,13 @@
 //! The lines of a trace's frames.
 
+use crate::device::{FAULTY, PIECE, failed, read_all};
 use cops_trace::{fault_line, read_trace, write_text};
 use cops_types::{Counted, Memory};
 use cops_wire::{Feeder, WireFault, body_len, show};
 use std::alloc::Global;
 use std::io::{Read, Write};
 
-/// How many bytes are read or fed at once.
-const PIECE: usize = 4096;
-
 const SHOWN: u8 = 0;
-
-const FAULTY: u8 = 2;
-
-const FAILED: u8 = 4;
 
 /// Writes a line for each frame of a trace that ends at or before the trace's first fault, or for all, and then the
 /// fault's line where there is one. The answer is the status: 0 for a whole trace, 2 for a fault, and 4 where a read or
@@ -48,26 +42,6 @@ pub fn show_stream<R: Read, W: Write, E: Write>(
         return Ok(failed(errors, b"failed: write\n"));
     }
     Ok(FAULTY)
-}
-
-/// Tells of a device's fault, and gives the status.
-fn failed<E: Write>(errors: &mut Counted<E>, text: &[u8]) -> u8 {
-    let _ = write_text(errors, text);
-    FAILED
-}
-
-/// All that a reader has left, or `None` where a read failed.
-fn read_all<R: Read>(alloc: Global, reader: &mut Counted<R>) -> Result<Option<Vec<u8>>, Memory> {
-    let mut bytes = Vec::new(alloc);
-    let mut piece = [0u8; PIECE];
-    for _ in 0..u64::MAX {
-        match reader.read(&mut piece) {
-            Ok(0) => break,
-            Ok(count) => bytes.extend_from_slice(&piece[..count])?,
-            Err(_) => return Ok(None),
-        }
-    }
-    Ok(Some(bytes))
 }
 
 /// Writes the lines of the frames that end at or before this place, and says whether all were written.

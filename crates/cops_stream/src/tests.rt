@@ -1,5 +1,5 @@
 use super::*;
-use cops_types::{Counted, FailingReader, FailingWriter};
+use cops_types::{Counted, FailingReader, FailingWriter, Memory};
 use std::alloc::{AllocError, Global};
 use std::test::Fail;
 
@@ -144,6 +144,63 @@ fn a_failed_device_is_told(rt: HostRuntime) -> Result<(), Fail> {
         assert_eq!(rt; got, 4, "{told}");
         assert_eq!(rt; out.into_inner().into_inner().len(), 0, "{told}");
         assert_eq!(rt; errors.into_inner().as_slice(), told.as_bytes());
+    }
+    Ok(())
+}
+
+/// The status, the trace, the text and the errors of a run.
+fn ran(rt: &HostRuntime, scenario: &[u8]) -> Result<(u8, Vec<u8>, Vec<u8>, Vec<u8>), Memory> {
+    let mut trace = Counted::new(Vec::new(rt.alloc()));
+    let mut out = Counted::new(Vec::new(rt.alloc()));
+    let mut errors = Counted::new(Vec::new(rt.alloc()));
+    let status = run_stream(
+        rt.alloc(),
+        &mut Counted::new(scenario),
+        &mut trace,
+        &mut out,
+        &mut errors,
+    )?;
+    Ok((
+        status,
+        trace.into_inner(),
+        out.into_inner(),
+        errors.into_inner(),
+    ))
+}
+
+#[test]
+fn a_run_prints_outcomes_and_the_report(rt: HostRuntime) -> Result<(), Fail> {
+    let scenario = "{\"data_centres\":1,\"clients\":[{\"at\":0},{\"at\":0}],\
+        \"events\":[{\"put\":[0,\"x\",\"1\"]},{\"get\":[1,\"x\"]},{\"settle\":[1,\"1.0\"]}]}";
+    let (status, trace, text, errors) = ran(&rt, scenario.as_bytes())?;
+    assert_eq!(rt; status, 0);
+    let wanted = "0 done 1.0\n1 got 1.0\n2 refused 10\naccepted: 2 operations, 1 puts\n";
+    assert_eq!(rt; text.as_slice(), wanted.as_bytes());
+    assert!(rt; errors.is_empty());
+    let mut report = Counted::new(Vec::new(rt.alloc()));
+    let answer = audit_stream(rt.alloc(), &mut Counted::new(trace.as_slice()), &mut report)?;
+    assert_eq!(rt; answer, Answer::Accepted);
+    assert_eq!(rt;
+        report.into_inner().as_slice(),
+        b"accepted: 2 operations, 1 puts\n".as_slice()
+    );
+    Ok(())
+}
+
+#[test]
+fn a_faulty_scenario_is_told(rt: HostRuntime) -> Result<(), Fail> {
+    for (scenario, line) in [
+        ("{", "faulty: scenario is not JSON\n"),
+        ("1", "faulty: scenario field root\n"),
+        (
+            "{\"data_centres\":1,\"clients\":[]}",
+            "faulty: scenario field events\n",
+        ),
+    ] {
+        let (status, trace, text, _) = ran(&rt, scenario.as_bytes())?;
+        assert_eq!(rt; status, 2);
+        assert!(rt; trace.is_empty());
+        assert_eq!(rt; text.as_slice(), line.as_bytes());
     }
     Ok(())
 }

@@ -1,5 +1,5 @@
 //! A trace's text that comes in pieces.
-ghost use Rattle.std.specs.Prelude.{◌≡◌, OnOk, OnErr, Err};
+ghost use Rattle.std.specs.Prelude.{◌≡◌, ◌≤◌, OnOk, OnErr, Err, drop, vec_len};
 ghost use Rattle.cops_trace.specs.declared.found.Item.TheVariants.{Entry};
 ghost use Rattle.cops_trace.specs.Parsing.{ItemHasRoom, with_item};
 
@@ -58,12 +58,9 @@ impl Parser {
         ensures ok { OnOk result (self.new ≡ record self.old { rest = self.old.rest ++ piece.now }) }
         ensures err { OnErr result (self.new ≡ self.old) }
     {
-        self.bytes.extend_from_slice(piece)?;
-        let left = self.bytes.len() - self.start;
-        let start = self.start;
-        self.bytes.rotate_left(start);
-        self.bytes.truncate(left);
+        remove_front(&mut self.bytes, self.start);
         self.start = 0;
+        self.bytes.extend_from_slice(piece)?;
         Ok(())
     }
 
@@ -196,6 +193,16 @@ impl Parser {
             }
         }
     }
+}
+
+/// Takes the first bytes away, so many.
+fn remove_front(bytes: &mut Vec<u8>, count: usize)
+    requires { count ≤ vec_len bytes.old }
+    ensures { bytes.new.items ≡ drop count bytes.old.items }
+{
+    let left = bytes.len() - count;
+    bytes.copy_within(count.., 0);
+    bytes.truncate(left);
 }
 
 /// Adds a record to the trace that was begun.

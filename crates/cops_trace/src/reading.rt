@@ -16,7 +16,7 @@ use std::alloc::Global;
 use std::io::Read;
 
 /// How many bytes are asked for in one read.
-const PIECE: usize = 4096;
+const PIECE: usize = 65_536;
 
 /// The most reads. A text has a fault or an end before so many bytes.
 const READS: u64 = 1 << 40;

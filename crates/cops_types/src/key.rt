@@ -3,6 +3,7 @@ ghost use Rattle.cops_types.specs.Key.{IsKey};
 ghost use Rattle.cops_types.specs.TypeFaults.{IsKeyFault};
 
 use crate::fault::TypeFault;
+use smallvec::SmallVec;
 use std::alloc::{AllocError, Global};
 use std::cmp::Ordering;
 use std::hash::{Hash, Hasher};
@@ -11,10 +12,13 @@ use std::marker::Model;
 /// The most bytes that a key has.
 pub const MAX_KEY: usize = 64;
 
+/// The most bytes that lie in the key itself: those of a longer key lie in an allocation.
+const INLINE: usize = 16;
+
 /// A key: 1 to 64 bytes.
 #[derive(Debug, Drop)]
 pub struct Key {
-    bytes: Vec<u8>,
+    bytes: SmallVec<u8, INLINE>,
 }
 
 impl Model for Key {
@@ -103,7 +107,7 @@ impl Clone for Key {
     fn clone(&self) -> Result<Key, AllocError> {
         let alloc = *self.bytes.allocator();
         Ok(Key {
-            bytes: Vec::from_slice(alloc, self.bytes.as_slice())?,
+            bytes: SmallVec::from_slice(alloc, self.bytes.as_slice())?,
         })
     }
 }
@@ -122,7 +126,7 @@ impl Key {
         if bytes.len() > MAX_KEY {
             return Err(TypeFault::KeyTooLong);
         }
-        match Vec::from_slice(alloc, bytes) {
+        match SmallVec::from_slice(alloc, bytes) {
             Ok(bytes) => Ok(Key { bytes }),
             Err(_) => Err(TypeFault::Memory),
         }

@@ -2,6 +2,7 @@ use crate::dep::Deps;
 use crate::key::Key;
 use crate::value::Value;
 use crate::version::Version;
+use std::alloc::AllocError;
 
 /// A put as it is sent to the other data centres: with its nearest dependencies (COPS, section 4.3).
 #[derive(Debug, Drop)]
@@ -10,6 +11,22 @@ pub struct PutRecord {
     pub value: Value,
     pub version: Version,
     pub deps: Deps,
+}
+
+/// A copy that equals it.
+impl Clone for PutRecord {
+    ghost use Rattle.std.specs.Prelude.{◌≡◌};
+
+    ghost is_clone = { λ s t. t ≡ s };
+
+    fn clone(&self) -> Result<PutRecord, AllocError> {
+        Ok(PutRecord {
+            key: self.key.clone()?,
+            value: self.value.clone()?,
+            version: self.version,
+            deps: self.deps.clone()?,
+        })
+    }
 }
 
 /// What a node tells of itself: its clock, how many keys show a value, how many pairs are settled, and how many puts are

@@ -5,16 +5,20 @@ ghost use Rattle.cops_types.specs.TypeFaults.{IsValueFault};
 
 use crate::fault::TypeFault;
 use crate::format::Format;
+use smallvec::SmallVec;
 use std::alloc::{AllocError, Global};
 use std::marker::Model;
 
 /// The most bytes that a value of any format has.
 pub const MAX_VALUE: usize = 4096;
 
+/// The most bytes that lie in the value itself: those of a longer value lie in an allocation.
+const INLINE: usize = 16;
+
 /// A value: at most 4,096 bytes.
 #[derive(Debug, Drop)]
 pub struct Value {
-    bytes: Vec<u8>,
+    bytes: SmallVec<u8, INLINE>,
 }
 
 impl Model for Value {
@@ -53,7 +57,7 @@ impl Clone for Value {
     fn clone(&self) -> Result<Value, AllocError> {
         let alloc = *self.bytes.allocator();
         Ok(Value {
-            bytes: Vec::from_slice(alloc, self.bytes.as_slice())?,
+            bytes: SmallVec::from_slice(alloc, self.bytes.as_slice())?,
         })
     }
 }
@@ -77,7 +81,7 @@ impl Value {
         if bytes.len() > format.most_value() {
             return Err(TypeFault::ValueTooLong);
         }
-        match Vec::from_slice(alloc, bytes) {
+        match SmallVec::from_slice(alloc, bytes) {
             Ok(bytes) => Ok(Value { bytes }),
             Err(_) => Err(TypeFault::Memory),
         }

@@ -2,6 +2,7 @@
 use Rattle.std.specs.Prelude.{ℕ, List, [], ◌∷◌}
 use Rattle.cops_wire.specs.declared.message.Message.{Message}
 use Rattle.cops_wire.specs.declared.message.Message.TheVariants.{Hello, HelloOk, Put, Get, PutDone, Got, Missed, Refused, PutAfter, DepCheck, DepYes, DepWait, Status, StatusIs, Bye, ByeOk, TraceHead, TracePut, TraceGot, TraceMissed, TraceEnd}
+use Rattle.cops_types.specs.declared.put_record.PutRecord.{PutRecord}
 use Rattle.cops_wire.specs.Field.{Content, of_number, of_bytes, of_pairs}
 use Rattle.cops_wire.specs.Grammar.{Parts}
 
@@ -53,3 +54,7 @@ contents_of (TraceEnd ops) = of_number ops ∷ []
 
 abbrev pub parts : Message → Parts
 parts m = record { kind = kind_of m; contents = contents_of m }
+
+-- the message that replicates a put to another data centre
+abbrev pub put_after : PutRecord → Message
+put_after put = PutAfter put.key put.value put.version put.deps

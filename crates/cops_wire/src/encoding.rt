@@ -1,12 +1,12 @@
 //! The one spelling of a message.
 ghost use Rattle.std.specs.Prelude.{◌≡◌, ◌++◌, length, OnOk, OnErr};
 ghost use Rattle.cops_wire.specs.Grammar.{grammar, body, spelling, IsMessage};
-ghost use Rattle.cops_wire.specs.Message.{kind_of, parts};
+ghost use Rattle.cops_wire.specs.Message.{kind_of, parts, put_after};
 
 use crate::field::{self, FieldRef, as_written};
 use crate::message::Message;
 use crate::table::kinds;
-use cops_types::{Format, Memory};
+use cops_types::{Format, Memory, PutRecord};
 
 /// The number of a message's kind, 1 to 21.
 pub fn kind(message: &Message) -> u8
@@ -50,4 +50,25 @@ pub fn encode(message: &Message, out: &mut Vec<u8>) -> Result<(), Memory>
         };
     }
     kinds!(append message, out)
+}
+
+/// Appends the frame of the message that replicates a put, which is always legal, or where memory runs out nothing. It is
+/// what `encode` appends for that message, without a copy of the put.
+pub fn encode_put_after(put: &PutRecord, out: &mut Vec<u8>) -> Result<(), Memory>
+    ensures legal { IsMessage (grammar Format.One) (parts (put_after put.now)) }
+    ensures ok { OnOk result (out.new.items ≡ out.old.items ++ spelling (grammar Format.One) (parts (put_after put.now))) }
+    ensures err { OnErr result (out.new.items ≡ out.old.items) }
+{
+    let fields = [
+        FieldRef::Key(&put.key),
+        FieldRef::Value(&put.value),
+        FieldRef::Version(&put.version),
+        FieldRef::Deps(&put.deps),
+    ];
+    // Its key, value, version and dependencies are within their ranges: these calls tell so.
+    let _key = put.key.as_bytes();
+    let _value = put.value.as_bytes();
+    let _version = put.version.as_u64();
+    let _deps = put.deps.as_slice();
+    field::append(out, 9, &fields)
 }

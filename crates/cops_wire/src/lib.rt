@@ -28,7 +28,7 @@ mod showing;
 mod table;
 
 pub use decoding::{Decoded, decode, decode_in};
-pub use encoding::{body_len, encode, kind};
+pub use encoding::{body_len, encode, encode_put_after, kind};
 pub use fault::WireFault;
 pub use feeder::Feeder;
 pub use laws::{

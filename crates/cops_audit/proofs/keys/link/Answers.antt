@@ -33,22 +33,22 @@ loop-place-preserved c =
     let put = c.index-table-place.result in
     let key = c.put_key-key.result in
     let here : OnKey h table k key.now = on_key h table c.requires k put key.now c.put_key-key.ensures.0 (omega arith) c.index-table-place.is c.put_key-key.ensures.1 in
-    let found : c.copied-next.result ≡ hash.get (λ x y. pointwise nat_eq x.now y.now) c.loop-place.firsts key = c.copied-next.ensures ∙ c.get.ensures.value in
+    let found : c.in_ok-next.next ≡ hash.get (λ x y. pointwise nat_eq x.now y.now) c.loop-place.firsts key = c.in_ok-next.ensures.old in
     record {
-      whole = omega (arith, length-set c.loop-place.nexts.items k c.copied-next.result, c.loop-place.invariant.whole);
-      nexts = λ t next le at. elim (written c.loop-place.nexts.items k t c.copied-next.result next at) [
-        | inl w ↦ subst (λ o. IsNext h table t o) w.1 (subst (λ (j : ℕ). IsNext h table j c.copied-next.result) (sym w.0) (next_is h table c.requires.rising k c.loop-place.place key.now c.copied-next.result e here
+      whole = omega (arith, length-set c.loop-place.nexts.items k c.in_ok-next.next, c.loop-place.invariant.whole);
+      nexts = λ t next le at. elim (written c.loop-place.nexts.items k t c.in_ok-next.next next at) [
+        | inl w ↦ subst (λ o. IsNext h table t o) w.1 (subst (λ (j : ℕ). IsNext h table j c.in_ok-next.next) (sym w.0) (next_is h table c.requires.rising k c.loop-place.place key.now c.in_ok-next.next e here
             (subst (IsFirstFrom h table c.loop-place.place key.now) (sym found) (c.loop-place.invariant.firsts key))))
         | inr w ↦ c.loop-place.invariant.nexts t next (omega (arith, le, w.0, e)) w.1
       ];
       firsts = λ q. elim (cases_Bool (pointwise nat_eq key.now q.now)) [
         | inl same ↦
             let e' : key.now ≡ q.now = (bytes_eq-Decides key.now q.now).0 same in
-            let got : hash.get (λ x y. pointwise nat_eq x.now y.now) c.insert.new.self q ≡ Some k = c.in_ok-insert.ensures.updates.0 q ∙ ap (λ b. cond b (Some k) (hash.get (λ x y. pointwise nat_eq x.now y.now) c.loop-place.firsts q)) same in
+            let got : hash.get (λ x y. pointwise nat_eq x.now y.now) c.insert.new.self q ≡ Some k = c.in_ok-next.ensures.updates.0 q ∙ ap (λ b. cond b (Some k) (hash.get (λ x y. pointwise nat_eq x.now y.now) c.loop-place.firsts q)) same in
             subst (IsFirstFrom h table k q.now) (sym got) (first_here h table c.requires.rising k q.now (subst (OnKey h table k) e' here))
         | inr other ↦
             let differ : key.now ≢ q.now = λ same. let b = (bytes_eq-Decides key.now q.now).1 same in cc in
-            subst (IsFirstFrom h table k q.now) (sym (c.in_ok-insert.ensures.updates.2 q other)) (first_kept h table c.requires.rising k c.loop-place.place key.now q.now _ e here differ (c.loop-place.invariant.firsts q))
+            subst (IsFirstFrom h table k q.now) (sym (c.in_ok-next.ensures.updates.2 q other)) (first_kept h table c.requires.rising k c.loop-place.place key.now q.now _ e here differ (c.loop-place.invariant.firsts q))
       ];
     }
 

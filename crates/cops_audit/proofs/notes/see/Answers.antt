@@ -2,7 +2,7 @@ use Rattle.std.proofs.Common.{Some, sym, ◌∙◌, ap}
 use Rattle.cops_types.specs.Histories.{PutsVersion}
 use Rattle.cops_audit.specs.declared.table.VersionedPut.{VersionedPut}
 use Rattle.cops_audit.proofs.Places.{place_for, place_of_put}
-use Rattle.cops_audit.proofs.Gets.{sourceless}
+use Rattle.cops_audit.proofs.Gets.{divides_found, sourceless_at}
 use Rattle.cops_audit.proofs.notes.see.Goals as goal
 
 put : (c : goal.In-Some) → PutsVersion c.args.history.now.sessions c.args.name c.in-Some-Put.version
@@ -22,6 +22,7 @@ returns-in-None c =
 
 pub returns-in-None-place_of : goal.returns-in-None-place_of
 returns-in-None-place_of c =
-    sourceless c.args.history.now.sessions c.args.table.now c.requires.table c.args.name c.in-Some-Got.version
+    sourceless_at c.args.history.now.sessions c.args.table.now c.requires.table c.args.name c.in-Some-Got.version
     (c.in-Some-Got.field-0-0, c.in-Some-Got.field-0-1, sym c.in-Some-Got.ensures.operation ∙ ap (λ o. Some o) c.in-Some-Got.field-0-is)
     (λ k d inside same. c.in-None-place_of.ensures.none k d inside same)
+    c.first_from.result (divides_found c.args.table.now c.first_from.result c.in-Some-Got.version c.first_from.ensures.inside c.first_from.ensures.before c.first_from.ensures.from)

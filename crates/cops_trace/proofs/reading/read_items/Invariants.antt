@@ -8,7 +8,7 @@ abbrev pub invariant-loop : goal.invariant-loop
 invariant-loop g l =
     let remaining = g.R.Read.remaining in
     record {
-      read : (fed : List ℕ) × Consumes (remaining (inner l.fn.reader)) (remaining (inner l.reader)) fed × Fed fed l.parser × (l.counter ≤ length fed) × (length fed ≤ 4096 * l.counter);
+      read : (fed : List ℕ) × Consumes (remaining (inner l.fn.reader)) (remaining (inner l.reader)) fed × Fed fed l.parser × (l.counter ≤ length fed) × (length fed ≤ 65536 * l.counter);
       settled : IsSettled l.parser;
       count : failures l.reader ≡ failures l.fn.reader;
     }

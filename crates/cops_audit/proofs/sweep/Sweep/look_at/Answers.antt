@@ -1,6 +1,9 @@
 use Rattle.std.proofs.Common.{sym, arith, refl}
-use Rattle.cops_audit.proofs.Sweeping.{sweep_on, sweep_grows, sweep_past, none_open, low_range}
+use Rattle.cops_audit.proofs.Sweeping.{above_few, sweep_on, sweep_grows, sweep_past, none_open, low_range}
 use Rattle.cops_audit.proofs.sweep.Sweep.look_at.Goals as goal
+
+pub learn-requires-clause-seen : goal.learn-requires-clause-seen
+learn-requires-clause-seen c = above_few c.args.table.now c.args.notes.now c.requires.rising c.args.name c.in-Some.note.seen c.in-Some.note.mark (sym c.in-Some.ensures)
 
 pub returns-clause-on : goal.returns-clause-on
 returns-clause-on c = λ _. sweep_on c.args.table.now c.args.notes.now c.requires.rising c.args.firsts.now c.args.floor c.args.self.now c.learn.new.self c.args.name c.args.from c.in-Some.note c.requires.low (sym c.in-Some.ensures) c.in_ok-learn.ensures c.requires.sweeping

@@ -6,3 +6,9 @@ invariant_of-self-then-is_full-2 c =
     rw c.replace-none.ensures.after
     (context_beside c.self.inside.pairs.keys c.self.inside.beside c.args.pair
     (rw (← c.self.view_is) at c.requires.room) (rw (← c.self.view_is) at c.requires.new) (rw (← c.self.view_is) at c.requires.few) c.self.invariant)
+
+pub invariant_of-self-then-is_full-3 : goal.invariant_of-self-then-is_full-3
+invariant_of-self-then-is_full-3 c =
+    rw c.replace-none.ensures.after
+    (context_beside c.self.inside.pairs.keys c.self.inside.beside c.args.pair
+    (rw (← c.self.view_is) at c.requires.room) (rw (← c.self.view_is) at c.requires.new) (rw (← c.self.view_is) at c.requires.few) c.self.invariant)

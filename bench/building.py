@@ -1,0 +1,24 @@
+"""The benchmarks' program, and the time that a command takes."""
+import os
+import subprocess
+import time
+
+ROOT = os.path.dirname(os.path.dirname(os.path.abspath(__file__)))
+
+
+def build():
+    """The program of `crates/cops_bench`, proved and built where a source is newer."""
+    crate = os.path.join(ROOT, "crates", "cops_bench")
+    subprocess.run(["rt", "run"], cwd=crate, check=True, stdout=subprocess.DEVNULL, stdin=subprocess.DEVNULL)
+    return os.path.join(crate, "out", "cops_bench")
+
+
+def seconds(*command, runs=5):
+    """Wall time of the best of some runs."""
+    best = None
+    for _ in range(runs):
+        begun = time.monotonic()
+        subprocess.run(command, check=True, stdout=subprocess.DEVNULL)
+        took = time.monotonic() - begun
+        best = took if best is None else min(best, took)
+    return best

@@ -1,0 +1,91 @@
+#!/usr/bin/env python3
+"""Writes a scenario with so many events: clients put and get, and each put is delivered, asked for, marked and settled in the
+other data centres, some steps behind.
+
+usage: events.py EVENTS [DATA_CENTRES] [CLIENTS] [KEYS] [SEED]
+"""
+import json
+import random
+import sys
+from collections import deque
+
+
+class Cluster:
+    """As much of a cluster as is needed to know the versions: one node in each data centre."""
+
+    def __init__(self, data_centres, clients, keys, seed):
+        self.pick = random.Random(seed)
+        self.homes = [n % data_centres for n in range(clients)]
+        self.keys = [f"k{n}" for n in range(keys)]
+        self.clocks = [0] * data_centres
+        self.shown = [{} for _ in range(data_centres)]
+        self.waiting = [deque() for _ in range(data_centres)]
+        self.contexts = [{} for _ in range(clients)]
+        self.events = []
+
+    def put(self, client):
+        home, key = self.homes[client], self.pick.choice(self.keys)
+        deps = list(self.contexts[client])
+        clock = max([self.clocks[home]] + [clock for _, (clock, _) in deps]) + 1
+        self.clocks[home] = clock
+        pair = (key, (clock, 64 * home))
+        self.settle(home, pair)
+        self.contexts[client] = {pair: None}
+        for dc, waiting in enumerate(self.waiting):
+            if dc != home:
+                waiting.append((pair, deps))
+        self.events.append({"put": [client, key, f"value{len(self.events)}"]})
+
+    def get(self, client):
+        home, key = self.homes[client], self.pick.choice(self.keys)
+        version = self.shown[home].get(key)
+        if version and len(self.contexts[client]) < 256:
+            self.contexts[client][(key, version)] = None
+        self.events.append({"get": [client, key]})
+
+    def settle(self, dc, pair):
+        key, version = pair
+        self.shown[dc][key] = max(version, self.shown[dc].get(key, version))
+        self.clocks[dc] = max(self.clocks[dc], version[0])
+
+    def replicate(self, dc):
+        pair, deps = self.waiting[dc].popleft()
+        version = "{}.{}".format(*pair[1])
+        self.events.append({"deliver": [dc, version]})
+        for index, (key, (clock, node)) in enumerate(deps):
+            self.events.append({"ask": [dc, key, f"{clock}.{node}"]})
+            self.events.append({"mark": [dc, version, index]})
+        self.events.append({"settle": [dc, version]})
+        self.settle(dc, pair)
+
+    def step(self):
+        dc = self.pick.randrange(len(self.waiting))
+        client = self.pick.randrange(len(self.homes))
+        if len(self.waiting[dc]) > 20:
+            self.replicate(dc)
+        elif self.pick.random() < 0.3:
+            self.put(client)
+        else:
+            self.get(client)
+
+
+def made(count, data_centres, clients, keys, seed):
+    cluster = Cluster(data_centres, clients, keys, seed)
+    while len(cluster.events) < count:
+        cluster.step()
+    return cluster.homes, cluster.events[:count]
+
+
+def lines(count, data_centres=3, clients=6, keys=100, seed=1):
+    """The events, a line for each: its name, and what it is about."""
+    _, events = made(count, data_centres, clients, keys, seed)
+    return "".join(" ".join([name, *map(str, of)]) + "\n" for event in events for name, of in event.items())
+
+
+def scenario(count, data_centres=3, clients=6, keys=100, seed=1):
+    homes, events = made(count, data_centres, clients, keys, seed)
+    return json.dumps({"data_centres": data_centres, "clients": [{"at": home} for home in homes], "events": events})
+
+
+if __name__ == "__main__":
+    sys.stdout.write(scenario(*map(int, sys.argv[1:])))

@@ -1,0 +1,64 @@
+-- What is said so far, from the faults of each class.
+use Rattle.std.proofs.Common.{◌<◌, ℕ, List, get_or, length, sym, subst, inl, inr}
+use Rattle.std.proofs.lemmas.List.Elements.{Contains-get_or}
+use Rattle.cops_types.specs.declared.op.OpName.{OpName}
+use Rattle.cops_types.specs.Histories.{Sessions, PutsVersion, SourceStep}
+use Rattle.cops_types.specs.Faults.{HasNoSource, Lists}
+use Rattle.cops_types.specs.Verdicts.{AllAbove, NoneDoubled, NoneStale}
+use Rattle.cops_audit.specs.SoFar.{HasLastingFault, HaveSourcesOrWait, IsMismatched, IsWaiting}
+use Rattle.cops_audit.proofs.Differing.{name_cases}
+use Rattle.cops_audit.proofs.Exact.{source_version}
+use Rattle.cops_audit.proofs.Gets.{one_get_version}
+
+-- a get that waits has no source
+pub waiting_sourceless : (h : Sessions) (n : OpName) → IsWaiting h n → HasNoSource h n
+waiting_sourceless h n w = record {
+  key = w.gets.0;
+  value = w.gets.1;
+  version = w.version;
+  got = w.gets.2;
+  none = λ put s. w.none put (source_version h put n w.gets.0 w.gets.1 w.version s w.gets.2);
+}
+
+module _ (h : Sessions) (doubled : NoneDoubled h) where
+  -- where a put bears a get's version with another key or value, no other put is the get's source
+  mismatched_sourceless : (got put : OpName) → IsMismatched h got put → HasNoSource h got
+  mismatched_sourceless got put m = record {
+    key = m.gets.0;
+    value = m.gets.1;
+    version = m.version;
+    got = m.gets.2;
+    none = λ other s. elim (name_cases put other) [
+      | inl same ↦ m.no_source (subst (λ p. SourceStep h p got) (sym same) s)
+      | inr differs ↦ doubled other (record {
+        version = m.version;
+        put = source_version h other got m.gets.0 m.gets.1 m.version s m.gets.2;
+        other = put;
+        other_put = m.puts;
+        differs = differs;
+      })
+    ];
+  }
+
+  pub no_lasting_fault : HaveSourcesOrWait h → AllAbove h → NoneStale h → ¬ HasLastingFault h
+  no_lasting_fault sources above stale (inl d) = doubled d.0 d.1
+  no_lasting_fault sources above stale (inr (inl a)) = above a.0 a.1 a.2
+  no_lasting_fault sources above stale (inr (inr (inl s))) = stale s.0 s.1 s.2
+  no_lasting_fault sources above stale (inr (inr (inr m))) =
+      let waits = sources m.0 (mismatched_sourceless m.0 m.1 m.2) in
+      let f = m.2 in
+      waits.none m.1 (subst (λ v. PutsVersion h m.1 v) (one_get_version h m.0 f.version waits.version f.gets waits.gets) f.puts)
+
+-- where each of the gets without a source waits, each get without a source does, and those are all that wait
+pub all_wait : (h : Sessions) (gets : List OpName) → Lists (λ n. n) (HasNoSource h) gets → ((k : ℕ) (d : OpName) → k < length gets → IsWaiting h (get_or gets k d)) → HaveSourcesOrWait h
+all_wait h gets lists waits n f = let at = (lists.members n).1 f in subst (IsWaiting h) at.2 (waits at.0 n at.1)
+
+pub waiting_listed : (h : Sessions) (gets : List OpName) → Lists (λ n. n) (HasNoSource h) gets → HaveSourcesOrWait h → Lists (λ n. n) (IsWaiting h) gets
+waiting_listed h gets lists sources = record {
+  members = λ n. ((λ at. sources n ((lists.members n).0 at)), (λ w. (lists.members n).1 (waiting_sourceless h n w)));
+  in_order = lists.in_order;
+}
+
+-- each of the listed gets has no source
+pub each_sourceless : (h : Sessions) (gets : List OpName) → Lists (λ n. n) (HasNoSource h) gets → (k : ℕ) (d : OpName) → k < length gets → HasNoSource h (get_or gets k d)
+each_sourceless h gets lists k d inside = (lists.members (get_or gets k d)).0 (Contains-get_or gets k d inside)

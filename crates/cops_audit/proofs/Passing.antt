@@ -1,0 +1,158 @@
+-- The first place on each key, passed on from each put to the next one on its key.
+use Rattle.std.proofs.Common.{◌≡◌, ◌≢◌, ◌<◌, ◌≤◌, ◌+◌, ◌⊎◌, ℕ, zero, suc, List, length, Some, None, Option, sym, ◌∙◌, ap, subst, inl, inr, arith, slice_get, slice_set}
+use Rattle.std.proofs.Math.ListN.{length-set}
+use Rattle.std.proofs.Math.Nat.{eq-or-lt_of_le}
+use Rattle.cops_types.specs.Histories.{Sessions}
+use Rattle.cops_audit.specs.declared.table.VersionedPut.{VersionedPut}
+use Rattle.cops_audit.specs.Keys.{AreFirsts, AreNexts, IsFirstOn, IsNext, OnKey}
+use Rattle.cops_audit.specs.Tables.{IsVersionTable}
+use Rattle.cops_audit.proofs.Linking.{same_key, written}
+use Rattle.cops_audit.proofs.Listing.{slice_get_there}
+use Rattle.cops_audit.proofs.Marks.{slice_get_inside}
+use Rattle.cops_audit.proofs.Places.{inside_table, put_there, stands_at}
+
+-- nothing before a place was passed on to this one, or what was is the first place on its key
+abbrev pub Passed : Sessions → List VersionedPut → List (Option ℕ) → List ℕ → ℕ → ℕ → Type 0
+Passed h table nexts firsts i q =
+    ((slice_get firsts q ≡ Some q) × ((p : ℕ) → p < i → slice_get nexts p ≢ Some (Some q)))
+    ⊎ ((first : ℕ) × (slice_get firsts q ≡ Some first) × ((key : List ℕ) → OnKey h table q key → IsFirstOn h table key first))
+
+-- the first places up to a put, and what was passed on to those from it on
+pub record PassedTo (h : Sessions) (table : List VersionedPut) (nexts : List (Option ℕ)) (firsts : List ℕ) (i : ℕ) : Type 0 where
+  pub whole : length firsts ≡ length table
+  pub before : (q first : ℕ) (key : List ℕ) → q < i → slice_get firsts q ≡ Some first → OnKey h table q key → IsFirstOn h table key first
+  pub after : (q : ℕ) → i ≤ q → q < length table → Passed h table nexts firsts i q
+
+pub none_passed : (h : Sessions) (table : List VersionedPut) (nexts : List (Option ℕ)) (firsts : List ℕ) → length firsts ≡ length table → ((q : ℕ) → q < length table → slice_get firsts q ≡ Some q)
+    → PassedTo h table nexts firsts 0
+none_passed h table nexts firsts whole own = record {
+  whole = whole;
+  before = λ q first key less at on. absurd (omega (arith, less));
+  after = λ q le inside. inl (own q inside, λ p less. absurd (omega (arith, less)));
+}
+
+module _ (h : Sessions) (table : List VersionedPut) (t : IsVersionTable h table) (nexts : List (Option ℕ)) (are : AreNexts h table nexts) where
+  -- the key of a put
+  own_key : (i : ℕ) → i < length table → (key : List ℕ) × OnKey h table i key
+  own_key i inside =
+      let d : VersionedPut = record { version = 0; name = record { client = 0; index = 0 } } in
+      let at = stands_at table i d inside in
+      let put = put_there h table t.table i _ _ at in
+      (put.0, (_, _, at, (put.1, put.2)))
+
+  on_inside : (q : ℕ) (key : List ℕ) → OnKey h table q key → q < length table
+  on_inside q key on = inside_table table q on.0 on.1 on.2
+
+  -- the next place is one
+  pub next_inside : (i n : ℕ) → i < length table → slice_get nexts i ≡ Some (Some n) → n < length table
+  next_inside i n inside at = let own = own_key i inside in on_inside n own.0 ((are.each i (Some n) at).1 own.0 own.1).0
+
+  -- a place on a key that comes before another has a next one that is not after it
+  next_of : (p q : ℕ) (key : List ℕ) → OnKey h table p key → OnKey h table q key → p < q → (n : ℕ) × (slice_get nexts p ≡ Some (Some n)) × (p < n) × (n ≤ q) × OnKey h table n key
+  next_of p q key on_p on_q less =
+      let there = slice_get_there nexts p (omega (arith, are.whole, on_inside p key on_p)) in
+      told there.0 there.1
+    where
+      told : (o : Option ℕ) → slice_get nexts p ≡ Some o → (n : ℕ) × (slice_get nexts p ≡ Some (Some n)) × (p < n) × (n ≤ q) × OnKey h table n key
+      told None at = absurd (are.each p None at key on_p q less on_q)
+      told (Some n) at = let next = are.each p (Some n) at in let k = next.1 key on_p in (n, at, next.0, k.1 q less on_q, k.0)
+
+  -- so some place before it has it for its next
+  previous : (fuel p q : ℕ) (key : List ℕ) → q ≤ p + fuel → OnKey h table p key → OnKey h table q key → p < q → (r : ℕ) × (r < q) × (slice_get nexts r ≡ Some (Some q))
+  previous zero p q key enough on_p on_q less = absurd (omega (arith, enough, less))
+  previous (suc fuel) p q key enough on_p on_q less =
+      let n = next_of p q key on_p on_q less in
+      elim (eq-or-lt_of_le n.3) [
+        | inl same ↦ (p, less, n.1 ∙ ap (λ (x : ℕ). Some (Some x)) same)
+        | inr before ↦ previous fuel n.0 q key (omega (arith, enough, n.2)) n.4 on_q before
+      ]
+
+  module _ (firsts : List ℕ) (i : ℕ) (so_far : PassedTo h table nexts firsts i) (inside : i < length table) where
+    -- the first place of the put at this place
+    first_here : (first : ℕ) (key : List ℕ) → slice_get firsts i ≡ Some first → OnKey h table i key → IsFirstOn h table key first
+    first_here first key at on = elim (so_far.after i (omega arith) inside) [
+      | inl own ↦
+          let e : Some i ≡ Some first = sym own.0 ∙ at in
+          let e' : i ≡ first = cc in
+          subst (IsFirstOn h table key) e' (record {
+            on_key = on;
+            least = λ p on_p.
+                let not : ¬ (p < i) = λ less. let r = previous i p i key (omega arith) on_p on less in own.1 r.0 r.1 r.2 in
+                omega (arith, not);
+          })
+      | inr passed ↦
+          let e : Some passed.0 ≡ Some first = sym passed.1 ∙ at in
+          let e' : passed.0 ≡ first = cc in
+          subst (IsFirstOn h table key) e' (passed.2 key on)
+    ]
+
+    before_next : (q first : ℕ) (key : List ℕ) → q < i + 1 → slice_get firsts q ≡ Some first → OnKey h table q key → IsFirstOn h table key first
+    before_next q first key less at on = elim (eq-or-lt_of_le (let le : q ≤ i = omega (arith, less) in le)) [
+      | inl same ↦ first_here first key (ap (slice_get firsts) (sym same) ∙ at) (subst (λ (k : ℕ). OnKey h table k key) same on)
+      | inr old ↦ so_far.before q first key old at on
+    ]
+
+    -- the last put on its key passes nothing on
+    pub passed_none : slice_get nexts i ≡ Some None → PassedTo h table nexts firsts (i + 1)
+    passed_none none = record {
+      whole = so_far.whole;
+      before = before_next;
+      after = λ q le in_q. elim (so_far.after q (omega (arith, le)) in_q) [
+        | inl own ↦ inl (
+          own.0,
+          λ p less e. elim (eq-or-lt_of_le (let l : p ≤ i = omega (arith, less) in l)) [
+            | inl same ↦ let f : Some None ≡ Some (Some q) = sym none ∙ ap (slice_get nexts) (sym same) ∙ e in cc
+            | inr old ↦ own.1 p old e
+          ],
+        )
+        | inr passed ↦ inr passed
+      ];
+    }
+
+    -- a put passes it on to the next one
+    pub passed_on : (next first : ℕ) → slice_get nexts i ≡ Some (Some next) → slice_get firsts i ≡ Some first → PassedTo h table nexts (slice_set firsts next first) (i + 1)
+    passed_on next first at_next at_first =
+        let is = are.each i (Some next) at_next in
+        record {
+          whole = omega (arith, length-set firsts next first, so_far.whole);
+          before = λ q x key less at on. elim (written firsts next q first x at) [
+            | inl w ↦ absurd (omega (arith, w.0, less, is.0))
+            | inr w ↦ before_next q x key less w.1 on
+          ];
+          after = λ q le in_q.
+              let there = slice_get_there (slice_set firsts next first) q (omega (arith, length-set firsts next first, so_far.whole, in_q)) in
+              elim (written firsts next q first there.0 there.1) [
+                | inl w ↦ inr (
+                  there.0,
+                  there.1,
+                  λ key on.
+                      let on' = on_here next first q key w.0 is on in
+                      subst (IsFirstOn h table key) w.1 (first_here first key at_first on'),
+                )
+                | inr w ↦ elim (so_far.after q (omega (arith, le)) in_q) [
+                  | inl own ↦
+                      let e : Some q ≡ Some there.0 = sym own.0 ∙ w.1 in
+                      inl (
+                        there.1 ∙ sym e,
+                        λ p less e'. elim (eq-or-lt_of_le (let l : p ≤ i = omega (arith, less) in l)) [
+                          | inl same ↦ let f : Some (Some next) ≡ Some (Some q) = sym at_next ∙ ap (slice_get nexts) (sym same) ∙ e' in let g : next ≡ q = cc in w.0 (sym g)
+                          | inr old ↦ own.1 p old e'
+                        ],
+                      )
+                  | inr passed ↦ let e : Some passed.0 ≡ Some there.0 = sym passed.1 ∙ w.1 in inr (passed.0, there.1 ∙ sym e, passed.2)
+                ]
+              ];
+        }
+      where
+        -- the next put's key is this one's
+        on_here : (next first q : ℕ) (key : List ℕ) → q ≡ next → IsNext h table i (Some next) → OnKey h table q key → OnKey h table i key
+        on_here next first q key same is on =
+            let own = own_key i inside in
+            let k : own.0 ≡ key = same_key h table t.rising next own.0 key (is.1 own.0 own.1).0 (subst (λ (x : ℕ). OnKey h table x key) same on) in
+            subst (OnKey h table i) k own.1
+
+pub all_passed : (h : Sessions) (table : List VersionedPut) (nexts : List (Option ℕ)) (firsts : List ℕ) (i : ℕ) → length table ≤ i → PassedTo h table nexts firsts i → AreFirsts h table firsts
+all_passed h table nexts firsts i enough so_far = record {
+  whole = so_far.whole;
+  each = λ place first key at on. so_far.before place first key (let l = slice_get_inside firsts place first at in omega (arith, l, enough, so_far.whole)) at on;
+}

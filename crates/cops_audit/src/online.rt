@@ -1,0 +1,67 @@
+use crate::assessing::assess;
+use crate::judging::judge;
+use crate::verdict::{SoFar, Verdict};
+use cops_types::{History, Memory, Op, TypeFault};
+use std::alloc::Global;
+use std::marker::Model;
+
+/// An auditor that is fed one operation after the other: the clients in any order, and each client's operations in
+/// their own.
+#[derive(Drop)]
+pub struct Online {
+    alloc: Global,
+    history: History,
+}
+
+impl Model for Online {
+    ghost use Rattle.cops_types.specs.Histories.{Sessions};
+
+    ghost Value = { Sessions };
+
+    ghost view = { λ a. a.history.sessions };
+}
+
+impl Online {
+    ghost use Rattle.std.specs.Prelude.{◌≡◌, ◌≤◌, ◌<◌, ◌↔◌, length, [], replicate, IfOk, IfErr, IsErrOf, OnOk, OnErr};
+    ghost use Rattle.cops_types.specs.Recorded.{IsFull, with_op};
+    ghost use Rattle.cops_types.specs.TypeFaults.{IsHistoryFault};
+    ghost use Rattle.cops_audit.specs.SoFar.{IsSoFar};
+    ghost use Rattle.cops_audit.specs.Verdicts.{IsVerdict};
+
+    /// An auditor of so many clients that was fed nothing.
+    pub fn new(alloc: Global, clients: u16) -> Result<Self, Memory>
+        ensures { IfOk result (λ online. online ≡ replicate clients []) }
+    {
+        let history = History::new(alloc, clients)?;
+        Ok(Online { alloc, history })
+    }
+
+    /// Takes a client's next operation: `UnknownClient` where there is no such client, then `TooManyOps` where the
+    /// client has 1,000,000 operations or there are 16,000,000. A fault changes nothing.
+    pub fn feed(&mut self, client: u16, op: Op) -> Result<(), TypeFault>
+        ensures ok { OnOk result (self.new ≡ with_op self.old client op) }
+        ensures err { OnErr result (self.new ≡ self.old) }
+        ensures unknown { IsErrOf result TypeFault.UnknownClient ↔ (length self.old ≤ client) }
+        ensures too_many { IsErrOf result TypeFault.TooManyOps ↔ (client < length self.old × IsFull self.old client) }
+        ensures only { IfErr result IsHistoryFault }
+    {
+        self.history.push(client, op)
+    }
+
+    /// What is said so far of what was fed.
+    pub fn so_far(&self) -> Result<SoFar, Memory>
+        ensures { IfOk result (IsSoFar self.now) }
+    {
+        let so_far = assess(self.alloc, &self.history)?;
+        Ok(so_far)
+    }
+
+    /// The verdict on what was fed.
+    pub fn finish(self) -> Result<Verdict, Memory>
+        ensures { IfOk result (IsVerdict self) }
+    {
+        let Online { alloc, history } = self;
+        let verdict = judge(alloc, &history)?;
+        Ok(verdict)
+    }
+}

@@ -1,0 +1,109 @@
+-- A client's get is a step of the machine, and what changes one node's held puts is none.
+use Rattle.std.proofs.Common.{◌≡◌, ◌≢◌, ℕ, ◌<◌, inl, inr, List, true, Contains, Option, Some, None, length, refl, sym, ap, ◌∙◌, arith, subst, length-set}
+use Rattle.cops_types.specs.declared.dep.Dep.{Dep}
+use Rattle.cops_types.specs.declared.put_record.PutRecord.{PutRecord}
+use Rattle.cops_types.specs.declared.op.Op.{Op}
+use Rattle.cops_types.specs.declared.op.Op.TheVariants.{Got, Missed}
+use Rattle.cops_context.specs.Context.{with_pair}
+use Rattle.cops_store.specs.Store.{Stored, has_pair, shown}
+use Rattle.cops_node.specs.Node.{put_pair, Node, answer}
+use Rattle.cops_core.specs.Machine.{Gets, Misses}
+use Rattle.cops_core.specs.World.{Setting, home, primary, World, node_at, context_in, has_room, keeps, GetBy, with_answer, view}
+use Rattle.cops_core.proofs.Lists.{at_version}
+use Rattle.cops_core.proofs.Nodes.{same_node, IsAmong, has_to, has_from, IsShown, ShowsWell, shows}
+use Rattle.cops_core.proofs.Bounds.{IsBounded, bounded_answered, context_gains}
+use Rattle.cops_core.proofs.Placed.{settled_at, IsStored, Placed, is_held_more}
+use Rattle.cops_core.proofs.Simulation.{view_to, view_from, Goes}
+
+-- an answer to a client changes no node
+pub placed_answered : (s : Setting) (w : World) (client : ℕ) (op : Op) (context : List Dep) → Placed s w → Placed s (with_answer w client op context)
+placed_answered s w client op context p = record {
+  dcs = p.dcs;
+  places = p.places;
+  numbers = p.numbers;
+  stored = p.stored;
+  held = λ d q h i. is_held_more s w (with_answer w client op context) d q h (λ x j. j) (λ e pair j. j) (p.held d q h i);
+  said = p.said;
+  behind = p.behind;
+  clocks = p.clocks;
+  sessions = length-set w.sessions client _ ∙ p.sessions;
+  contexts = length-set w.contexts client _ ∙ p.contexts;
+}
+
+same_put : (p : PutRecord) (k x : List ℕ) (v : ℕ) → p.key ≡ k → p.value ≡ x → p.version ≡ v → p ≡ record { key = k; value = x; version = v; deps = p.deps }
+same_put p k x v a b c = λ i. record { key = a i; value = b i; version = c i; deps = p.deps }
+
+module _ (s : Setting) (w : World) (placed : Placed s w) (client : ℕ) (key : List ℕ) (bounded : IsBounded w) (has_session : client < length w.sessions) (room : has_room w client ≡ true) (few : length (context_in w client) < 256) where
+  abbrev dc : ℕ
+  dc = home s client
+
+  abbrev node : Node
+  node = node_at w dc (primary s key)
+
+  has_context : client < length w.contexts
+  has_context = let a = placed.sessions in let b = placed.contexts in omega arith
+
+  -- what the view has settled on the key, the node has
+  on_node : (p : PutRecord) → Contains ((view w).settled dc) p → p.key ≡ key → IsAmong node.settled (put_pair p)
+  on_node p h e =
+      let v = view_to s w placed dc p h in
+      has_to node.settled (put_pair p) (subst (λ k. has_pair (node_at w dc (primary s k)).settled (put_pair p) ≡ true) e v.1)
+
+  misses : ((t : Stored) → Contains node.settled t → t.key ≢ key) → Misses (view w) (view (with_answer w client (Missed key) (context_in w client))) dc client key
+  misses none = record {
+    none = λ p h e. (let i = on_node p h e in none i.item i.among (ap (λ (x : Dep). x.key) i.is ∙ e));
+    issued = refl;
+    settled = refl;
+    answers = record { has_session = has_session; has_context = has_context; sessions = refl; contexts = refl };
+  }
+
+  abbrev got : Stored → World
+  got t = with_answer w client (Got key t.value t.version) (with_pair (context_in w client) (record { key = key; version = t.version }))
+
+  gets : (t : Stored) → IsShown node.settled key t → (put : PutRecord) × Gets (view w) (view (got t)) dc client put
+  gets t shown = (
+    put,
+    record {
+      shown = view_from s w dc put (subst (λ x. Contains w.issued x) same stored.is.among) there;
+      greatest = λ p h e. (
+          let i = on_node p h e in
+          let le = shown.greatest i.item i.among (ap (λ (x : Dep). x.key) i.is ∙ e) in
+          let v : i.item.version ≡ p.version = ap (λ (x : Dep). x.version) i.is in
+          omega arith);
+      issued = refl;
+      settled = refl;
+      answers = record { has_session = has_session; has_context = has_context; sessions = refl; contexts = refl };
+    },
+  )
+    where
+      stored : IsStored s w.issued (primary s key) t
+      stored = placed.stored dc (primary s key) t shown.among
+
+      put : PutRecord
+      put = record { key = key; value = t.value; version = t.version; deps = stored.put.deps }
+
+      same : stored.put ≡ put
+      same = same_put stored.put key t.value t.version (ap (λ (x : Dep). x.key) stored.is.bears ∙ shown.on_key) stored.is.value (ap (λ (x : Dep). x.version) stored.is.bears)
+
+      there : settled_at s w dc (put_pair put) ≡ true
+      there = subst (λ (k : List ℕ). has_pair node.settled (at_version k t.version) ≡ true) shown.on_key (has_from node.settled t shown.among)
+
+  pub get_goes : Goes s w (keeps w dc (primary s key) (GetBy client key) (answer (shown node.settled key)) node)
+  get_goes = go (shown node.settled key) (shows node.settled key)
+    where
+      go : (o : Option Stored) → ShowsWell node.settled key o → Goes s w (keeps w dc (primary s key) (GetBy client key) (answer o) node)
+      go None none =
+          subst (λ x. Goes s w (with_answer x client (Missed key) (context_in w client))) (sym (same_node w dc (primary s key)))
+          (record {
+            placed = placed_answered s w client _ _ placed;
+            bounded = bounded_answered w _ client (Missed key) (context_in w client) bounded has_session has_context room refl refl (bounded.contexts client);
+            step = inr (inr (inl (client, key, misses none)));
+          })
+      go (Some t) shown =
+          subst (λ x. Goes s w (with_answer x client (Got key t.value t.version) (with_pair (context_in w client) (record { key = key; version = t.version })))) (sym (same_node w dc (primary s key)))
+          (record {
+            placed = placed_answered s w client _ _ placed;
+            bounded = bounded_answered w _ client (Got key t.value t.version) _ bounded has_session has_context room refl refl
+                (context_gains (context_in w client) (record { key = key; version = t.version }) (bounded.contexts client) few);
+            step = inr (inl (let g = gets t shown in (client, g.0, g.1)));
+          })

@@ -1,0 +1,17 @@
+-- Runs that go on: one more event after the last.
+use Rattle.std.proofs.Common.{◌≡◌, List, [], ◌∷◌, ◌++◌, refl, subst}
+use Rattle.cops_node.specs.declared.outcome.Outcome.{Outcome}
+use Rattle.cops_core.specs.Invariants.{IsReached}
+use Rattle.cops_core.specs.World.{Setting, World, Event, Happens, Run, opening}
+
+pub run_more : (s : Setting) (events : List Event) (outcomes : List Outcome) (old mid new : World) (e : Event) (o : Outcome) → Run s old events outcomes mid → Happens s mid e o new → Run s old (events ++ e ∷ []) (outcomes ++ o ∷ []) new
+run_more s [] [] old mid new e o r h = (new, (subst (λ x. Happens s x e o new) r h, refl))
+run_more s [] (p ∷ outcomes) old mid new e o r h = absurd r
+run_more s (f ∷ events) [] old mid new e o r h = absurd r
+run_more s (f ∷ events) (p ∷ outcomes) old mid new e o r h = (r.0, (r.1.0, run_more s events outcomes r.0 mid new e o r.1.1 h))
+
+pub reached_more : (s : Setting) (old new : World) (e : Event) (o : Outcome) → IsReached s old → Happens s old e o new → IsReached s new
+reached_more s old new e o r h = (r.0 ++ e ∷ [], r.1 ++ o ∷ [], run_more s r.0 r.1 (opening s) old new e o r.2 h)
+
+pub reached_opening : (s : Setting) (w : World) → w ≡ opening s → IsReached s w
+reached_opening s w e = ([], [], e)

@@ -1,0 +1,5 @@
+use Rattle.std.proofs.Common.{◌≡◌, replicate, map, []}
+use Rattle.cops_core.proofs.client_contexts.ClientContexts.new.Given as goal
+
+abbrev pub invariant-loop : goal.invariant-loop
+invariant-loop l = map (λ c. c.pairs) l.contexts.items ≡ replicate l.counter []

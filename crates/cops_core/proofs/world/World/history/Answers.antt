@@ -1,0 +1,15 @@
+use Rattle.std.proofs.Common.{sym, subst}
+use Rattle.cops_types.specs.Histories.{Sessions}
+use Rattle.cops_core.specs.Invariants.{HasAcceptedVerdict}
+use Rattle.cops_core.proofs.Worlds.{reached_accepted, reached_invariants}
+use Rattle.cops_core.proofs.world.World.history.Goals as goal
+
+pub returns-clause-accepted : goal.returns-clause-accepted
+returns-clause-accepted c =
+    let i = c.self.inside in
+    subst (λ (h : Sessions). HasAcceptedVerdict h) (sym c.history.ensures) (reached_accepted i.setting c.self.invariant.setting i.state c.self.invariant.reached)
+
+pub returns-clause-invariants : goal.returns-clause-invariants
+returns-clause-invariants c =
+    let i = c.self.inside in
+    rw (← c.self.view_is) (reached_invariants i.setting c.self.invariant.setting i.state c.self.invariant.reached)

@@ -1,0 +1,67 @@
+-- What holds of every world that is reached.
+use Rattle.std.specs.Prelude.{◌≡◌, ℕ, ◌≤◌, List, true, Contains, Some, slice_get}
+use Rattle.cops_types.specs.declared.dep.Dep.{Dep}
+use Rattle.cops_types.specs.declared.put_record.PutRecord.{PutRecord}
+use Rattle.cops_types.specs.declared.op.OpName.{OpName}
+use Rattle.cops_types.specs.Histories.{Sessions, IsNamed, IsPut, IsGot, Past}
+use Rattle.cops_types.specs.Recorded.{IsWithinLimits}
+use Rattle.cops_types.specs.Verdicts.{IsAccepted, NoneDoubled}
+use Rattle.cops_types.specs.Version.{clock_of}
+use Rattle.cops_context.specs.Context.{IsContext}
+use Rattle.cops_store.specs.Store.{Stored}
+use Rattle.cops_held.specs.Held.{Waiting}
+use Rattle.cops_node.specs.declared.outcome.Outcome.{Outcome}
+use Rattle.cops_node.specs.Node.{stored_of}
+use Rattle.cops_core.specs.Dependencies.{Bears, Reaches, IsConsistent, IsClosed}
+use Rattle.cops_core.specs.Machine.{State, context_of}
+use Rattle.cops_core.specs.World.{Setting, IsSetting, home, World, node_at, context_in, Said, view, Event, Run, opening, Cluster}
+
+-- a pair of the list reaches this one
+pub record Covers (puts : List PutRecord) (context : List Dep) (pair : Dep) : Type 0 where
+  pub from : Dep
+  pub among : Contains context from
+  pub reaches : Reaches puts from pair
+
+-- a put of the past of one of the client's operations is settled in its data centre, and reached from its context
+pub record IsCarried (s : State) (dc client : ℕ) (pair : Dep) : Type 0 where
+  pub settled : Bears (s.settled dc) pair
+  pub covered : Covers s.issued (context_of s client) pair
+
+-- an issued put has this key, value and version
+abbrev pub IsIssued : World → List ℕ → List ℕ → ℕ → Type 0
+IsIssued w key value version = (p : PutRecord) × (Contains w.issued p × (stored_of p ≡ record { key = key; value = value; version = version }))
+
+pub record Invariants (s : Setting) (w : World) : Type 0 where
+  -- what a data centre has settled is closed under dependencies
+  pub closed : (dc : ℕ) → IsClosed ((view w).settled dc)
+  -- an answer Yes, and a mark, names a settled pair
+  pub said : (y : Said) → Contains w.said y → Bears ((view w).settled y.dc) y.pair
+  pub marked : (dc place : ℕ) (h : Waiting) (i : ℕ) (d : Dep) → Contains (node_at w dc place).held h → slice_get h.marks i ≡ Some true → slice_get h.put.deps i ≡ Some d → Bears ((view w).settled dc) d
+  -- what a client's operations rest on it carries
+  pub carried : (a b : OpName) (key value : List ℕ) (version : ℕ) → IsPut w.sessions a key value version → IsNamed w.sessions b → Past w.sessions a b → IsCarried (view w) (home s b.client) b.client (record { key = key; version = version })
+  -- versions tell puts apart and are above those of dependencies, and no clock is behind what was settled
+  pub consistent : IsConsistent w.issued
+  pub clocks : (dc place : ℕ) (t : Stored) → Contains (node_at w dc place).settled t → clock_of t.version ≤ (node_at w dc place).clock
+  -- held and settled puts were issued, each issued put is that of one op_at, and each put and get is of an issued put
+  pub held : (dc place : ℕ) (h : Waiting) → Contains (node_at w dc place).held h → Contains w.issued h.put
+  pub settled : (dc place : ℕ) (t : Stored) → Contains (node_at w dc place).settled t → IsIssued w t.key t.value t.version
+  pub issued : (p : PutRecord) → Contains w.issued p → (n : OpName) × IsPut w.sessions n p.key p.value p.version
+  pub once : NoneDoubled w.sessions
+  pub wrote : (n : OpName) (key value : List ℕ) (version : ℕ) → IsPut w.sessions n key value version → IsIssued w key value version
+  pub got : (n : OpName) (key value : List ℕ) (version : ℕ) → IsGot w.sessions n key value version → IsIssued w key value version
+  -- contexts and sessions are within their limits
+  pub contexts : (client : ℕ) → IsContext (context_in w client)
+  pub limits : IsWithinLimits w.sessions
+
+-- the world is reached from the opening one by some events and answers
+abbrev pub IsReached : Setting → World → Type 0
+IsReached s w = (events : List Event) × (outcomes : List Outcome) × Run s (opening s) events outcomes w
+
+-- a cluster that was opened, and events came
+pub record IsReachedCluster (c : Cluster) : Type 0 where
+  pub setting : IsSetting c.setting
+  pub reached : IsReached c.setting c.world
+
+-- the verdict of the history is Accepted
+abbrev pub HasAcceptedVerdict : Sessions → Type 0
+HasAcceptedVerdict h = (puts : List OpName) × IsAccepted h puts

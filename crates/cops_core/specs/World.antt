@@ -1,0 +1,233 @@
+-- The cluster: its nodes, what was issued and answered, and what each client saw.
+use Rattle.std.specs.Prelude.{◌≡◌, ℕ, zero, suc, ◌+◌, ◌*◌, ◌%◌, ◌<◌, ◌≤◌, ◌⊎◌, List, [], ◌∷◌, ◌++◌, Bool, true, if◌then◌else◌, ◌==◌, ◌&&◌, nat_lt, length, filter, find, replicate, flat_map, slice_set, slice_index_or, All, Option, Some, None, is_some}
+use Rattle.std.specs.List.{list_any}
+use Rattle.cops_types.specs.declared.dep.Dep.{Dep}
+use Rattle.cops_types.specs.declared.put_record.PutRecord.{PutRecord}
+use Rattle.cops_types.specs.declared.op.Op.{Op}
+use Rattle.cops_types.specs.declared.op.Op.TheVariants.{Put as Wrote, Got, Missed}
+use Rattle.cops_types.specs.Histories.{Sessions}
+use Rattle.cops_types.specs.Recorded.{count_of, with_op}
+use Rattle.cops_types.specs.Dep.{is_same_dep}
+use Rattle.cops_types.specs.Version.{node_of}
+use Rattle.cops_context.specs.Context.{with_pair}
+use Rattle.cops_store.specs.Store.{Stored, has_pair}
+use Rattle.cops_held.specs.Held.{waiting}
+use Rattle.cops_node.specs.declared.event.NodeEvent.{NodeEvent}
+use Rattle.cops_node.specs.declared.event.NodeEvent.TheVariants.{Put as NodePut, Get as NodeGet, Deliver as NodeDeliver, Ask as NodeAsk, Mark as NodeMark, Settle as NodeSettle}
+use Rattle.cops_node.specs.declared.outcome.Outcome.{Outcome}
+use Rattle.cops_node.specs.declared.outcome.Outcome.TheVariants.{PutDone, Got as Answered, Missed as Nothing, Yes, Refused}
+use Rattle.cops_node.specs.Node.{put_pair, Node, opened, dep_at, node_step}
+use Rattle.cops_place.specs.Place.{APlace, IsPlace, primary as primary_of}
+use Rattle.cops_core.specs.Machine.{State}
+pub use Rattle.cops_core.specs.declared.event.Said.{Said}
+pub use Rattle.cops_core.specs.declared.event.Event.{Event}
+pub use Rattle.cops_core.specs.declared.event.Event.TheVariants.{Put as PutBy, Get as GetBy, Deliver as DeliverTo, Ask as AskAt, Mark as MarkAt, Settle as SettleAt}
+
+-- what never changes: where keys live, and the data centre of each client
+pub record Setting : Type 0 where
+  pub place : APlace
+  pub homes : List ℕ
+
+pub record IsSetting (s : Setting) : Type 0 where
+  pub place : IsPlace s.place
+  pub homes : All (λ dc. dc < s.place.dcs) s.homes
+  pub clients : length s.homes ≤ 65535
+
+abbrev pub home : Setting → ℕ → ℕ
+home s client = slice_index_or s.homes client 0
+
+-- the place of a key's node in each data centre
+abbrev pub primary : Setting → List ℕ → ℕ
+primary s key = primary_of s.place.splits key
+
+pub record World : Type 0 where
+  pub nodes : List (List Node)  -- of each data centre, by place
+  pub issued : List PutRecord  -- in the order in which clients put them
+  pub said : List Said  -- the answers Yes
+  pub contexts : List (List Dep)  -- of each client
+  pub sessions : Sessions
+
+-- the first nodes of a data centre, opened
+abbrev pub row : ℕ → ℕ → List Node
+row dc zero = []
+row dc (suc n) = row dc n ++ opened (dc * 64 + n) ∷ []
+
+-- those of the first data centres
+abbrev pub rows : ℕ → ℕ → List (List Node)
+rows places zero = []
+rows places (suc n) = rows places n ++ row n places ∷ []
+
+abbrev pub opening : Setting → World
+opening s = record {
+  nodes = rows (length s.place.splits + 1) s.place.dcs;
+  issued = [];
+  said = [];
+  contexts = replicate (length s.homes) [];
+  sessions = replicate (length s.homes) [];
+}
+
+-- the node at a place of a data centre; where there is none, one that holds nothing
+abbrev pub node_at : World → ℕ → ℕ → Node
+node_at w dc place = slice_index_or (slice_index_or w.nodes dc []) place (opened (dc * 64 + place))
+
+abbrev pub with_node : World → ℕ → ℕ → Node → World
+with_node w dc place n = record {
+  nodes = slice_set w.nodes dc (slice_set (slice_index_or w.nodes dc []) place n);
+  issued = w.issued;
+  said = w.said;
+  contexts = w.contexts;
+  sessions = w.sessions;
+}
+
+abbrev pub context_in : World → ℕ → List Dep
+context_in w client = slice_index_or w.contexts client []
+
+-- the client's session gains an op_at, and its context is this one
+abbrev pub with_answer : World → ℕ → Op → List Dep → World
+with_answer w client op context = record {
+  nodes = w.nodes;
+  issued = w.issued;
+  said = w.said;
+  contexts = slice_set w.contexts client context;
+  sessions = with_op w.sessions client op;
+}
+
+abbrev pub with_issued : World → PutRecord → World
+with_issued w put = record { nodes = w.nodes; issued = w.issued ++ put ∷ []; said = w.said; contexts = w.contexts; sessions = w.sessions }
+
+-- the put that bears a version
+abbrev pub sent : List PutRecord → ℕ → Option PutRecord
+sent issued version = find (λ p. version == p.version) issued
+
+abbrev pub same_said : Said → Said → Bool
+same_said a b = (a.dc == b.dc) && is_same_dep a.pair b.pair
+
+abbrev pub was_said : List Said → Said → Bool
+was_said said y = list_any (same_said y) said
+
+-- the answers Yes with one more, unless it is there
+abbrev pub gained : List Said → Said → List Said
+gained said y = if was_said said y then said else said ++ y ∷ []
+
+abbrev pub with_said : World → Said → World
+with_said w y = record { nodes = w.nodes; issued = w.issued; said = gained w.said y; contexts = w.contexts; sessions = w.sessions }
+
+-- the place of the node that gave the version, in its data centre
+abbrev pub place_of : ℕ → ℕ
+place_of version = node_of version % 64
+
+-- no dependency, or one that the data centre has answered Yes for
+abbrev pub is_answered : List Said → ℕ → Option Dep → Bool
+is_answered said dc None = true
+is_answered said dc (Some pair) = was_said said (record { dc = dc; pair = pair })
+
+abbrev pub knows : World → ℕ → Bool
+knows w client = nat_lt client (length w.sessions)
+
+-- the client's history may have one more op_at
+abbrev pub has_room : World → ℕ → Bool
+has_room w client = nat_lt (length (slice_index_or w.sessions client [])) 1000000 && nat_lt (count_of w.sessions) 16000000
+
+abbrev pub is_dc : Setting → ℕ → Bool
+is_dc s dc = nat_lt dc s.place.dcs
+
+-- What an event wants of the world, in the order of the refusals, with their codes. Where all is there a node is asked,
+-- which may refuse too: 1 ClockExhausted, 5 NotHeld, 6 NoSuchDep, 8 DepsOpen.
+abbrev pub checks : Setting → World → Event → List (Bool × ℕ)
+checks s w (PutBy client key value) = (knows w client, 3) ∷ (has_room w client, 11) ∷ []
+checks s w (GetBy client key) = (knows w client, 3) ∷ (has_room w client, 11) ∷ (nat_lt (length (context_in w client)) 256, 2) ∷ []
+checks s w (DeliverTo dc version) = (is_dc s dc, 10) ∷ (is_some (sent w.issued version), 4) ∷ []
+checks s w (AskAt dc key version) = (is_dc s dc, 10) ∷ []
+checks s w (MarkAt dc version dep) = (is_dc s dc, 10) ∷ (is_answered w.said dc (dep_at (waiting (node_at w dc (place_of version)).held version) dep), 7) ∷ []
+checks s w (SettleAt dc version) = (is_dc s dc, 10) ∷ []
+
+-- the first code whose test fails
+abbrev pub refusal : List (Bool × ℕ) → Option ℕ
+refusal [] = None
+refusal (t ∷ tests) = if t.0 then refusal tests else Some t.1
+
+-- the world after a node has answered, and became this one
+abbrev pub keeps : World → ℕ → ℕ → Event → Outcome → Node → World
+keeps w dc place (PutBy client key value) (PutDone version) n =
+    with_answer (with_issued (with_node w dc place n) (record { key = key; value = value; version = version; deps = context_in w client }))
+    client (Wrote key value version) (record { key = key; version = version } ∷ [])
+keeps w dc place (GetBy client key) (Answered value version) n =
+    with_answer (with_node w dc place n) client (Got key value version) (with_pair (context_in w client) (record { key = key; version = version }))
+keeps w dc place (GetBy client key) Nothing n = with_answer (with_node w dc place n) client (Missed key) (context_in w client)
+keeps w dc place (AskAt d key version) Yes n = with_said (with_node w dc place n) (record { dc = d; pair = record { key = key; version = version } })
+keeps w dc place event outcome n = with_node w dc place n
+
+-- the node at a place is asked, and the world keeps what it answers
+abbrev pub asks : World → Event → ℕ → ℕ → NodeEvent → Outcome × World
+asks w event dc place asked =
+    let r = node_step (node_at w dc place) asked in
+    (r.0, keeps w dc place event r.0 r.1)
+
+abbrev pub delivers : Setting → World → ℕ → ℕ → Option PutRecord → Outcome × World
+delivers s w dc version None = (Refused 4, w)
+delivers s w dc version (Some put) = asks w (DeliverTo dc version) dc (primary s put.key) (NodeDeliver put)
+
+-- the node that an event goes to, and what it is asked
+abbrev pub done : Setting → World → Event → Outcome × World
+done s w (PutBy client key value) = asks w (PutBy client key value) (home s client) (primary s key) (NodePut client key value (context_in w client))
+done s w (GetBy client key) = asks w (GetBy client key) (home s client) (primary s key) (NodeGet client key)
+done s w (DeliverTo dc version) = delivers s w dc version (sent w.issued version)
+done s w (AskAt dc key version) = asks w (AskAt dc key version) dc (primary s key) (NodeAsk key version)
+done s w (MarkAt dc version dep) = asks w (MarkAt dc version dep) dc (place_of version) (NodeMark version dep)
+done s w (SettleAt dc version) = asks w (SettleAt dc version) dc (place_of version) (NodeSettle version)
+
+abbrev pub unless : World → Option ℕ → Outcome × World → Outcome × World
+unless w (Some code) next = (Refused code, w)
+unless w None next = next
+
+-- what is answered where memory is there, and the world afterwards
+abbrev pub happens : Setting → World → Event → Outcome × World
+happens s w event = unless w (refusal (checks s w event)) (done s w event)
+
+-- an event is answered so, or refused for want of memory
+abbrev pub Happens : Setting → World → Event → Outcome → World → Type 0
+Happens s old event outcome new =
+    (happens s old event ≡ (outcome, new)) ⊎ ((outcome ≡ Refused 9) × (new ≡ old))
+
+-- a whole run
+abbrev pub Run : Setting → World → List Event → List Outcome → World → Type 0
+Run s old [] [] new = new ≡ old
+Run s old (event ∷ events) (outcome ∷ outcomes) new = (mid : World) × (Happens s old event outcome mid × Run s mid events outcomes new)
+Run s old [] (outcome ∷ outcomes) new = ⊥
+Run s old (event ∷ events) [] new = ⊥
+
+-- all that the nodes of a data centre settled
+abbrev pub settled_in : World → ℕ → List Stored
+settled_in w dc = flat_map (λ n. n.settled) (slice_index_or w.nodes dc [])
+
+-- the world as one set of puts in each data centre
+abbrev pub view : World → State
+view w = record {
+  issued = w.issued;
+  settled = λ dc. filter (λ p. has_pair (settled_in w dc) (put_pair p)) w.issued;
+  contexts = w.contexts;
+  sessions = w.sessions;
+}
+
+-- what a run answers where memory is always there, and where it ends
+abbrev pub answers : Setting → World → List Event → List Outcome
+answers s w [] = []
+answers s w (event ∷ events) = (happens s w event).0 ∷ answers s (happens s w event).1 events
+
+abbrev pub reached : Setting → World → List Event → World
+reached s w [] = w
+reached s w (event ∷ events) = reached s (happens s w event).1 events
+
+-- a cluster: what never changes, and what does
+pub record Cluster : Type 0 where
+  pub setting : Setting
+  pub world : World
+
+-- each client's data centre is there, and there are at most 65,535 clients
+abbrev pub AreClients : APlace → List ℕ → Type 0
+AreClients place homes = All (λ dc. dc < place.dcs) homes × (length homes ≤ 65535)
+
+abbrev pub opened_cluster : APlace → List ℕ → Cluster
+opened_cluster place homes =
+    let s : Setting = record { place = place; homes = homes } in
+    record { setting = s; world = opening s }

@@ -1,0 +1,86 @@
+ghost use Rattle.std.specs.Prelude.{◌≡◌};
+
+use cops_context::Context;
+use cops_types::{Dep, Deps, Memory};
+use std::alloc::Global;
+use std::marker::Model;
+
+/// The context of each client.
+#[derive(Drop)]
+pub struct ClientContexts {
+    contexts: Vec<Context>,
+}
+
+impl Model for ClientContexts {
+    ghost use Rattle.std.specs.Prelude.{map};
+    ghost use Rattle.cops_core.specs.Parts.{AllContexts};
+
+    ghost Value = { AllContexts };
+
+    ghost view = { λ c. record { pairs = map (λ x. x.pairs) c.contexts.items; room = map (λ x. x.room) c.contexts.items } };
+}
+
+impl ClientContexts {
+    ghost use Rattle.std.specs.Prelude.{◌≡◌, ◌<◌, [], ◌∷◌, IfOk, OnOk, length, nat_lt, replicate, slice_index_or, slice_set};
+    ghost use Rattle.cops_context.specs.Context.{with_pair};
+    ghost use Rattle.cops_core.specs.Parts.{HasPlace};
+
+    /// An empty context for each client.
+    pub fn new(alloc: Global, clients: u16) -> Result<Self, Memory>
+        ensures { IfOk result (λ c. c.pairs ≡ replicate clients []) }
+    {
+        let mut contexts = Vec::new(alloc);
+        for _ in 0..clients {
+            contexts.push(Context::new(alloc))?;
+        }
+        Ok(ClientContexts { contexts })
+    }
+
+    /// Copies of a client's pairs.
+    pub fn deps(&self, client: u16) -> Result<Deps, Memory>
+        requires { client < length self.now.pairs }
+        ensures { IfOk result (λ deps. deps ≡ slice_index_or self.now.pairs client []) }
+    {
+        let context = &self.contexts[client as usize];
+        context.deps()
+    }
+
+    /// Whether a client has fewer than 256 pairs.
+    pub fn has_room(&self, client: u16) -> bool
+        requires { client < length self.now.pairs }
+        ensures { result ≡ nat_lt (length (slice_index_or self.now.pairs client [])) 256 }
+    {
+        let context = &self.contexts[client as usize];
+        context.has_room()
+    }
+
+    /// Makes room for a client's next pair.
+    pub fn reserve(&mut self, client: u16) -> Result<(), Memory>
+        requires { client < length self.old.pairs }
+        ensures same { self.new.pairs ≡ self.old.pairs }
+        ensures room { OnOk result (HasPlace self.new client) }
+    {
+        let context = &mut self.contexts[client as usize];
+        context.reserve()
+    }
+
+    /// A client meets a pair.
+    pub fn add(&mut self, client: u16, pair: Dep)
+        requires known { client < length self.old.pairs }
+        requires few { length (slice_index_or self.old.pairs client []) < 256 }
+        requires room { HasPlace self.old client }
+        ensures { self.new.pairs ≡ slice_set self.old.pairs client (with_pair (slice_index_or self.old.pairs client []) pair) }
+    {
+        let context = &mut self.contexts[client as usize];
+        context.add(pair).unwrap()
+    }
+
+    /// Leaves a client the one pair of its new put.
+    pub fn replace(&mut self, client: u16, put: Dep)
+        requires { client < length self.old.pairs }
+        ensures { self.new.pairs ≡ slice_set self.old.pairs client (put ∷ []) }
+    {
+        let context = &mut self.contexts[client as usize];
+        context.replace(put);
+    }
+}

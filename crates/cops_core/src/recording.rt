@@ -1,0 +1,81 @@
+//! What the world keeps of its clients' operations: copies, and a place in the history.
+ghost use Rattle.std.specs.Prelude.{◌≡◌, ◌<◌, ◌⊎◌, ◌∷◌, [], Some, nat_lt, ◌&&◌, length, slice_index_or, IfOk, IfErr, OnOk};
+ghost use Rattle.cops_types.specs.Recorded.{count_of, with_op};
+ghost use Rattle.cops_core.specs.Parts.{MayRecord};
+ghost use Rattle.cops_core.specs.World.{refusal};
+
+use crate::client_contexts::ClientContexts;
+use crate::refusal::{SESSION_FULL, UNKNOWN_CLIENT};
+use cops_node::MEMORY;
+use cops_types::{Dep, Deps, History, Key, Memory, Op, PutRecord, TypeFault, Value};
+use std::alloc::{AllocError, Global};
+
+/// Whether a client may have one more operation, else the code of the refusal. What was recorded stays.
+pub fn admit(history: &mut History, client: u16) -> Result<(), u8>
+    ensures same { history.new.sessions ≡ history.old.sessions }
+    ensures ok { OnOk result (MayRecord history.new client) }
+    ensures err { IfErr result (λ code. (code ≡ 9) ⊎ (refusal ((nat_lt client (length history.old.sessions), 3) ∷ (nat_lt (length (slice_index_or history.old.sessions client [])) 1000000 && nat_lt (count_of history.old.sessions) 16000000, 11) ∷ []) ≡ Some code)) }
+{
+    match history.reserve(client) {
+        Ok(()) => Ok(()),
+        Err(TypeFault::UnknownClient) => Err(UNKNOWN_CLIENT),
+        Err(TypeFault::TooManyOps) => Err(SESSION_FULL),
+        Err(_) => Err(MEMORY),
+    }
+}
+
+/// Records a client's next operation.
+pub fn record(history: &mut History, client: u16, op: Op)
+    requires { MayRecord history.old client }
+    ensures { history.new.sessions ≡ with_op history.old.sessions client op }
+{
+    history.push(client, op).unwrap()
+}
+
+/// A put before it has its version: its key and value, and the client's context.
+#[derive(Drop)]
+pub struct Draft {
+    pub key: Key,
+    pub value: Value,
+    pub deps: Deps,
+}
+
+/// Copies of what a client puts, with its context.
+pub fn drafted(
+    contexts: &ClientContexts,
+    client: u16,
+    key: &Key,
+    value: &Value,
+) -> Result<Draft, Memory>
+    requires { client < length contexts.now.pairs }
+    ensures { IfOk result (λ draft. draft ≡ record { key = key.now; value = value.now; deps = slice_index_or contexts.now.pairs client [] }) }
+{
+    Ok(Draft {
+        key: key.clone()?,
+        value: value.clone()?,
+        deps: contexts.deps(client)?,
+    })
+}
+
+/// A copy of a put with its dependencies.
+pub fn copied(alloc: Global, put: &PutRecord) -> Result<PutRecord, Memory>
+    ensures { IfOk result (λ copy. copy ≡ put.now) }
+{
+    let pairs = copied_pairs(alloc, put.deps.as_slice())?;
+    Ok(PutRecord {
+        key: put.key.clone()?,
+        value: put.value.clone()?,
+        version: put.version,
+        deps: Deps::new(pairs).unwrap(),
+    })
+}
+
+fn copied_pairs(alloc: Global, pairs: &[Dep]) -> Result<Vec<Dep>, AllocError>
+    ensures { IfOk result (λ copies. copies.items ≡ pairs.now) }
+{
+    let mut copies = Vec::new(alloc);
+    for pair in pairs {
+        copies.push(pair.clone()?)?;
+    }
+    Ok(copies)
+}

@@ -1,0 +1,92 @@
+ghost use Rattle.std.specs.Prelude.{◌≡◌, ◌<◌, ◌↔◌, All, IsTrue};
+
+use crate::fault::WorldFault;
+use cops_place::Place;
+use cops_types::Key;
+use std::marker::Model;
+
+/// The most clients of a world.
+pub const MAX_CLIENTS: usize = 65_535;
+
+/// What never changes in a world: where keys live, and the data centre of each client.
+#[derive(Debug, Drop)]
+pub struct Setting {
+    place: Place,
+    homes: Vec<u8>,
+}
+
+impl Model for Setting {
+    ghost use Rattle.cops_core.specs.World.{Setting as ASetting, IsSetting};
+
+    ghost Value = { ASetting };
+
+    ghost view = { λ s. record { place = s.place; homes = s.homes.items } };
+
+    ghost invariant = { λ s. IsSetting (record { place = s.place; homes = s.homes.items }) };
+}
+
+impl Setting {
+    ghost use Rattle.std.specs.Prelude.{◌≡◌, ◌<◌, ◌+◌, ◌≤◌, length, All, IfOk, OnErr, Err};
+    ghost use Rattle.cops_core.specs.World.{IsSetting, home, primary};
+    ghost use Rattle.cops_core.specs.declared.fault.WorldFault.TheVariants.{BadClient};
+
+    /// The setting, or `BadClient` where a client's data centre is not there, or there are more than 65,535 clients.
+    pub fn new(place: Place, homes: Vec<u8>) -> Result<Self, WorldFault>
+        ensures ok { IfOk result (λ setting. setting ≡ record { place = place; homes = homes.items }) }
+        ensures err { OnErr result (result ≡ Err BadClient) }
+        ensures bad { OnErr result (All (λ dc. dc < place.dcs) homes.items × length homes.items ≤ 65535 → ⊥) }
+    {
+        if homes.len() > MAX_CLIENTS || !are_below(&homes, place.dcs()) {
+            return Err(WorldFault::BadClient);
+        }
+        Ok(Setting { place, homes })
+    }
+
+    /// How many clients there are.
+    pub fn clients(&self) -> usize
+        ensures count { result ≡ length self.now.homes }
+        ensures setting { IsSetting self.now }
+    {
+        self.homes.len()
+    }
+
+    /// The data centre of a client.
+    pub fn home(&self, client: u16) -> u8
+        requires { client < length self.now.homes }
+        ensures { result ≡ home self.now client }
+    {
+        self.homes[client as usize]
+    }
+
+    /// How many data centres there are.
+    pub fn dcs(&self) -> u8
+        ensures count { result ≡ self.now.place.dcs }
+        ensures setting { IsSetting self.now }
+    {
+        self.place.dcs()
+    }
+
+    /// How many nodes each data centre has.
+    pub fn nodes(&self) -> u8
+        ensures count { result ≡ length self.now.place.splits + 1 }
+        ensures setting { IsSetting self.now }
+    {
+        self.place.nodes()
+    }
+
+    /// The place of a key's node in each data centre.
+    pub fn primary(&self, key: &Key) -> u8
+        ensures count { result ≡ primary self.now key.now }
+        ensures range { result ≤ length self.now.place.splits }
+        ensures setting { IsSetting self.now }
+    {
+        self.place.primary(key)
+    }
+}
+
+/// Whether each number is below this one.
+fn are_below(numbers: &[u8], end: u8) -> bool
+    ensures { IsTrue result ↔ All (λ n. n < end) numbers.now }
+{
+    numbers.iter().all(|n| *n < end)
+}

@@ -1,0 +1,302 @@
+ghost use Rattle.std.specs.Prelude.{◌≡◌, ◌<◌, IfOk, option_copied};
+ghost use Rattle.cops_core.specs.World.{place_of, is_answered};
+
+use crate::answers::Answers;
+use crate::client_contexts::ClientContexts;
+use crate::data_centres::DataCentres;
+use crate::event::{Event, Said};
+use crate::issued::Issued;
+use crate::recording::{admit, copied, drafted, record};
+use crate::refusal::{CONTEXT_FULL, NEVER_SENT, NO_YES, UNKNOWN_DC};
+use crate::setting::Setting;
+use cops_node::{MEMORY, NOT_HELD, Outcome};
+use cops_types::{Dep, History, Key, Memory, Op, PutRecord, Value, Version};
+use std::alloc::Global;
+use std::marker::Model;
+
+/// What changes in a world: its nodes, the issued puts, the answers Yes, and each client's context and session.
+#[derive(Drop)]
+pub struct State {
+    alloc: Global,
+    centres: DataCentres,
+    issued: Issued,
+    said: Answers,
+    contexts: ClientContexts,
+    history: History,
+}
+
+impl Model for State {
+    ghost use Rattle.cops_core.specs.World.{World as AWorld};
+
+    ghost Value = { AWorld };
+
+    ghost view = { λ s. record {
+      nodes = s.centres;
+      issued = s.issued.puts;
+      said = s.said.said;
+      contexts = s.contexts.pairs;
+      sessions = s.history.sessions;
+    } };
+}
+
+impl State {
+    ghost use Rattle.std.specs.Prelude.{◌≡◌, IfOk, OnErr};
+    ghost use Rattle.cops_core.specs.World.{Happens, opening, PutBy, GetBy, DeliverTo, AskAt, MarkAt, SettleAt};
+    ghost use Rattle.cops_core.specs.Invariants.{IsReached};
+
+    /// The state in which nothing has happened yet.
+    pub fn open(alloc: Global, setting: &Setting) -> Result<Self, Memory>
+        ensures { IfOk result (λ state. state ≡ opening setting.now) }
+    {
+        let clients = setting.clients() as u16;
+        Ok(State {
+            alloc,
+            centres: DataCentres::open(alloc, setting.dcs(), setting.nodes())?,
+            issued: Issued::new(alloc),
+            said: Answers::new(alloc),
+            contexts: ClientContexts::new(alloc, clients)?,
+            history: History::new(alloc, clients)?,
+        })
+    }
+
+    /// Answers an event.
+    pub fn step(&mut self, setting: &Setting, event: &Event) -> Outcome
+        requires { IsReached setting.now self.old }
+        ensures { Happens setting.now self.old event.now result self.new }
+    {
+        match event {
+            Event::Put { client, key, value } => self.put(setting, *client, key, value),
+            Event::Get { client, key } => self.get(setting, *client, key),
+            Event::Deliver { dc, version } => self.deliver(setting, *dc, *version),
+            Event::Ask { dc, key, version } => self.ask(setting, *dc, key, *version),
+            Event::Mark { dc, version, dep } => self.mark(setting, *dc, *version, *dep),
+            Event::Settle { dc, version } => self.settle(setting, *dc, *version),
+        }
+    }
+
+    /// What the clients saw.
+    pub fn history(&self) -> &History
+        ensures { result.now.sessions ≡ self.now.sessions }
+    {
+        &self.history
+    }
+
+    /// A client puts a value at a key, in its own data centre. The put depends on the client's context, which then holds
+    /// the new pair alone.
+    fn put(&mut self, setting: &Setting, client: u16, key: &Key, value: &Value) -> Outcome
+        requires { IsReached setting.now self.old }
+        ensures { Happens setting.now self.old (PutBy client key.now value.now) result self.new }
+    {
+        match self.try_put(setting, client, key, value) {
+            Ok(outcome) => outcome,
+            Err(Memory) => Outcome::Refused(MEMORY),
+        }
+    }
+
+    /// The same. All growths come before the first change, so want of memory changes nothing.
+    fn try_put(
+        &mut self,
+        setting: &Setting,
+        client: u16,
+        key: &Key,
+        value: &Value,
+    ) -> Result<Outcome, Memory>
+        requires { IsReached setting.now self.old }
+        ensures ok { IfOk result (λ outcome. Happens setting.now self.old (PutBy client key.now value.now) outcome self.new) }
+        ensures err { OnErr result (self.new ≡ self.old) }
+    {
+        let place = setting.primary(key);
+        if let Err(code) = admit(&mut self.history, client) {
+            return Ok(Outcome::Refused(code));
+        }
+        self.issued.reserve()?;
+        let own = drafted(&self.contexts, client, key, value)?;
+        let kept = drafted(&self.contexts, client, key, value)?;
+        let (op_key, op_value, pair_key) = (key.clone()?, value.clone()?, key.clone()?);
+        let node = self.centres.node(setting.home(client), place);
+        match node.put(client, own.key, own.value, own.deps) {
+            Outcome::PutDone(version) => {
+                self.issued.push(PutRecord {
+                    key: kept.key,
+                    value: kept.value,
+                    version,
+                    deps: kept.deps,
+                });
+                let pair = Dep {
+                    key: pair_key,
+                    version,
+                };
+                self.contexts.replace(client, pair);
+                let op = Op::Put {
+                    key: op_key,
+                    value: op_value,
+                    version,
+                };
+                record(&mut self.history, client, op);
+                Ok(Outcome::PutDone(version))
+            }
+            other => Ok(other),
+        }
+    }
+
+    /// A client gets a key, from its own data centre. The pair that it met joins the client's context.
+    fn get(&mut self, setting: &Setting, client: u16, key: &Key) -> Outcome
+        requires { IsReached setting.now self.old }
+        ensures { Happens setting.now self.old (GetBy client key.now) result self.new }
+    {
+        match self.try_get(setting, client, key) {
+            Ok(outcome) => outcome,
+            Err(Memory) => Outcome::Refused(MEMORY),
+        }
+    }
+
+    /// The same. All growths come before the first change, so want of memory changes nothing.
+    fn try_get(&mut self, setting: &Setting, client: u16, key: &Key) -> Result<Outcome, Memory>
+        requires { IsReached setting.now self.old }
+        ensures ok { IfOk result (λ outcome. Happens setting.now self.old (GetBy client key.now) outcome self.new) }
+        ensures err { OnErr result (self.new ≡ self.old) }
+    {
+        let place = setting.primary(key);
+        if let Err(code) = admit(&mut self.history, client) {
+            return Ok(Outcome::Refused(code));
+        }
+        if !self.contexts.has_room(client) {
+            return Ok(Outcome::Refused(CONTEXT_FULL));
+        }
+        self.contexts.reserve(client)?;
+        let (op_key, pair_key) = (key.clone()?, key.clone()?);
+        let node = self.centres.node(setting.home(client), place);
+        match node.get(client, key) {
+            Outcome::Got(value, version) => {
+                let op = Op::Got {
+                    key: op_key,
+                    value: value.clone()?,
+                    version,
+                };
+                let pair = Dep {
+                    key: pair_key,
+                    version,
+                };
+                self.contexts.add(client, pair);
+                record(&mut self.history, client, op);
+                Ok(Outcome::Got(value, version))
+            }
+            Outcome::Missed => {
+                drop(pair_key);
+                record(&mut self.history, client, Op::Missed { key: op_key });
+                Ok(Outcome::Missed)
+            }
+            other => {
+                drop((op_key, pair_key));
+                Ok(other)
+            }
+        }
+    }
+
+    /// The put of that version comes to a data centre.
+    fn deliver(&mut self, setting: &Setting, dc: u8, version: Version) -> Outcome
+        requires { IsReached setting.now self.old }
+        ensures { Happens setting.now self.old (DeliverTo dc version) result self.new }
+    {
+        if dc >= setting.dcs() {
+            return Outcome::Refused(UNKNOWN_DC);
+        }
+        let Some(put) = self.issued.find(version) else {
+            return Outcome::Refused(NEVER_SENT);
+        };
+        let place = setting.primary(&put.key);
+        let Ok(copy) = copied(self.alloc, put) else {
+            return Outcome::Refused(MEMORY);
+        };
+        let node = self.centres.node(dc, place);
+        node.deliver(copy)
+    }
+
+    /// A data centre's node is asked whether exactly this pair is settled there. An answer Yes is kept.
+    fn ask(&mut self, setting: &Setting, dc: u8, key: &Key, version: Version) -> Outcome
+        requires { IsReached setting.now self.old }
+        ensures { Happens setting.now self.old (AskAt dc key.now version) result self.new }
+    {
+        if dc >= setting.dcs() {
+            return Outcome::Refused(UNKNOWN_DC);
+        }
+        if self.said.reserve().is_err() {
+            return Outcome::Refused(MEMORY);
+        }
+        let Ok(copy) = key.clone() else {
+            return Outcome::Refused(MEMORY);
+        };
+        let node = self.centres.node(dc, setting.primary(key));
+        match node.ask(key, version) {
+            Outcome::Yes => {
+                let pair = Dep { key: copy, version };
+                self.said.add(Said { dc, pair });
+                Outcome::Yes
+            }
+            other => {
+                drop(copy);
+                other
+            }
+        }
+    }
+
+    /// The held put of that version gets a mark for a dependency that was answered Yes.
+    fn mark(&mut self, setting: &Setting, dc: u8, version: Version, dep: u16) -> Outcome
+        requires { IsReached setting.now self.old }
+        ensures { Happens setting.now self.old (MarkAt dc version dep) result self.new }
+    {
+        let place = place_of(version);
+        if dc >= setting.dcs() {
+            return Outcome::Refused(UNKNOWN_DC);
+        }
+        if place >= setting.nodes() {
+            return Outcome::Refused(NOT_HELD);
+        }
+        let pair = self.centres.at(dc, place).dep_of(version, dep);
+        let Ok(answered) = is_answered(&self.said, dc, pair) else {
+            return Outcome::Refused(MEMORY);
+        };
+        if !answered {
+            return Outcome::Refused(NO_YES);
+        }
+        let node = self.centres.node(dc, place);
+        node.mark(version, dep)
+    }
+
+    /// The held put of that version is settled, where all its dependencies are marked.
+    fn settle(&mut self, setting: &Setting, dc: u8, version: Version) -> Outcome
+        requires { IsReached setting.now self.old }
+        ensures { Happens setting.now self.old (SettleAt dc version) result self.new }
+    {
+        let place = place_of(version);
+        if dc >= setting.dcs() {
+            return Outcome::Refused(UNKNOWN_DC);
+        }
+        if place >= setting.nodes() {
+            return Outcome::Refused(NOT_HELD);
+        }
+        let node = self.centres.node(dc, place);
+        node.settle(version)
+    }
+}
+
+/// The place of the node that gave a version, in its data centre.
+fn place_of(version: Version) -> u8
+    ensures value { result ≡ place_of version }
+    ensures range { result < 64 }
+{
+    (version.node() % 64) as u8
+}
+
+/// Whether there is no dependency, or the data centre has answered Yes for it.
+fn is_answered(said: &Answers, dc: u8, pair: Option<&Dep>) -> Result<bool, Memory>
+    ensures { IfOk result (λ answered. answered ≡ is_answered said.now.said dc (option_copied pair.entry)) }
+{
+    match pair {
+        Some(pair) => Ok(said.contains(&Said {
+            dc,
+            pair: pair.clone()?,
+        })),
+        None => Ok(true),
+    }
+}

@@ -1,0 +1,104 @@
+ghost use Rattle.std.specs.Prelude.{◌≡◌};
+
+use crate::event::Event;
+use crate::fault::WorldFault;
+use crate::setting::Setting;
+use crate::state::State;
+use cops_node::Outcome;
+use cops_place::Place;
+use cops_types::{History, Memory};
+use std::alloc::Global;
+use std::marker::Model;
+
+/// A COPS cluster on one thread: the nodes of each data centre, the puts that were issued, the answers Yes, and each
+/// client's context and session. It changes by events alone, in whatever order they come.
+#[derive(Drop)]
+pub struct World {
+    alloc: Global,
+    setting: Setting,
+    state: State,
+}
+
+impl Model for World {
+    ghost use Rattle.cops_core.specs.World.{Cluster};
+    ghost use Rattle.cops_core.specs.Invariants.{IsReachedCluster};
+
+    ghost Value = { Cluster };
+
+    ghost view = { λ w. record { setting = w.setting; world = w.state } };
+
+    ghost invariant = { λ w. IsReachedCluster (record { setting = w.setting; world = w.state }) };
+}
+
+impl World {
+    ghost use Rattle.std.specs.Prelude.{◌≡◌, ◌↔◌, IfOk, OnErr, IsErrOf};
+    ghost use Rattle.cops_core.specs.Machine.{Step};
+    ghost use Rattle.cops_core.specs.World.{AreClients, Happens, Run, home, opened_cluster, view};
+    ghost use Rattle.cops_core.specs.Invariants.{HasAcceptedVerdict, Invariants};
+
+    /// A world in which nothing has happened, of these data centres and nodes, and with a client at each of these data
+    /// centres: `BadClient` where one of those is not there, or there are more than 65,535 clients.
+    pub fn open(alloc: Global, place: Place, client_dcs: Vec<u8>) -> Result<Self, WorldFault>
+        ensures ok { IfOk result (λ world. world ≡ opened_cluster place client_dcs.items) }
+        ensures bad { IsErrOf result WorldFault.BadClient ↔ (AreClients place client_dcs.items → ⊥) }
+    {
+        let setting = Setting::new(place, client_dcs)?;
+        let state = State::open(alloc, &setting)?;
+        Ok(World {
+            alloc,
+            setting,
+            state,
+        })
+    }
+
+    /// Answers an event, by the table of refusals in their order:
+    ///
+    /// | Event | Outcome | Refused |
+    /// |---|---|---|
+    /// | Put | PutDone | 3 unknown client, 11 session full, 1 clock exhausted |
+    /// | Get | Got or Missed | 3 unknown client, 11 session full, 2 context full |
+    /// | Deliver | Held; Repeat where it is held or settled there | 10 unknown data centre, 4 never sent |
+    /// | Ask | Yes where the pair is settled there, else Wait | 10 unknown data centre |
+    /// | Mark | Marked | 10 unknown data centre, 5 not held, 6 no such dependency, 7 no answer Yes |
+    /// | Settle | Settled | 10 unknown data centre, 5 not held, 8 open dependencies |
+    ///
+    /// Each is refused 9 where memory was refused. A refused event changes nothing.
+    pub fn apply(&mut self, event: Event) -> Outcome
+        ensures setting { self.new.setting ≡ self.old.setting }
+        ensures event { Happens self.old.setting self.old.world event result self.new.world }
+        ensures step { Step (home self.old.setting) (view self.old.world) (view self.new.world) }
+    {
+        self.step(&event)
+    }
+
+    /// Answers events one after the other. `Memory` where there is none for the answers: then no event has happened.
+    pub fn run(&mut self, events: &[Event]) -> Result<Vec<Outcome>, Memory>
+        ensures setting { self.new.setting ≡ self.old.setting }
+        ensures ok { IfOk result (λ outcomes. Run self.old.setting self.old.world events.now outcomes.items self.new.world) }
+        ensures err { OnErr result (self.new ≡ self.old) }
+    {
+        let mut outcomes = Vec::with_capacity(self.alloc, events.len())?;
+        for event in events {
+            outcomes.push(self.step(event)).unwrap();
+        }
+        Ok(outcomes)
+    }
+
+    /// What the clients saw. Whatever events came, the verdict on it is Accepted.
+    pub fn history(&self) -> &History
+        ensures sessions { result.now.sessions ≡ self.now.world.sessions }
+        ensures accepted { HasAcceptedVerdict result.now.sessions }
+        ensures invariants { Invariants self.now.setting self.now.world }
+    {
+        self.state.history()
+    }
+
+    /// Answers an event.
+    fn step(&mut self, event: &Event) -> Outcome
+        ensures setting { self.new.setting ≡ self.old.setting }
+        ensures event { Happens self.old.setting self.old.world event.now result self.new.world }
+        ensures step { Step (home self.old.setting) (view self.old.world) (view self.new.world) }
+    {
+        self.state.step(&self.setting, event)
+    }
+}

@@ -1,0 +1,147 @@
+use crate::fault::HeldFault;
+use crate::held_put::HeldPut;
+use crate::taken::Taken;
+use cops_types::{Memory, PutRecord, Version};
+use std::alloc::{AllocError, Global};
+use std::collections::BTreeMap;
+use std::marker::Model;
+
+/// The puts that wait, one for each version, in order of versions. Each call costs a look-up in a map, whatever the
+/// number of puts.
+#[derive(Drop)]
+pub struct Held {
+    puts: BTreeMap<Version, HeldPut>,
+    alloc: Global,
+}
+
+impl Model for Held {
+    ghost use Rattle.std.specs.Prelude.{List};
+    ghost use Rattle.std.specs.BTreeMap.{values};
+    ghost use Rattle.cops_held.specs.Held.{Waiting};
+    ghost use Rattle.cops_held.specs.Table.{IsTable};
+
+    ghost Value = { List Waiting };
+
+    ghost view = { λ h. values h.puts };
+
+    ghost invariant = { λ h. IsTable h.puts.entries };
+}
+
+impl Held {
+    ghost use Rattle.std.specs.Prelude.{◌≡◌, length, [], true, None, is_some, IsOk, IfOk, IfSome, OnOk, OnErr, option_copied};
+    ghost use Rattle.std.specs.Option.{option_map};
+    ghost use Rattle.cops_held.specs.Held.{holding, with_put, waiting, with_waiting, open_deps, marking, with_mark, taking, without};
+
+    /// A table with no put. It takes no memory.
+    pub fn new(alloc: Global) -> Self
+        ensures { result ≡ [] }
+    {
+        Held {
+            puts: BTreeMap::new(alloc),
+            alloc,
+        }
+    }
+
+    /// How many puts wait.
+    pub fn len(&self) -> usize
+        ensures { result ≡ length self.now }
+    {
+        self.puts.len()
+    }
+
+    /// Holds a put, with no dependency marked. Where a put with its version waits already nothing changes, and that
+    /// takes no memory. A refusal changes nothing.
+    pub fn hold(&mut self, put: PutRecord) -> Result<Taken, Memory>
+        ensures ok { IfOk result (λ taken. taken ≡ holding self.old put) }
+        ensures after { OnOk result (self.new ≡ with_put self.old put) }
+        ensures err { OnErr result (self.new ≡ self.old) }
+        ensures there { is_some (waiting self.old put.version) ≡ true → IsOk result }
+    {
+        if self.find(put.version).is_some() {
+            return Ok(Taken::Repeat);
+        }
+        let held = HeldPut::new(self.alloc, put)?;
+        self.add(held)?;
+        Ok(Taken::New)
+    }
+
+    /// The put that waits at a version.
+    pub fn record(&self, version: Version) -> Option<&PutRecord>
+        ensures { option_copied result ≡ option_map (λ w. w.put) (waiting self.now version) }
+    {
+        let held = self.find(version)?;
+        Some(held.put())
+    }
+
+    /// The dependencies of the put at a version that are not marked yet, by their indexes, ascending. None where no such
+    /// put waits.
+    pub fn open_deps(&self, version: Version) -> Result<Vec<u16>, Memory>
+        ensures { IfOk result (λ deps. deps.items ≡ open_deps (waiting self.now version)) }
+    {
+        match self.find(version) {
+            Some(held) => Ok(held.open_deps(self.alloc)?),
+            None => Ok(Vec::new(self.alloc)),
+        }
+    }
+
+    /// Marks a dependency of the put at a version, by its index: `NotHeld` where no such put waits, else `NoSuchDep`
+    /// where it has no such dependency. Marking twice is as marking once. It takes no memory, and a refusal changes
+    /// nothing.
+    pub fn mark(&mut self, version: Version, dep: u16) -> Result<(), HeldFault>
+        ensures answer { result ≡ marking (waiting self.old version) dep }
+        ensures ok { OnOk result (self.new ≡ with_mark self.old version dep) }
+        ensures err { OnErr result (self.new ≡ self.old) }
+    {
+        let Some(held) = self.puts.get_mut(&version) else {
+            return Err(HeldFault::NotHeld);
+        };
+        held.mark(dep)
+    }
+
+    /// Gives the put at a version, which waits no longer: `NotHeld` where no such put waits, else `DepsOpen` where not
+    /// all its dependencies are marked. It takes no memory, and a refusal changes nothing.
+    pub fn take_ready(&mut self, version: Version) -> Result<PutRecord, HeldFault>
+        ensures answer { result ≡ taking (waiting self.old version) }
+        ensures ok { OnOk result (self.new ≡ without self.old version) }
+        ensures err { OnErr result (self.new ≡ self.old) }
+        ensures version { IfOk result (λ put. put.version ≡ version) }
+    {
+        let is_ready = match self.find(version) {
+            Some(held) => held.is_ready(),
+            None => return Err(HeldFault::NotHeld),
+        };
+        if !is_ready {
+            return Err(HeldFault::DepsOpen);
+        }
+        match self.take(version) {
+            Some(held) => Ok(held.into_put()),
+            None => Err(HeldFault::NotHeld),
+        }
+    }
+
+    /// The put that waits at a version, with its marks.
+    fn find(&self, version: Version) -> Option<&HeldPut>
+        ensures { option_copied result ≡ waiting self.now version }
+    {
+        self.puts.get(&version)
+    }
+
+    /// Takes out the put that waits at a version, with its marks.
+    fn take(&mut self, version: Version) -> Option<HeldPut>
+        ensures taken { result ≡ waiting self.old version }
+        ensures rest { self.new ≡ without self.old version }
+        ensures version { IfSome result (λ w. w.put.version ≡ version) }
+    {
+        self.puts.remove(&version)
+    }
+
+    /// Puts in one with a version that none has.
+    fn add(&mut self, held: HeldPut) -> Result<(), AllocError>
+        requires { waiting self.old held.put.version ≡ None }
+        ensures ok { OnOk result (self.new ≡ with_waiting self.old held) }
+        ensures err { OnErr result (self.new ≡ self.old) }
+    {
+        let _none = self.puts.insert(held.put().version, held)?;
+        Ok(())
+    }
+}

@@ -1,0 +1,103 @@
+//! The two ends of a link.
+ghost use Rattle.std.specs.Prelude.{◌≡◌, ◌≤◌, ◌<◌, ◌⊎◌, ◌↔◌, ℕ, List, [], ◌∷◌, ◌++◌, length, IsOk, IfOk, IfErr, IsErrOf, OnOk, OnErr, IfSome, MatchOption};
+ghost use Rattle.cops_types.specs.declared.put_record.PutRecord.{PutRecord};
+ghost use Rattle.cops_wire.specs.Message.{put_after};
+ghost use Rattle.cops_link.specs.Frame.{spelled};
+ghost use Rattle.cops_link.specs.Link.{sent, taken, seen, known_room, all_sent, IsLink, IsFinishedOf, SameIn, SameOut, Finishes};
+
+use crate::fault::{LinkFault, SendFault};
+use crate::frame::{Frame, PutAfters};
+use cops_types::Memory;
+use cops_wire::Message;
+use rtrb::{Consumer, Producer, PushError, RingBuffer};
+use std::alloc::Global;
+
+/// The most frames that a link holds.
+pub const MAX_CAPACITY: usize = 1024;
+
+/// The end that sends.
+#[derive(Drop)]
+pub struct LinkIn {
+    producer: Producer<Frame, Global, PutAfters>,
+}
+
+/// The end that takes.
+#[derive(Drop)]
+pub struct LinkOut {
+    consumer: Consumer<Frame, Global, PutAfters>,
+    alloc: Global,
+}
+
+/// What is left of a sending end that has finished.
+#[derive(Drop)]
+pub struct Finished {
+    ring: rtrb::Finished<Frame, Global, PutAfters>,
+}
+
+/// A link that holds as many frames as its capacity says: `BadCapacity` unless that is 1 to 1,024.
+pub fn link(alloc: Global, capacity: usize) -> Result<(LinkIn, LinkOut), LinkFault>
+    ensures ok { IfOk result (λ r. IsLink r.0 r.1 × (sent r.0 ≡ []) × (taken r.1 ≡ []) × (known_room r.0 ≡ capacity)) }
+    ensures bad { IsErrOf result LinkFault.BadCapacity ↔ ((capacity < 1) ⊎ (1024 < capacity)) }
+{
+    if capacity < 1 || capacity > MAX_CAPACITY {
+        return Err(LinkFault::BadCapacity);
+    }
+    let Ok((producer, consumer)) = RingBuffer::with_protocol::<Global, PutAfters>(alloc, capacity)
+    else {
+        return Err(LinkFault::Memory);
+    };
+    Ok((LinkIn { producer }, LinkOut { consumer, alloc }))
+}
+
+impl LinkIn {
+    /// Sends a frame: `Full` gives it back where there is no room. It takes no memory.
+    pub fn send(&mut self, frame: Frame) -> Result<(), SendFault>
+        ensures same { SameIn self.old self.new }
+        ensures ok { OnOk result (sent self.new ≡ sent self.old ++ frame ∷ []) }
+        ensures full { IfErr result (λ e. (e ≡ SendFault.Full frame) × (sent self.new ≡ sent self.old) × (known_room self.new ≡ 0)) }
+        ensures room { 0 < known_room self.old → IsOk result }
+    {
+        frame.spells_a_put();
+        match self.producer.push(frame) {
+            Ok(()) => Ok(()),
+            Err(PushError::Full(back)) => Err(SendFault::Full(back)),
+        }
+    }
+
+    /// Ends the sending. At `None` the end is gone, and nothing is told.
+    pub fn finish(self) -> Option<Finished>
+        ensures { IfSome result (λ finished. Finishes self finished) }
+    {
+        let LinkIn { producer } = self;
+        let ring = producer.finish()?;
+        Some(Finished { ring })
+    }
+}
+
+impl LinkOut {
+    /// Takes the oldest frame that is there and gives its message, which replicates a put; `None` where no frame is
+    /// there. Where memory runs out nothing is taken.
+    pub fn take(&mut self) -> Result<Option<Message>, Memory>
+        ensures same { SameOut self.old self.new }
+        ensures none { IfOk result (λ o. MatchOption o ((taken self.new ≡ taken self.old) × (seen self.new ≡ [])) (λ _. Unit {0})) }
+        ensures some { IfOk result (λ o. MatchOption o (Unit {0}) (λ m. (put : PutRecord) × (m ≡ put_after put) × (taken self.new ≡ taken self.old ++ spelled put ∷ []))) }
+        ensures err { OnErr result (taken self.new ≡ taken self.old) }
+    {
+        if self.consumer.is_empty() {
+            return Ok(None);
+        }
+        let message = self.consumer.peek_known().message(self.alloc)?;
+        let _taken = self.consumer.pop_known();
+        Ok(Some(message))
+    }
+
+    /// How many frames are left, once the sender has finished. The condition: both are ends of one link.
+    pub fn after(&mut self, finished: &mut Finished) -> usize
+        requires { IsFinishedOf finished.old self.old }
+        ensures same { SameOut self.old self.new × (taken self.new ≡ taken self.old) }
+        ensures finished { IsFinishedOf finished.new self.new × (all_sent finished.new ≡ all_sent finished.old) }
+        ensures left { (rest : List (List ℕ)) × (length rest ≡ result) × (taken self.new ++ rest ≡ all_sent finished.old) }
+    {
+        self.consumer.slots_after(&mut finished.ring)
+    }
+}

@@ -1,0 +1,21 @@
+//! Why there is no link, and why a frame was not sent.
+
+use crate::frame::Frame;
+use thiserror::Error;
+
+/// Why no link was made. The numbers are the faults' codes.
+#[derive(Clone, Copy, Debug, PartialEq, Eq, Error)]
+pub enum LinkFault {
+    #[error("out of memory")]
+    Memory = 0,
+    #[error("a link holds 1 to 1,024 frames")]
+    BadCapacity = 2,
+}
+
+/// Why a frame was not sent. It takes no memory, so want of memory is not among them.
+#[derive(Debug, Drop, Error)]
+pub enum SendFault {
+    /// The frame comes back.
+    #[error("the link is full")]
+    Full(Frame),
+}

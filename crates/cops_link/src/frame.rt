@@ -1,0 +1,78 @@
+//! What a link carries.
+ghost use Rattle.std.specs.Prelude.{◌≡◌, IfOk};
+ghost use Rattle.cops_wire.specs.Message.{put_after};
+ghost use Rattle.cops_link.specs.Frame.{spelled};
+
+use cops_types::{Memory, PutRecord};
+use cops_wire::{Message, WireFault, decode, encode_put_after};
+use rtrb::Protocol;
+use std::alloc::Global;
+use std::marker::Model;
+
+/// The frame of the message that replicates one put.
+#[derive(Debug, Drop)]
+pub struct Frame {
+    bytes: Vec<u8>,
+}
+
+impl Model for Frame {
+    ghost use Rattle.std.specs.Prelude.{List, ℕ};
+    ghost use Rattle.cops_link.specs.Frame.{IsPutAfter};
+
+    ghost Value = { List ℕ };
+
+    ghost view = { λ f. f.bytes.items };
+
+    ghost invariant = { λ f. IsPutAfter f.bytes.items };
+}
+
+impl Frame {
+    ghost use Rattle.std.specs.Prelude.{◌≡◌, IfOk};
+    ghost use Rattle.cops_wire.specs.Message.{put_after};
+    ghost use Rattle.cops_link.specs.Frame.{spelled, IsPutAfter};
+
+    /// The frame of a put's message.
+    pub fn of(alloc: Global, put: &PutRecord) -> Result<Frame, Memory>
+        ensures { IfOk result (λ frame. frame ≡ spelled put.now) }
+    {
+        let mut bytes = Vec::new(alloc);
+        encode_put_after(put, &mut bytes)?;
+        Ok(Frame { bytes })
+    }
+
+    /// It spells the message of a put: what the type keeps, told to the prover.
+    pub(crate) fn spells_a_put(&self)
+        ensures { IsPutAfter self.now }
+    {
+        let _bytes = &self.bytes;
+    }
+
+    /// The message that it spells, which replicates a put.
+    pub(crate) fn message(&self, alloc: Global) -> Result<Message, Memory>
+        ensures { IfOk result (λ m. (put : PutRecord) × (m ≡ put_after put) × (spelled put ≡ self.now)) }
+    {
+        match decode(alloc, &self.bytes) {
+            Ok(decoded) => Ok(decoded.message),
+            Err(fault) => Err(want_of_memory(fault)),
+        }
+    }
+}
+
+/// The one fault that a frame has.
+fn want_of_memory(fault: WireFault) -> Memory
+    requires { fault ≡ WireFault.Memory }
+{
+    match fault {
+        WireFault::Memory => Memory,
+        _ => unreachable!(),
+    }
+}
+
+/// The rule of a link's queue: each item is the frame of a put's message.
+pub struct PutAfters;
+
+impl Protocol<Frame> for PutAfters {
+    ghost use Rattle.cops_link.specs.Frame.{IsPutAfter};
+
+    ghost allows = { λ _ frame. IsPutAfter frame };
+}

@@ -1,0 +1,136 @@
+use super::*;
+use cops_types::{Dep, Deps, Key, Memory, PutRecord, TypeFault, Value, Version};
+use cops_wire::Message;
+use std::alloc::Global;
+use std::sync::Wait;
+use std::test::Fail;
+use std::thread;
+use std::thread::Threads;
+
+fn put(alloc: Global, clock: u64) -> Result<PutRecord, TypeFault> {
+    let mut deps = Vec::new(alloc);
+    if clock > 1 {
+        deps.push(Dep {
+            key: Key::new(alloc, b"k")?,
+            version: Version::new(clock - 1, 64)?,
+        })?;
+    }
+    Ok(PutRecord {
+        key: Key::new(alloc, b"p")?,
+        value: Value::new(alloc, b"6")?,
+        version: Version::new(clock, 0)?,
+        deps: Deps::new(deps)?,
+    })
+}
+
+fn clock_of(taken: Option<Message>) -> u64 {
+    match taken {
+        Some(Message::PutAfter { version, .. }) => version.clock(),
+        _ => 0,
+    }
+}
+
+#[test]
+fn a_link_of_one_frame(rt: HostRuntime) -> Result<(), Fail> {
+    let alloc = rt.alloc();
+    let (mut sender, mut taker) = link(alloc, 1)?;
+    assert_eq!(rt; clock_of(taker.take()?), 0);
+    sender.send(Frame::of(alloc, &put(alloc, 1)?)?)?;
+    let Err(SendFault::Full(back)) = sender.send(Frame::of(alloc, &put(alloc, 2)?)?) else {
+        return Err(Fail::new("the link is not full"));
+    };
+    assert_eq!(rt; clock_of(taker.take()?), 1);
+    sender.send(back)?;
+    let Some(mut finished) = sender.finish() else {
+        return Err(Fail::new("nothing is told"));
+    };
+    assert_eq!(rt; taker.after(&mut finished), 1);
+    assert_eq!(rt; clock_of(taker.take()?), 2);
+    assert_eq!(rt; taker.after(&mut finished), 0);
+    assert_eq!(rt; clock_of(taker.take()?), 0);
+    Ok(())
+}
+
+#[test]
+fn a_put_comes_out_as_it_went_in(rt: HostRuntime) -> Result<(), Fail> {
+    let alloc = rt.alloc();
+    let (mut sender, mut taker) = link(alloc, MAX_CAPACITY)?;
+    sender.send(Frame::of(alloc, &put(alloc, 3)?)?)?;
+    let Some(
+        Message::PutAfter {
+            key,
+            value,
+            version,
+            deps,
+        },
+    ) = taker.take()?
+    else {
+        return Err(Fail::new("nothing was taken"));
+    };
+    assert_eq!(rt; key.as_bytes(), b"p".as_slice());
+    assert_eq!(rt; value.as_bytes(), b"6".as_slice());
+    assert_eq!(rt; version, Version::new(3, 0)?);
+    let pairs = deps.as_slice();
+    assert_eq!(rt; pairs.len(), 1);
+    assert_eq!(rt; pairs[0].key.as_bytes(), b"k".as_slice());
+    assert_eq!(rt; pairs[0].version, Version::new(2, 64)?);
+    Ok(())
+}
+
+#[test]
+fn a_capacity_is_1_to_1024(rt: HostRuntime) -> Result<(), Fail> {
+    for capacity in [0, 1025, usize::MAX] {
+        assert_eq!(rt;
+            link(rt.alloc(), capacity).err(),
+            Some(LinkFault::BadCapacity)
+        );
+    }
+    assert!(rt; link(rt.alloc(), 1).is_ok());
+    assert!(rt; link(rt.alloc(), 1024).is_ok());
+    Ok(())
+}
+
+/// Sends so many puts, and waits where the link is full.
+fn send_all<R: Wait>(rt: &R, alloc: Global, mut sender: LinkIn, count: u64) -> Result<bool, Fail> {
+    for clock in 1..count + 1 {
+        let mut frame = Frame::of(alloc, &put(alloc, clock)?)?;
+        for _ in rt.forever() {
+            match sender.send(frame) {
+                Ok(()) => break,
+                Err(SendFault::Full(back)) => frame = back,
+            }
+            thread::yield_now();
+        }
+    }
+    Ok(sender.finish().is_some())
+}
+
+/// Takes so many puts, and says how many came in their turn.
+fn take_all<R: Wait>(rt: &R, mut taker: LinkOut, count: u64) -> Result<u64, Memory> {
+    let mut in_turn = 0;
+    for clock in 1..count + 1 {
+        for _ in rt.forever() {
+            let taken = taker.take()?;
+            if taken.is_some() {
+                in_turn += u64::from(clock_of(taken) == clock);
+                break;
+            }
+            thread::yield_now();
+        }
+    }
+    Ok(in_turn)
+}
+
+#[test]
+fn a_thousand_frames_between_threads(rt: HostRuntime) -> Result<(), Fail> {
+    let alloc = rt.alloc();
+    let (sender, taker) = link(alloc, 16)?;
+    let (finished, in_turn) = thread::join(
+        &rt,
+        || send_all(&rt, alloc, sender, 1000),
+        || take_all(&rt, taker, 1000),
+    );
+    assert!(rt; finished?);
+    assert_eq!(rt; in_turn?, 1000);
+    Ok(())
+}

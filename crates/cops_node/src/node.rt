@@ -1,0 +1,191 @@
+use crate::event::NodeEvent;
+use crate::outcome::Outcome;
+use crate::raising::raised_clock;
+use crate::refusal::{CLOCK_EXHAUSTED, MEMORY, code};
+use crate::table::{events, row};
+use cops_held::{Held, Taken};
+use cops_store::Store;
+use cops_types::{Clock, Dep, Deps, Key, Memory, NodeStatus, PutRecord, Value, Version};
+use std::alloc::Global;
+use std::marker::Model;
+
+/// One node of a data centre: a Lamport clock, the settled pairs, and the puts of other data centres that wait. A node's
+/// number is below 1,024; its data centre is that number divided by 64.
+#[derive(Drop)]
+pub struct Node {
+    number: u16,
+    clock: Clock,
+    store: Store,
+    held: Held,
+}
+
+impl Model for Node {
+    ghost use Rattle.std.specs.Prelude.{◌≡◌, ◌<◌};
+    ghost use Rattle.cops_node.specs.Node.{Node as State};
+
+    ghost Value = { State };
+
+    ghost view = { λ n. record { number = n.number; clock = n.clock.clock; settled = n.store.settled; held = n.held } };
+
+    ghost invariant = { λ n. n.number < 1024 };
+}
+
+impl Node {
+    ghost use Rattle.std.specs.Prelude.{◌≡◌, ◌<◌, length, option_copied, IfOk, IfErr, OnOk, OnErr};
+    ghost use Rattle.std.specs.Option.{option_map};
+    ghost use Rattle.cops_store.specs.Store.{Stored, shown, shown_keys};
+    ghost use Rattle.cops_held.specs.Held.{waiting};
+    ghost use Rattle.cops_node.specs.declared.event.NodeEvent.TheVariants.{Put, Get, Deliver, Ask, Mark, Settle};
+    ghost use Rattle.cops_node.specs.Node.{NodeHappens, node_step, opened, settled_at, dep_at};
+
+    /// A node that has met no event. It takes no memory.
+    pub fn open(alloc: Global, node: u16) -> Self
+        requires { node < 1024 }
+        ensures { result ≡ opened node }
+    {
+        Node {
+            number: node,
+            clock: Clock::new(node),
+            store: Store::new(alloc),
+            held: Held::new(alloc),
+        }
+    }
+
+    /// The node's number.
+    pub fn number(&self) -> u16
+        ensures value { result ≡ self.now.number }
+        ensures range { result < 1024 }
+    {
+        self.number
+    }
+
+    /// A client's put, whose context is `deps`: it is settled at once, at a version above those of its dependencies.
+    /// Refused 1 where the clock can rise no further, and 9 for want of memory.
+    pub fn put(&mut self, client: u16, key: Key, value: Value, deps: Deps) -> Outcome
+        ensures { NodeHappens self.old (Put client key value deps) result self.new }
+    {
+        let clock = raised_clock(self.clock.clock(), deps.as_slice());
+        let answer = match Version::new(clock + 1, self.number) {
+            Ok(version) => self.settle_own(key, value, version),
+            Err(_) => Err(CLOCK_EXHAUSTED),
+        };
+        events!(row Put answer)
+    }
+
+    /// Settles a client's put at a version above the clock, which rises to it, or answers the code of a refusal.
+    fn settle_own(&mut self, key: Key, value: Value, version: Version) -> Result<Version, u8>
+        ensures ok { IfOk result (λ v. v ≡ version) }
+        ensures after { OnOk result (self.new ≡ settled_at self.old key value version) }
+        ensures err { OnErr result (self.new ≡ self.old) }
+        ensures memory { IfErr result (λ code. code ≡ 9) }
+    {
+        if self.store.settle(key, value, version).is_err() {
+            return Err(MEMORY);
+        }
+        self.clock.raise(version);
+        Ok(version)
+    }
+
+    /// A client's get: what the key shows. Refused 9 for want of memory.
+    pub fn get(&mut self, client: u16, key: &Key) -> Outcome
+        ensures { NodeHappens self.old (Get client key.now) result self.new }
+    {
+        events!(row Get self.copy_of_shown(key))
+    }
+
+    /// A copy of what the key shows.
+    fn copy_of_shown(&self, key: &Key) -> Result<Option<(Value, Version)>, Memory>
+        ensures { IfOk result (λ copy. option_map (λ r. record { key = key.now; value = r.0; version = r.1 }) copy ≡ shown self.now.settled key.now) }
+    {
+        match self.shown(key) {
+            Some((value, version)) => Ok(Some((value.clone()?, version))),
+            None => Ok(None),
+        }
+    }
+
+    /// A put of another data centre comes. It waits from now on, or nothing changes where it does already or is settled.
+    /// Refused 9 for want of memory.
+    pub fn deliver(&mut self, put: PutRecord) -> Outcome
+        ensures { NodeHappens self.old (Deliver put) result self.new }
+    {
+        if self.store.has(&put.key, put.version) {
+            return Outcome::Repeat;
+        }
+        events!(row Deliver self.held.hold(put))
+    }
+
+    /// Whether exactly this pair is settled here. It takes no memory.
+    pub fn ask(&mut self, key: &Key, version: Version) -> Outcome
+        ensures happens { NodeHappens self.old (Ask key.now version) result self.new }
+        ensures answered { node_step self.old (Ask key.now version) ≡ (result, self.new) }
+    {
+        events!(row Ask self.store.has(key, version))
+    }
+
+    /// A dependency of a waiting put, by its index, is settled in this data centre. Refused 5 where no put waits at the
+    /// version, and 6 where it has no such dependency. It takes no memory.
+    pub fn mark(&mut self, version: Version, dep: u16) -> Outcome
+        ensures happens { NodeHappens self.old (Mark version dep) result self.new }
+        ensures answered { node_step self.old (Mark version dep) ≡ (result, self.new) }
+    {
+        events!(row Mark self.held.mark(version, dep))
+    }
+
+    /// A waiting put is settled, and the clock rises to its. Refused 5 where no put waits at the version, 8 where not all
+    /// its dependencies are marked, and 9 for want of memory.
+    pub fn settle(&mut self, version: Version) -> Outcome
+        ensures { NodeHappens self.old (Settle version) result self.new }
+    {
+        if self.store.reserve().is_err() {
+            return Outcome::Refused(MEMORY);
+        }
+        let put = match self.held.take_ready(version) {
+            Ok(put) => put,
+            Err(fault) => return events!(row Settle Err(fault)),
+        };
+        self.clock.raise(put.version);
+        let _shown = self.store.settle(put.key, put.value, version).unwrap();
+        events!(row Settle Ok(()))
+    }
+
+    /// Takes one event, as its own call does.
+    pub fn step(&mut self, event: NodeEvent) -> Outcome
+        ensures { NodeHappens self.old event result self.new }
+    {
+        macro_rules! dispatch {
+            ($node:ident, $event:ident; $($name:ident $fields:tt => $call:ident $arguments:tt $outcomes:tt)*) => {
+                match $event {
+                    $(NodeEvent::$name $fields => $node.$call $arguments,)*
+                }
+            };
+        }
+        events!(dispatch self, event)
+    }
+
+    /// What the key shows: the greatest version that was settled on it, with its value. None where nothing was.
+    pub fn shown(&self, key: &Key) -> Option<(&Value, Version)>
+        ensures { option_map (λ r. record { key = key.now; value = r.0.now; version = r.1 }) result ≡ shown self.now.settled key.now }
+    {
+        self.store.get(key)
+    }
+
+    /// A dependency of the put that waits at a version, by its index. None where there is no such put or dependency.
+    pub fn dep_of(&self, version: Version, dep: u16) -> Option<&Dep>
+        ensures { option_copied result ≡ dep_at (waiting self.now.held version) dep }
+    {
+        let put = self.held.record(version)?;
+        put.deps.as_slice().get(usize::from(dep))
+    }
+
+    /// The clock, and how many keys show a value, pairs are settled, and puts wait.
+    pub fn status(&self) -> NodeStatus
+        ensures { result ≡ record { clock = self.now.clock; keys = length (shown_keys self.now.settled); settled = length self.now.settled; held = length self.now.held } }
+    {
+        NodeStatus {
+            clock: self.clock.clock(),
+            keys: self.store.keys() as u64,
+            settled: self.store.settled() as u64,
+            held: self.held.len() as u64,
+        }
+    }
+}

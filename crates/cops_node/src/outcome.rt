@@ -1,0 +1,59 @@
+use crate::refusal::MEMORY;
+use cops_types::{Memory, Value, Version};
+
+/// What a node answers to one event.
+#[derive(Debug, Drop, PartialEq, Eq)]
+pub enum Outcome {
+    /// The put was given this version.
+    PutDone(Version),
+    /// The key shows this value, written by the put of this version.
+    Got(Value, Version),
+    /// The key shows nothing.
+    Missed,
+    /// The put waits from now on.
+    Held,
+    /// The put waits already, or is settled.
+    Repeat,
+    /// Exactly this pair is settled.
+    Yes,
+    /// The pair is not settled yet.
+    Wait,
+    /// The dependency is marked.
+    Marked,
+    /// The put is settled and waits no longer.
+    Settled,
+    /// Nothing changed, for the reason with this code.
+    Refused(u8),
+}
+
+impl Outcome {
+    ghost use Rattle.std.specs.Prelude.{◌≡◌, ◌↔◌, IsTrue, IfOk, OnErr};
+    ghost use Rattle.cops_node.specs.declared.outcome.Outcome.TheVariants.{Refused as RefusedWith};
+    ghost use Rattle.cops_node.specs.Outcomes.{IsGot};
+
+    /// A copy. It takes memory for the value of a get alone.
+    pub fn copy(&self) -> Result<Outcome, Memory>
+        ensures ok { IfOk result (λ copy. copy ≡ self.now) }
+        ensures err { OnErr result (IsGot self.now) }
+    {
+        Ok(match self {
+            Outcome::PutDone(version) => Outcome::PutDone(*version),
+            Outcome::Got(value, version) => Outcome::Got(value.clone()?, *version),
+            Outcome::Missed => Outcome::Missed,
+            Outcome::Held => Outcome::Held,
+            Outcome::Repeat => Outcome::Repeat,
+            Outcome::Yes => Outcome::Yes,
+            Outcome::Wait => Outcome::Wait,
+            Outcome::Marked => Outcome::Marked,
+            Outcome::Settled => Outcome::Settled,
+            Outcome::Refused(code) => Outcome::Refused(*code),
+        })
+    }
+
+    /// Whether nothing happened for want of memory.
+    pub fn is_memory(&self) -> bool
+        ensures { IsTrue result ↔ (self.now ≡ RefusedWith 9) }
+    {
+        matches!(self, Outcome::Refused(MEMORY))
+    }
+}

@@ -1,0 +1,48 @@
+-- A trace has room for each record of a longer list within its limits.
+use Rattle.std.proofs.Common.{◌≡◌, ℕ, suc, ◌+◌, ◌<◌, ◌≤◌, ◌↔◌, List, [], ◌∷◌, ◌++◌, length, length-take, take, drop, get_or, Err, IsErrOf, refl, sym, ap, subst, ◌∙◌, arith}
+use Rattle.std.proofs.Math.Seq.{split_at}
+use Rattle.cops_types.specs.declared.fault.TypeFault.{TypeFault}
+use Rattle.cops_types.specs.declared.fault.TypeFault.TheVariants.{Memory, KeyEmpty, KeyTooLong, ValueTooLong, BadVersion, ClockExhausted, UnknownClient, TooManyOps, BadDeps}
+use Rattle.cops_types.specs.TypeFaults.{IsHistoryFault}
+use Rattle.cops_trace.specs.declared.record.Record.{Record}
+use Rattle.cops_trace.specs.Text.{ATrace, turn}
+use Rattle.cops_trace.proofs.Lists.{turn-append, turn-cons}
+use Rattle.cops_record.specs.declared.records.Seat.{Seat}
+use Rattle.cops_record.specs.Records.{State, seat, IsKept}
+
+-- the trace of the first records
+abbrev pub front : State → ℕ → ATrace
+front s i = record { clients = length s.seats; records = take i s.records }
+
+-- Before a record, its client has fewer than in the whole list.
+pub turn_below : (rs : List Record) (i : ℕ) (d : Record) → i < length rs → turn (get_or rs i d).client (take i rs) < turn (get_or rs i d).client rs
+turn_below rs i d inside =
+    let r = get_or rs i d in
+    let whole : turn r.client rs ≡ turn r.client (take i rs) + turn r.client (r ∷ drop (suc i) rs) = ap (turn r.client) (split_at rs i d inside) ∙ turn-append r.client (take i rs) (r ∷ drop (suc i) rs) in
+    let own : 0 < turn r.client (r ∷ drop (suc i) rs) = one r (drop (suc i) rs) in
+    omega (arith, whole, own)
+  where
+    one : (r : Record) (rest : List Record) → 0 < turn r.client (r ∷ rest)
+    one r rest = rw (turn-cons r.client r rest) (grind arith)
+
+-- The one fault of a history that has the client and has room.
+pub only_memory : (e : TypeFault) (A B : Type 0) → IsHistoryFault e → (IsErrOf {T = Unit {0}} (Err e) UnknownClient ↔ A) → (IsErrOf {T = Unit {0}} (Err e) TooManyOps ↔ B) → (A → ⊥) → (B → ⊥) → e ≡ Memory
+only_memory Memory A B only unknown many not_a not_b = refl
+only_memory UnknownClient A B only unknown many not_a not_b = absurd (not_a (unknown.0 refl))
+only_memory TooManyOps A B only unknown many not_a not_b = absurd (not_b (many.0 refl))
+only_memory KeyEmpty A B only unknown many not_a not_b = absurd only
+only_memory KeyTooLong A B only unknown many not_a not_b = absurd only
+only_memory ValueTooLong A B only unknown many not_a not_b = absurd only
+only_memory BadVersion A B only unknown many not_a not_b = absurd only
+only_memory ClockExhausted A B only unknown many not_a not_b = absurd only
+only_memory BadDeps A B only unknown many not_a not_b = absurd only
+
+-- Before a record its client is there, and the trace of those before it has room for it.
+pub room_before : (seats : List Seat) (rs : List Record) (reserved capacity i : ℕ) (r : Record) → IsKept seats rs reserved capacity → i < length rs → r ≡ get_or rs i r
+    → (r.client < length seats) × (turn r.client (take i rs) < 1000000) × (length (take i rs) < 16000000)
+room_before seats rs reserved capacity i r kept inside is =
+    let known : r.client < length seats = subst (λ (q : Record). q.client < length seats) (sym is) (kept.known i r inside) in
+    let fewer : turn r.client (take i rs) < turn r.client rs = subst (λ (q : Record). turn q.client (take i rs) < turn q.client rs) (sym is) (turn_below rs i r inside) in
+    let counted = kept.counted r.client (seat 0 0) known in
+    let session = kept.session r.client (seat 0 0) known in
+    (known, omega (arith, fewer, counted, session), omega (arith, inside, kept.total, length-take i rs))

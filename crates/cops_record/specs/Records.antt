@@ -1,0 +1,57 @@
+-- What a recorder keeps: records in order of arrival, and the slots that are reserved.
+use Rattle.std.specs.Prelude.{◌≡◌, ℕ, ◌+◌, ◌-◌, ◌<◌, ◌≤◌, ◌^◌, List, [], ◌∷◌, ◌++◌, length, All, slice_index_or, slice_set, ◌⊎◌}
+use Rattle.std.specs.List.{sum_by}
+use Rattle.cops_types.specs.declared.op.Op.{Op}
+use Rattle.cops_trace.specs.declared.record.Record.{Record}
+use Rattle.cops_trace.specs.Text.{ATrace, turn}
+use Rattle.cops_record.specs.declared.records.Seat.{Seat}
+
+-- the records in order of arrival, and a seat for each client
+pub record State : Type 0 where
+  pub records : List Record
+  pub seats : List Seat
+
+abbrev pub seat : ℕ → ℕ → Seat
+seat filled reserved = record { filled = filled; reserved = reserved }
+
+-- the seat of a client, empty for one that is not there
+abbrev pub seat_of : State → ℕ → Seat
+seat_of s client = slice_index_or s.seats client (seat 0 0)
+
+-- one more slot is reserved for the client
+abbrev pub with_slot : State → ℕ → State
+with_slot s client = record s { seats = slice_set s.seats client (seat (seat_of s client).filled ((seat_of s client).reserved + 1)) }
+
+-- one slot less is reserved for the client
+abbrev pub without_slot : State → ℕ → State
+without_slot s client = record s { seats = slice_set s.seats client (seat (seat_of s client).filled ((seat_of s client).reserved - 1)) }
+
+-- a slot of the client is filled: its operation takes the next place
+abbrev pub with_op : State → ℕ → Op → State
+with_op s client op =
+    record {
+      records = s.records ++ record { client = client; op = op } ∷ [];
+      seats = slice_set s.seats client (seat ((seat_of s client).filled + 1) ((seat_of s client).reserved - 1));
+    }
+
+-- all reserved slots
+abbrev pub slots : List Seat → ℕ
+slots seats = sum_by (λ (s : Seat). s.reserved) seats
+
+-- records and slots of the client are 1,000,000, or all together 16,000,000
+abbrev pub IsFull : State → ℕ → Type 0
+IsFull s client = ((seat_of s client).filled + (seat_of s client).reserved ≡ 1000000) ⊎ (length s.records + slots s.seats ≡ 16000000)
+
+-- the trace of what was recorded
+abbrev pub recorded : State → ATrace
+recorded s = record { clients = length s.seats; records = s.records }
+
+-- the seats count the records of their clients, and slots and records together are within a trace's limits
+pub record IsKept (seats : List Seat) (records : List Record) (reserved capacity : ℕ) : Type 0 where
+  pub clients : length seats < 2 ^ 16
+  pub known : All (λ (r : Record). r.client < length seats) records
+  pub counted : (c : ℕ) (d : Seat) → c < length seats → (slice_index_or seats c d).filled ≡ turn c records
+  pub session : (c : ℕ) (d : Seat) → c < length seats → (slice_index_or seats c d).filled + (slice_index_or seats c d).reserved ≤ 1000000
+  pub all_slots : reserved ≡ slots seats
+  pub total : length records + reserved ≤ 16000000
+  pub room : length records + reserved ≤ capacity

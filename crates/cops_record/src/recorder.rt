@@ -1,0 +1,77 @@
+//! A recorder that threads share.
+ghost use Rattle.std.specs.Prelude.{◌≡◌, IfOk};
+
+use crate::fault::{IntoTraceFault, RecordFault};
+use crate::records::Records;
+use cops_trace::{Record, Trace};
+use cops_types::{Memory, Op};
+use std::alloc::Global;
+use std::fmt;
+use std::sync::{Mutex, Wait};
+
+/// What clients saw, under one lock: records in order of arrival, each with its client, within a trace's limits.
+#[derive(Drop)]
+pub struct Recorder {
+    records: Mutex<Records>,
+    alloc: Global,
+}
+
+impl fmt::Debug for Recorder {
+    fn fmt<W: fmt::Write>(&self, f: &mut fmt::Formatter<W>) -> fmt::Result {
+        f.write_str("Recorder { .. }")
+    }
+}
+
+/// A place that is kept for an operation of a client, until it is filled or cancelled.
+#[must_use]
+pub struct Slot {
+    client: u16,
+}
+
+impl Recorder {
+    /// A recorder of so many clients, with no records.
+    pub fn new(alloc: Global, clients: u16) -> Result<Recorder, Memory> {
+        let records = Mutex::new(Records::new(alloc, clients)?);
+        Ok(Recorder { records, alloc })
+    }
+
+    /// Reserves a slot, which counts against the limits: `UnknownClient` where there is no such client, then
+    /// `SessionFull` where the client's records and slots are 1,000,000, or those of all are 16,000,000.
+    pub fn reserve<R: Wait>(&self, rt: &R, client: u16) -> Result<Slot, RecordFault>
+        ensures { IfOk result (λ slot. slot.client ≡ client) }
+    {
+        self.records.lock(rt).reserve(client)?;
+        Ok(Slot { client })
+    }
+
+    /// Fills the slot: its operation takes the next place. It never fails. Where nothing is reserved here for the slot's
+    /// client, as for a slot of another recorder, nothing changes.
+    pub fn fill<R: Wait>(&self, rt: &R, slot: Slot, op: Op) {
+        let Slot { client } = slot;
+        self.records.lock(rt).fill(client, op);
+    }
+
+    /// Gives the slot back. It never fails. Where nothing is reserved here for the slot's client, nothing changes.
+    pub fn cancel<R: Wait>(&self, rt: &R, slot: Slot) {
+        let Slot { client } = slot;
+        self.records.lock(rt).cancel(client);
+    }
+
+    /// A copy of the records from a place on.
+    pub fn copy_from<R: Wait>(&self, rt: &R, place: usize) -> Result<Vec<Record>, Memory> {
+        self.records.lock(rt).copy_from(self.alloc, place)
+    }
+
+    /// The trace of the records, once no other thread records. Where memory runs out the recorder comes back.
+    pub fn into_trace(self) -> Result<Trace, IntoTraceFault> {
+        let Recorder { records, alloc } = self;
+        let records = records.into_inner();
+        match records.trace(alloc) {
+            Ok(trace) => Ok(trace),
+            Err(Memory) => Err(IntoTraceFault::Memory(Recorder {
+                records: Mutex::new(records),
+                alloc,
+            })),
+        }
+    }
+}

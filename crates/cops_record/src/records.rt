@@ -1,0 +1,163 @@
+//! The records, and the slots that are reserved.
+ghost use Rattle.std.specs.Prelude.{◌≡◌};
+
+use crate::fault::RecordFault;
+use cops_trace::{Record, Trace};
+use cops_types::{MAX_CLIENT_OPS, MAX_OPS, Memory, Op, TypeFault};
+use std::alloc::Global;
+use std::marker::Model;
+
+/// How many records a client has, and how many slots are reserved for it.
+#[derive(Clone, Copy, Debug, PartialEq, Eq)]
+pub(crate) struct Seat {
+    filled: u32,
+    reserved: u32,
+}
+
+/// The records in order of arrival, with room for all reserved slots, and a seat for each client.
+#[derive(Drop)]
+pub(crate) struct Records {
+    seats: Vec<Seat>,
+    records: Vec<Record>,
+    reserved: usize,
+}
+
+impl Model for Records {
+    ghost use Rattle.std.specs.Prelude.{vec_capacity};
+    ghost use Rattle.cops_record.specs.Records.{State, IsKept};
+
+    ghost Value = { State };
+
+    ghost view = { λ r. record { records = r.records.items; seats = r.seats.items } };
+
+    ghost invariant = { λ r. IsKept r.seats.items r.records.items r.reserved (vec_capacity r.records) };
+}
+
+impl Records {
+    ghost use Rattle.std.specs.Prelude.{◌≡◌, ◌+◌, ◌<◌, ◌≤◌, ◌⊎◌, ◌↔◌, [], ℕ, drop, length, replicate, IfOk, IsErrOf, OnOk, OnErr};
+    ghost use Rattle.cops_record.specs.Records.{State, IsFull, recorded, seat_of, seat, slots, with_slot, without_slot, with_op};
+
+    /// No records, and no slots, of so many clients.
+    pub(crate) fn new(alloc: Global, clients: u16) -> Result<Records, Memory>
+        ensures { IfOk result (λ r. r ≡ record { records = []; seats = replicate clients (seat 0 0) }) }
+    {
+        let empty = Seat {
+            filled: 0,
+            reserved: 0,
+        };
+        Ok(Records {
+            seats: vec![in alloc; empty; usize::from(clients)]?,
+            records: Vec::new(alloc),
+            reserved: 0,
+        })
+    }
+
+    /// Reserves a slot: `UnknownClient` where there is no such client, then `SessionFull` where its records and slots are
+    /// 1,000,000, or those of all are 16,000,000. A fault changes nothing.
+    pub(crate) fn reserve(&mut self, client: u16) -> Result<(), RecordFault>
+        ensures ok { OnOk result (self.new ≡ with_slot self.old client) }
+        ensures known { OnOk result (client < length self.old.seats) }
+        ensures unknown { IsErrOf result RecordFault.UnknownClient ↔ (length self.old.seats ≤ client) }
+        ensures full { IsErrOf result RecordFault.SessionFull ↔ ((client < length self.old.seats) × IsFull self.old client) }
+        ensures err { OnErr result (self.new ≡ self.old) }
+    {
+        let place = usize::from(client);
+        if place >= self.seats.len() {
+            return Err(RecordFault::UnknownClient);
+        }
+        let seat = self.seats[place];
+        if (seat.filled + seat.reserved) as usize >= MAX_CLIENT_OPS {
+            return Err(RecordFault::SessionFull);
+        }
+        if self.records.len() + self.reserved >= MAX_OPS {
+            return Err(RecordFault::SessionFull);
+        }
+        if self.records.reserve(self.reserved + 1).is_err() {
+            return Err(RecordFault::Memory);
+        }
+        self.seats[place] = Seat {
+            filled: seat.filled,
+            reserved: seat.reserved + 1,
+        };
+        self.reserved += 1;
+        Ok(())
+    }
+
+    /// Fills a slot of the client. Where none is reserved for it, nothing changes.
+    pub(crate) fn fill(&mut self, client: u16, op: Op)
+        ensures filled { 0 < (seat_of self.old client).reserved → self.new ≡ with_op self.old client op }
+        ensures idle { (seat_of self.old client).reserved ≡ 0 → self.new ≡ self.old }
+    {
+        let place = usize::from(client);
+        if place >= self.seats.len() {
+            return;
+        }
+        let seat = self.seats[place];
+        if seat.reserved == 0 {
+            return;
+        }
+        self.seats[place] = Seat {
+            filled: seat.filled + 1,
+            reserved: seat.reserved - 1,
+        };
+        self.reserved -= 1;
+        self.records.push_reserved(Record { client, op });
+    }
+
+    /// Gives a slot of the client back. Where none is reserved for it, nothing changes.
+    pub(crate) fn cancel(&mut self, client: u16)
+        ensures given { 0 < (seat_of self.old client).reserved → self.new ≡ without_slot self.old client }
+        ensures idle { (seat_of self.old client).reserved ≡ 0 → self.new ≡ self.old }
+    {
+        let place = usize::from(client);
+        if place >= self.seats.len() {
+            return;
+        }
+        let seat = self.seats[place];
+        if seat.reserved == 0 {
+            return;
+        }
+        self.seats[place] = Seat {
+            filled: seat.filled,
+            reserved: seat.reserved - 1,
+        };
+        self.reserved -= 1;
+    }
+
+    /// A copy of the records from a place on: none from a place that is not there.
+    pub(crate) fn copy_from(&self, alloc: Global, place: usize) -> Result<Vec<Record>, Memory>
+        ensures { IfOk result (λ copies. copies.items ≡ drop place self.now.records) }
+    {
+        let rest = &self.records[place.min(self.records.len())..];
+        let mut copies = Vec::new(alloc);
+        copies.reserve(rest.len())?;
+        for record in rest {
+            copies.push(record.clone()?)?;
+        }
+        Ok(copies)
+    }
+
+    /// The trace of the records.
+    pub(crate) fn trace(&self, alloc: Global) -> Result<Trace, Memory>
+        ensures { IfOk result (λ trace. trace ≡ recorded self.now) }
+    {
+        let mut trace = Trace::new(alloc, self.seats.len() as u16)?;
+        for record in &self.records {
+            match trace.push(record.client, record.op.clone()?) {
+                Ok(()) => {}
+                Err(fault) => return Err(want_of_memory(fault)),
+            }
+        }
+        Ok(trace)
+    }
+}
+
+/// The one fault of a trace that has the client and has room.
+fn want_of_memory(fault: TypeFault) -> Memory
+    requires { fault ≡ TypeFault.Memory }
+{
+    match fault {
+        TypeFault::Memory => Memory,
+        _ => unreachable!(),
+    }
+}

@@ -1,0 +1,21 @@
+-- The line that tells an event's outcome.
+use Rattle.std.specs.Prelude.{ℕ, List, codes, decimal}
+use Rattle.cops_types.specs.Texts.{◌⧺◌, version_text}
+use Rattle.cops_node.specs.declared.outcome.Outcome.{Outcome}
+use Rattle.cops_node.specs.declared.outcome.Outcome.TheVariants.{PutDone, Got, Missed, Held, Repeat, Yes, Wait, Marked, Settled, Refused}
+
+abbrev pub words : Outcome → List ℕ
+words (PutDone version) = codes "done " ⧺ version_text version
+words (Got value version) = codes "got " ⧺ version_text version
+words Missed = codes "missed"
+words Held = codes "held"
+words Repeat = codes "repeat"
+words Yes = codes "yes"
+words Wait = codes "wait"
+words Marked = codes "marked"
+words Settled = codes "settled"
+words (Refused code) = codes "refused " ⧺ decimal code
+
+-- the event's number, and the outcome's words
+abbrev pub outcome_line : ℕ → Outcome → List ℕ
+outcome_line n outcome = decimal n ⧺ codes " " ⧺ words outcome ⧺ codes "\n"

@@ -1,0 +1,75 @@
+//! Why bytes are no scenario.
+ghost use Rattle.std.specs.Prelude.{◌≡◌};
+ghost use Rattle.cops_scenario.specs.declared.fault.ScenarioFault.TheVariants.{Memory as OutOfMemory};
+
+use cops_types::Memory;
+use std::alloc::AllocError;
+use std::fmt;
+use thiserror::Error;
+
+/// What a scenario file has, in the order in which it is looked at. `Root` is the whole of it.
+#[derive(Clone, Copy, Debug, PartialEq, Eq)]
+pub enum Field {
+    Root,
+    DataCentres,
+    Splits,
+    Link,
+    Turns,
+    Clients,
+    Events,
+}
+
+impl Field {
+    ghost use Rattle.std.specs.Prelude.{◌≡◌};
+    ghost use Rattle.cops_scenario.specs.Scenario.{name_of};
+
+    /// The field's name in the file.
+    pub fn name(self) -> &'static str
+        ensures { result.now ≡ name_of self }
+    {
+        match self {
+            Field::Root => "root",
+            Field::DataCentres => "data_centres",
+            Field::Splits => "splits",
+            Field::Link => "link",
+            Field::Turns => "turns",
+            Field::Clients => "clients",
+            Field::Events => "events",
+        }
+    }
+}
+
+impl fmt::Display for Field {
+    fn fmt<W: fmt::Write>(&self, f: &mut fmt::Formatter<W>) -> fmt::Result {
+        f.write_str(self.name())
+    }
+}
+
+/// Why bytes are no scenario.
+#[derive(Clone, Copy, Debug, PartialEq, Eq, Error)]
+pub enum ScenarioFault {
+    #[error("out of memory")]
+    Memory,
+    /// The bytes are no JSON text: by its grammar, for their encoding, or nested deeper than 127.
+    #[error("scenario is not JSON")]
+    NotJson,
+    /// The first field that is missing and has no default, or is not of its form.
+    #[error("scenario field {0}")]
+    BadField(Field),
+}
+
+impl From<Memory> for ScenarioFault {
+    ghost from_gives = { λ _ e. e ≡ OutOfMemory };
+
+    fn from(_e: Memory) -> ScenarioFault {
+        ScenarioFault::Memory
+    }
+}
+
+impl From<AllocError> for ScenarioFault {
+    ghost from_gives = { λ _ e. e ≡ OutOfMemory };
+
+    fn from(_e: AllocError) -> ScenarioFault {
+        ScenarioFault::Memory
+    }
+}

@@ -1,0 +1,128 @@
+//! What stands in a scenario's fields: numbers, keys, values and versions, and lists of known length.
+ghost use Rattle.std.specs.Prelude.{◌≡◌, ◌≤◌, length, Some, IfOk, option_and_then};
+ghost use Rattle.serde_json.specs.Find.{as_number, as_u64};
+ghost use Rattle.serde_json.specs.View.{view};
+
+use crate::fault::{Field, ScenarioFault};
+use cops_types::{Key, Memory, TypeFault, Value, Version};
+use serde_json::Value as Json;
+use std::alloc::{AllocError, AllocFailed, Global};
+
+/// Why something was not read: for want of memory, or since it is not of its form.
+#[derive(Clone, Copy, Debug, PartialEq, Eq)]
+pub(crate) enum Unread {
+    Memory,
+    Form,
+}
+
+impl Unread {
+    ghost use Rattle.std.specs.Prelude.{◌≢◌};
+
+    /// The fault of the field that it stands in.
+    pub(crate) fn of(self, field: Field) -> ScenarioFault
+        ensures { result ≢ ScenarioFault.NotJson }
+    {
+        match self {
+            Unread::Memory => ScenarioFault::Memory,
+            Unread::Form => ScenarioFault::BadField(field),
+        }
+    }
+}
+
+impl From<TypeFault> for Unread {
+    fn from(e: TypeFault) -> Unread {
+        match e {
+            TypeFault::Memory => Unread::Memory,
+            _ => Unread::Form,
+        }
+    }
+}
+
+impl From<Memory> for Unread {
+    fn from(_e: Memory) -> Unread {
+        Unread::Memory
+    }
+}
+
+impl From<AllocError> for Unread {
+    fn from(_e: AllocError) -> Unread {
+        Unread::Memory
+    }
+}
+
+impl<T: Drop> From<AllocFailed<T>> for Unread {
+    fn from(_e: AllocFailed<T>) -> Unread {
+        Unread::Memory
+    }
+}
+
+/// A whole number within a range.
+pub(crate) fn number(json: &Json, least: u64, most: u64) -> Result<u64, Unread>
+    ensures value { IfOk result (λ n. Some n ≡ option_and_then as_u64 (as_number (view json.now))) }
+    ensures range { IfOk result (λ n. (least ≤ n) × (n ≤ most)) }
+{
+    match json.as_u64() {
+        Some(n) if least <= n && n <= most => Ok(n),
+        _ => Err(Unread::Form),
+    }
+}
+
+/// A list of at most so many.
+pub(crate) fn list(json: &Json, most: usize) -> Result<&[Json], Unread>
+    ensures { IfOk result (λ items. length items.now ≤ most) }
+{
+    match json.as_array() {
+        Some(items) if items.len() <= most => Ok(items.as_slice()),
+        _ => Err(Unread::Form),
+    }
+}
+
+/// The name and the value of an object's only member.
+pub(crate) fn only_member(json: &Json) -> Result<(&str, &Json), Unread> {
+    let members = json.as_object().ok_or(Unread::Form)?;
+    if members.len() != 1 {
+        return Err(Unread::Form);
+    }
+    let (name, value) = members.iter().next().ok_or(Unread::Form)?;
+    Ok((name.as_str(), value))
+}
+
+/// A text as a key, 1 to 64 bytes.
+pub(crate) fn key(alloc: Global, json: &Json) -> Result<Key, Unread> {
+    let text = json.as_str().ok_or(Unread::Form)?;
+    Ok(Key::new(alloc, text.as_bytes())?)
+}
+
+/// A text as a value, at most 4,096 bytes.
+pub(crate) fn value(alloc: Global, json: &Json) -> Result<Value, Unread> {
+    let text = json.as_str().ok_or(Unread::Form)?;
+    Ok(Value::new(alloc, text.as_bytes())?)
+}
+
+/// A text as a version: a clock, a dot and a node, each decimal without leading zeros.
+pub(crate) fn version(json: &Json) -> Result<Version, Unread> {
+    let text = json.as_str().ok_or(Unread::Form)?;
+    let (clock, node) = text.split_once('.').ok_or(Unread::Form)?;
+    let node = u16::try_from(decimal(node)?).or(Err(Unread::Form))?;
+    Ok(Version::new(decimal(clock)?, node)?)
+}
+
+/// A number of digits alone, without leading zeros.
+fn decimal(text: &str) -> Result<u64, Unread> {
+    let digits = text.as_bytes();
+    let leads_with_zero = digits.len() > 1 && digits[0] == b'0';
+    if leads_with_zero || !digits.iter().all(|digit| digit.is_ascii_digit()) {
+        return Err(Unread::Form);
+    }
+    text.parse::<u64>().or(Err(Unread::Form))
+}
+
+/// A client's number.
+pub(crate) fn client(json: &Json) -> Result<u16, Unread> {
+    Ok(number(json, 0, 65_535)? as u16)
+}
+
+/// A data centre's number, of one that is there or not.
+pub(crate) fn dc(json: &Json) -> Result<u8, Unread> {
+    Ok(number(json, 0, 255)? as u8)
+}

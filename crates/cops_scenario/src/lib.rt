@@ -1,0 +1,18 @@
+//! Scenario files: what a cluster is made of, and what its clients do, as one JSON object. Either each client has a
+//! script, or there is a list of events in which the world takes its steps. Stands on the world's events and on
+//! `serde_json`. The layers above use that a scenario is within its limits, and the line that tells an outcome.
+#![tactic(auto)]
+
+mod event;
+mod fault;
+mod field;
+mod line;
+mod reading;
+mod scenario;
+
+pub use fault::{Field, ScenarioFault};
+pub use line::outcome_line;
+pub use scenario::{Scenario, ScriptOp, ScriptedClient};
+
+#[cfg(test)]
+mod tests;

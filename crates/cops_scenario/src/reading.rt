@@ -1,0 +1,138 @@
+//! A scenario from its JSON text.
+ghost use Rattle.std.specs.Prelude.{◌≡◌, ◌≢◌, ◌≤◌, ◌<◌, [], length, All, Err, IfOk, unwrap_or};
+ghost use Rattle.std.specs.Bool.{OnFalse};
+ghost use Rattle.serde_json.specs.View.{view};
+ghost use Rattle.cops_scenario.specs.Scenario.{HasNumbersOf, IsClientOf, number_at};
+
+use crate::event::{events, script};
+use crate::fault::{Field, ScenarioFault};
+use crate::field::{Unread, dc, key, list, number};
+use crate::scenario::{
+    MAX_CLIENTS, MAX_EVENTS, MAX_LINK, MAX_SCRIPT, MAX_TURNS, Scenario, ScriptedClient,
+};
+use cops_place::{MAX_DCS, MAX_SPLITS, Place};
+use serde_json::Value as Json;
+use std::alloc::Global;
+
+impl Scenario {
+    ghost use Rattle.std.specs.Prelude.{◌≡◌, Some, None, Ok, Err, IfOk, IfErr, IsUtf8};
+    ghost use Rattle.serde_json.specs.Data.{Data};
+    ghost use Rattle.serde_json.specs.Read.{read};
+    ghost use Rattle.cops_scenario.specs.Scenario.{HasNumbersOf};
+
+    /// The scenario of a JSON text, as docs/FORMATS.md has it: `NotJson` where the bytes are no JSON text, else
+    /// `BadField` with the first field, in the order of `Field`, that is missing and has no default or is not of its
+    /// form.
+    pub fn from_json(alloc: Global, bytes: &[u8]) -> Result<Scenario, ScenarioFault>
+        ensures ok { IfOk result (λ scenario. (d : Data) × IsUtf8 bytes.now × (read bytes.now ≡ Some d) × HasNumbersOf d scenario) }
+        ensures not_json { result ≡ Err ScenarioFault.NotJson → IsUtf8 bytes.now → read bytes.now ≡ None }
+        ensures bad_field { (field : Field) → result ≡ Err (ScenarioFault.BadField field) → (d : Data) × IsUtf8 bytes.now × (read bytes.now ≡ Some d) }
+    {
+        match Json::from_slice(alloc, bytes) {
+            Ok(root) => scenario(alloc, &root),
+            Err(e) if e.is_memory() => Err(ScenarioFault::Memory),
+            Err(_) => Err(ScenarioFault::NotJson),
+        }
+    }
+}
+
+/// The scenario of a JSON value.
+fn scenario(alloc: Global, root: &Json) -> Result<Scenario, ScenarioFault>
+    ensures numbers { IfOk result (HasNumbersOf (view root.now)) }
+    ensures json { result ≢ Err ScenarioFault.NotJson }
+{
+    if !root.is_object() {
+        return Err(ScenarioFault::BadField(Field::Root));
+    }
+    let dcs = number_of(root, Field::DataCentres, 1, u64::from(MAX_DCS), None)? as u8;
+    let place = place(alloc, dcs, root.get(Field::Splits.name())).map_err(|unread| unread.of(
+        Field::Splits,
+    ))?;
+    let link = number_of(root, Field::Link, 1, u64::from(MAX_LINK), Some(16))? as u16;
+    let turns = number_of(root, Field::Turns, 1, u64::from(MAX_TURNS), Some(1_000_000))? as u32;
+    let Some(listed) = root.get(Field::Clients.name()) else {
+        return Err(ScenarioFault::BadField(Field::Clients));
+    };
+    let clients = clients(alloc, dcs, listed).map_err(|unread| unread.of(Field::Clients))?;
+    let events = match root.get(Field::Events.name()) {
+        None => None,
+        Some(_) if is_scripted(listed, &clients) => {
+            return Err(ScenarioFault::BadField(Field::Events));
+        }
+        Some(json) => {
+            let events = events(alloc, json, MAX_EVENTS);
+            Some(events.map_err(|unread| unread.of(Field::Events))?)
+        }
+    };
+    Ok(Scenario::new(place, link, turns, clients, events))
+}
+
+/// The whole number of a field, within a range, or what stands for it where the field is missing.
+fn number_of(
+    root: &Json,
+    field: Field,
+    least: u64,
+    most: u64,
+    missing: Option<u64>,
+) -> Result<u64, ScenarioFault>
+    ensures value { IfOk result (λ n. n ≡ number_at (view root.now) field (unwrap_or missing 0)) }
+    ensures range { IfOk result (λ n. (least ≤ n) × (n ≤ most)) }
+    ensures json { result ≢ Err ScenarioFault.NotJson }
+{
+    match (root.get(field.name()), missing) {
+        (Some(json), _) => number(json, least, most).map_err(|unread| unread.of(field)),
+        (None, Some(n)) if least <= n && n <= most => Ok(n),
+        _ => Err(ScenarioFault::BadField(field)),
+    }
+}
+
+/// So many data centres, and the split keys of a list, none where it is missing.
+fn place(alloc: Global, dcs: u8, splits: Option<&Json>) -> Result<Place, Unread>
+    ensures { IfOk result (λ place. place.dcs ≡ dcs) }
+{
+    let mut keys = Vec::new(alloc);
+    if let Some(json) = splits {
+        for item in list(json, MAX_SPLITS)? {
+            keys.push(key(alloc, item)?)?;
+        }
+    }
+    Place::new(dcs, keys).or(Err(Unread::Form))
+}
+
+/// The clients of a list.
+fn clients(alloc: Global, dcs: u8, json: &Json) -> Result<Vec<ScriptedClient>, Unread>
+    ensures few { IfOk result (λ clients. length clients.items ≤ 64) }
+    ensures each { IfOk result (λ clients. All (IsClientOf dcs) clients.items) }
+{
+    let mut clients = Vec::new(alloc);
+    for item in list(json, MAX_CLIENTS)? {
+        clients.push(client(alloc, dcs, item)?)?;
+    }
+    Ok(clients)
+}
+
+/// A client: an object with its data centre, and its script, empty where that is missing.
+fn client(alloc: Global, dcs: u8, json: &Json) -> Result<ScriptedClient, Unread>
+    ensures { IfOk result (IsClientOf dcs) }
+{
+    let at = dc(json.get("at").ok_or(Unread::Form)?)?;
+    if at >= dcs {
+        return Err(Unread::Form);
+    }
+    let script = match json.get("script") {
+        Some(list) => script(alloc, list, MAX_SCRIPT)?,
+        None => Vec::new(alloc),
+    };
+    Ok(ScriptedClient { at, script })
+}
+
+/// Whether some client has a script, be it an empty one.
+fn is_scripted(listed: &Json, clients: &[ScriptedClient]) -> bool
+    ensures { OnFalse result (All (λ c. c.script.items ≡ []) clients.now) }
+{
+    let is_listed = match listed.as_array() {
+        Some(items) => items.iter().any(|client| client.get("script").is_some()),
+        None => false,
+    };
+    is_listed || clients.iter().any(|client| !client.script.is_empty())
+}

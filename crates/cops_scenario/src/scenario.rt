@@ -1,0 +1,126 @@
+//! What a scenario holds.
+use cops_core::Event;
+use cops_place::Place;
+use cops_types::{Key, Value};
+use std::marker::Model;
+
+/// The most clients of a scenario.
+pub const MAX_CLIENTS: usize = 64;
+
+/// The most operations of a script.
+pub const MAX_SCRIPT: usize = 10_000;
+
+/// The most events of a scenario.
+pub const MAX_EVENTS: usize = 100_000;
+
+/// The greatest capacity of a link, in frames.
+pub const MAX_LINK: u16 = 1_024;
+
+/// The most turns of a loop.
+pub const MAX_TURNS: u32 = 1_000_000_000;
+
+/// What a client does next.
+#[derive(Debug, Drop, PartialEq, Eq)]
+pub enum ScriptOp {
+    Put { key: Key, value: Value },
+    Get { key: Key },
+}
+
+/// A client: its data centre, and at most 10,000 operations.
+#[derive(Debug, Drop)]
+pub struct ScriptedClient {
+    pub at: u8,
+    pub script: Vec<ScriptOp>,
+}
+
+/// What a cluster is made of, and what happens in it: where keys live; how many frames a link holds, 1 to 1,024; how many
+/// turns a loop may make, 1 to 1,000,000,000; at most 64 clients; and, where no client has a script, at most 100,000
+/// events.
+#[derive(Debug, Drop)]
+pub struct Scenario {
+    place: Place,
+    link: u16,
+    turns: u32,
+    clients: Vec<ScriptedClient>,
+    events: Option<Vec<Event>>,
+}
+
+impl Model for Scenario {
+    ghost use Rattle.std.specs.Prelude.{option_map};
+    ghost use Rattle.cops_scenario.specs.Scenario.{AScenario, IsScenario};
+
+    ghost Value = { AScenario };
+
+    ghost view = { λ s. record { place = s.place; link = s.link; turns = s.turns; clients = s.clients.items; events = option_map (λ e. e.items) s.events } };
+
+    ghost invariant = { λ s. IsScenario (record { place = s.place; link = s.link; turns = s.turns; clients = s.clients.items; events = option_map (λ e. e.items) s.events }) };
+}
+
+impl Scenario {
+    ghost use Rattle.std.specs.Prelude.{◌≡◌, ◌≤◌, length, All, option_map};
+    ghost use Rattle.cops_scenario.specs.Scenario.{IsScenario, IsClientOf, AreEventsOf};
+
+    /// The scenario of these parts, which are within their limits.
+    pub(crate) fn new(
+        place: Place,
+        link: u16,
+        turns: u32,
+        clients: Vec<ScriptedClient>,
+        events: Option<Vec<Event>>,
+    ) -> Scenario
+        requires link { (1 ≤ link) × (link ≤ 1024) }
+        requires turns { (1 ≤ turns) × (turns ≤ 1000000000) }
+        requires clients { (length clients.items ≤ 64) × All (IsClientOf place.dcs) clients.items }
+        requires events { AreEventsOf clients.items (option_map (λ e. e.items) events) }
+        ensures { result ≡ record { place = place; link = link; turns = turns; clients = clients.items; events = option_map (λ e. e.items) events } }
+    {
+        let _dcs = place.dcs();
+        Scenario {
+            place,
+            link,
+            turns,
+            clients,
+            events,
+        }
+    }
+
+    /// Where keys live, and in how many data centres.
+    pub fn place(&self) -> &Place
+        ensures place { result.now ≡ self.now.place }
+        ensures scenario { IsScenario self.now }
+    {
+        &self.place
+    }
+
+    /// How many frames a link holds, 1 to 1,024.
+    pub fn link(&self) -> u16
+        ensures value { result ≡ self.now.link }
+        ensures scenario { IsScenario self.now }
+    {
+        self.link
+    }
+
+    /// How many turns a loop may make, 1 to 1,000,000,000.
+    pub fn turns(&self) -> u32
+        ensures value { result ≡ self.now.turns }
+        ensures scenario { IsScenario self.now }
+    {
+        self.turns
+    }
+
+    /// The clients, at most 64.
+    pub fn clients(&self) -> &[ScriptedClient]
+        ensures clients { result.now ≡ self.now.clients }
+        ensures scenario { IsScenario self.now }
+    {
+        &self.clients
+    }
+
+    /// The events, at most 100,000, where the scenario has them: no client then has a script.
+    pub fn events(&self) -> Option<&[Event]>
+        ensures events { option_map (λ e. e.now) result ≡ self.now.events }
+        ensures scenario { IsScenario self.now }
+    {
+        self.events.as_ref().map(|events| events.as_slice())
+    }
+}

@@ -1,0 +1,20 @@
+-- Pairs by their places.
+use Rattle.std.specs.Prelude.{ℕ, List, Bool, true, false, length, nat_lt, slice_get, Option, None, Some}
+use Rattle.cops_store.specs.declared.place.Place.{Place}
+use Rattle.cops_store.specs.declared.settled.Settled.{Settled}
+use Rattle.cops_store.specs.declared.settled.Settled.TheVariants.{Shown, Older}
+
+-- the pair that is there has a greater version
+abbrev pub is_above : ℕ → Option (Place × List ℕ) → Bool
+is_above version None = false
+is_above version (Some p) = nat_lt version p.0.version
+
+-- the pair is older than what stands at a place, or it is shown and stands at another
+abbrev pub pick : Bool → ℕ → ℕ → Settled × ℕ
+pick true at new = (Older, at)
+pick false at new = (Shown, new)
+
+-- what settling a new pair answers, and the place of what its key shows then, from the place of what it shows now
+abbrev pub chosen : List (Place × List ℕ) → ℕ → Option ℕ → Settled × ℕ
+chosen pairs version None = (Shown, length pairs)
+chosen pairs version (Some at) = pick (is_above version (slice_get pairs at)) at (length pairs)
