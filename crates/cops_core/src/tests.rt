@@ -18,112 +18,91 @@ fn value(rt: &HostRuntime, bytes: &[u8]) -> Result<Value, TypeFault> {
     Value::new(rt.alloc(), bytes)
 }
 
-// Each of these tells whether the event is answered as wanted.
+/// An event in plain numbers: keys and values are single bytes, and a version is its clock and its node.
+#[derive(Clone, Copy)]
+enum Row {
+    Put(u16, u8, u8),
+    Get(u16, u8),
+    Deliver(u8, u64, u16),
+    Ask(u8, u8, u64, u16),
+    Mark(u8, u64, u16, u16),
+    Settle(u8, u64, u16),
+}
 
-fn put(
+fn event(rt: &HostRuntime, row: &Row) -> Result<Event, TypeFault> {
+    Ok(match *row {
+        Row::Put(client, k, v) => Event::Put {
+            client,
+            key: key(rt, &[k])?,
+            value: value(rt, &[v])?,
+        },
+        Row::Get(client, k) => Event::Get {
+            client,
+            key: key(rt, &[k])?,
+        },
+        Row::Deliver(dc, clock, node) => Event::Deliver {
+            dc,
+            version: Version::new(clock, node)?,
+        },
+        Row::Ask(dc, k, clock, node) => Event::Ask {
+            dc,
+            key: key(rt, &[k])?,
+            version: Version::new(clock, node)?,
+        },
+        Row::Mark(dc, clock, node, dep) => Event::Mark {
+            dc,
+            version: Version::new(clock, node)?,
+            dep,
+        },
+        Row::Settle(dc, clock, node) => Event::Settle {
+            dc,
+            version: Version::new(clock, node)?,
+        },
+    })
+}
+
+/// An outcome in plain numbers: a put's version, or a got value and its version.
+#[derive(Clone, Copy)]
+enum Wanted {
+    Put(u64, u16),
+    Got(u8, u64, u16),
+    Missed,
+    Held,
+    Repeat,
+    Yes,
+    Wait,
+    Marked,
+    Settled,
+    Refused(u8),
+}
+
+fn outcome(rt: &HostRuntime, wanted: &Wanted) -> Result<Outcome, TypeFault> {
+    Ok(match *wanted {
+        Wanted::Put(clock, node) => Outcome::PutDone(Version::new(clock, node)?),
+        Wanted::Got(v, clock, node) => Outcome::Got(value(rt, &[v])?, Version::new(clock, node)?),
+        Wanted::Missed => Outcome::Missed,
+        Wanted::Held => Outcome::Held,
+        Wanted::Repeat => Outcome::Repeat,
+        Wanted::Yes => Outcome::Yes,
+        Wanted::Wait => Outcome::Wait,
+        Wanted::Marked => Outcome::Marked,
+        Wanted::Settled => Outcome::Settled,
+        Wanted::Refused(code) => Outcome::Refused(code),
+    })
+}
+
+/// The place of the first row that is not answered as wanted, or the number of rows.
+fn answered(
     rt: &HostRuntime,
     world: &mut World,
-    client: u16,
-    k: &[u8],
-    v: &[u8],
-    clock: u64,
-    node: u16,
-) -> Result<bool, TypeFault> {
-    let event = Event::Put {
-        client,
-        key: key(rt, k)?,
-        value: value(rt, v)?,
-    };
-    Ok(world.apply(event) == Outcome::PutDone(Version::new(clock, node)?))
-}
-
-fn get(
-    rt: &HostRuntime,
-    world: &mut World,
-    client: u16,
-    k: &[u8],
-    wanted: Outcome,
-) -> Result<bool, TypeFault> {
-    let event = Event::Get {
-        client,
-        key: key(rt, k)?,
-    };
-    Ok(world.apply(event) == wanted)
-}
-
-fn got(
-    rt: &HostRuntime,
-    world: &mut World,
-    client: u16,
-    k: &[u8],
-    v: &[u8],
-    clock: u64,
-    node: u16,
-) -> Result<bool, TypeFault> {
-    let wanted = Outcome::Got(value(rt, v)?, Version::new(clock, node)?);
-    get(rt, world, client, k, wanted)
-}
-
-fn deliver(
-    world: &mut World,
-    dc: u8,
-    clock: u64,
-    node: u16,
-    wanted: Outcome,
-) -> Result<bool, TypeFault> {
-    let version = Version::new(clock, node)?;
-    Ok(world.apply(Event::Deliver { dc, version }) == wanted)
-}
-
-fn ask(
-    rt: &HostRuntime,
-    world: &mut World,
-    dc: u8,
-    k: &[u8],
-    clock: u64,
-    node: u16,
-    wanted: Outcome,
-) -> Result<bool, TypeFault> {
-    let event = Event::Ask {
-        dc,
-        key: key(rt, k)?,
-        version: Version::new(clock, node)?,
-    };
-    Ok(world.apply(event) == wanted)
-}
-
-fn mark(
-    world: &mut World,
-    dc: u8,
-    clock: u64,
-    node: u16,
-    dep: u16,
-    wanted: Outcome,
-) -> Result<bool, TypeFault> {
-    let version = Version::new(clock, node)?;
-    Ok(world.apply(Event::Mark { dc, version, dep }) == wanted)
-}
-
-fn settle(
-    world: &mut World,
-    dc: u8,
-    clock: u64,
-    node: u16,
-    wanted: Outcome,
-) -> Result<bool, TypeFault> {
-    let version = Version::new(clock, node)?;
-    Ok(world.apply(Event::Settle { dc, version }) == wanted)
-}
-
-/// The two puts on k of the second client come to a data centre, the second after the first.
-fn both_on_k(rt: &HostRuntime, world: &mut World, dc: u8) -> Result<bool, TypeFault> {
-    let first = deliver(world, dc, 1, 64, Outcome::Held)?
-        && settle(world, dc, 1, 64, Outcome::Settled)?;
-    let second = deliver(world, dc, 2, 64, Outcome::Held)?
-        && ask(rt, world, dc, b"k", 1, 64, Outcome::Yes)?
-        && mark(world, dc, 2, 64, 0, Outcome::Marked)?
-        && settle(world, dc, 2, 64, Outcome::Settled)?;
-    Ok(first && second)
+    rows: &[(Row, Wanted)],
+) -> Result<usize, TypeFault> {
+    for (i, (row, wanted)) in rows.iter().enumerate() {
+        if world.apply(event(rt, row)?) != outcome(rt, wanted)? {
+            return Ok(i);
+        }
+    }
+    Ok(rows.len())
 }
 
 /// Two clients put at two data centres; at a third the newer of two puts on k is settled first, and the older one counts
@@ -131,90 +110,30 @@ fn both_on_k(rt: &HostRuntime, world: &mut World, dc: u8) -> Result<bool, TypeFa
 #[test]
 fn an_older_put_is_settled_too(rt: HostRuntime) -> Result<(), Fail> {
     let mut world = open(&rt, 3, &[0, 1, 2])?;
-    assert!(rt; put(&rt, &mut world, 0, b"m", b"1", 1, 0)?);
-    assert!(rt; put(&rt, &mut world, 0, b"k", b"2", 2, 0)?);
-    assert!(rt; put(&rt, &mut world, 0, b"y", b"3", 3, 0)?);
-    assert!(rt; put(&rt, &mut world, 1, b"k", b"4", 1, 64)?);
-    assert!(rt; put(&rt, &mut world, 1, b"k", b"5", 2, 64)?);
-    assert!(rt; both_on_k(&rt, &mut world, 2)?);
-    assert!(rt; deliver(&mut world, 2, 3, 0, Outcome::Held)?);
-    assert!(rt; ask(&rt, &mut world, 2, b"k", 2, 0, Outcome::Wait)?);
-    assert!(rt; get(&rt, &mut world, 2, b"y", Outcome::Missed)?);
-    assert!(rt; deliver(&mut world, 2, 1, 0, Outcome::Held)?);
-    assert!(rt; settle(&mut world, 2, 1, 0, Outcome::Settled)?);
-    assert!(rt; deliver(&mut world, 2, 2, 0, Outcome::Held)?);
-    assert!(rt; ask(&rt, &mut world, 2, b"m", 1, 0, Outcome::Yes)?);
-    assert!(rt; mark(&mut world, 2, 2, 0, 0, Outcome::Marked)?);
-    assert!(rt; settle(&mut world, 2, 2, 0, Outcome::Settled)?);
-    assert!(rt; ask(&rt, &mut world, 2, b"k", 2, 0, Outcome::Yes)?);
-    assert!(rt; mark(&mut world, 2, 3, 0, 0, Outcome::Marked)?);
-    assert!(rt; settle(&mut world, 2, 3, 0, Outcome::Settled)?);
-    assert!(rt; got(&rt, &mut world, 2, b"y", b"3", 3, 0)?);
-    assert!(rt; got(&rt, &mut world, 2, b"k", b"5", 2, 64)?);
-    assert!(rt; got(&rt, &mut world, 2, b"m", b"1", 1, 0)?);
-    assert_eq!(rt; world.history().len(), 9);
-    Ok(())
-}
-
-/// A put that met two versions of k needs both of them.
-#[test]
-fn both_versions_are_needed(rt: HostRuntime) -> Result<(), Fail> {
-    let mut world = open(&rt, 3, &[0, 1, 2, 0])?;
-    assert!(rt; put(&rt, &mut world, 0, b"m", b"1", 1, 0)?);
-    assert!(rt; put(&rt, &mut world, 0, b"k", b"2", 2, 0)?);
-    assert!(rt; put(&rt, &mut world, 1, b"k", b"4", 1, 64)?);
-    assert!(rt; put(&rt, &mut world, 1, b"k", b"5", 2, 64)?);
-    assert!(rt; got(&rt, &mut world, 3, b"k", b"2", 2, 0)?);
-    assert!(rt; both_on_k(&rt, &mut world, 0)?);
-    assert!(rt; got(&rt, &mut world, 3, b"k", b"5", 2, 64)?);
-    assert!(rt; put(&rt, &mut world, 3, b"p", b"6", 3, 0)?);
-    assert!(rt; both_on_k(&rt, &mut world, 2)?);
-    assert!(rt; deliver(&mut world, 2, 3, 0, Outcome::Held)?);
-    assert!(rt; ask(&rt, &mut world, 2, b"k", 2, 0, Outcome::Wait)?);
-    assert!(rt; ask(&rt, &mut world, 2, b"k", 2, 64, Outcome::Yes)?);
-    assert!(rt; mark(&mut world, 2, 3, 0, 1, Outcome::Marked)?);
-    assert!(rt; mark(&mut world, 2, 3, 0, 0, Outcome::Refused(7))?);
-    assert!(rt; settle(&mut world, 2, 3, 0, Outcome::Refused(8))?);
-    Ok(())
-}
-
-#[test]
-fn a_put_that_comes_again_changes_nothing(rt: HostRuntime) -> Result<(), Fail> {
-    let mut world = open(&rt, 3, &[0, 1, 2])?;
-    assert!(rt; put(&rt, &mut world, 0, b"m", b"1", 1, 0)?);
-    assert!(rt; put(&rt, &mut world, 0, b"k", b"2", 2, 0)?);
-    assert!(rt; deliver(&mut world, 2, 1, 0, Outcome::Held)?);
-    assert!(rt; settle(&mut world, 2, 1, 0, Outcome::Settled)?);
-    assert!(rt; deliver(&mut world, 2, 2, 0, Outcome::Held)?);
-    assert!(rt; ask(&rt, &mut world, 2, b"m", 1, 0, Outcome::Yes)?);
-    assert!(rt; mark(&mut world, 2, 2, 0, 0, Outcome::Marked)?);
-    assert!(rt; deliver(&mut world, 2, 2, 0, Outcome::Repeat)?);
-    assert!(rt; deliver(&mut world, 2, 2, 0, Outcome::Repeat)?);
-    assert!(rt; settle(&mut world, 2, 2, 0, Outcome::Settled)?);
-    assert!(rt; deliver(&mut world, 2, 2, 0, Outcome::Repeat)?);
-    assert!(rt; got(&rt, &mut world, 2, b"k", b"2", 2, 0)?);
-    Ok(())
-}
-
-/// A node whose clock is at its greatest takes no put of a client, and still answers.
-#[test]
-fn a_clock_at_its_end(rt: HostRuntime) -> Result<(), Fail> {
-    let version = Version::new(281_474_976_710_655, 64)?;
-    let mut node = Node::open(rt.alloc(), 0);
-    let put = PutRecord {
-        key: key(&rt, b"k")?,
-        value: value(&rt, b"1")?,
-        version,
-        deps: Deps::new(Vec::new(rt.alloc()))?,
-    };
-    assert!(rt; node.deliver(put) == Outcome::Held);
-    assert!(rt; node.settle(version) == Outcome::Settled);
-    let before = node.status();
-    let deps = Deps::new(Vec::new(rt.alloc()))?;
-    assert!(rt; node.put(0, key(&rt, b"k")?, value(&rt, b"2")?, deps) == Outcome::Refused(1));
-    let answer = node.get(0, &key(&rt, b"k")?);
-    assert!(rt; answer == Outcome::Got(value(&rt, b"1")?, version));
-    assert!(rt; node.status() == before);
+    let rows = [
+        (Row::Put(0, b'm', b'1'), Wanted::Put(1, 0)),
+        (Row::Put(0, b'k', b'2'), Wanted::Put(2, 0)),
+        (Row::Put(1, b'k', b'4'), Wanted::Put(1, 64)),
+        (Row::Put(1, b'k', b'5'), Wanted::Put(2, 64)),
+        (Row::Deliver(2, 1, 64), Wanted::Held),
+        (Row::Settle(2, 1, 64), Wanted::Settled),
+        (Row::Deliver(2, 2, 64), Wanted::Held),
+        (Row::Ask(2, b'k', 1, 64), Wanted::Yes),
+        (Row::Mark(2, 2, 64, 0), Wanted::Marked),
+        (Row::Settle(2, 2, 64), Wanted::Settled),
+        (Row::Deliver(2, 1, 0), Wanted::Held),
+        (Row::Settle(2, 1, 0), Wanted::Settled),
+        (Row::Ask(2, b'k', 2, 0), Wanted::Wait),
+        (Row::Deliver(2, 2, 0), Wanted::Held),
+        (Row::Ask(2, b'm', 1, 0), Wanted::Yes),
+        (Row::Mark(2, 2, 0, 0), Wanted::Marked),
+        (Row::Settle(2, 2, 0), Wanted::Settled),
+        (Row::Deliver(2, 2, 0), Wanted::Repeat),
+        (Row::Ask(2, b'k', 2, 0), Wanted::Yes),
+        (Row::Get(2, b'k'), Wanted::Got(b'5', 2, 64)),
+    ];
+    assert_eq!(rt; answered(&rt, &mut world, &rows)?, 20);
+    assert_eq!(rt; world.history().len(), 5);
     Ok(())
 }
 
@@ -223,14 +142,21 @@ fn a_clock_at_its_end(rt: HostRuntime) -> Result<(), Fail> {
 fn a_full_context(rt: HostRuntime) -> Result<(), Fail> {
     let mut world = open(&rt, 1, &[0, 0])?;
     for i in 0..256_u64 {
-        let name = (i as u16).to_be_bytes();
-        assert!(rt; put(&rt, &mut world, 0, &name, b"1", i + 1, 0)?);
-        assert!(rt; got(&rt, &mut world, 1, &name, b"1", i + 1, 0)?);
+        let name = i as u8;
+        let rows = [
+            (Row::Put(0, name, b'1'), Wanted::Put(i + 1, 0)),
+            (Row::Get(1, name), Wanted::Got(b'1', i + 1, 0)),
+        ];
+        assert_eq!(rt; answered(&rt, &mut world, &rows)?, 2);
     }
-    assert!(rt; get(&rt, &mut world, 1, b"other", Outcome::Refused(2))?);
-    assert!(rt; get(&rt, &mut world, 1, &[0, 0], Outcome::Refused(2))?);
-    assert!(rt; put(&rt, &mut world, 1, b"p", b"2", 257, 0)?);
-    assert!(rt; got(&rt, &mut world, 1, &[0, 0], b"1", 1, 0)?);
+    let rows = [
+        (Row::Put(0, b'1', b'2'), Wanted::Put(257, 0)),
+        (Row::Get(1, b'1'), Wanted::Refused(2)),
+        (Row::Get(1, b'2'), Wanted::Refused(2)),
+        (Row::Put(1, b'p', b'2'), Wanted::Put(258, 0)),
+        (Row::Get(1, b'2'), Wanted::Got(b'1', 51, 0)),
+    ];
+    assert_eq!(rt; answered(&rt, &mut world, &rows)?, 5);
     assert_eq!(rt; world.history().session(1).len(), 258);
     Ok(())
 }
@@ -238,44 +164,39 @@ fn a_full_context(rt: HostRuntime) -> Result<(), Fail> {
 #[test]
 fn who_and_what_is_not_there(rt: HostRuntime) -> Result<(), Fail> {
     let mut world = open(&rt, 2, &[0, 1])?;
-    assert!(rt; get(&rt, &mut world, 2, b"k", Outcome::Refused(3))?);
-    assert!(rt; deliver(&mut world, 2, 1, 0, Outcome::Refused(10))?);
-    assert!(rt; deliver(&mut world, 1, 1, 0, Outcome::Refused(4))?);
-    assert!(rt; ask(&rt, &mut world, 2, b"k", 1, 0, Outcome::Refused(10))?);
-    assert!(rt; mark(&mut world, 2, 1, 0, 0, Outcome::Refused(10))?);
-    assert!(rt; mark(&mut world, 1, 1, 0, 0, Outcome::Refused(5))?);
-    assert!(rt; mark(&mut world, 1, 1, 7, 0, Outcome::Refused(5))?);
-    assert!(rt; settle(&mut world, 2, 1, 0, Outcome::Refused(10))?);
-    assert!(rt; settle(&mut world, 1, 1, 0, Outcome::Refused(5))?);
-    assert!(rt; settle(&mut world, 1, 1, 7, Outcome::Refused(5))?);
+    let rows = [
+        (Row::Put(2, b'k', b'1'), Wanted::Refused(3)),
+        (Row::Get(2, b'k'), Wanted::Refused(3)),
+        (Row::Deliver(2, 1, 0), Wanted::Refused(10)),
+        (Row::Deliver(1, 1, 0), Wanted::Refused(4)),
+        (Row::Ask(2, b'k', 1, 0), Wanted::Refused(10)),
+        (Row::Mark(2, 1, 0, 0), Wanted::Refused(10)),
+        (Row::Mark(1, 1, 0, 0), Wanted::Refused(5)),
+        (Row::Mark(1, 1, 7, 0), Wanted::Refused(5)),
+        (Row::Settle(2, 1, 0), Wanted::Refused(10)),
+        (Row::Settle(1, 1, 0), Wanted::Refused(5)),
+        (Row::Settle(1, 1, 7), Wanted::Refused(5)),
+    ];
+    assert_eq!(rt; answered(&rt, &mut world, &rows)?, 11);
     assert_eq!(rt; world.history().len(), 0);
-    Ok(())
-}
-
-#[test]
-fn a_client_that_is_not_there_puts(rt: HostRuntime) -> Result<(), Fail> {
-    let mut world = open(&rt, 2, &[0, 1])?;
-    let unknown = Event::Put {
-        client: 2,
-        key: key(&rt, b"k")?,
-        value: value(&rt, b"1")?,
-    };
-    assert!(rt; world.apply(unknown) == Outcome::Refused(3));
     Ok(())
 }
 
 #[test]
 fn marks_want_an_answer(rt: HostRuntime) -> Result<(), Fail> {
     let mut world = open(&rt, 2, &[0, 1])?;
-    assert!(rt; put(&rt, &mut world, 0, b"k", b"1", 1, 0)?);
-    assert!(rt; put(&rt, &mut world, 0, b"k", b"2", 2, 0)?);
-    assert!(rt; deliver(&mut world, 1, 2, 0, Outcome::Held)?);
-    assert!(rt; mark(&mut world, 1, 2, 0, 1, Outcome::Refused(6))?);
-    assert!(rt; mark(&mut world, 1, 2, 0, 0, Outcome::Refused(7))?);
-    assert!(rt; ask(&rt, &mut world, 1, b"k", 1, 0, Outcome::Wait)?);
-    assert!(rt; mark(&mut world, 1, 2, 0, 0, Outcome::Refused(7))?);
-    assert!(rt; settle(&mut world, 1, 2, 0, Outcome::Refused(8))?);
-    assert!(rt; get(&rt, &mut world, 1, b"k", Outcome::Missed)?);
+    let rows = [
+        (Row::Put(0, b'k', b'1'), Wanted::Put(1, 0)),
+        (Row::Put(0, b'k', b'2'), Wanted::Put(2, 0)),
+        (Row::Deliver(1, 2, 0), Wanted::Held),
+        (Row::Mark(1, 2, 0, 1), Wanted::Refused(6)),
+        (Row::Mark(1, 2, 0, 0), Wanted::Refused(7)),
+        (Row::Ask(1, b'k', 1, 0), Wanted::Wait),
+        (Row::Mark(1, 2, 0, 0), Wanted::Refused(7)),
+        (Row::Settle(1, 2, 0), Wanted::Refused(8)),
+        (Row::Get(1, b'k'), Wanted::Missed),
+    ];
+    assert_eq!(rt; answered(&rt, &mut world, &rows)?, 9);
     assert_eq!(rt; world.history().len(), 3);
     Ok(())
 }
@@ -334,52 +255,23 @@ fn a_run_over_two_nodes(rt: HostRuntime) -> Result<(), Fail> {
 }
 
 /// A put and one that depends on it, which then come to another data centre, where a client gets the second.
-fn event(rt: &HostRuntime, i: u32) -> Result<Event, TypeFault> {
-    let first = Version::new(1, 0)?;
-    let second = Version::new(2, 0)?;
-    Ok(match i {
-        0 | 1 => Event::Put {
-            client: 0,
-            key: key(rt, b"k")?,
-            value: value(rt, b"1")?,
-        },
-        2 => Event::Deliver {
-            dc: 1,
-            version: first,
-        },
-        3 => Event::Settle {
-            dc: 1,
-            version: first,
-        },
-        4 => Event::Deliver {
-            dc: 1,
-            version: second,
-        },
-        5 => Event::Ask {
-            dc: 1,
-            key: key(rt, b"k")?,
-            version: first,
-        },
-        6 => Event::Mark {
-            dc: 1,
-            version: second,
-            dep: 0,
-        },
-        7 => Event::Settle {
-            dc: 1,
-            version: second,
-        },
-        _ => Event::Get {
-            client: 1,
-            key: key(rt, b"k")?,
-        },
-    })
+fn nth_row(i: u32) -> Row {
+    match i {
+        0 | 1 => Row::Put(0, b'k', b'1'),
+        2 => Row::Deliver(1, 1, 0),
+        3 => Row::Settle(1, 1, 0),
+        4 => Row::Deliver(1, 2, 0),
+        5 => Row::Ask(1, b'k', 1, 0),
+        6 => Row::Mark(1, 2, 0, 0),
+        7 => Row::Settle(1, 2, 0),
+        _ => Row::Get(1, b'k'),
+    }
 }
 
 /// The event, also where one growth was refused.
 fn surely(rt: &HostRuntime, i: u32) -> Result<Event, TypeFault> {
-    match event(rt, i) {
-        Err(TypeFault::Memory) => event(rt, i),
+    match event(rt, &nth_row(i)) {
+        Err(TypeFault::Memory) => event(rt, &nth_row(i)),
         answer => answer,
     }
 }
