@@ -1,7 +1,7 @@
 use super::*;
-use cops_node::{MEMORY, Node, Outcome};
+use cops_node::{MEMORY, Outcome};
 use cops_place::Place;
-use cops_types::{Deps, Key, Op, OpName, PutRecord, TypeFault, Value, Version};
+use cops_types::{Key, TypeFault, Value, Version};
 use std::test::Fail;
 
 /// A world of so many data centres with one node each, and clients at these data centres.
@@ -215,42 +215,32 @@ fn clients_at_data_centres(rt: HostRuntime) -> Result<(), Fail> {
     Ok(())
 }
 
+/// A world of one data centre with two nodes, the second for keys from m on.
+fn open_split(rt: &HostRuntime) -> Result<World, Fail> {
+    let mut splits = Vec::new(rt.alloc());
+    splits.push(key(rt, b"m")?)?;
+    let place = Place::new(1, splits)?;
+    Ok(World::open(rt.alloc(), place, Vec::from_slice(rt.alloc(), &[0])?)?)
+}
+
 /// Keys live at the node of their range, and a run answers its events in their order.
 #[test]
 fn a_run_over_two_nodes(rt: HostRuntime) -> Result<(), Fail> {
-    let mut splits = Vec::new(rt.alloc());
-    splits.push(key(&rt, b"m")?)?;
-    let place = Place::new(1, splits)?;
-    let mut world = World::open(rt.alloc(), place, Vec::from_slice(rt.alloc(), &[0])?)?;
-    let mut events = Vec::new(rt.alloc());
-    for name in [b"a", b"z", b"a"] {
-        events.push(Event::Put {
-            client: 0,
-            key: key(&rt, name)?,
-            value: value(&rt, b"1")?,
-        })?;
-    }
-    events.push(Event::Get {
-        client: 0,
-        key: key(&rt, b"z")?,
-    })?;
+    let mut world = open_split(&rt)?;
+    let rows = [
+        (Row::Put(0, b'a', b'1'), Wanted::Put(1, 0)),
+        (Row::Put(0, b'z', b'2'), Wanted::Put(2, 1)),
+    ];
+    assert_eq!(rt; answered(&rt, &mut world, &rows)?, 2);
+    let events = [
+        event(&rt, &Row::Put(0, b'a', b'3'))?,
+        event(&rt, &Row::Get(0, b'z'))?,
+    ];
     let outcomes = world.run(&events)?;
-    let mut wanted = Vec::new(rt.alloc());
-    wanted.push(Outcome::PutDone(Version::new(1, 0)?))?;
-    wanted.push(Outcome::PutDone(Version::new(2, 1)?))?;
-    wanted.push(Outcome::PutDone(Version::new(3, 0)?))?;
-    wanted.push(Outcome::Got(value(&rt, b"1")?, Version::new(2, 1)?))?;
-    assert!(rt; outcomes == wanted);
-    let first = Op::Put {
-        key: key(&rt, b"a")?,
-        value: value(&rt, b"1")?,
-        version: Version::new(1, 0)?,
-    };
-    let name = OpName {
-        client: 0,
-        index: 0,
-    };
-    assert!(rt; world.history().op(name) == Some(&first));
+    assert_eq!(rt; outcomes.len(), 2);
+    assert!(rt; outcomes[0] == outcome(&rt, &Wanted::Put(3, 0))?);
+    assert!(rt; outcomes[1] == outcome(&rt, &Wanted::Got(b'2', 2, 1))?);
+    assert_eq!(rt; world.history().session(0).len(), 4);
     Ok(())
 }
 
