@@ -8,12 +8,20 @@ use std::alloc::Global;
 use std::fs;
 use std::rt::Files;
 
-fn number(word: Option<&str>) -> Result<u64, Error> {
-    Ok(word.context("a number is missing")?.parse::<u64>()?)
+fn number(word: Option<&str>) -> Result<u16, Error> {
+    Ok(word.context("a number is missing")?.parse::<u16>()?)
+}
+
+fn data_centre(word: Option<&str>) -> Result<u8, Error> {
+    Ok(word.context("a data centre is missing")?.parse::<u8>()?)
 }
 
 fn key(alloc: Global, word: Option<&str>) -> Result<Key, Error> {
     Ok(Key::new(alloc, word.context("a key is missing")?.as_bytes())?)
+}
+
+fn value(alloc: Global, word: Option<&str>) -> Result<Value, Error> {
+    Ok(Value::new(alloc, word.context("a value is missing")?.as_bytes())?)
 }
 
 fn version(word: Option<&str>) -> Result<Version, Error> {
@@ -23,62 +31,78 @@ fn version(word: Option<&str>) -> Result<Version, Error> {
     Ok(Version::new(clock.parse::<u64>()?, node.parse::<u16>()?)?)
 }
 
-fn event(alloc: Global, line: &str) -> Result<Event, Error> {
-    let mut words = line.split(' ');
-    let name = words.next().unwrap_or("");
-    let first = number(words.next())?;
-    let (client, dc) = (first as u16, first as u8);
-    Ok(match name {
-        "put" => Event::Put {
+fn client_event(alloc: Global, words: &[&str]) -> Result<Event, Error> {
+    let client = number(words.get(1).copied())?;
+    let key = key(alloc, words.get(2).copied())?;
+    match words.get(3).copied() {
+        None => Ok(Event::Get { client, key }),
+        word => Ok(Event::Put {
             client,
-            key: key(alloc, words.next())?,
-            value: Value::new(
-                alloc,
-                words.next().context("a value is missing")?.as_bytes(),
-            )?,
-        },
-        "get" => Event::Get {
-            client,
-            key: key(alloc, words.next())?,
-        },
-        "deliver" => Event::Deliver {
+            key,
+            value: value(alloc, word)?,
+        }),
+    }
+}
+
+fn data_centre_event(alloc: Global, words: &[&str]) -> Result<Event, Error> {
+    let dc = data_centre(words.get(1).copied())?;
+    let (second, third) = (words.get(2).copied(), words.get(3).copied());
+    Ok(match words.first().copied() {
+        Some("deliver") => Event::Deliver {
             dc,
-            version: version(words.next())?,
+            version: version(second)?,
         },
-        "ask" => Event::Ask {
+        Some("ask") => Event::Ask {
             dc,
-            key: key(alloc, words.next())?,
-            version: version(words.next())?,
+            key: key(alloc, second)?,
+            version: version(third)?,
         },
-        "mark" => Event::Mark {
+        Some("mark") => Event::Mark {
             dc,
-            version: version(words.next())?,
-            dep: number(words.next())? as u16,
+            version: version(second)?,
+            dep: number(third)?,
         },
         _ => Event::Settle {
             dc,
-            version: version(words.next())?,
+            version: version(second)?,
         },
     })
 }
 
-/// Reads the events of a file and, where the mode is `run`, lets them happen in a world of three data centres and six clients.
-pub fn happen<R: Files + Print + AllocGlobal>(rt: &R, path: &str, mode: &str) -> Result<(), Error> {
-    let alloc = rt.alloc();
-    let text = fs::read_to_string(rt, path)?;
+/// The event of a line: `put CLIENT KEY VALUE`, `get CLIENT KEY`, `deliver DC VERSION`, `ask DC KEY VERSION`,
+/// `mark DC VERSION INDEX`, `settle DC VERSION`.
+fn event(alloc: Global, line: &str) -> Result<Event, Error> {
+    let words: Vec<&str> = line.split(' ').collect(alloc)?;
+    match words.first().copied() {
+        Some("put") | Some("get") => client_event(alloc, &words),
+        _ => data_centre_event(alloc, &words),
+    }
+}
+
+/// The events of a text, one a line.
+fn events_of(alloc: Global, text: &str) -> Result<Vec<Event>, Error> {
     let mut events = Vec::new(alloc);
     for line in text.lines() {
         events.push(event(alloc, line)?)?;
     }
+    Ok(events)
+}
+
+/// Lets the events happen in a world of three data centres and six clients, and counts the operations that it records.
+fn run(alloc: Global, events: &[Event]) -> Result<usize, Error> {
+    let homes = Vec::from_slice(alloc, &[0, 1, 2, 0, 1, 2])?;
+    let mut world = World::open(alloc, Place::new(3, Vec::new(alloc))?, homes)?;
+    let _outcomes = world.run(events)?;
+    Ok(world.history().len())
+}
+
+/// Reads the events of a file and, where the mode is `run`, lets them happen.
+pub fn happen<R: Files + Print + AllocGlobal>(rt: &R, path: &str, mode: &str) -> Result<(), Error> {
+    let text = fs::read_to_string(rt, path)?;
+    let events = events_of(rt.alloc(), &text)?;
     if mode == "run" {
-        let homes = Vec::from_slice(alloc, &[0, 1, 2, 0, 1, 2])?;
-        let mut world = World::open(alloc, Place::new(3, Vec::new(alloc))?, homes)?;
-        let outcomes = world.run(&events)?;
-        println!(rt;
-            "{} operations of {} events",
-            world.history().len(),
-            outcomes.len()
-        )?;
+        let operations = run(rt.alloc(), &events)?;
+        println!(rt; "{} operations of {} events", operations, events.len())?;
     }
     Ok(())
 }

@@ -36,6 +36,13 @@ impl ClientContexts {
         Ok(ClientContexts { contexts })
     }
 
+    /// How many clients there are.
+    pub fn len(&self) -> usize
+        ensures { result ≡ length self.now.pairs }
+    {
+        self.contexts.len()
+    }
+
     /// Copies of a client's pairs.
     pub fn deps(&self, client: u16) -> Result<Deps, Memory>
         requires { client < length self.now.pairs }

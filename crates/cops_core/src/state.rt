@@ -10,7 +10,7 @@ use crate::recording::{admit, copied, drafted, record};
 use crate::refusal::{CONTEXT_FULL, NEVER_SENT, NO_YES, UNKNOWN_DC};
 use crate::setting::Setting;
 use cops_node::{MEMORY, NOT_HELD, Outcome};
-use cops_types::{Dep, History, Key, Memory, Op, PutRecord, Value, Version};
+use cops_types::{Dep, Deps, History, Key, Memory, Op, PutRecord, Value, Version};
 use std::alloc::Global;
 use std::marker::Model;
 
@@ -40,8 +40,8 @@ impl Model for State {
 }
 
 impl State {
-    ghost use Rattle.std.specs.Prelude.{◌≡◌, IfOk, OnErr};
-    ghost use Rattle.cops_core.specs.World.{Happens, opening, PutBy, GetBy, DeliverTo, AskAt, MarkAt, SettleAt};
+    ghost use Rattle.std.specs.Prelude.{◌≡◌, IfOk, OnErr, option_copied};
+    ghost use Rattle.cops_core.specs.World.{Happens, context_in, opening, sent, PutBy, GetBy, DeliverTo, AskAt, MarkAt, SettleAt};
     ghost use Rattle.cops_core.specs.Invariants.{IsReached};
 
     /// The state in which nothing has happened yet.
@@ -79,6 +79,24 @@ impl State {
         ensures { result.now.sessions ≡ self.now.sessions }
     {
         &self.history
+    }
+
+    /// Copies of a client's context: none for a client that is not there.
+    pub fn deps(&self, client: u16) -> Result<Deps, Memory>
+        ensures { IfOk result (λ deps. deps ≡ context_in self.now client) }
+    {
+        if (client as usize) < self.contexts.len() {
+            self.contexts.deps(client)
+        } else {
+            Ok(Deps::new(Vec::new(self.alloc)).unwrap())
+        }
+    }
+
+    /// The issued put that bears the version.
+    pub fn sent(&self, version: Version) -> Option<&PutRecord>
+        ensures { option_copied result ≡ sent self.now.issued version }
+    {
+        self.issued.find(version)
     }
 
     /// A client puts a value at a key, in its own data centre. The put depends on the client's context, which then holds

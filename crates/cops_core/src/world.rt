@@ -6,7 +6,7 @@ use crate::setting::Setting;
 use crate::state::State;
 use cops_node::Outcome;
 use cops_place::Place;
-use cops_types::{History, Memory};
+use cops_types::{Deps, History, Memory, PutRecord, Version};
 use std::alloc::Global;
 use std::marker::Model;
 
@@ -31,9 +31,9 @@ impl Model for World {
 }
 
 impl World {
-    ghost use Rattle.std.specs.Prelude.{◌≡◌, ◌↔◌, IfOk, OnErr, IsErrOf};
+    ghost use Rattle.std.specs.Prelude.{◌≡◌, ◌↔◌, IfOk, OnErr, IsErrOf, option_copied};
     ghost use Rattle.cops_core.specs.Machine.{Step};
-    ghost use Rattle.cops_core.specs.World.{AreClients, Happens, Run, home, opened_cluster, view};
+    ghost use Rattle.cops_core.specs.World.{AreClients, Happens, Run, context_in, home, opened_cluster, sent, view};
     ghost use Rattle.cops_core.specs.Invariants.{HasAcceptedVerdict, Invariants};
 
     /// A world in which nothing has happened, of these data centres and nodes, and with a client at each of these data
@@ -68,7 +68,16 @@ impl World {
         ensures event { Happens self.old.setting self.old.world event result self.new.world }
         ensures step { Step (home self.old.setting) (view self.old.world) (view self.new.world) }
     {
-        self.step(&event)
+        self.answer(&event)
+    }
+
+    /// The same for an event that stays with the caller.
+    pub fn answer(&mut self, event: &Event) -> Outcome
+        ensures setting { self.new.setting ≡ self.old.setting }
+        ensures event { Happens self.old.setting self.old.world event.now result self.new.world }
+        ensures step { Step (home self.old.setting) (view self.old.world) (view self.new.world) }
+    {
+        self.state.step(&self.setting, event)
     }
 
     /// Answers events one after the other. `Memory` where there is none for the answers: then no event has happened.
@@ -79,9 +88,24 @@ impl World {
     {
         let mut outcomes = Vec::with_capacity(self.alloc, events.len())?;
         for event in events {
-            outcomes.push(self.step(event)).unwrap();
+            outcomes.push(self.answer(event)).unwrap();
         }
         Ok(outcomes)
+    }
+
+    /// Copies of the pairs that a client's next put will depend on, in the order in which it met them: none for a client
+    /// that is not there.
+    pub fn deps(&self, client: u16) -> Result<Deps, Memory>
+        ensures { IfOk result (λ deps. deps ≡ context_in self.now.world client) }
+    {
+        self.state.deps(client)
+    }
+
+    /// The put that bears the version, if a client has put it.
+    pub fn sent(&self, version: Version) -> Option<&PutRecord>
+        ensures { option_copied result ≡ sent self.now.world.issued version }
+    {
+        self.state.sent(version)
     }
 
     /// What the clients saw. Whatever events came, the verdict on it is Accepted.
@@ -91,14 +115,5 @@ impl World {
         ensures invariants { Invariants self.now.setting self.now.world }
     {
         self.state.history()
-    }
-
-    /// Answers an event.
-    fn step(&mut self, event: &Event) -> Outcome
-        ensures setting { self.new.setting ≡ self.old.setting }
-        ensures event { Happens self.old.setting self.old.world event.now result self.new.world }
-        ensures step { Step (home self.old.setting) (view self.old.world) (view self.new.world) }
-    {
-        self.state.step(&self.setting, event)
     }
 }

@@ -23,7 +23,8 @@ fn put(alloc: Global, clock: u64) -> Result<PutRecord, TypeFault> {
     })
 }
 
-fn clock_of(taken: Option<Message>) -> u64 {
+/// The clock of a frame's version, or 0.
+fn clock_of(taken: &Option<Message>) -> u64 {
     match taken {
         Some(Message::PutAfter { version, .. }) => version.clock(),
         _ => 0,
@@ -34,20 +35,20 @@ fn clock_of(taken: Option<Message>) -> u64 {
 fn a_link_of_one_frame(rt: HostRuntime) -> Result<(), Fail> {
     let alloc = rt.alloc();
     let (mut sender, mut taker) = link(alloc, 1)?;
-    assert_eq!(rt; clock_of(taker.take()?), 0);
+    assert_eq!(rt; clock_of(&taker.take()?), 0);
     sender.send(Frame::of(alloc, &put(alloc, 1)?)?)?;
     let Err(SendFault::Full(back)) = sender.send(Frame::of(alloc, &put(alloc, 2)?)?) else {
         return Err(Fail::new("the link is not full"));
     };
-    assert_eq!(rt; clock_of(taker.take()?), 1);
+    assert_eq!(rt; clock_of(&taker.take()?), 1);
     sender.send(back)?;
     let Some(mut finished) = sender.finish() else {
         return Err(Fail::new("nothing is told"));
     };
     assert_eq!(rt; taker.after(&mut finished), 1);
-    assert_eq!(rt; clock_of(taker.take()?), 2);
+    assert_eq!(rt; clock_of(&taker.take()?), 2);
     assert_eq!(rt; taker.after(&mut finished), 0);
-    assert_eq!(rt; clock_of(taker.take()?), 0);
+    assert_eq!(rt; clock_of(&taker.take()?), 0);
     Ok(())
 }
 
@@ -112,7 +113,7 @@ fn take_all<R: Wait>(rt: &R, mut taker: LinkOut) -> Result<bool, Memory> {
         for _ in rt.forever() {
             let taken = taker.take()?;
             if taken.is_some() {
-                in_turn = in_turn && clock_of(taken) == clock;
+                in_turn = in_turn && clock_of(&taken) == clock;
                 break;
             }
             thread::yield_now();

@@ -1,5 +1,5 @@
 -- What a scenario is, and its limits.
-use Rattle.std.specs.Prelude.{◌≡◌, ℕ, ◌<◌, ◌≤◌, List, [], length, All, Option, None, Some, codes, unwrap_or, option_and_then}
+use Rattle.std.specs.Prelude.{◌≡◌, ℕ, ◌<◌, ◌≤◌, List, [], length, map, All, Option, None, Some, codes, unwrap_or, option_and_then}
 use Rattle.serde_json.specs.Data.{Data}
 use Rattle.serde_json.specs.Find.{get, as_number, as_u64}
 use Rattle.cops_core.specs.declared.event.Event.{Event}
@@ -33,6 +33,10 @@ pub record IsScenario (s : AScenario) : Type 0 where
   pub few_clients : length s.clients ≤ 64
   pub each_client : All (IsClientOf s.place.dcs) s.clients
   pub few_events : AreEventsOf s.clients s.events
+
+-- the data centre of each client
+abbrev pub homes_of : AScenario → List ℕ
+homes_of s = map (λ c. c.at) s.clients
 
 -- the names of the fields in a file
 abbrev pub name_of : Field → List ℕ

@@ -1,7 +1,8 @@
 //! What a scenario holds.
-use cops_core::Event;
+use cops_core::{Event, World, WorldFault};
 use cops_place::Place;
-use cops_types::{Key, Value};
+use cops_types::{Key, Memory, Value};
+use std::alloc::Global;
 use std::marker::Model;
 
 /// The most clients of a scenario.
@@ -57,8 +58,9 @@ impl Model for Scenario {
 }
 
 impl Scenario {
-    ghost use Rattle.std.specs.Prelude.{◌≡◌, ◌≤◌, length, All, option_map};
-    ghost use Rattle.cops_scenario.specs.Scenario.{IsScenario, IsClientOf, AreEventsOf};
+    ghost use Rattle.std.specs.Prelude.{◌≡◌, ◌≤◌, length, All, IfOk, option_map};
+    ghost use Rattle.cops_core.specs.World.{opened_cluster};
+    ghost use Rattle.cops_scenario.specs.Scenario.{IsScenario, IsClientOf, AreEventsOf, homes_of};
 
     /// The scenario of these parts, which are within their limits.
     pub(crate) fn new(
@@ -114,6 +116,21 @@ impl Scenario {
         ensures scenario { IsScenario self.now }
     {
         &self.clients
+    }
+
+    /// A world of the scenario's data centres and clients, in which nothing has happened.
+    pub fn open_world(&self, alloc: Global) -> Result<World, Memory>
+        ensures { IfOk result (λ world. world ≡ opened_cluster self.now.place (homes_of self.now)) }
+    {
+        let mut homes = Vec::new(alloc);
+        for client in &self.clients {
+            homes.push(client.at)?;
+        }
+        match World::open(alloc, self.place.clone()?, homes) {
+            Ok(world) => Ok(world),
+            Err(WorldFault::Memory) => Err(Memory),
+            Err(WorldFault::BadClient) => unreachable!(),
+        }
     }
 
     /// The events, at most 100,000, where the scenario has them: no client then has a script.

@@ -2,7 +2,7 @@
 
 use crate::device::{FAULTY, failed, read_all};
 use cops_audit::{Verdict, judge};
-use cops_core::{Event, World, WorldFault};
+use cops_core::Event;
 use cops_node::Outcome;
 use cops_report::report;
 use cops_scenario::{Field, Scenario, ScenarioFault, outcome_line};
@@ -58,7 +58,7 @@ struct Ran {
 
 /// Runs the events in a world of the scenario.
 fn run_events(alloc: Global, scenario: &Scenario, events: &[Event]) -> Result<Ran, Memory> {
-    let mut world = opened(alloc, scenario)?;
+    let mut world = scenario.open_world(alloc)?;
     let outcomes = world.run(events)?;
     let mut text = Vec::new(alloc);
     for (n, outcome) in outcomes.iter().enumerate() {
@@ -75,19 +75,6 @@ fn run_events(alloc: Global, scenario: &Scenario, events: &[Event]) -> Result<Ra
         text,
         status,
     })
-}
-
-/// The world of a scenario, before its events.
-fn opened(alloc: Global, scenario: &Scenario) -> Result<World, Memory> {
-    let mut homes = Vec::new(alloc);
-    for client in scenario.clients() {
-        homes.push(client.at)?;
-    }
-    match World::open(alloc, scenario.place().clone()?, homes) {
-        Ok(world) => Ok(world),
-        Err(WorldFault::Memory) => Err(Memory),
-        Err(WorldFault::BadClient) => unreachable!(),
-    }
 }
 
 /// The trace of what the clients saw, in the order of the events.

@@ -7,9 +7,9 @@ use Rattle.cops_core.proofs.Running.{run_more}
 use Rattle.cops_core.proofs.world.World.run.Goals as goal
 use Rattle.cops_core.proofs.world.World.run.Goals.{After-unwrap}
 
-more : (c : After-unwrap) → c.push.new.self.items ≡ c.loop-event.outcomes.items ++ c.step.result ∷ []
+more : (c : After-unwrap) → c.push.new.self.items ≡ c.loop-event.outcomes.items ++ c.answer.result ∷ []
 more c =
-    subst (λ r. c.push.new.self.items ≡ (if is_ok r then c.loop-event.outcomes.items ++ c.step.result ∷ [] else c.loop-event.outcomes.items)) c.unwrap.ensures c.push.ensures.items
+    subst (λ r. c.push.new.self.items ≡ (if is_ok r then c.loop-event.outcomes.items ++ c.answer.result ∷ [] else c.loop-event.outcomes.items)) c.unwrap.ensures c.push.ensures.items
 
 pub loop-event-preserved : goal.loop-event-preserved
 loop-event-preserved c =
@@ -17,11 +17,11 @@ loop-event-preserved c =
     let i = c.loop-event.event-index in
     let taken : take (i + 1) c.args.events.now ≡ take i c.args.events.now ++ c.event-item.result ∷ [] =
     take_more c.args.events.now i c.event-item.result c.loop-event-test.true ∙ ap (λ (e : Event). take i c.args.events.now ++ e ∷ []) (sym c.event-item.is) in
-    let happens : Happens s c.loop-event.self.world c.event-item.result c.step.result c.step.new.self.world =
-    subst (λ (x : Setting). Happens x c.loop-event.self.world c.event-item.result c.step.result c.step.new.self.world) c.loop-event.invariant.setting c.step.ensures.event in
-    let ran = run_more s (take i c.args.events.now) c.loop-event.outcomes.items c.args.self.now.world c.loop-event.self.world c.step.new.self.world c.event-item.result c.step.result c.loop-event.invariant.ran happens in
+    let happens : Happens s c.loop-event.self.world c.event-item.result c.answer.result c.answer.new.self.world =
+    subst (λ (x : Setting). Happens x c.loop-event.self.world c.event-item.result c.answer.result c.answer.new.self.world) c.loop-event.invariant.setting c.answer.ensures.event in
+    let ran = run_more s (take i c.args.events.now) c.loop-event.outcomes.items c.args.self.now.world c.loop-event.self.world c.answer.new.self.world c.event-item.result c.answer.result c.loop-event.invariant.ran happens in
     record {
-      setting = c.step.ensures.setting ∙ c.loop-event.invariant.setting;
+      setting = c.answer.ensures.setting ∙ c.loop-event.invariant.setting;
       ran = rw (taken, more c) ran;
       answered = grind (arith, common_steps, more c);
       room = grind (arith, common_steps);

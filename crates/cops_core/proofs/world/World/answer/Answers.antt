@@ -1,6 +1,6 @@
 use Rattle.cops_core.proofs.Running.{reached_more}
 use Rattle.cops_core.proofs.Worlds.{reached_steps}
-use Rattle.cops_core.proofs.world.World.step.Goals as goal
+use Rattle.cops_core.proofs.world.World.answer.Goals as goal
 
 pub invariant_of-self : goal.invariant_of-self
 invariant_of-self c = record {
