@@ -8,12 +8,12 @@ mod book;
 mod entry;
 mod fault;
 mod order;
-mod tie;
+mod tying;
 
 pub use book::Book;
 pub use entry::Entry;
 pub use fault::TieFault;
-pub use tie::tie;
+pub use tying::tie;
 
 #[cfg(test)]
 mod tests;
