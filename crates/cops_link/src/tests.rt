@@ -34,7 +34,7 @@ fn clock_of(taken: &Option<Message>) -> u64 {
 }
 
 /// Whether a put of that clock is taken.
-fn offer(alloc: Global, sender: &mut LinkIn, clock: u64) -> Result<bool, TypeFault>
+fn offer(alloc: Global, sender: &mut LinkIn, clock: u64) -> Result<bool, Fail>
     ensures { SameIn sender.old sender.new }
 {
     let frame = Frame::of(alloc, &put(alloc, clock)?)?;
@@ -55,7 +55,7 @@ fn is_given_back(
     sender: &mut LinkIn,
     taker: &mut LinkOut,
     clock: u64,
-) -> Result<bool, TypeFault>
+) -> Result<bool, Fail>
     ensures sender { SameIn sender.old sender.new }
     ensures taker { SameOut taker.old taker.new }
 {
@@ -92,11 +92,11 @@ fn is_third(message: &Message) -> bool {
             deps,
             version,
         } => {
-            key.as_bytes() == b"p"
-                && value.as_bytes() == b"6"
+            key.as_bytes() == b"p".as_slice()
+                && value.as_bytes() == b"6".as_slice()
                 && version.clock() == 3
                 && deps.as_slice().len() == 1
-                && deps.as_slice()[0].key.as_bytes() == b"k"
+                && deps.as_slice()[0].key.as_bytes() == b"k".as_slice()
                 && deps.as_slice()[0].version.clock() == 2
         }
         _ => false,
