@@ -1,3 +1,1 @@
 pub mod Book
-pub mod Tie
-pub mod Turns
