@@ -7,7 +7,7 @@ use cops_node::Outcome;
 use cops_report::report;
 use cops_scenario::{Field, Scenario, ScenarioFault, outcome_line};
 use cops_trace::{Trace, WriteFault, write_text, write_trace};
-use cops_types::{Counted, Memory, Op};
+use cops_types::{Counted, History, Memory, Op};
 use std::alloc::Global;
 use std::io::{Read, Write};
 
@@ -29,14 +29,36 @@ pub fn run_stream<R: Read, T: Write, W: Write, E: Write>(
         Some(bytes) => bytes,
         None => return Ok(failed(errors, b"failed: read\n")),
     };
-    let scenario = match Scenario::from_json(alloc, &bytes) {
-        Ok(scenario) => scenario,
-        Err(fault) => return faulty(alloc, fault, out, errors),
-    };
-    let Some(events) = scenario.events() else {
-        return faulty(alloc, ScenarioFault::BadField(Field::Events), out, errors);
-    };
-    let ran = run_events(alloc, &scenario, events)?;
+    match Scenario::from_json(alloc, &bytes) {
+        Ok(scenario) => run_scenario(alloc, &scenario, trace, out, errors),
+        Err(fault) => faulty(alloc, fault, out, errors),
+    }
+}
+
+fn run_scenario<T: Write, W: Write, E: Write>(
+    alloc: Global,
+    scenario: &Scenario,
+    trace: &mut Counted<T>,
+    out: &mut Counted<W>,
+    errors: &mut Counted<E>,
+) -> Result<u8, Memory> {
+    match scenario.events() {
+        Some(events) => {
+            let ran = run_events(alloc, scenario, events)?;
+            write(alloc, &ran, trace, out, errors)
+        }
+        None => faulty(alloc, ScenarioFault::BadField(Field::Events), out, errors),
+    }
+}
+
+/// Writes what a run leaves, and gives the status.
+fn write<T: Write, W: Write, E: Write>(
+    alloc: Global,
+    ran: &Ran,
+    trace: &mut Counted<T>,
+    out: &mut Counted<W>,
+    errors: &mut Counted<E>,
+) -> Result<u8, Memory> {
     match write_trace(alloc, trace, &ran.trace) {
         Ok(()) => {}
         Err(WriteFault::Memory) => return Err(Memory),
@@ -60,21 +82,34 @@ struct Ran {
 fn run_events(alloc: Global, scenario: &Scenario, events: &[Event]) -> Result<Ran, Memory> {
     let mut world = scenario.open_world(alloc)?;
     let outcomes = world.run(events)?;
-    let mut text = Vec::new(alloc);
-    for (n, outcome) in outcomes.iter().enumerate() {
-        outcome_line(alloc, n, outcome, &mut text)?;
-    }
-    let verdict = judge(alloc, world.history())?;
-    text.extend_from_slice(&report(alloc, world.history(), &verdict)?)?;
+    let (text, status) = told(alloc, &outcomes, world.history())?;
+    let trace = recorded(alloc, scenario.clients().len() as u16, events, &outcomes)?;
+    Ok(Ran {
+        trace,
+        text,
+        status,
+    })
+}
+
+/// The lines of the events with the report of what the clients saw, and the status of its verdict.
+fn told(alloc: Global, outcomes: &[Outcome], history: &History) -> Result<(Vec<u8>, u8), Memory> {
+    let mut text = lines(alloc, outcomes)?;
+    let verdict = judge(alloc, history)?;
+    text.extend_from_slice(&report(alloc, history, &verdict)?)?;
     let status = match verdict {
         Verdict::Accepted(_) => ACCEPTED,
         Verdict::Refused(_) => REFUSED,
     };
-    Ok(Ran {
-        trace: recorded(alloc, scenario.clients().len() as u16, events, &outcomes)?,
-        text,
-        status,
-    })
+    Ok((text, status))
+}
+
+/// A line for each event.
+fn lines(alloc: Global, outcomes: &[Outcome]) -> Result<Vec<u8>, Memory> {
+    let mut text = Vec::new(alloc);
+    for (n, outcome) in outcomes.iter().enumerate() {
+        outcome_line(alloc, n, outcome, &mut text)?;
+    }
+    Ok(text)
 }
 
 /// The trace of what the clients saw, in the order of the events.
