@@ -16,6 +16,7 @@ mod recording;
 mod refusal;
 mod setting;
 mod state;
+mod table;
 mod world;
 
 pub use event::{Event, Said};

@@ -9,6 +9,7 @@ use crate::issued::Issued;
 use crate::recording::{admit, copied, drafted, record};
 use crate::refusal::{CONTEXT_FULL, NEVER_SENT, NO_YES, UNKNOWN_DC};
 use crate::setting::Setting;
+use crate::table::{answer, events};
 use cops_context::Context;
 use cops_node::{MEMORY, NOT_HELD, Outcome};
 use cops_types::{Dep, Deps, History, Key, Memory, Op, PutRecord, Value, Version};
@@ -65,14 +66,7 @@ impl State {
         requires { IsReached setting.now self.old }
         ensures { Happens setting.now self.old event.now result self.new }
     {
-        match event {
-            Event::Put { client, key, value } => self.put(setting, *client, key, value),
-            Event::Get { client, key } => self.get(setting, *client, key),
-            Event::Deliver { dc, version } => self.deliver(setting, *dc, *version),
-            Event::Ask { dc, key, version } => self.ask(setting, *dc, key, *version),
-            Event::Mark { dc, version, dep } => self.mark(setting, *dc, *version, *dep),
-            Event::Settle { dc, version } => self.settle(setting, *dc, *version),
-        }
+        events!(answer self, setting, event)
     }
 
     /// What the clients saw.
