@@ -1,4 +1,4 @@
-//! What the benchmarks of a node and of a world run, for the scripts in `bench/`: `node PAIRS ANSWERS`, or `world FILE MODE`. With
+//! What the benchmarks of a node and of a world run, for the scripts in `bench/`: `node PAIRS TURNS AMONG`, or `world FILE MODE`. With
 //! no words it does nothing.
 #![tactic(auto)]
 
@@ -12,10 +12,11 @@ fn main(rt: HostRuntime) -> Result<(), Error> {
     let alloc = rt.alloc();
     let words: Vec<String> = env::args(&rt)?.skip(1).collect(alloc)?;
     match words.as_slice() {
-        [what, pairs, answers] if what.as_str() == "node" => node::answer(
+        [what, pairs, turns, among] if what.as_str() == "node" => node::answer(
             &rt,
             pairs.parse()?,
-            answers.parse()?,
+            turns.parse()?,
+            among.parse()?,
         ),
         [what, path, mode] if what.as_str() == "world" => world::happen(&rt, path, mode),
         _ => Ok(()),

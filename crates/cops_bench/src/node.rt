@@ -29,12 +29,17 @@ fn found(alloc: Global, node: &mut Node, number: u64) -> Result<u64, Error> {
     Ok(u64::from(asked).wrapping_add(u64::from(shown)))
 }
 
-/// Fills a node with so many settled pairs, and then makes as many turns of an ask and a get.
-pub fn answer<R: Print + AllocGlobal>(rt: &R, pairs: u64, turns: u64) -> Result<(), Error> {
+/// Fills a node with so many settled pairs, and then makes turns of an ask and a get, about so many of the pairs.
+pub fn answer<R: Print + AllocGlobal>(
+    rt: &R,
+    pairs: u64,
+    turns: u64,
+    among: u64,
+) -> Result<(), Error> {
     let mut node = filled(rt.alloc(), pairs)?;
     let mut answered = 0u64;
     for turn in 0..turns {
-        let number = turn.wrapping_mul(7_919) % pairs.max(1);
+        let number = turn.wrapping_mul(7_919) % among.max(1);
         answered = answered.wrapping_add(found(rt.alloc(), &mut node, number)?);
     }
     println!(rt; "{answered}")?;
