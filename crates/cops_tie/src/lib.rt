@@ -1,12 +1,20 @@
-//! Books: a node with the steps that led to it, so that a run on threads can be told as one interleaving afterwards. Stands
-//! on the node. The layer above uses that a book's entries replay to its node, which its type keeps.
+//! Books: a node with the steps that led to it, so that a run on threads can be told as one interleaving afterwards; and what it
+//! is for books to be one run of the world. Stands on the node and the world. The layer above uses that a book's entries
+//! replay to its node, which its type keeps.
 #![tactic(auto)]
 
 mod book;
 mod entry;
+mod fault;
+mod laws;
+mod order;
+mod tying;
 
 pub use book::Book;
 pub use entry::Entry;
+pub use fault::TieFault;
+pub use laws::untied_is_not_tied;
+pub use tying::tie;
 
 #[cfg(test)]
 mod tests;

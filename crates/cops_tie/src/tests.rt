@@ -1,6 +1,9 @@
 use super::*;
+use cops_core::Event;
 use cops_node::{NodeEvent, Outcome};
-use cops_types::{Deps, Key, TypeFault, Value, Version};
+use cops_scenario::Scenario;
+use cops_trace::Trace;
+use cops_types::{Dep, Deps, Key, Op, TypeFault, Value, Version};
 use std::alloc::Global;
 use std::test::Fail;
 
@@ -66,5 +69,146 @@ fn a_refused_growth_changes_nothing(rt: HostRuntime) -> Result<(), Fail> {
     }
     assert_eq!(rt; book.entries().len(), 10);
     assert_eq!(rt; book.node().status().clock, 10);
+    Ok(())
+}
+
+const SCENARIO: &str = "{\"data_centres\":1,\"clients\":[{\"at\":0}]}";
+
+fn deps(alloc: Global, clock: u64) -> Result<Deps, TypeFault> {
+    let mut pairs = Vec::new(alloc);
+    if clock > 0 {
+        pairs.push(Dep {
+            key: Key::new(alloc, b"x")?,
+            version: Version::new(clock, 0)?,
+        })?;
+    }
+    Deps::new(pairs)
+}
+
+/// The entry of a put of x=1, which depends on the put of a clock, or on none.
+fn put_entry(alloc: Global, ticket: u64, clock: u64) -> Result<Entry, TypeFault> {
+    Ok(Entry {
+        ticket,
+        event: NodeEvent::Put {
+            client: 0,
+            key: Key::new(alloc, b"x")?,
+            value: Value::new(alloc, b"1")?,
+            deps: deps(alloc, clock)?,
+        },
+        outcome: Outcome::PutDone(Version::new(1, 0)?),
+    })
+}
+
+/// The entry of a get of x, which found 1, or nothing.
+fn get_entry(alloc: Global, ticket: u64, found: bool) -> Result<Entry, TypeFault> {
+    let key = Key::new(alloc, b"x")?;
+    Ok(Entry {
+        ticket,
+        event: NodeEvent::Get { client: 0, key },
+        outcome: if found {
+            Outcome::Got(Value::new(alloc, b"1")?, Version::new(1, 0)?)
+        } else {
+            Outcome::Missed
+        },
+    })
+}
+
+/// The first records of a trace in which the client puts x=1 and gets it.
+fn trace(alloc: Global, records: usize) -> Result<Trace, Fail> {
+    let mut trace = Trace::new(alloc, 1)?;
+    if records > 0 {
+        let (key, value) = (Key::new(alloc, b"x")?, Value::new(alloc, b"1")?);
+        let version = Version::new(1, 0)?;
+        trace.push(
+            0,
+            Op::Put {
+                key,
+                value,
+                version,
+            },
+        )?;
+    }
+    if records > 1 {
+        let (key, value) = (Key::new(alloc, b"x")?, Value::new(alloc, b"1")?);
+        let version = Version::new(1, 0)?;
+        trace.push(
+            0,
+            Op::Got {
+                key,
+                value,
+                version,
+            },
+        )?;
+    }
+    Ok(trace)
+}
+
+/// How many events the tie answers, or the ticket at which the books are untied.
+fn told(tied: Result<Vec<Event>, TieFault>) -> (usize, Option<u64>) {
+    match tied {
+        Ok(events) => (events.len(), None),
+        Err(TieFault::Untied { ticket }) => (0, Some(ticket)),
+        Err(TieFault::Memory) => (usize::MAX, None),
+    }
+}
+
+/// What the tie tells of one book, beside a trace of so many records.
+fn tied(alloc: Global, entries: Vec<Entry>, records: usize) -> Result<(usize, Option<u64>), Fail> {
+    let scenario = Scenario::from_json(alloc, SCENARIO.as_bytes())?;
+    let trace = trace(alloc, records)?;
+    let mut books = Vec::new(alloc);
+    books.push(entries)?;
+    let nodes = scenario.place().nodes() as usize;
+    if books.len() != scenario.place().dcs() as usize * nodes {
+        return Err(Fail::new("there is more than one node"));
+    }
+    Ok(told(tie(alloc, &scenario, &books, &trace)))
+}
+
+/// What the tie tells of a put and a get of it, at these tickets.
+fn pair_tied(
+    alloc: Global,
+    put_ticket: u64,
+    get_ticket: u64,
+    found: bool,
+    records: usize,
+) -> Result<(usize, Option<u64>), Fail> {
+    let mut entries = Vec::new(alloc);
+    entries.push(put_entry(alloc, put_ticket, 0)?)?;
+    entries.push(get_entry(alloc, get_ticket, found)?)?;
+    tied(alloc, entries, records)
+}
+
+#[test]
+fn books_that_are_one_run(rt: HostRuntime) -> Result<(), Fail> {
+    assert!(rt; pair_tied(rt.alloc(), 0, 1, true, 2)? == (2, None));
+    assert!(rt; pair_tied(rt.alloc(), 0, 7, true, 2)? == (2, None));
+    Ok(())
+}
+
+#[test]
+fn books_that_are_not(rt: HostRuntime) -> Result<(), Fail> {
+    assert!(rt; pair_tied(rt.alloc(), 0, 1, false, 2)? == (0, Some(1)));
+    assert!(rt; pair_tied(rt.alloc(), 0, 0, true, 2)? == (0, Some(0)));
+    assert!(rt; pair_tied(rt.alloc(), 1, 0, true, 2)? == (0, Some(0)));
+    assert!(rt; pair_tied(rt.alloc(), 0, 1, true, 1)? == (0, Some(2)));
+    assert!(rt; pair_tied(rt.alloc(), 0, u64::MAX, true, 1)? == (0, Some(u64::MAX)));
+    Ok(())
+}
+
+/// What the tie tells of a put that depends on the put of a clock, or of no entry.
+fn put_tied(alloc: Global, clock: Option<u64>) -> Result<(usize, Option<u64>), Fail> {
+    let mut entries = Vec::new(alloc);
+    if let Some(clock) = clock {
+        entries.push(put_entry(alloc, 0, clock)?)?;
+    }
+    tied(alloc, entries, 2)
+}
+
+#[test]
+fn entries_that_are_not_there(rt: HostRuntime) -> Result<(), Fail> {
+    assert!(rt; put_tied(rt.alloc(), Some(1))? == (0, Some(0)));
+    assert!(rt; put_tied(rt.alloc(), Some(0))? == (0, Some(1)));
+    assert!(rt; put_tied(rt.alloc(), None)? == (0, Some(0)));
     Ok(())
 }

@@ -1,0 +1,25 @@
+-- The entries of one book more, and of entries that were put in order.
+use Rattle.std.proofs.Common.{◌≡◌, ℕ, ◌+◌, ◌/◌, ◌%◌, ◌<◌, ◌≤◌, List, [], ◌∷◌, ◌++◌, AllPairs, length, map, slice_index_or, refl, sym, ap, subst, ◌∙◌, arith}
+use Rattle.std.proofs.lemmas.List.{append_assoc, append-nil, get_or-map, length-map}
+use Rattle.std.specs.List.Sorted.{IsNonDecreasingBy}
+use Rattle.cops_tie.specs.declared.entry.Entry.{Entry}
+use Rattle.cops_tie.specs.declared.order.Turn.{Turn}
+use Rattle.cops_tie.specs.Tie.{Placed, ticket, placed}
+use Rattle.cops_tie.specs.Turns.{shown}
+
+-- the entries of the nth node's book
+abbrev pub at_node : ℕ → ℕ → List Entry → List Placed
+at_node nodes n book = map (λ (e : Entry). let p : Placed = record { dc = n / nodes; place = n % nodes; entry = e } in p) book
+
+pub placed_more : (nodes k : ℕ) (books : List (List Entry)) (book : List Entry) → placed nodes k (books ++ book ∷ []) ≡ placed nodes k books ++ at_node nodes (k + length books) book
+placed_more nodes k [] book = append-nil (at_node nodes k book) ∙ ap (λ n. at_node nodes n book) (let e : k ≡ k + 0 = omega arith in e)
+placed_more nodes k (b ∷ books) book =
+    ap (λ (l : List Placed). at_node nodes k b ++ l) (placed_more nodes (k + 1) books book)
+    ∙ sym (append_assoc (at_node nodes k b) (placed nodes (k + 1) books) (at_node nodes (k + 1 + length books) book))
+    ∙ ap (λ n. (at_node nodes k b ++ placed nodes (k + 1) books) ++ at_node nodes n book) (let e : k + 1 + length books ≡ k + length (b ∷ books) = omega arith in e)
+
+pub never_falls : (order : List Turn) → IsNonDecreasingBy (λ (t : Turn). t.entry.now.ticket) order → AllPairs (λ p q. ticket p ≤ ticket q) (map shown order)
+never_falls [] h i j d less inside = absurd (omega (arith, inside, less))
+never_falls (x ∷ order) h i j d less inside =
+    let within : j < length (x ∷ order) = subst (λ n. j < n) (length-map (x ∷ order) shown) inside in
+    omega (arith, h i j x (omega (arith, less)) within, ap ticket (get_or-map shown (x ∷ order) i x d (omega (arith, less, within))), ap ticket (get_or-map shown (x ∷ order) j x d within))

@@ -1,0 +1,44 @@
+//! Why books and a trace are not tied.
+ghost use Rattle.std.specs.Prelude.{◌≡◌};
+ghost use Rattle.cops_tie.specs.declared.fault.TieFault.TheVariants.{Memory as OutOfMemory};
+
+use cops_types::Memory;
+use std::alloc::{AllocError, AllocFailed};
+use thiserror::Error;
+
+/// Why the books and a trace are not tied.
+#[derive(Clone, Copy, Debug, PartialEq, Eq, Error)]
+pub enum TieFault {
+    /// Memory was refused.
+    #[error("out of memory")]
+    Memory,
+    /// The books are no run of the world in which the clients saw what the trace says. The ticket is the least one whose
+    /// entry does not continue the run; where the sessions alone differ from the trace's, the one above the greatest: 0
+    /// where there is no entry, and the greatest `u64` where that is a ticket.
+    #[error("untied at ticket {ticket}")]
+    Untied { ticket: u64 },
+}
+
+impl From<Memory> for TieFault {
+    ghost from_gives = { λ _ e. e ≡ OutOfMemory };
+
+    fn from(_e: Memory) -> TieFault {
+        TieFault::Memory
+    }
+}
+
+impl From<AllocError> for TieFault {
+    ghost from_gives = { λ _ e. e ≡ OutOfMemory };
+
+    fn from(_e: AllocError) -> TieFault {
+        TieFault::Memory
+    }
+}
+
+impl<T: Drop> From<AllocFailed<T>> for TieFault {
+    ghost from_gives = { λ _ e. e ≡ OutOfMemory };
+
+    fn from(_e: AllocFailed<T>) -> TieFault {
+        TieFault::Memory
+    }
+}

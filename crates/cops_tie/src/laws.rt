@@ -1,0 +1,17 @@
+ghost use Rattle.std.specs.Prelude.{ℕ, List};
+ghost use Rattle.cops_types.specs.Histories.{Sessions};
+ghost use Rattle.cops_core.specs.World.{Setting};
+ghost use Rattle.cops_core.specs.declared.event.Event.{Event};
+ghost use Rattle.cops_tie.specs.declared.entry.Entry.{Entry};
+ghost use Rattle.cops_tie.specs.Tie.{IsTied, IsUntied};
+
+use cops_core::every_interleaving_is_accepted;
+
+/// A law of the definitions: books that stop somewhere, or whose run shows the clients something else, are no run of the
+/// world with these sessions. So the books and a trace have one of the two answers, and not both.
+pub fn untied_is_not_tied()
+    ensures { (s : Setting) (books : List (List Entry)) (sessions : Sessions) (ticket : ℕ) (events : List Event) →
+        IsUntied s books sessions ticket → IsTied s books sessions events → ⊥ }
+{
+    every_interleaving_is_accepted();
+}

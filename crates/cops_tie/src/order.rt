@@ -1,0 +1,68 @@
+//! The entries of all books, in order of their tickets.
+ghost use Rattle.std.specs.Prelude.{◌≡◌, ◌<◌, ◌≤◌, ◌+◌, ◌*◌, ◌++◌, length, map, AllPairs, IfOk, OnOk};
+ghost use Rattle.std.specs.List.Sorted.{IsPermutation};
+ghost use Rattle.cops_tie.specs.Tie.{placed, ticket};
+ghost use Rattle.cops_tie.specs.Turns.{shown};
+
+use crate::entry::Entry;
+use std::alloc::{AllocError, Global};
+
+/// An entry, in the book of the node at a place of a data centre.
+#[derive(Clone, Copy)]
+pub struct Turn<'a> {
+    pub dc: u8,
+    pub place: u8,
+    pub entry: &'a Entry,
+}
+
+/// The entries of books, which are one for each node in order of node numbers, by their tickets.
+pub fn in_order<'a>(
+    alloc: Global,
+    dcs: u8,
+    nodes: u8,
+    books: &'a [Vec<Entry>],
+) -> Result<Vec<Turn<'a>>, AllocError>
+    requires nodes { 0 < nodes }
+    requires books { length books.now ≡ dcs * nodes }
+    ensures all { IfOk result (λ order. IsPermutation (placed nodes 0 (map (λ b. b.items) books.now)) (map shown order.items)) }
+    ensures never_falls { IfOk result (λ order. AllPairs (λ p q. ticket p ≤ ticket q) (map shown order.items)) }
+{
+    let mut order = turns(alloc, dcs, nodes, books)?;
+    order.sort_unstable_by_key(|turn| turn.entry.ticket);
+    Ok(order)
+}
+
+/// The same, book by book.
+fn turns<'a>(
+    alloc: Global,
+    dcs: u8,
+    nodes: u8,
+    books: &'a [Vec<Entry>],
+) -> Result<Vec<Turn<'a>>, AllocError>
+    requires nodes { 0 < nodes }
+    requires books { length books.now ≡ dcs * nodes }
+    ensures { IfOk result (λ turns. map shown turns.items ≡ placed nodes 0 (map (λ b. b.items) books.now)) }
+{
+    let mut turns = Vec::new(alloc);
+    for n in 0..books.len() {
+        let dc = n / nodes as usize;
+        let place = n % nodes as usize;
+        add_book(&mut turns, dc as u8, place as u8, &books[n])?;
+    }
+    Ok(turns)
+}
+
+/// The entries of one book more.
+fn add_book<'a>(
+    turns: &mut Vec<Turn<'a>>,
+    dc: u8,
+    place: u8,
+    book: &'a [Entry],
+) -> Result<(), AllocError>
+    ensures { OnOk result (map shown turns.new.items ≡ map shown turns.old.items ++ map (λ e. record { dc = dc; place = place; entry = e }) book.now) }
+{
+    for entry in book {
+        turns.push(Turn { dc, place, entry })?;
+    }
+    Ok(())
+}

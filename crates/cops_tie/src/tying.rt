@@ -1,0 +1,260 @@
+//! Whether the entries of all books are one run of the world in which the clients saw what a trace says.
+ghost use Rattle.std.specs.Prelude.{◌≡◌, ◌<◌, ◌≤◌, ◌*◌, ◌+◌, ◌∷◌, ◌↔◌, List, drop, AllPairs, length, map, IfOk, IfErr, IfSome, IfNone, IsTrue, Some};
+ghost use Rattle.cops_core.specs.World.{World as AWorld, context_in, sent};
+ghost use Rattle.cops_trace.specs.Text.{sessions_of};
+ghost use Rattle.cops_tie.specs.Tie.{Placed, IsBelow, Continues, Follows, IsFrom, IsHomeOf, IsTied, IsUntied, StopsAt, event_at, event_of, place_asked, ticket, ticket_after};
+ghost use Rattle.cops_tie.specs.Turns.{StandsRight, WhereUntied, setting_of, shown};
+
+use crate::entry::Entry;
+use crate::fault::TieFault;
+use crate::order::{Turn, in_order};
+use cops_core::{Event, World};
+use cops_node::NodeEvent;
+use cops_scenario::Scenario;
+use cops_trace::Trace;
+use cops_types::{Deps, History, Memory, PutRecord};
+use std::alloc::{AllocError, Global};
+
+/// The world's events of a run whose books these are: `Untied` where the entries of all books, in order of their tickets, are
+/// no run of a world of the scenario, or one whose clients saw something else than the trace says. Each entry of a put has
+/// to have its client's context, each delivered put has to be the issued one, and each entry has to stand with the node
+/// that the world asks. The condition: there is one book for each node, in order of node numbers.
+pub fn tie(
+    alloc: Global,
+    scenario: &Scenario,
+    books: &[Vec<Entry>],
+    trace: &Trace,
+) -> Result<Vec<Event>, TieFault>
+    requires { length books.now ≡ scenario.now.place.dcs * (length scenario.now.place.splits + 1) }
+    ensures tied { IfOk result (λ events. IsTied (setting_of scenario.now) (map (λ b. b.items) books.now) (sessions_of trace.now) events.items) }
+    ensures untied { IfErr result (WhereUntied (IsUntied (setting_of scenario.now) (map (λ b. b.items) books.now) (sessions_of trace.now))) }
+{
+    let place = scenario.place();
+    let order = in_order(alloc, place.dcs(), place.nodes(), books)?;
+    let mut world = scenario.open_world(alloc)?;
+    let events = followed(alloc, scenario, &mut world, &order)?;
+    if !is_same(world.history(), trace.history()) {
+        return Err(TieFault::Untied {
+            ticket: next_ticket(&order),
+        });
+    }
+    Ok(events)
+}
+
+/// Follows the entries, and gives the world's events.
+fn followed(
+    alloc: Global,
+    scenario: &Scenario,
+    world: &mut World,
+    order: &[Turn<'_>],
+) -> Result<Vec<Event>, TieFault>
+    requires setting { world.old.setting ≡ setting_of scenario.now }
+    requires never_falls { AllPairs (λ p q. ticket p ≤ ticket q) (map shown order.now) }
+    ensures ok { IfOk result (λ events. Follows (setting_of scenario.now) world.old.world (map shown order.now) world.new.world × (events.items ≡ map event_of (map shown order.now))) }
+    ensures stops { IfErr result (WhereUntied (StopsAt (setting_of scenario.now) world.old.world (map shown order.now))) }
+{
+    let mut events = Vec::new(alloc);
+    for i in 0..order.len() {
+        let turn = &order[i];
+        let ticket = turn.entry.ticket;
+        if comes_again(order, i) {
+            return Err(TieFault::Untied { ticket });
+        }
+        match continued(scenario, world, turn)? {
+            Some(event) => events.push(event)?,
+            None => return Err(TieFault::Untied { ticket }),
+        }
+    }
+    Ok(events)
+}
+
+/// Whether the next ticket is the same as that of an entry.
+fn comes_again(order: &[Turn<'_>], i: usize) -> bool
+    requires inside { i < length order.now }
+    ensures again { IsTrue result → (p : Placed) (rest : List Placed) → drop i (map shown order.now) ≡ p ∷ rest → IsBelow p rest → ⊥ }
+    ensures below { ¬ IsTrue result → AllPairs (λ p q. ticket p ≤ ticket q) (map shown order.now) → (p : Placed) (rest : List Placed) → drop i (map shown order.now) ≡ p ∷ rest → IsBelow p rest }
+{
+    if i + 1 >= order.len() {
+        return false;
+    }
+    order[i + 1].entry.ticket == order[i].entry.ticket
+}
+
+/// The world's event that the entry is, which the world then has met: none where the entry does not continue the run.
+fn continued(
+    scenario: &Scenario,
+    world: &mut World,
+    turn: &Turn<'_>,
+) -> Result<Option<Event>, Memory>
+    requires { world.old.setting ≡ setting_of scenario.now }
+    ensures setting { world.new.setting ≡ world.old.setting }
+    ensures some { IfOk result (λ o. IfSome o (λ event. (event ≡ event_of (shown turn.now)) × Continues (setting_of scenario.now) world.old.world (shown turn.now) world.new.world)) }
+    ensures none { IfOk result (λ o. IfNone o ((mid : AWorld) → Continues (setting_of scenario.now) world.old.world (shown turn.now) mid → ⊥)) }
+{
+    if !is_from(scenario, world, turn)? {
+        return Ok(None);
+    }
+    let event = world_event(turn.dc, &turn.entry.event)?;
+    if turn.entry.outcome.is_memory() {
+        return Ok(Some(event));
+    }
+    let outcome = world.answer(&event);
+    if outcome.is_memory() {
+        return Err(Memory);
+    }
+    if outcome != turn.entry.outcome {
+        return Ok(None);
+    }
+    Ok(Some(event))
+}
+
+/// Whether the entry stands with the node that its event belongs to, and the node was told what the world has.
+fn is_from(scenario: &Scenario, world: &World, turn: &Turn<'_>) -> Result<bool, Memory>
+    ensures { IfOk result (λ is. IsTrue is ↔ StandsRight (setting_of scenario.now) world.now.world (shown turn.now)) }
+{
+    if place_of_event(scenario, &turn.entry.event) != u16::from(turn.place) {
+        return Ok(false);
+    }
+    is_told(scenario, world, turn.dc, &turn.entry.event)
+}
+
+/// The place of the key's node, or of the node that gave the version.
+fn place_of_event(scenario: &Scenario, event: &NodeEvent) -> u16
+    ensures { result ≡ place_asked (setting_of scenario.now) event.now }
+{
+    let place = scenario.place();
+    match event {
+        NodeEvent::Put { key, .. } => u16::from(place.primary(key)),
+        NodeEvent::Get { key, .. } => u16::from(place.primary(key)),
+        NodeEvent::Deliver(put) => u16::from(place.primary(&put.key)),
+        NodeEvent::Ask { key, .. } => u16::from(place.primary(key)),
+        NodeEvent::Mark { version, .. } => version.node() % 64,
+        NodeEvent::Settle { version } => version.node() % 64,
+    }
+}
+
+/// Whether the node was told what the world has.
+fn is_told(scenario: &Scenario, world: &World, dc: u8, event: &NodeEvent) -> Result<bool, Memory>
+    ensures { IfOk result (λ is. IsTrue is ↔ IsFrom (setting_of scenario.now) world.now.world dc event.now) }
+{
+    match event {
+        NodeEvent::Put { client, deps, .. } => {
+            if !is_home(scenario, dc, *client) {
+                return Ok(false);
+            }
+            has_context(world, *client, deps)
+        }
+        NodeEvent::Get { client, .. } => Ok(is_home(scenario, dc, *client)),
+        NodeEvent::Deliver(put) => Ok(is_sent(world, put)),
+        NodeEvent::Ask { .. } | NodeEvent::Mark { .. } | NodeEvent::Settle { .. } => Ok(true),
+    }
+}
+
+/// Whether it is the client's data centre.
+fn is_home(scenario: &Scenario, dc: u8, client: u16) -> bool
+    ensures { IsTrue result ↔ IsHomeOf (setting_of scenario.now) dc client }
+{
+    match scenario.clients().get(client as usize) {
+        Some(it) => it.at == dc,
+        None => false,
+    }
+}
+
+/// Whether these are the pairs of the client's context.
+fn has_context(world: &World, client: u16, deps: &Deps) -> Result<bool, Memory>
+    ensures { IfOk result (λ is. IsTrue is ↔ (deps.now ≡ context_in world.now.world client)) }
+{
+    let context = world.deps(client)?;
+    Ok(context.as_slice() == deps.as_slice())
+}
+
+/// Whether the put was issued as it is.
+fn is_sent(world: &World, put: &PutRecord) -> bool
+    ensures { IsTrue result ↔ (sent world.now.world.issued put.now.version ≡ Some put.now) }
+{
+    match world.sent(put.version) {
+        Some(sent) => is_same_put(sent, put),
+        None => false,
+    }
+}
+
+/// Whether the puts are the same.
+fn is_same_put(one: &PutRecord, other: &PutRecord) -> bool
+    ensures { IsTrue result ↔ (one.now ≡ other.now) }
+{
+    if one.key != other.key {
+        return false;
+    }
+    if one.value != other.value {
+        return false;
+    }
+    if one.version != other.version {
+        return false;
+    }
+    one.deps.as_slice() == other.deps.as_slice()
+}
+
+/// The world's event that a node's event is.
+fn world_event(dc: u8, event: &NodeEvent) -> Result<Event, AllocError>
+    ensures { IfOk result (λ e. e ≡ event_at dc event.now) }
+{
+    Ok(match event {
+        NodeEvent::Put {
+            client,
+            key,
+            value,
+            ..
+        } => Event::Put {
+            client: *client,
+            key: key.clone()?,
+            value: value.clone()?,
+        },
+        NodeEvent::Get { client, key } => Event::Get {
+            client: *client,
+            key: key.clone()?,
+        },
+        NodeEvent::Deliver(put) => Event::Deliver {
+            dc,
+            version: put.version,
+        },
+        NodeEvent::Ask { key, version } => Event::Ask {
+            dc,
+            key: key.clone()?,
+            version: *version,
+        },
+        NodeEvent::Mark { version, dep } => Event::Mark {
+            dc,
+            version: *version,
+            dep: *dep,
+        },
+        NodeEvent::Settle { version } => Event::Settle {
+            dc,
+            version: *version,
+        },
+    })
+}
+
+/// Whether the clients of both histories saw the same.
+fn is_same(one: &History, other: &History) -> bool
+    ensures { IsTrue result ↔ (one.now.sessions ≡ other.now.sessions) }
+{
+    if one.clients() != other.clients() {
+        return false;
+    }
+    for client in 0..one.clients() {
+        if one.session(client as u16) != other.session(client as u16) {
+            return false;
+        }
+    }
+    true
+}
+
+/// The ticket above the greatest: 0 where there is no entry, and the greatest `u64` where that is a ticket.
+fn next_ticket(order: &[Turn<'_>]) -> u64
+    ensures { result ≡ ticket_after (map shown order.now) }
+{
+    match order.last() {
+        Some(turn) => turn.entry.ticket.saturating_add(1),
+        None => 0,
+    }
+}
