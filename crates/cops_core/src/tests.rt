@@ -166,6 +166,28 @@ fn a_full_context(rt: HostRuntime) -> Result<(), Fail> {
     Ok(())
 }
 
+/// A client gets a key that shows nothing.
+fn misses(rt: &HostRuntime, world: &mut World) -> Result<bool, TypeFault> {
+    let rows = [(Row::Get(0, b'k'), Wanted::Missed)];
+    Ok(answered(rt, world, &rows)? == 1)
+}
+
+/// A client with 1,000,000 operations is refused more, and others are not.
+#[test]
+fn a_full_session(rt: HostRuntime) -> Result<(), Fail> {
+    let mut world = open(&rt, 1, &[0, 0])?;
+    for _ in 0..1_000_000 {
+        assert!(rt; misses(&rt, &mut world)?);
+    }
+    let rows = [
+        (Row::Get(0, b'k'), Wanted::Refused(11)),
+        (Row::Put(0, b'k', b'1'), Wanted::Refused(11)),
+        (Row::Put(1, b'k', b'1'), Wanted::Put(1, 0)),
+    ];
+    assert_eq!(rt; answered(&rt, &mut world, &rows)?, 3);
+    Ok(())
+}
+
 #[test]
 fn who_and_what_is_not_there(rt: HostRuntime) -> Result<(), Fail> {
     let mut world = open(&rt, 2, &[0, 1])?;
