@@ -85,60 +85,71 @@ fn deps(alloc: Global, clock: u64) -> Result<Deps, TypeFault> {
     Deps::new(pairs)
 }
 
+fn put_event(alloc: Global, clock: u64) -> Result<NodeEvent, TypeFault> {
+    let key = Key::new(alloc, b"x")?;
+    let value = Value::new(alloc, b"1")?;
+    let deps = deps(alloc, clock)?;
+    Ok(NodeEvent::Put {
+        client: 0,
+        key,
+        value,
+        deps,
+    })
+}
+
 /// The entry of a put of x=1, which depends on the put of a clock, or on none.
 fn put_entry(alloc: Global, ticket: u64, clock: u64) -> Result<Entry, TypeFault> {
+    let outcome = Outcome::PutDone(Version::new(1, 0)?);
+    let event = put_event(alloc, clock)?;
     Ok(Entry {
         ticket,
-        event: NodeEvent::Put {
-            client: 0,
-            key: Key::new(alloc, b"x")?,
-            value: Value::new(alloc, b"1")?,
-            deps: deps(alloc, clock)?,
-        },
-        outcome: Outcome::PutDone(Version::new(1, 0)?),
+        event,
+        outcome,
     })
+}
+
+fn got(alloc: Global) -> Result<Outcome, TypeFault> {
+    let version = Version::new(1, 0)?;
+    Ok(Outcome::Got(Value::new(alloc, b"1")?, version))
 }
 
 /// The entry of a get of x, which found 1, or nothing.
 fn get_entry(alloc: Global, ticket: u64, found: bool) -> Result<Entry, TypeFault> {
+    let outcome = if found { got(alloc)? } else { Outcome::Missed };
     let key = Key::new(alloc, b"x")?;
+    let event = NodeEvent::Get { client: 0, key };
     Ok(Entry {
         ticket,
-        event: NodeEvent::Get { client: 0, key },
-        outcome: if found {
-            Outcome::Got(Value::new(alloc, b"1")?, Version::new(1, 0)?)
-        } else {
-            Outcome::Missed
-        },
+        event,
+        outcome,
+    })
+}
+
+/// The put of x=1, or a get of it.
+fn op(alloc: Global, is_got: bool) -> Result<Op, TypeFault> {
+    let version = Version::new(1, 0)?;
+    let key = Key::new(alloc, b"x")?;
+    let value = Value::new(alloc, b"1")?;
+    Ok(if is_got {
+        Op::Got {
+            key,
+            value,
+            version,
+        }
+    } else {
+        Op::Put {
+            key,
+            value,
+            version,
+        }
     })
 }
 
 /// The first records of a trace in which the client puts x=1 and gets it.
 fn trace(alloc: Global, records: usize) -> Result<Trace, Fail> {
     let mut trace = Trace::new(alloc, 1)?;
-    if records > 0 {
-        let (key, value) = (Key::new(alloc, b"x")?, Value::new(alloc, b"1")?);
-        let version = Version::new(1, 0)?;
-        trace.push(
-            0,
-            Op::Put {
-                key,
-                value,
-                version,
-            },
-        )?;
-    }
-    if records > 1 {
-        let (key, value) = (Key::new(alloc, b"x")?, Value::new(alloc, b"1")?);
-        let version = Version::new(1, 0)?;
-        trace.push(
-            0,
-            Op::Got {
-                key,
-                value,
-                version,
-            },
-        )?;
+    for i in 0..records {
+        trace.push(0, op(alloc, i > 0)?)?;
     }
     Ok(trace)
 }
