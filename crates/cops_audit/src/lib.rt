@@ -41,6 +41,3 @@ pub use stale::stale_among;
 pub use table::{VersionedPut, doubled, is_rising, put_names, puts_by_version};
 pub use verdict::{Faults, NotAbove, SoFar, Stale, Verdict};
 pub use window::{Suspect, suspects};
-
-#[cfg(test)]
-mod tests;

@@ -1,8 +1,9 @@
-//! What the benchmarks of a node and of a world run, for the scripts in `bench/`: `node PAIRS TURNS AMONG`, or `world FILE MODE`. With
-//! no words it does nothing.
+//! What the benchmarks of a node, of a world and of the tie run, for the scripts in `bench/`: `node PAIRS TURNS AMONG`,
+//! `world FILE MODE`, or `tie FILE MODE`. With no words it does nothing.
 #![tactic(auto)]
 
 mod node;
+mod tie;
 mod world;
 
 use anyhow::Error;
@@ -19,6 +20,7 @@ fn main(rt: HostRuntime) -> Result<(), Error> {
             among.parse()?,
         ),
         [what, path, mode] if what.as_str() == "world" => world::happen(&rt, path, mode),
+        [what, path, mode] if what.as_str() == "tie" => tie::tie_up(&rt, path, mode),
         _ => Ok(()),
     }
 }

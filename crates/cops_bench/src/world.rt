@@ -80,7 +80,7 @@ fn event(alloc: Global, line: &str) -> Result<Event, Error> {
 }
 
 /// The events of a text, one a line.
-fn events_of(alloc: Global, text: &str) -> Result<Vec<Event>, Error> {
+pub fn events_of(alloc: Global, text: &str) -> Result<Vec<Event>, Error> {
     let mut events = Vec::new(alloc);
     for line in text.lines() {
         events.push(event(alloc, line)?)?;

@@ -9,6 +9,3 @@ mod fault;
 
 pub use context::Context;
 pub use fault::ContextFault;
-
-#[cfg(test)]
-mod tests;

@@ -23,6 +23,3 @@ pub use event::{Event, Said};
 pub use fault::WorldFault;
 pub use laws::every_interleaving_is_accepted;
 pub use world::World;
-
-#[cfg(test)]
-mod tests;

@@ -12,6 +12,3 @@ mod taken;
 pub use fault::HeldFault;
 pub use held::Held;
 pub use taken::Taken;
-
-#[cfg(test)]
-mod tests;

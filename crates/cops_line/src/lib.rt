@@ -11,6 +11,3 @@ mod reading;
 pub use fault::LineFault;
 pub use job::Job;
 pub use reading::line;
-
-#[cfg(test)]
-mod tests;

@@ -12,6 +12,3 @@ mod frame;
 pub use ends::{Finished, LinkIn, LinkOut, MAX_CAPACITY, link};
 pub use fault::{LinkFault, SendFault};
 pub use frame::{Frame, PutAfters};
-
-#[cfg(test)]
-mod tests;

@@ -14,6 +14,3 @@ pub use event::NodeEvent;
 pub use node::Node;
 pub use outcome::Outcome;
 pub use refusal::{CLOCK_EXHAUSTED, DEPS_OPEN, MEMORY, NO_SUCH_DEP, NOT_HELD};
-
-#[cfg(test)]
-mod tests;

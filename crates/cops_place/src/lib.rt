@@ -9,6 +9,3 @@ mod place;
 
 pub use fault::PlaceFault;
 pub use place::{MAX_DCS, MAX_SPLITS, Place};
-
-#[cfg(test)]
-mod tests;

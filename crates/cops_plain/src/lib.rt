@@ -15,6 +15,3 @@ mod stale;
 mod table;
 
 pub use judging::judge;
-
-#[cfg(test)]
-mod tests;

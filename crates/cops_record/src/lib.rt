@@ -10,6 +10,3 @@ mod records;
 
 pub use fault::{IntoTraceFault, RecordFault};
 pub use recorder::{Recorder, Slot};
-
-#[cfg(test)]
-mod tests;

@@ -14,6 +14,3 @@ mod search;
 pub use chains::chain;
 pub use laws::{chain_is_evidence, one_chain, past_has_a_chain};
 pub use reports::report;
-
-#[cfg(test)]
-mod tests;

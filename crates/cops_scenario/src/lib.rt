@@ -13,6 +13,3 @@ mod scenario;
 pub use fault::{Field, ScenarioFault};
 pub use line::outcome_line;
 pub use scenario::{Scenario, ScriptOp, ScriptedClient};
-
-#[cfg(test)]
-mod tests;

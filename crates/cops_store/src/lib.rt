@@ -10,6 +10,3 @@ mod store;
 
 pub use settled::Settled;
 pub use store::Store;
-
-#[cfg(test)]
-mod tests;

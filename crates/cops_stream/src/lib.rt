@@ -11,6 +11,3 @@ mod show;
 pub use audit::{Answer, StreamFault, audit_stream};
 pub use run::run_stream;
 pub use show::show_stream;
-
-#[cfg(test)]
-mod tests;

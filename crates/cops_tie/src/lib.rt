@@ -15,6 +15,3 @@ pub use entry::Entry;
 pub use fault::TieFault;
 pub use laws::untied_is_not_tied;
 pub use tying::tie;
-
-#[cfg(test)]
-mod tests;

@@ -20,6 +20,3 @@ pub use reading::{read_so_far, read_trace};
 pub use record::Record;
 pub use trace::{Partial, Trace};
 pub use writing::{write_text, write_trace};
-
-#[cfg(test)]
-mod tests;

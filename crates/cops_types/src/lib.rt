@@ -31,6 +31,3 @@ pub use op::{Op, OpName};
 pub use put_record::{NodeStatus, PutRecord};
 pub use value::{MAX_VALUE, Value};
 pub use version::{MAX_CLOCK, MAX_NODE, Version};
-
-#[cfg(test)]
-mod tests;

@@ -38,6 +38,3 @@ pub use laws::{
 pub use legality::{legal, legal_in};
 pub use message::Message;
 pub use showing::show;
-
-#[cfg(test)]
-mod tests;
