@@ -6,6 +6,7 @@ use std::sync::Wait;
 use std::sync::atomic::{AtomicBool, Ordering};
 use std::test::Fail;
 use std::thread;
+use std::thread::Threads;
 
 /// An operation with a key and a value of one byte, and a version's clock on node 0.
 #[derive(Clone, Copy)]
@@ -89,7 +90,10 @@ const CLEAN: [(u16, Did); 4] = [
 ];
 
 /// Whether 1, 2, 3 and 64 workers say what one does.
-fn all_agree(rt: &HostRuntime, entries: &[(u16, Did)]) -> Result<bool, Fail> {
+fn all_agree<R: Threads + Wait + Sync + AllocGlobal>(
+    rt: &R,
+    entries: &[(u16, Did)],
+) -> Result<bool, Fail> {
     let alloc = rt.alloc();
     let history = history(alloc, 3, entries)?;
     let plain = judge(alloc, &history)?;
@@ -182,7 +186,11 @@ impl Gate for Meeting {
 }
 
 /// Whether the pieces meet and the verdict is that of one worker.
-fn meets(rt: &HostRuntime, entries: &[(u16, Did)], workers: u8) -> Result<bool, Fail> {
+fn meets<R: Threads + Wait + Sync + AllocGlobal>(
+    rt: &R,
+    entries: &[(u16, Did)],
+    workers: u8,
+) -> Result<bool, Fail> {
     let alloc = rt.alloc();
     let history = history(alloc, 3, entries)?;
     let plain = judge(alloc, &history)?;
@@ -203,6 +211,7 @@ fn pieces_stand_side_by_side(rt: HostRuntime) -> Result<(), Fail> {
 }
 
 /// Holds a call at one point alone.
+#[derive(Clone, Copy)]
 struct HoldsAt {
     point: Point,
 }
@@ -219,7 +228,11 @@ impl Gate for HoldsAt {
 }
 
 /// Whether a call by three workers is held at the point.
-fn is_held(rt: &HostRuntime, entries: &[(u16, Did)], point: Point) -> Result<bool, Fail> {
+fn is_held<R: Threads + Wait + Sync + AllocGlobal>(
+    rt: &R,
+    entries: &[(u16, Did)],
+    point: Point,
+) -> Result<bool, Fail> {
     let alloc = rt.alloc();
     let history = history(alloc, 3, entries)?;
     let verdict = judge_with(rt, alloc, &history, 3, &HoldsAt { point });
