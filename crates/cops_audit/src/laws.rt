@@ -1,12 +1,12 @@
 ghost use Rattle.std.specs.Prelude.{◌↔◌, List};
 ghost use Rattle.cops_types.specs.declared.op.OpName.{OpName};
 ghost use Rattle.cops_types.specs.Histories.{Sessions};
-ghost use Rattle.cops_types.specs.Convergence.{ConvergesBy, IsVersionOrder};
+ghost use Rattle.cops_types.specs.Convergence.{ConvergesBy, IsCausallyConvergent, IsVersionOrder};
 ghost use Rattle.cops_types.specs.Verdicts.{IsAccepted, NoneDoubled};
 ghost use Rattle.cops_audit.specs.declared.verdict.Verdict.{Verdict};
 ghost use Rattle.cops_audit.specs.declared.verdict.SoFar.{SoFar};
 ghost use Rattle.cops_audit.specs.SoFar.{Continues, IsSoFar};
-ghost use Rattle.cops_audit.specs.Verdicts.{Accepts, IsVerdict, SameVerdict};
+ghost use Rattle.cops_audit.specs.Verdicts.{Accepts, ConvergesByVersions, IsVerdict, SameVerdict};
 
 /// A law of the definitions: a history is accepted exactly where no version is borne by two puts and it is causally
 /// convergent with the version order as its arbitration.
@@ -28,4 +28,11 @@ pub fn clean_exactly_where_accepted()
 /// A law of the definitions: what is refused so far is refused however it goes on.
 pub fn refused_stays_refused()
     ensures { (h longer : Sessions) (v : Verdict) → IsSoFar h SoFar.Refused → Continues h longer → IsVerdict longer v → ¬ Accepts v }
+{}
+
+/// A law of the definitions: where a verdict is acceptance the history is causally convergent, and it is acceptance exactly
+/// where no version is borne by two puts and the history converges by the order of its versions.
+pub fn verdict_on_convergence()
+    ensures convergent { (h : Sessions) (v : Verdict) → IsVerdict h v → Accepts v → IsCausallyConvergent h }
+    ensures exactly { (h : Sessions) (v : Verdict) → IsVerdict h v → Accepts v ↔ ConvergesByVersions h }
 {}

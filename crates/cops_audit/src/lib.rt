@@ -3,7 +3,8 @@
 //! the sense of CCv (Bouajjani, Enea, Guerraoui, Hamza, POPL 2017), for puts that carry versions, with the order of
 //! versions as the arbitration. Stands on cops_types, which has the definitions. The layers above use the verdict, that
 //! it is the only one, that acceptance is convergence by the order of versions, and the past of an operation. A judge
-//! that shares the work uses the tables and the search for each class among given names.
+//! that shares the work uses the tables, the search for each class among given names, and the verdict that the faults
+//! of all names make.
 #![tactic(auto)]
 
 mod assessing;
@@ -17,6 +18,7 @@ mod online;
 mod ops;
 mod rising;
 mod search;
+mod settling;
 mod stale;
 mod sweep;
 mod table;
@@ -27,17 +29,18 @@ mod window;
 
 pub use assessing::assess;
 pub use judging::judge;
-pub use keys::{Keys, first_places, link};
+pub use keys::{Keys, first_places, link, passed_firsts};
 pub use laws::{
     accepted_exactly_where_convergent, clean_exactly_where_accepted, one_verdict,
-    refused_stays_refused,
+    refused_stays_refused, verdict_on_convergence,
 };
 pub use names::all_names;
 pub use notes::{Note, Notes, Seen, without_source};
 pub use online::Online;
 pub use rising::not_above;
 pub use search::past;
-pub use stale::stale_among;
+pub use settling::{refused_before_stale, refused_doubled, verdict_by_stale};
+pub use stale::{stale_among, stale_by};
 pub use table::{VersionedPut, doubled, is_rising, put_names, puts_by_version};
 pub use verdict::{Faults, NotAbove, SoFar, Stale, Verdict};
 pub use window::{Suspect, suspects};

@@ -1,0 +1,79 @@
+-- Pieces that stand one after the other.
+use Rattle.std.proofs.Common.{◌≡◌, ℕ, zero, suc, ◌+◌, ◌*◌, ◌/◌, ◌%◌, ◌<◌, ◌≤◌, List, [], ◌∷◌, ◌++◌, length, sym, ◌∙◌, ap, arith, subst, inl, inr, min, All, get_or, slice_index_or}
+use Rattle.std.proofs.Math.Nat.{mul-le-mul_left}
+use Rattle.std.proofs.Math.Seq.{get_or-append_seam}
+use Rattle.std.proofs.lemmas.Bool.{cases_lt, lt-ltb, le-ltb}
+use Rattle.std.proofs.lemmas.List.{get_or_append_left}
+use Rattle.cops_types.specs.declared.gate.Point.{Point}
+use Rattle.cops_batch.specs.declared.pieces.Piece.{Piece}
+use Rattle.cops_batch.specs.declared.pieces.State.TheVariants.{Held}
+use Rattle.cops_batch.specs.Pieces.{Each, IsCut, IsHeldByGate, IsReady, LiesWithin, MayHoldPiece, SamePlaces, piece_len}
+
+-- one more piece at the end
+pub cut_more : (i a b : ℕ) (ps : List Piece) (p : Piece) → IsCut i a ps b → p.number ≡ i + length ps → p.start ≡ b → IsCut i a (ps ++ p ∷ []) (b + p.len)
+cut_more i a b [] p cut number start = (omega (arith, number), start ∙ sym cut, ap (λ k. k + p.len) cut)
+cut_more i a b (q ∷ qs) p cut number start =
+    (cut.0, cut.1, cut_more (i + 1) (a + q.len) b qs p cut.2 (omega (arith, number)) start)
+
+-- the pieces so far end within the operations
+pub cut_bound : (count w n b : ℕ) → 0 < w → n < w → b ≡ (n + 1) * (count / w) + min (n + 1) (count % w) → b ≤ count
+cut_bound count w n b some below is =
+    let h : (count / w) * (n + 1) ≤ (count / w) * w = mul-le-mul_left (count / w) (omega arith) in
+    omega arith
+
+-- the length of a piece, by whether it is among the longer ones
+pub len_is : (count workers n len : ℕ) → (n < count % workers → len ≡ count / workers + 1) → (count % workers ≤ n → len ≡ count / workers) → len ≡ piece_len count workers n
+len_is count workers n len longer shorter = elim (cases_lt n (count % workers)) [
+  | inl l ↦ rw (lt-ltb n (count % workers) l) (longer l)
+  | inr s ↦ rw (le-ltb n (count % workers) s) (shorter s ∙ omega arith)
+]
+
+-- the lengths of the pieces so far, with one more
+pub lengths_more : (count workers n : ℕ) (ps : List Piece) (p : Piece) → length ps ≡ n → ((k : ℕ) (d : Piece) → k < n → (get_or ps k d).len ≡ piece_len count workers k) → p.len ≡ piece_len count workers n
+    → (k : ℕ) (d : Piece) → k < n + 1 → (get_or (ps ++ p ∷ []) k d).len ≡ piece_len count workers k
+lengths_more count workers n ps p len old new k d below = elim (cases_lt k n) [
+  | inl before ↦ ap (λ (q : Piece). q.len) (get_or_append_left ps (p ∷ []) d k (omega (arith, before, len))) ∙ old k d before
+  | inr last ↦
+      let at : k ≡ length ps = omega (arith, below, last, len) in
+      let is : k ≡ n = omega (arith, below, last) in
+      ap (λ m. (get_or (ps ++ p ∷ []) m d).len) at ∙ (ap (λ (q : Piece). q.len) (get_or-append_seam ps p [] d) ∙ (new ∙ ap (λ m. piece_len count workers m) (sym is)))
+]
+
+pub all_one : (P : Piece → Type 0) (p : Piece) → P p → All P (p ∷ [])
+all_one P p h zero d below = h
+all_one P p h (suc k) d below = absurd (omega arith)
+
+cut_number : (i a b : ℕ) (ps : List Piece) (k : ℕ) (d : Piece) → IsCut i a ps b → k < length ps → (slice_index_or ps k d).number ≡ i + k
+cut_number i a b [] k d cut below = absurd (omega arith)
+cut_number i a b (p ∷ ps) zero d cut below = omega (arith, cut.0)
+cut_number i a b (p ∷ ps) (suc k) d cut below = omega (arith, cut_number (i + 1) (a + p.len) b ps k d cut.2 (omega arith))
+
+-- pieces that stand where these stand
+pub cut_same : (i a b : ℕ) (ps qs : List Piece) → length qs ≡ length ps → SamePlaces ps qs → IsCut i a ps b → IsCut i a qs b
+cut_same i a b [] [] len same cut = cut
+cut_same i a b [] (q ∷ qs) len same cut = absurd (omega (arith, len))
+cut_same i a b (p ∷ ps) [] len same cut = absurd (omega (arith, len))
+cut_same i a b (p ∷ ps) (q ∷ qs) len same cut =
+    let here = same zero p (omega arith) in
+    let n : q.len ≡ p.len = here.2 in
+    let P : ℕ → Type 0 = λ k. IsCut (i + 1) (a + k) qs b in (
+      here.0 ∙ cut.0,
+      here.1 ∙ cut.1,
+      subst P (sym n) (cut_same (i + 1) (a + p.len) b ps qs (omega (arith, len)) (λ k d below. same (suc k) d (omega (arith, below))) cut.2),
+    )
+
+-- pieces that stand where these stand lie within as many operations
+pub ready_same : (n : ℕ) (may_hold : Point → Type 0) (ps qs : List Piece) → length qs ≡ length ps → SamePlaces ps qs → All (LiesWithin n) ps → Each (IsHeldByGate may_hold) qs → All (IsReady n may_hold) qs
+ready_same n may_hold ps qs len same within held k d below =
+    let old : k < length ps = omega (arith, below, len) in
+    let place = same k d old in
+    (omega (arith, within k d old, place.1, place.2), held k d below)
+
+-- a piece that was held may be held by the gate
+pub held_at : (may_hold : Point → Type 0) (ps : List Piece) (k : ℕ) (p : Piece) (b : ℕ) → k < length ps → p ≡ get_or ps k p → p.state ≡ Held
+    → IsCut 0 0 ps b → Each (IsHeldByGate may_hold) ps → (x : ℕ) × (x < length ps) × MayHoldPiece may_hold x
+held_at may_hold ps k p b below is state cut all =
+    let n : p.number ≡ 0 + k = ap (λ (q : Piece). q.number) is ∙ cut_number 0 0 b ps k p cut below in
+    let P : Piece → Type 0 = IsHeldByGate may_hold in
+    let mine : IsHeldByGate may_hold p = subst P (sym is) (all k p below) in
+    (p.number, omega (arith, n, below), mine state)

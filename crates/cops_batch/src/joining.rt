@@ -1,0 +1,100 @@
+ghost use Rattle.std.specs.Prelude.{◌≡◌, ◌≢◌, ◌<◌, ℕ, IfOk, IfErr, IfSome, IfNone, IsErrOf, OnOk, length, flat_map};
+ghost use Rattle.cops_types.specs.Verdicts.{AllAbove, AllHaveSources};
+ghost use Rattle.cops_audit.specs.Verdicts.{IsVerdict};
+ghost use Rattle.cops_batch.specs.Pieces.{Each, IsCut, IsHeldByGate, MayHoldPiece};
+ghost use Rattle.cops_batch.specs.Tables.{AreTables, IsSearched};
+ghost use Rattle.cops_batch.specs.declared.pieces.State.TheVariants.{Fine};
+ghost use Rattle.cops_batch.specs.declared.fault.BatchFault.TheVariants.{BadWorkers, Held};
+
+use crate::fault::BatchFault;
+use crate::pieces::{Piece, State};
+use crate::tables::Tables;
+use cops_audit::{NotAbove, Stale, Verdict, refused_before_stale};
+use cops_types::{Gate, OpName};
+use std::alloc::{AllocError, Global};
+
+/// Whether nothing went wrong in any piece. A worker that was held comes before want of memory.
+pub fn finished<G: Gate>(gate: &G, pieces: &[Piece], count: usize) -> Result<(), BatchFault>
+    requires cut { IsCut 0 0 pieces.now count }
+    requires held { Each (IsHeldByGate (G.may_hold gate.now)) pieces.now }
+    ensures fine { OnOk result (Each (λ p. p.state ≡ Fine) pieces.now) }
+    ensures bad { IfErr result (λ e. e ≢ BadWorkers) }
+    ensures held { IsErrOf result Held → (i : ℕ) × (i < length pieces.now) × MayHoldPiece (G.may_hold gate.now) i }
+{
+    for piece in pieces {
+        if let State::Held = piece.state {
+            return Err(BatchFault::Held);
+        }
+    }
+    for piece in pieces {
+        match piece.state {
+            State::Fine => {}
+            State::Memory => return Err(BatchFault::Memory),
+            State::Held => unreachable!(),
+        }
+    }
+    Ok(())
+}
+
+/// The names that the workers found, in the order of their pieces.
+pub fn joined_names(alloc: Global, pieces: &[Piece]) -> Result<Vec<OpName>, AllocError>
+    ensures { IfOk result (λ v. v.items ≡ flat_map (λ p. p.names.items) pieces.now) }
+{
+    let mut all = Vec::new(alloc);
+    for piece in pieces {
+        all.extend_from_slice(piece.names.as_slice())?;
+    }
+    Ok(all)
+}
+
+/// The puts not above that the workers found, in the order of their pieces.
+fn joined_not_above(alloc: Global, pieces: &[Piece]) -> Result<Vec<NotAbove>, AllocError>
+    ensures { IfOk result (λ v. v.items ≡ flat_map (λ p. p.not_above.items) pieces.now) }
+{
+    let mut all = Vec::new(alloc);
+    for piece in pieces {
+        all.extend_from_slice(piece.not_above.as_slice())?;
+    }
+    Ok(all)
+}
+
+/// The stale gets that the workers found, in the order of their pieces.
+pub fn joined_stale(alloc: Global, pieces: &[Piece]) -> Result<Vec<Stale>, AllocError>
+    ensures { IfOk result (λ v. v.items ≡ flat_map (λ p. p.stale.items) pieces.now) }
+{
+    let mut all = Vec::new(alloc);
+    for piece in pieces {
+        all.extend_from_slice(piece.stale.as_slice())?;
+    }
+    Ok(all)
+}
+
+/// The verdict of the classes before the stale gets, or `None` where they are empty in all pieces.
+pub fn joined_before_stale<G: Gate>(
+    alloc: Global,
+    tables: &Tables,
+    gate: &G,
+    pieces: &[Piece],
+) -> Result<Option<Verdict>, BatchFault>
+    requires tables { AreTables tables.now }
+    requires cut { IsCut 0 0 pieces.now (length tables.now.names.now) }
+    requires held { Each (IsHeldByGate (G.may_hold gate.now)) pieces.now }
+    requires found { Each (λ p. p.state ≡ Fine → IsSearched tables.now p) pieces.now }
+    ensures refused { IfOk result (λ r. IfSome r (IsVerdict tables.now.history.now.sessions)) }
+    ensures sources { IfOk result (λ r. IfNone r (AllHaveSources tables.now.history.now.sessions)) }
+    ensures above { IfOk result (λ r. IfNone r (AllAbove tables.now.history.now.sessions)) }
+    ensures bad { IfErr result (λ e. e ≢ BadWorkers) }
+    ensures held { IsErrOf result Held → (i : ℕ) × (i < length pieces.now) × MayHoldPiece (G.may_hold gate.now) i }
+{
+    finished(gate, pieces, tables.names.len())?;
+    let sourceless = joined_names(alloc, pieces)?;
+    let not_above = joined_not_above(alloc, pieces)?;
+    Ok(refused_before_stale(
+        tables.history,
+        tables.names,
+        tables.table,
+        &tables.notes,
+        sourceless,
+        not_above,
+    ))
+}
