@@ -12,6 +12,3 @@ mod tables;
 
 pub use batch::judge_with;
 pub use fault::BatchFault;
-
-#[cfg(test)]
-mod tests;

@@ -1,4 +1,4 @@
-use super::*;
+use cops_batch::*;
 use cops_audit::{Faults, Stale, Verdict, judge};
 use cops_types::{Gate, GateHeld, History, Key, Op, OpName, OpenGate, Point, Value, Version};
 use std::alloc::Global;
