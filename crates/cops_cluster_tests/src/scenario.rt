@@ -1,6 +1,6 @@
-use cops_scenario::*;
 use cops_core::Event;
 use cops_node::Outcome;
+use cops_scenario::*;
 use cops_types::{Key, Memory, TypeFault, Value, Version};
 use std::alloc::Global;
 use std::test::Fail;

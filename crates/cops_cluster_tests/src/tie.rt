@@ -1,7 +1,7 @@
-use cops_tie::*;
 use cops_core::Event;
 use cops_node::{NodeEvent, Outcome};
 use cops_scenario::Scenario;
+use cops_tie::*;
 use cops_trace::Trace;
 use cops_types::{Dep, Deps, Key, Op, TypeFault, Value, Version};
 use std::alloc::Global;

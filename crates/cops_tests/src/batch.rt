@@ -1,5 +1,5 @@
-use cops_batch::*;
 use cops_audit::{Faults, Stale, Verdict, judge};
+use cops_batch::*;
 use cops_types::{Gate, GateHeld, History, Key, Op, OpName, OpenGate, Point, Value, Version};
 use std::alloc::Global;
 use std::sync::Wait;

@@ -1,5 +1,5 @@
-use cops_plain::*;
 use cops_audit::{Faults, Verdict};
+use cops_plain::*;
 use cops_types::{History, Key, Op, Value, Version};
 use std::alloc::Global;
 use std::test::Fail;

@@ -1,5 +1,5 @@
-use cops_report::*;
 use cops_audit::judge;
+use cops_report::*;
 use cops_types::{History, Key, Memory, Op, OpName, Value, Version};
 use std::alloc::Global;
 use std::test::Fail;

@@ -1,5 +1,5 @@
-use cops_wire::*;
 use cops_types::{Deps, Format, Key, Value, Version};
+use cops_wire::*;
 use std::alloc::{AllocError, Global};
 use std::test::Fail;
 
