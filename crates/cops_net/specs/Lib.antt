@@ -1,0 +1,4 @@
+pub mod Answers
+pub mod Protocol
+pub mod Sessions
+pub mod Turns

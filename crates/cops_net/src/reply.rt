@@ -1,0 +1,51 @@
+//! What a session answers, and its calls with their answers.
+use cops_types::{Key, NodeStatus, Value, Version};
+
+/// A node's answer to a put, a get, or a question whether a put is there.
+#[derive(Debug, Drop)]
+pub enum Reply {
+    /// The put has this version.
+    PutDone(Version),
+    /// The get found this value with this version.
+    Got(Value, Version),
+    /// The get found nothing.
+    Missed,
+    /// The put is there.
+    Yes,
+    /// The put is not there yet.
+    Wait,
+    /// It was refused with this code, not 0.
+    Refused(u8),
+}
+
+/// A call of a session with its answer.
+#[derive(Debug, Drop)]
+pub enum Call {
+    /// A greeting: the client's data centre and its number of nodes, or a refusal's code.
+    Hello {
+        client: u16,
+        answer: Result<(u8, u8), u8>,
+    },
+    /// A put.
+    Put {
+        key: Key,
+        value: Value,
+        answer: Reply,
+    },
+    /// A get.
+    Get {
+        key: Key,
+        answer: Reply,
+    },
+    /// A question whether this put is there.
+    DepCheck {
+        key: Key,
+        version: Version,
+        answer: Reply,
+    },
+    /// A question how the node of this place stands: nothing where there is none.
+    Status {
+        place: u8,
+        answer: Option<NodeStatus>,
+    },
+}
