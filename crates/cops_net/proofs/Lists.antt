@@ -1,5 +1,5 @@
 -- Sessions that go on: more messages, with more calls.
-use Rattle.std.proofs.Common.{◌≡◌, Bool, true, false, ◌||◌, if◌then◌else◌, List, [], ◌∷◌, ◌++◌, MatchBool, refl, sym, ap, subst, ◌∙◌}
+use Rattle.std.proofs.Common.{◌≡◌, ℕ, suc, length, Bool, true, false, ◌||◌, if◌then◌else◌, List, [], ◌∷◌, ◌++◌, MatchBool, refl, sym, ap, subst, ◌∙◌}
 use Rattle.std.proofs.Math.Bool.{or-false}
 use Rattle.std.proofs.lemmas.List.{append-nil}
 use Rattle.std.specs.List.{list_any}
@@ -83,3 +83,17 @@ bye_only (message.TracePut _ _ _ _ _) e = absurd cc
 bye_only (message.TraceGot _ _ _ _ _) e = absurd cc
 bye_only (message.TraceMissed _ _ _) e = absurd cc
 bye_only (message.TraceEnd _) e = absurd cc
+
+pub one_reply : (greeted : Bool) (ms : List Message) (calls : List Call) → AreCallsOf greeted ms calls → length (replies greeted ms calls) ≡ length ms
+one_reply greeted [] calls h = refl
+one_reply greeted (m ∷ ms) calls h = go (λ b cs x. one_reply b ms cs x) (is_handed greeted m) calls h
+  where
+    from : Bool → List Call → List Message
+    from handed cs = if handed then from_first cs (λ c later. told (seq_of m) c ∷ replies (greeted || welcomes c) ms later) else own_reply greeted m ∷ replies greeted ms cs
+
+    go : ((b : Bool) (cs : List Call) → AreCallsOf b ms cs → length (replies b ms cs) ≡ length ms) → (handed : Bool) → (cs : List Call)
+        → MatchBool handed (HasFirst cs (λ c rest. Hands m c × AreCallsOf (greeted || welcomes c) ms rest)) (AreCallsOf greeted ms cs)
+        → length (from handed cs) ≡ suc (length ms)
+    go again true [] h = absurd h
+    go again true (c ∷ cs) h = ap suc (again (greeted || welcomes c) cs h.1)
+    go again false cs h = ap suc (again greeted cs h)

@@ -2,3 +2,4 @@ pub mod Answers
 pub mod Protocol
 pub mod Sessions
 pub mod Turns
+pub mod Listening

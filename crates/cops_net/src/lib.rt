@@ -13,12 +13,19 @@
 mod answering;
 mod fault;
 mod incoming;
+mod laws;
+mod listening;
 mod own;
 mod reply;
 mod serving;
 mod session;
 
 pub use fault::NetFault;
+pub use laws::one_reply_each;
+pub use listening::listen;
 pub use reply::{Call, Reply};
 pub use serving::{Served, serve_session};
 pub use session::Session;
+
+#[cfg(test)]
+mod tests;

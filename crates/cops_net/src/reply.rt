@@ -1,5 +1,6 @@
 //! What a session answers, and its calls with their answers.
 use cops_types::{Key, NodeStatus, Value, Version};
+use std::alloc::AllocError;
 
 /// A node's answer to a put, a get, or a question whether a put is there.
 #[derive(Debug, Drop)]
@@ -16,6 +17,24 @@ pub enum Reply {
     Wait,
     /// It was refused with this code, not 0.
     Refused(u8),
+}
+
+/// A copy that equals it.
+impl Clone for Reply {
+    ghost use Rattle.std.specs.Prelude.{◌≡◌};
+
+    ghost is_clone = { λ s t. t ≡ s };
+
+    fn clone(&self) -> Result<Reply, AllocError> {
+        Ok(match self {
+            Reply::PutDone(version) => Reply::PutDone(*version),
+            Reply::Got(value, version) => Reply::Got(value.clone()?, *version),
+            Reply::Missed => Reply::Missed,
+            Reply::Yes => Reply::Yes,
+            Reply::Wait => Reply::Wait,
+            Reply::Refused(code) => Reply::Refused(*code),
+        })
+    }
 }
 
 /// A call of a session with its answer.
