@@ -1,0 +1,24 @@
+-- Sessions, one after the other.
+use Rattle.std.proofs.Common.{◌≡◌, ℕ, zero, suc, ◌+◌, false, List, [], ◌∷◌, ◌++◌, Result, Ok, Err, refl, sym, subst, add-one, inl, inr}
+use Rattle.cops_net.specs.declared.fault.NetFault.{NetFault}
+use Rattle.cops_net.specs.declared.fault.NetFault.TheVariants.{Memory, Wire, ReadFailed, WriteFailed, TurnLimit, BindFailed, AcceptFailed}
+use Rattle.cops_net.specs.declared.reply.Call.{Call}
+use Rattle.cops_net.specs.declared.serving.Served.{Served}
+use Rattle.cops_net.specs.Sessions.{Serves}
+use Rattle.cops_net.specs.Listening.{IsSession, AreSessions}
+
+-- however a session ended, its calls are those of some messages
+pub is_session : (P : Type 0) (input : List ℕ) (calls : List Call) (written : List ℕ) (r : Result Served NetFault) → Serves P input calls written r → IsSession calls
+is_session P input calls written (Ok served) s = (s.0, s.2.called)
+is_session P input calls written (Err Memory) (ms, rest, stays, inl a) = (ms, a.called)
+is_session P input calls written (Err Memory) (ms, rest, stays, inr b) = (ms ++ b.0 ∷ [], b.1.called)
+is_session P input calls written (Err (Wire fault)) s = (s.0, s.3.called)
+is_session P input calls written (Err ReadFailed) s = (s.0, s.3.called)
+is_session P input calls written (Err WriteFailed) s = (s.0 ++ s.3.0 ∷ [], s.3.1.called)
+is_session P input calls written (Err TurnLimit) s = (s.0, s.3.2.called)
+is_session P input calls written (Err BindFailed) s = absurd s
+is_session P input calls written (Err AcceptFailed) s = absurd s
+
+-- one session more
+pub session_more : (n : ℕ) (before last : List Call) → AreSessions n before → IsSession last → AreSessions (n + 1) (before ++ last)
+session_more n before last h s = rw add-one (before, last, refl, h, s)

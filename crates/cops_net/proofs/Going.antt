@@ -1,0 +1,151 @@
+-- A session from message to message, and its ends.
+use Rattle.std.proofs.Common.{◌≡◌, ◌≢◌, ℕ, ◌+◌, Bool, true, false, ◌||◌, List, [], ◌∷◌, ◌++◌, length, take, drop, Some, None, Result, Ok, Err, refl, sym, ap, subst, ◌∙◌, append_assoc, inl, inr, arith}
+use Rattle.std.specs.Prelude.{◌⊎◌}
+use Rattle.std.specs.List.{list_any}
+use Rattle.std.proofs.lemmas.List.{append-nil, length-append, take-append-drop, length-drop}
+use Rattle.std.proofs.lemmas.List.Folds.{list_any-append}
+use Rattle.std.proofs.lemmas.Grind.{flat_map-append}
+use Rattle.cops_wire.specs.declared.message.Message.{Message}
+use Rattle.cops_net.specs.declared.fault.NetFault.{NetFault}
+use Rattle.cops_net.specs.declared.fault.NetFault.TheVariants.{Memory, Wire, ReadFailed, WriteFailed, TurnLimit, BindFailed, AcceptFailed}
+use Rattle.cops_net.specs.declared.reply.Call.{Call}
+use Rattle.cops_net.specs.Protocol.{AreCallsOf, replies, welcomes}
+use Rattle.cops_net.specs.Sessions.{spelled, text, is_bye, StaysOpen, Answered, BrokeOff, Serves}
+use Rattle.cops_net.specs.Turns.{IsTurn, IsTaken, IsAnswered}
+use Rattle.cops_net.proofs.Lists.{calls-append, replies-append, replies_ignore, bye_only}
+
+one_more : (ms : List Message) (m : Message) → text (ms ++ m ∷ []) ≡ text ms ++ spelled m
+one_more ms m = flat_map-append spelled ms (m ∷ []) ∙ ap (λ (x : List ℕ). text ms ++ x) (append-nil (spelled m))
+
+-- nothing was taken yet
+pub begun : Answered [] [] [] [] []
+begun = record { read = refl; called = refl; told = refl }
+
+-- more bytes came, and none was taken
+pub more_came : (ms : List Message) (input : List ℕ) (calls : List Call) (written rest more : List ℕ) → Answered ms input calls written rest
+    → Answered ms (input ++ more) calls written (rest ++ more)
+more_came ms input calls written rest more a = record {
+  read = ap (λ (x : List ℕ). x ++ more) a.read ∙ append_assoc (text ms) rest more;
+  called = a.called;
+  told = a.told;
+}
+
+read_one : (ms : List Message) (m : Message) (input rest more left : List ℕ) → input ≡ text ms ++ rest → rest ++ more ≡ spelled m ++ left
+    → input ++ more ≡ text (ms ++ m ∷ []) ++ left
+read_one ms m input rest more left e k =
+    ap (λ (x : List ℕ). x ++ more) e ∙ append_assoc (text ms) rest more ∙ ap (λ (x : List ℕ). text ms ++ x) k
+    ∙ sym (append_assoc (text ms) (spelled m) left) ∙ ap (λ (x : List ℕ). x ++ left) (sym (one_more ms m))
+
+replied_one : (ms : List Message) (m : Message) (calls gained : List Call) (reply : Message) → AreCallsOf false ms calls → IsTurn (list_any welcomes calls) m gained reply
+    → replies false (ms ++ m ∷ []) (calls ++ gained) ≡ replies false ms calls ++ reply ∷ []
+replied_one ms m calls gained reply h t = replies-append false ms (m ∷ []) calls gained h ∙ ap (λ (x : List Message). replies false ms calls ++ x) t.reply_is
+
+-- a message was taken and answered
+pub goes_on : (ms : List Message) (input : List ℕ) (calls : List Call) (written rest : List ℕ) (m : Message) (more left : List ℕ) (gained : List Call) (reply : Message)
+    → Answered ms input calls written rest → rest ++ more ≡ spelled m ++ left → IsTurn (list_any welcomes calls) m gained reply
+    → Answered (ms ++ m ∷ []) (input ++ more) (calls ++ gained) (written ++ spelled reply) left
+goes_on ms input calls written rest m more left gained reply a k t = record {
+  read = read_one ms m input rest more left a.read k;
+  called = calls-append false ms (m ∷ []) calls gained a.called t.called;
+  told =
+      ap (λ (x : List ℕ). x ++ spelled reply) a.told ∙ sym (one_more (replies false ms calls) reply)
+      ∙ ap text (sym (replied_one ms m calls gained reply a.called t));
+}
+
+-- a message was taken and handed over, and its reply was not written whole
+pub breaks_off : (ms : List Message) (input : List ℕ) (calls : List Call) (written rest : List ℕ) (m : Message) (more left : List ℕ) (gained : List Call) (reply : Message) (part missing : List ℕ)
+    → Answered ms input calls written rest → rest ++ more ≡ spelled m ++ left → IsTurn (list_any welcomes calls) m gained reply
+    → spelled reply ≡ part ++ missing → missing ≢ []
+    → BrokeOff ms m (input ++ more) (calls ++ gained) (written ++ part) left
+breaks_off ms input calls written rest m more left gained reply part missing a k t parts_are some = record {
+  read = read_one ms m input rest more left a.read k;
+  called = calls-append false ms (m ∷ []) calls gained a.called t.called;
+  reply = reply;
+  last_reply = replied_one ms m calls gained reply a.called t ∙ ap (λ (x : List Message). x ++ reply ∷ []) (sym (replies_ignore false ms calls gained a.called));
+  part = part;
+  missing = missing;
+  parts_are = parts_are;
+  some_missing = some;
+  told = ap (λ (x : List ℕ). x ++ part) (a.told ∙ ap text (sym (replies_ignore false ms calls gained a.called)));
+}
+
+-- ---- the ends of a session
+
+-- no message was taken, for a fault
+pub ends_reading : (P : Type 0) (ms : List Message) (input : List ℕ) (calls : List Call) (written rest more left : List ℕ) (e : NetFault)
+    → StaysOpen ms → Answered ms input calls written rest → IsTaken P (rest ++ more) (Err e) left → Serves P (input ++ more) calls written (Err e)
+ends_reading P ms input calls written rest more left Memory stays a t = (ms, rest ++ more, stays, inl (more_came ms input calls written rest more a))
+ends_reading P ms input calls written rest more left (Wire fault) stays a t = (ms, rest ++ more, stays, more_came ms input calls written rest more a, t)
+ends_reading P ms input calls written rest more left ReadFailed stays a t = (ms, rest ++ more, stays, more_came ms input calls written rest more a, t)
+ends_reading P ms input calls written rest more left WriteFailed stays a t = absurd t
+ends_reading P ms input calls written rest more left TurnLimit stays a t = absurd t
+ends_reading P ms input calls written rest more left BindFailed stays a t = absurd t
+ends_reading P ms input calls written rest more left AcceptFailed stays a t = absurd t
+
+-- the input ended behind a message
+pub ends_input : (P : Type 0) (ms : List Message) (input : List ℕ) (calls : List Call) (written rest more left : List ℕ) (n : ℕ)
+    → StaysOpen ms → Answered ms input calls written rest → n ≡ length ms → IsTaken P (rest ++ more) (Ok None) left
+    → Serves P (input ++ more) calls written (Ok (record { answered = n }))
+ends_input P ms input calls written rest more left n stays a count t =
+    (ms, rest ++ more, more_came ms input calls written rest more a, count, inr (stays, t.0, t.1))
+
+-- the client said that it ends
+pub ends_bye : (P : Type 0) (ms : List Message) (input : List ℕ) (calls : List Call) (written rest : List ℕ) (m : Message) (more left : List ℕ) (gained : List Call) (out : List ℕ) (after : Bool) (n : ℕ)
+    → StaysOpen ms → Answered ms input calls written rest → n ≡ length ms → rest ++ more ≡ spelled m ++ left
+    → IsAnswered (list_any welcomes calls) m gained out (Ok after) → is_bye m ≡ true
+    → Serves P (input ++ more) (calls ++ gained) (written ++ out) (Ok (record { answered = n + 1 }))
+ends_bye P ms input calls written rest m more left gained out after n stays a count k t bye = (
+  ms ++ m ∷ [],
+  left,
+  subst (λ (x : List ℕ). Answered (ms ++ m ∷ []) (input ++ more) (calls ++ gained) (written ++ x) left) (sym t.2) (goes_on ms input calls written rest m more left gained t.0 a k t.1),
+  omega (arith, count, length-append ms (m ∷ [])),
+  inl (ms, stays, ap (λ (x : Message). ms ++ x ∷ []) (bye_only m bye)),
+)
+
+-- a message was not answered
+pub ends_answering : (P : Type 0) (ms : List Message) (input : List ℕ) (calls : List Call) (written rest : List ℕ) (m : Message) (more left : List ℕ) (gained : List Call) (out : List ℕ) (e : NetFault)
+    → StaysOpen ms → Answered ms input calls written rest → rest ++ more ≡ spelled m ++ left
+    → IsAnswered (list_any welcomes calls) m gained out (Err e)
+    → Serves P (input ++ more) (calls ++ gained) (written ++ out) (Err e)
+ends_answering P ms input calls written rest m more left gained out Memory stays a k (none, inl silent) =
+    (ms, rest ++ more, stays, inl (rw (none, silent, append-nil calls, append-nil written) (more_came ms input calls written rest more a)))
+ends_answering P ms input calls written rest m more left gained out Memory stays a k (none, inr (reply, t, some)) =
+    (ms, left, stays, inr (m, rw none (breaks_off ms input calls written rest m more left gained reply [] (spelled reply) a k t refl some)))
+ends_answering P ms input calls written rest m more left gained out WriteFailed stays a k (reply, t, (n, fewer, part)) = (
+  ms,
+  left,
+  stays,
+  (
+    m,
+    rw part (breaks_off ms input calls written rest m more left gained reply (take n (spelled reply)) (drop n (spelled reply)) a k t
+        (sym (take-append-drop n (spelled reply))) (λ e. absurd (omega (arith, ap length e, length-drop n (spelled reply), fewer)))),
+  ),
+)
+ends_answering P ms input calls written rest m more left gained out (Wire fault) stays a k t = absurd t
+ends_answering P ms input calls written rest m more left gained out ReadFailed stays a k t = absurd t
+ends_answering P ms input calls written rest m more left gained out TurnLimit stays a k t = absurd t
+ends_answering P ms input calls written rest m more left gained out BindFailed stays a k t = absurd t
+ends_answering P ms input calls written rest m more left gained out AcceptFailed stays a k t = absurd t
+
+-- one message too many
+pub ends_full : (P : Type 0) (ms : List Message) (input : List ℕ) (calls : List Call) (written rest : List ℕ) (m : Message) (more left : List ℕ)
+    → StaysOpen ms → Answered ms input calls written rest → length ms ≡ 1000000 → IsTaken P (rest ++ more) (Ok (Some m)) left
+    → Serves P (input ++ more) calls written (Err TurnLimit)
+ends_full P ms input calls written rest m more left stays a count t =
+    (ms, left, stays, (m, t.0, subst (λ (x : List ℕ). Answered ms (input ++ more) calls written x) t.1 (more_came ms input calls written rest more a)), count)
+
+-- one message more, which does not end the session
+pub stays_open : (ms : List Message) (m : Message) → StaysOpen ms → is_bye m ≡ false → StaysOpen (ms ++ m ∷ [])
+stays_open ms m stays bye = list_any-append is_bye ms (m ∷ []) ∙ rw (stays, bye) refl
+
+pub greeted_on : (calls gained : List Call) → (list_any welcomes calls || list_any welcomes gained) ≡ list_any welcomes (calls ++ gained)
+greeted_on calls gained = sym (list_any-append welcomes calls gained)
+
+-- what is said where it did not fail
+pub heard_ok : {T E P : Type 0} (x : T) (e : E) → ◌≡◌ {A = Result T E} (Ok x) (Err e) ⊎ P → P
+heard_ok x e (inl q) = absurd cc
+heard_ok x e (inr p) = p
+
+-- an error is the same whatever else might have been answered
+pub same_error : {T U E : Type 0} (a b : E) → ◌≡◌ {A = Result T E} (Err a) (Err b) → ◌≡◌ {A = Result U E} (Err a) (Err b)
+same_error a b q = let e : a ≡ b = cc in ap Err e

@@ -1,0 +1,19 @@
+use Rattle.std.proofs.Common.{[], ◌∷◌, ◌++◌, sym, ap, ◌∙◌}
+use Rattle.std.proofs.lemmas.List.{append-nil}
+use Rattle.cops_net.proofs.Turning.{handed_turn, own_turn}
+use Rattle.cops_net.proofs.answering.answer.Goals as goal
+
+pub returns-then-not-is_handed-clause-ok : goal.returns-then-not-is_handed-clause-ok
+returns-then-not-is_handed-clause-ok g c = (
+  [],
+  sym (append-nil _),
+  own_turn c.args.greeted c.args.message c.own_reply.result (sym c.is_handed.ensures ∙ c.if-not-is_handed.true) c.own_reply.ensures.reply c.own_reply.ensures.no_welcome,
+)
+
+pub returns-clause-ok : goal.returns-clause-ok
+returns-clause-ok g c =
+    let t = c.ask.ensures.told in (
+      t.0 ∷ [],
+      t.1 ∙ ap (λ x. x ++ t.0 ∷ []) c.in_ok-room.ensures.kept,
+      handed_turn c.args.greeted c.args.message t.0 c.ask.result (sym c.is_handed.ensures ∙ c.if-not-is_handed.false) t.2 t.3 t.4,
+    )

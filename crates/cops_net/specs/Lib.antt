@@ -1,0 +1,5 @@
+pub mod Answers
+pub mod Protocol
+pub mod Sessions
+pub mod Turns
+pub mod Listening

@@ -1,0 +1,28 @@
+-- What the front door's sessions did, one after the other.
+use Rattle.std.specs.Prelude.{◌≡◌, ℕ, zero, suc, ◌<◌, ◌≤◌, false, List, [], ◌++◌, Result, Ok, Err}
+use Rattle.cops_wire.specs.declared.message.Message.{Message}
+use Rattle.cops_net.specs.declared.fault.NetFault.{NetFault}
+use Rattle.cops_net.specs.declared.fault.NetFault.TheVariants.{Memory, Wire, ReadFailed, WriteFailed, TurnLimit, BindFailed, AcceptFailed}
+use Rattle.cops_net.specs.declared.reply.Call.{Call}
+use Rattle.cops_net.specs.Protocol.{AreCallsOf}
+
+-- the calls of one session: those of some messages, one for each that is handed over
+abbrev pub IsSession : List Call → Type 0
+IsSession calls = (ms : List Message) × AreCallsOf false ms calls
+
+-- the calls of so many sessions, one after the other
+abbrev pub AreSessions : ℕ → List Call → Type 0
+AreSessions zero calls = calls ≡ []
+AreSessions (suc n) calls = (before : List Call) × (last : List Call) × (calls ≡ before ++ last) × AreSessions n before × IsSession last
+
+-- How many sessions were begun, of so many that were asked for: all; fewer, where no connection could be accepted; none,
+-- where the port could not be bound. For want of memory the last that was begun ended.
+abbrev pub IsCount : ℕ → ℕ → Result (Unit {0}) NetFault → Type 0
+IsCount asked begun (Ok u) = begun ≡ asked
+IsCount asked begun (Err Memory) = (0 < begun) × (begun ≤ asked)
+IsCount asked begun (Err AcceptFailed) = begun < asked
+IsCount asked begun (Err BindFailed) = begun ≡ 0
+IsCount asked begun (Err (Wire fault)) = ⊥
+IsCount asked begun (Err ReadFailed) = ⊥
+IsCount asked begun (Err WriteFailed) = ⊥
+IsCount asked begun (Err TurnLimit) = ⊥

@@ -1,0 +1,118 @@
+-- The protocol of the front door: each message of a client has one reply, in order. Some messages are handed to the
+-- session, whose answer the reply tells; the front door answers the others itself.
+use Rattle.std.specs.Prelude.{◌≡◌, ℕ, min, Bool, true, false, ◌||◌, ◌==◌, if◌then◌else◌, MatchBool, List, [], ◌∷◌, Option, Some, None, Result, Ok, Err}
+use Rattle.cops_types.specs.declared.put_record.NodeStatus.{NodeStatus}
+use Rattle.cops_wire.specs.declared.message.Message.{Message}
+use Rattle.cops_wire.specs.declared.message.Message.TheVariants.{Hello, HelloOk, Put, Get, PutDone, Got, Missed, Refused, DepCheck, DepYes, DepWait, Status, StatusIs, Bye, ByeOk}
+use Rattle.cops_net.specs.declared.reply.Reply.{Reply}
+use Rattle.cops_net.specs.declared.reply.Reply.TheVariants as replied
+use Rattle.cops_net.specs.declared.reply.Call.{Call}
+use Rattle.cops_net.specs.declared.reply.Call.TheVariants as called
+
+-- the asker's number of a message, or 0 where it has none
+abbrev pub seq_of : Message → ℕ
+seq_of (Put seq key value) = seq
+seq_of (Get seq key) = seq
+seq_of (PutDone seq version) = seq
+seq_of (Got seq value version) = seq
+seq_of (Missed seq) = seq
+seq_of (Refused seq code) = seq
+seq_of (DepCheck seq key version) = seq
+seq_of (DepYes seq) = seq
+seq_of (DepWait seq) = seq
+seq_of (Status seq node) = seq
+seq_of (StatusIs seq clock keys settled held) = seq
+seq_of _ = 0
+
+-- Whether a message is handed to the session: before the greeting was answered, a greeting of profile 1; after it, a
+-- put, a get, and the questions whether a put is there and how a node stands.
+abbrev pub is_handed : Bool → Message → Bool
+is_handed false (Hello profile client) = profile == 1
+is_handed true (Put seq key value) = true
+is_handed true (Get seq key) = true
+is_handed true (DepCheck seq key version) = true
+is_handed true (Status seq node) = true
+is_handed _ _ = false
+
+-- The front door's own reply to a message that it does not hand over. 16: no greeting was answered yet. 17: a profile
+-- that is not 1. 18: a second greeting, or no message of a client.
+abbrev pub own_reply : Bool → Message → Message
+own_reply greeted Bye = ByeOk
+own_reply false (Hello profile client) = Refused 0 17
+own_reply true (Hello profile client) = Refused 0 18
+own_reply greeted (Put seq key value) = Refused seq 16
+own_reply greeted (Get seq key) = Refused seq 16
+own_reply greeted (DepCheck seq key version) = Refused seq 16
+own_reply greeted (Status seq node) = Refused seq 16
+own_reply greeted m = Refused (seq_of m) 18
+
+-- this call hands the message over
+abbrev pub Hands : Message → Call → Type 0
+Hands (Hello profile client) (called.Hello c answer) = c ≡ client
+Hands (Put seq key value) (called.Put k v answer) = (k ≡ key) × (v ≡ value)
+Hands (Get seq key) (called.Get k answer) = k ≡ key
+Hands (DepCheck seq key version) (called.DepCheck k v answer) = (k ≡ key) × (v ≡ version)
+Hands (Status seq node) (called.Status place answer) = place ≡ node
+Hands _ _ = ⊥
+
+-- a greeting's answer as a message
+abbrev pub welcome : ℕ → Result (ℕ × ℕ) ℕ → Message
+welcome seq (Ok place) = HelloOk place.0 place.1
+welcome seq (Err code) = Refused seq code
+
+-- a node's answer as a message
+abbrev pub outcome : ℕ → Reply → Message
+outcome seq (replied.PutDone version) = PutDone seq version
+outcome seq (replied.Got value version) = Got seq value version
+outcome seq replied.Missed = Missed seq
+outcome seq replied.Yes = DepYes seq
+outcome seq replied.Wait = DepWait seq
+outcome seq (replied.Refused code) = Refused seq code
+
+-- the greatest count that a message tells
+abbrev pub capped : ℕ → ℕ
+capped n = min n 4294967295
+
+-- how a node stands as a message; 19: there is no such node
+abbrev pub standing : ℕ → Option NodeStatus → Message
+standing seq None = Refused seq 19
+standing seq (Some s) = StatusIs seq s.clock (capped s.keys) (capped s.settled) (capped s.held)
+
+-- the reply that tells a call's answer
+abbrev pub told : ℕ → Call → Message
+told seq (called.Hello client answer) = welcome seq answer
+told seq (called.Put key value answer) = outcome seq answer
+told seq (called.Get key answer) = outcome seq answer
+told seq (called.DepCheck key version answer) = outcome seq answer
+told seq (called.Status place answer) = standing seq answer
+
+-- a greeting that was answered with a data centre
+abbrev pub welcomes : Call → Bool
+welcomes (called.Hello client (Ok place)) = true
+welcomes _ = false
+
+-- there is a first call, and this holds of it and the calls that follow
+abbrev pub HasFirst : List Call → (Call → List Call → Type 0) → Type 0
+HasFirst [] P = ⊥
+HasFirst (c ∷ cs) P = P c cs
+
+-- the messages that the first call and those that follow give, if there is one
+abbrev pub from_first : List Call → (Call → List Call → List Message) → List Message
+from_first [] f = []
+from_first (c ∷ cs) f = f c cs
+
+-- The calls are those of the messages that are handed over, one for each, in order.
+abbrev pub AreCallsOf : Bool → List Message → List Call → Type 0
+AreCallsOf greeted [] calls = calls ≡ []
+AreCallsOf greeted (m ∷ ms) calls =
+    MatchBool (is_handed greeted m)
+    (HasFirst calls (λ c cs. Hands m c × AreCallsOf (greeted || welcomes c) ms cs))
+    (AreCallsOf greeted ms calls)
+
+-- The replies to messages, one for each, told from the calls. Where a call is missing they end.
+abbrev pub replies : Bool → List Message → List Call → List Message
+replies greeted [] calls = []
+replies greeted (m ∷ ms) calls =
+    if is_handed greeted m
+    then from_first calls (λ c cs. told (seq_of m) c ∷ replies (greeted || welcomes c) ms cs)
+    else own_reply greeted m ∷ replies greeted ms calls

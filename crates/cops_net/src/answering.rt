@@ -1,0 +1,128 @@
+//! A message and its reply.
+ghost use Rattle.std.specs.Prelude.{◌≡◌, ◌++◌, ◌∷◌, [], List, true, IfOk, OnErr};
+ghost use Rattle.std.specs.Io.KnownBytes.{Appends};
+ghost use Rattle.cops_types.specs.declared.format.Format.TheVariants.{One};
+ghost use Rattle.cops_wire.specs.Grammar.{grammar, IsMessage};
+ghost use Rattle.cops_wire.specs.Message.{parts};
+ghost use Rattle.cops_net.specs.declared.reply.Call.{Call as ACall};
+ghost use Rattle.cops_net.specs.Answers.{IsWelcome, IsStanding};
+ghost use Rattle.cops_net.specs.Protocol.{seq_of, is_handed, Hands, told, welcome, outcome, standing, capped, welcomes};
+ghost use Rattle.cops_net.specs.Turns.{HasCode, is_welcome, IsTurn};
+
+use crate::own::{is_handed, own_reply};
+use crate::reply::Reply;
+use crate::session::Session;
+use cops_types::{Memory, NodeStatus};
+use cops_wire::Message;
+use std::sync::Wait;
+
+/// There is no such node.
+const NO_SUCH_NODE: u8 = 19;
+
+/// The answer to a greeting as a message.
+fn welcome(answer: Result<(u8, u8), u8>) -> Message
+    requires { IsWelcome answer }
+    ensures message { result ≡ welcome 0 answer }
+    ensures legal { IsMessage (grammar One) (parts result) }
+{
+    match answer {
+        Ok((dc, nodes)) => Message::HelloOk { dc, nodes },
+        Err(code) => Message::Refused { seq: 0, code },
+    }
+}
+
+/// A node's answer as a message.
+fn outcome(seq: u32, reply: Reply) -> Message
+    requires { HasCode reply }
+    ensures message { result ≡ outcome seq reply }
+    ensures legal { IsMessage (grammar One) (parts result) }
+{
+    match reply {
+        Reply::PutDone(version) => {
+            let _version = version.as_u64();
+            Message::PutDone { seq, version }
+        }
+        Reply::Got(value, version) => {
+            let _value = value.as_bytes();
+            let _version = version.as_u64();
+            Message::Got {
+                seq,
+                value,
+                version,
+            }
+        }
+        Reply::Missed => Message::Missed { seq },
+        Reply::Yes => Message::DepYes { seq },
+        Reply::Wait => Message::DepWait { seq },
+        Reply::Refused(code) => Message::Refused { seq, code },
+    }
+}
+
+/// A count as a message tells it: at most the greatest that it can tell.
+fn capped(count: u64) -> u32
+    ensures { result ≡ capped count }
+{
+    count.min(u64::from(u32::MAX)) as u32
+}
+
+/// How a node stands as a message.
+fn standing(seq: u32, status: Option<NodeStatus>) -> Message
+    requires { IsStanding status }
+    ensures message { result ≡ standing seq status }
+    ensures legal { IsMessage (grammar One) (parts result) }
+{
+    match status {
+        Some(status) => Message::StatusIs {
+            seq,
+            clock: status.clock,
+            keys: capped(status.keys),
+            settled: capped(status.settled),
+            held: capped(status.held),
+        },
+        None => Message::Refused {
+            seq,
+            code: NO_SUCH_NODE,
+        },
+    }
+}
+
+/// Hands a message to the session, which has room for the call, and tells its answer.
+fn ask<R: Wait, S: Session>(rt: &R, session: &mut S, greeted: bool, message: Message) -> Message
+    requires handed { is_handed greeted message ≡ true }
+    requires room { S.has_room session.old }
+    ensures told { (call : ACall) × (S.calls session.new ≡ S.calls session.old ++ call ∷ [])
+        × Hands message call × (result ≡ told (seq_of message) call) × (is_welcome result ≡ welcomes call) }
+    ensures legal { IsMessage (grammar One) (parts result) }
+{
+    let _greeted = greeted;
+    match message {
+        Message::Hello { client, .. } => welcome(session.hello(client)),
+        Message::Put { seq, key, value } => outcome(seq, session.put(rt, key, value)),
+        Message::Get { seq, key } => outcome(seq, session.get(rt, &key)),
+        Message::DepCheck { seq, key, version } => {
+            outcome(seq, session.dep_check(rt, &key, version))
+        }
+        Message::Status { seq, node } => standing(seq, session.status(rt, node)),
+        _ => unreachable!(),
+    }
+}
+
+/// The reply to a message, which is handed to the session by one call, or by none. Where memory runs out it was not
+/// handed over.
+pub(crate) fn answer<R: Wait, S: Session>(
+    rt: &R,
+    session: &mut S,
+    greeted: bool,
+    message: Message,
+) -> Result<Message, Memory>
+    ensures ok { IfOk result (λ reply. (gained : List ACall) × (S.calls session.new ≡ S.calls session.old ++ gained)
+        × IsTurn greeted message gained reply) }
+    ensures err { OnErr result (S.calls session.new ≡ S.calls session.old) }
+    ensures legal { IfOk result (λ reply. IsMessage (grammar One) (parts reply)) }
+{
+    if !is_handed(greeted, &message) {
+        return Ok(own_reply(greeted, &message));
+    }
+    session.room()?;
+    Ok(ask(rt, session, greeted, message))
+}

@@ -1,0 +1,50 @@
+//! Why a session or the front door ended.
+ghost use Rattle.std.specs.Prelude.{◌≡◌};
+ghost use Rattle.cops_net.specs.declared.fault.NetFault.TheVariants.{Memory as OutOfMemory};
+
+use cops_types::Memory;
+use cops_wire::WireFault;
+use std::alloc::AllocError;
+use thiserror::Error;
+
+/// Why a session, or the front door, ended before its end.
+#[derive(Clone, Copy, Debug, PartialEq, Eq, Error)]
+pub enum NetFault {
+    /// 0: memory ran out, here or in the session.
+    #[error("out of memory")]
+    Memory,
+    /// 1: what the client sent is no message; `Short` where its bytes end inside a frame.
+    #[error("{0}")]
+    Wire(WireFault),
+    /// 2: a read failed.
+    #[error("a read failed")]
+    ReadFailed,
+    /// 3: a write failed.
+    #[error("a write failed")]
+    WriteFailed,
+    /// 4: the client sent a 1,000,001st message.
+    #[error("too many messages")]
+    TurnLimit,
+    /// 5: the port could not be bound.
+    #[error("the port could not be bound")]
+    BindFailed,
+    /// 6: no connection could be accepted.
+    #[error("no connection could be accepted")]
+    AcceptFailed,
+}
+
+impl From<Memory> for NetFault {
+    ghost from_gives = { λ _ e. e ≡ OutOfMemory };
+
+    fn from(_e: Memory) -> NetFault {
+        NetFault::Memory
+    }
+}
+
+impl From<AllocError> for NetFault {
+    ghost from_gives = { λ _ e. e ≡ OutOfMemory };
+
+    fn from(_e: AllocError) -> NetFault {
+        NetFault::Memory
+    }
+}

@@ -1,0 +1,102 @@
+//! Messages from a reader.
+ghost use Rattle.std.specs.Prelude.{◌≡◌, ◌≢◌, ◌++◌, ◌+◌, ◌<◌, ◌^◌, ◌⊎◌, List, ℕ, length, None, Ok, Err, IsErrOf, OnOk, OnErr};
+ghost use Rattle.std.specs.Io.KnownBytes.{Consumes, IsAtEnd};
+ghost use Rattle.cops_types.specs.Failures.{Failed};
+ghost use Rattle.cops_types.specs.Counted.{failures, inner};
+ghost use Rattle.cops_net.specs.Turns.{IsTaken, IsFront};
+
+use crate::fault::NetFault;
+use cops_types::{Counted, Memory};
+use cops_wire::{Feeder, Message, WireFault, body_len};
+use std::alloc::Global;
+use std::io::Read;
+
+/// How many bytes are asked for in one read.
+const PIECE: usize = 4096;
+
+/// What came from a reader and is not taken yet.
+#[derive(Drop)]
+pub(crate) struct Incoming {
+    feeder: Feeder,
+    waiting: usize,
+    ghost counts: { waiting ≡ length feeder.rest },
+}
+
+impl Incoming {
+    ghost use Rattle.std.specs.Prelude.{[]};
+
+    /// Nothing came yet.
+    pub(crate) fn new(alloc: Global) -> Incoming
+        ensures { result.feeder.rest ≡ [] }
+    {
+        Incoming {
+            feeder: Feeder::new(alloc),
+            waiting: 0,
+        }
+    }
+
+    /// The message at the front of what came, or nothing while the front is no whole frame.
+    fn front(&mut self) -> Result<Option<Message>, NetFault>
+        ensures { IsFront self.old.feeder.rest result self.new.feeder.rest }
+    {
+        match self.feeder.next() {
+            Ok(Some(message)) => {
+                self.waiting = self.waiting - body_len(&message) - 4;
+                Ok(Some(message))
+            }
+            Ok(None) => Ok(None),
+            Err(WireFault::Memory) => Err(NetFault::Memory),
+            Err(fault) => Err(NetFault::Wire(fault)),
+        }
+    }
+
+    /// The next message, or nothing where the reader's bytes ended behind the last one. It reads pieces of at most 4,096
+    /// bytes, and no more than the message needs. A failed read is not tried again.
+    pub(crate) fn next<I: Read>(
+        &mut self,
+        reader: &mut Counted<I>,
+    ) -> Result<Option<Message>, NetFault>
+        ensures next { (came : List ℕ) × Consumes (I.remaining (inner reader.old)) (I.remaining (inner reader.new)) came
+            × IsTaken (IsAtEnd (I.remaining (inner reader.new))) (self.old.feeder.rest ++ came) result self.new.feeder.rest }
+        ensures failed { IsErrOf result NetFault.ReadFailed → Failed (failures reader.old) (failures reader.new) }
+        ensures heard { IsErrOf result NetFault.ReadFailed ⊎ (failures reader.new ≡ failures reader.old) }
+    {
+        let mut piece = [0u8; PIECE];
+        loop {
+            if let Some(message) = self.front()? {
+                return Ok(Some(message));
+            }
+            let count = match reader.read(&mut piece) {
+                Ok(count) => count,
+                Err(_) => return Err(NetFault::ReadFailed),
+            };
+            if count == 0 {
+                return at_end(self.waiting);
+            }
+            self.feed(&piece[..count])?;
+        }
+    }
+
+    /// Takes the next piece. Where memory runs out nothing changes.
+    fn feed(&mut self, piece: &[u8]) -> Result<(), Memory>
+        requires { length self.old.feeder.rest + length piece.now < 2 ^ 63 }
+        ensures ok { OnOk result (self.new.feeder.rest ≡ self.old.feeder.rest ++ piece.now) }
+        ensures err { OnErr result (self.new.feeder.rest ≡ self.old.feeder.rest) }
+    {
+        self.feeder.feed(piece)?;
+        self.waiting += piece.len();
+        Ok(())
+    }
+}
+
+/// What is told where the reader's bytes ended and so many of them were not taken.
+fn at_end(waiting: usize) -> Result<Option<Message>, NetFault>
+    ensures none { waiting ≡ 0 → result ≡ Ok None }
+    ensures some { waiting ≢ 0 → result ≡ Err (NetFault.Wire WireFault.Short) }
+{
+    if waiting == 0 {
+        Ok(None)
+    } else {
+        Err(NetFault::Wire(WireFault::Short))
+    }
+}

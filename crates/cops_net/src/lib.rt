@@ -1,0 +1,31 @@
+//! The front door: a client's messages are read from a stream, each is handed to a session or answered at once, and one
+//! reply for each is written back, in order.
+//!
+//! `specs/Protocol.antt` has the protocol as functions of whole lists: which messages are handed over, as which calls, and
+//! the replies told from the messages and those calls. `serve_session` does that and nothing else; `listen` does it for
+//! one connection after the other. Who answers stands behind the trait `Session`, which keeps the list of its calls with
+//! their answers.
+//!
+//! Stands on `cops_types` and on the messages of `cops_wire`. The program uses that the replies tell the messages and what
+//! the session's list gained.
+#![tactic(auto)]
+
+mod answering;
+mod fault;
+mod incoming;
+mod laws;
+mod listening;
+mod own;
+mod reply;
+mod serving;
+mod session;
+
+pub use fault::NetFault;
+pub use laws::one_reply_each;
+pub use listening::listen;
+pub use reply::{Call, Reply};
+pub use serving::{Served, serve_session};
+pub use session::Session;
+
+#[cfg(test)]
+mod tests;

@@ -1,0 +1,90 @@
+//! What the front door answers itself.
+ghost use Rattle.std.specs.Prelude.{◌≡◌, false};
+ghost use Rattle.cops_types.specs.declared.format.Format.TheVariants.{One};
+ghost use Rattle.cops_wire.specs.Grammar.{grammar, IsMessage};
+ghost use Rattle.cops_wire.specs.Message.{parts};
+ghost use Rattle.cops_net.specs.Protocol.{seq_of, is_handed, own_reply};
+ghost use Rattle.cops_net.specs.Sessions.{is_bye};
+ghost use Rattle.cops_net.specs.Turns.{is_welcome};
+
+use cops_wire::Message;
+
+/// The one profile that a client may greet with.
+const PROFILE: u16 = 1;
+
+/// No greeting was answered yet.
+const NO_HELLO: u8 = 16;
+
+/// The profile is not 1.
+const BAD_PROFILE: u8 = 17;
+
+/// No message that a client may send here.
+const WRONG_KIND: u8 = 18;
+
+/// The asker's number of a message, or 0 where it has none.
+pub(crate) fn seq_of(message: &Message) -> u32
+    ensures { result ≡ seq_of message.now }
+{
+    match message {
+        Message::Put { seq, .. }
+        | Message::Get { seq, .. }
+        | Message::PutDone { seq, .. }
+        | Message::Got { seq, .. }
+        | Message::Missed { seq }
+        | Message::Refused { seq, .. }
+        | Message::DepCheck { seq, .. }
+        | Message::DepYes { seq }
+        | Message::DepWait { seq }
+        | Message::Status { seq, .. }
+        | Message::StatusIs { seq, .. } => *seq,
+        _ => 0,
+    }
+}
+
+/// Whether a message is handed to the session.
+pub(crate) fn is_handed(greeted: bool, message: &Message) -> bool
+    ensures { result ≡ is_handed greeted message.now }
+{
+    match message {
+        Message::Hello { profile, .. } => !greeted && *profile == PROFILE,
+        Message::Put { .. }
+        | Message::Get { .. }
+        | Message::DepCheck { .. }
+        | Message::Status { .. } => greeted,
+        _ => false,
+    }
+}
+
+/// Whether a message ends the session.
+pub(crate) fn is_bye(message: &Message) -> bool
+    ensures { result ≡ is_bye message.now }
+{
+    matches!(message, Message::Bye)
+}
+
+/// Whether a message is the answer to a greeting.
+pub(crate) fn is_welcome(message: &Message) -> bool
+    ensures { result ≡ is_welcome message.now }
+{
+    matches!(message, Message::HelloOk { .. })
+}
+
+/// The front door's own reply to a message that is not handed to the session.
+pub(crate) fn own_reply(greeted: bool, message: &Message) -> Message
+    requires { is_handed greeted message.now ≡ false }
+    ensures reply { result ≡ own_reply greeted message.now }
+    ensures legal { IsMessage (grammar One) (parts result) }
+    ensures no_welcome { is_welcome result ≡ false }
+{
+    let code = match message {
+        Message::Bye => return Message::ByeOk,
+        Message::Hello { .. } => { if greeted { WRONG_KIND } else { BAD_PROFILE } }
+        Message::Put { .. }
+        | Message::Get { .. }
+        | Message::DepCheck { .. }
+        | Message::Status { .. } => NO_HELLO,
+        _ => WRONG_KIND,
+    };
+    let seq = seq_of(message);
+    Message::Refused { seq, code }
+}

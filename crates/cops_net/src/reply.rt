@@ -1,0 +1,70 @@
+//! What a session answers, and its calls with their answers.
+use cops_types::{Key, NodeStatus, Value, Version};
+use std::alloc::AllocError;
+
+/// A node's answer to a put, a get, or a question whether a put is there.
+#[derive(Debug, Drop)]
+pub enum Reply {
+    /// The put has this version.
+    PutDone(Version),
+    /// The get found this value with this version.
+    Got(Value, Version),
+    /// The get found nothing.
+    Missed,
+    /// The put is there.
+    Yes,
+    /// The put is not there yet.
+    Wait,
+    /// It was refused with this code, not 0.
+    Refused(u8),
+}
+
+/// A copy that equals it.
+impl Clone for Reply {
+    ghost use Rattle.std.specs.Prelude.{◌≡◌};
+
+    ghost is_clone = { λ s t. t ≡ s };
+
+    fn clone(&self) -> Result<Reply, AllocError> {
+        Ok(match self {
+            Reply::PutDone(version) => Reply::PutDone(*version),
+            Reply::Got(value, version) => Reply::Got(value.clone()?, *version),
+            Reply::Missed => Reply::Missed,
+            Reply::Yes => Reply::Yes,
+            Reply::Wait => Reply::Wait,
+            Reply::Refused(code) => Reply::Refused(*code),
+        })
+    }
+}
+
+/// A call of a session with its answer.
+#[derive(Debug, Drop)]
+pub enum Call {
+    /// A greeting: the client's data centre and its number of nodes, or a refusal's code.
+    Hello {
+        client: u16,
+        answer: Result<(u8, u8), u8>,
+    },
+    /// A put.
+    Put {
+        key: Key,
+        value: Value,
+        answer: Reply,
+    },
+    /// A get.
+    Get {
+        key: Key,
+        answer: Reply,
+    },
+    /// A question whether this put is there.
+    DepCheck {
+        key: Key,
+        version: Version,
+        answer: Reply,
+    },
+    /// A question how the node of this place stands: nothing where there is none.
+    Status {
+        place: u8,
+        answer: Option<NodeStatus>,
+    },
+}

@@ -1,0 +1,128 @@
+//! One session of a client.
+ghost use Rattle.std.specs.Prelude.{◌≡◌, ◌++◌, ◌⊎◌, ◌<◌, List, ℕ, length, take, IsErrOf, OnOk, IfErr};
+ghost use Rattle.std.specs.Io.KnownBytes.{Appends, Consumes, IsAtEnd};
+ghost use Rattle.cops_types.specs.Failures.{Failed};
+ghost use Rattle.cops_types.specs.Counted.{failures, inner};
+ghost use Rattle.cops_net.specs.declared.reply.Call.{Call};
+ghost use Rattle.cops_net.specs.Sessions.{Serves};
+ghost use Rattle.cops_net.specs.Turns.{IsAnswered};
+
+use crate::answering::answer;
+use crate::fault::NetFault;
+use crate::incoming::Incoming;
+use crate::own::{is_bye, is_welcome};
+use crate::session::Session;
+use cops_types::Counted;
+use cops_wire::{Message, encode};
+use std::alloc::Global;
+use std::io::{Read, Write};
+use std::sync::Wait;
+
+/// The most messages of one session.
+const MAX_MESSAGES: u32 = 1_000_000;
+
+/// The most bytes of a reply.
+const LONGEST_REPLY: usize = 4_115;
+
+/// A session that came to its end.
+#[derive(Clone, Copy, Debug, PartialEq, Eq)]
+pub struct Served {
+    /// How many replies were written: one for each message.
+    pub answered: u32,
+}
+
+/// Writes all of a text, or tells how many of its first bytes were written, fewer than all. A failed write is not tried
+/// again.
+fn write_text<W: Write>(writer: &mut Counted<W>, text: &[u8]) -> Result<(), usize>
+    ensures ok { OnOk result (Appends (W.contents (inner writer.old)) (W.contents (inner writer.new)) text.now) }
+    ensures err { IfErr result (λ n. Appends (W.contents (inner writer.old)) (W.contents (inner writer.new)) (take n text.now)) }
+    ensures failed { IfErr result (λ n. (n < length text.now) × Failed (failures writer.old) (failures writer.new)) }
+    ensures heard { OnOk result (failures writer.new ≡ failures writer.old) }
+{
+    let mut written = 0;
+    while written < text.len() {
+        let (_, rest) = text.split_at(written);
+        match writer.write(rest) {
+            Ok(0) => return Err(written),
+            Ok(count) => written += count,
+            Err(_) => return Err(written),
+        }
+    }
+    Ok(())
+}
+
+/// Answers a message and writes its reply, which is put together in `out`. It tells whether the session was greeted by
+/// then.
+fn turn<R: Wait, W: Write, S: Session>(
+    rt: &R,
+    writer: &mut Counted<W>,
+    session: &mut S,
+    out: &mut Vec<u8>,
+    greeted: bool,
+    message: Message,
+) -> Result<bool, NetFault>
+    ensures answered { (gained : List Call) × (written : List ℕ)
+        × (S.calls session.new ≡ S.calls session.old ++ gained)
+        × Appends (W.contents (inner writer.old)) (W.contents (inner writer.new)) written
+        × IsAnswered greeted message gained written result }
+    ensures failed { IsErrOf result NetFault.WriteFailed → Failed (failures writer.old) (failures writer.new) }
+    ensures heard { IsErrOf result NetFault.WriteFailed ⊎ (failures writer.new ≡ failures writer.old) }
+{
+    out.clear();
+    let reply = answer(rt, session, greeted, message)?;
+    encode(&reply, out)?;
+    match write_text(writer, out) {
+        Ok(()) => Ok(greeted | is_welcome(&reply)),
+        Err(_) => Err(NetFault::WriteFailed),
+    }
+}
+
+/// Serves one client: reads its messages, hands over to the session those that the protocol hands over, and writes one
+/// reply for each, until the client says `Bye` or its bytes end between two messages. `answered` is the number of
+/// replies. It ends with `Wire` at a fault of the bytes, which is answered by nothing (`Short` where they end inside a
+/// frame), with `ReadFailed` or `WriteFailed` where a read or a write failed, which is not tried again, and with
+/// `TurnLimit` at a 1,000,001st message, which is not answered. At `Memory` the last message may be left out.
+pub fn serve_session<R: Wait, I: Read, W: Write, S: Session>(
+    rt: &R,
+    alloc: Global,
+    reader: &mut Counted<I>,
+    writer: &mut Counted<W>,
+    session: &mut S,
+) -> Result<Served, NetFault>
+    // The bytes that were taken from the reader, the calls that the session's list gained and the bytes that the writer
+    // gained are those of a session with this answer.
+    ensures serves { (input : List ℕ) × (gained : List Call) × (written : List ℕ)
+        × Consumes (I.remaining (inner reader.old)) (I.remaining (inner reader.new)) input
+        × (S.calls session.new ≡ S.calls session.old ++ gained)
+        × Appends (W.contents (inner writer.old)) (W.contents (inner writer.new)) written
+        × Serves (IsAtEnd (I.remaining (inner reader.new))) input gained written result }
+
+    // The devices' faults are told exactly where they were met.
+    ensures read_count { IsErrOf result NetFault.ReadFailed → Failed (failures reader.old) (failures reader.new) }
+    ensures write_count { IsErrOf result NetFault.WriteFailed → Failed (failures writer.old) (failures writer.new) }
+    ensures read_heard { IsErrOf result NetFault.ReadFailed ⊎ (failures reader.new ≡ failures reader.old) }
+    ensures write_heard { IsErrOf result NetFault.WriteFailed ⊎ (failures writer.new ≡ failures writer.old) }
+{
+    let mut incoming = Incoming::new(alloc);
+    let mut out = Vec::new(alloc);
+    out.reserve(LONGEST_REPLY)?;
+    let mut greeted = false;
+    for answered in 0..MAX_MESSAGES {
+        let message = match incoming.next(reader)? {
+            Some(message) => message,
+            None => return Ok(Served { answered }),
+        };
+        let ends = is_bye(&message);
+        greeted = turn(rt, writer, session, &mut out, greeted, message)?;
+        if ends {
+            let answered = answered + 1;
+            return Ok(Served { answered });
+        }
+    }
+    match incoming.next(reader)? {
+        Some(_) => Err(NetFault::TurnLimit),
+        None => Ok(Served {
+            answered: MAX_MESSAGES,
+        }),
+    }
+}
