@@ -28,4 +28,6 @@ pub use serving::{Served, serve_session};
 pub use session::Session;
 
 #[cfg(test)]
+mod loopback;
+#[cfg(test)]
 mod tests;

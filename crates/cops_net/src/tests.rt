@@ -12,7 +12,7 @@ use std::test::Fail;
 /// One data centre with one node and one client, which keeps the last put and gives each the version 1.0. It stops where
 /// memory runs out.
 #[derive(Drop)]
-struct Small<'a, R: Abort> {
+pub(crate) struct Small<'a, R: Abort> {
     rt: &'a R,
     calls: Vec<Call>,
     stored: Option<(Key, Value, Version)>,
@@ -20,13 +20,18 @@ struct Small<'a, R: Abort> {
 }
 
 impl<'a, R: Abort> Small<'a, R> {
-    fn new(rt: &'a R, alloc: Global) -> Small<'a, R> {
+    pub(crate) fn new(rt: &'a R, alloc: Global) -> Small<'a, R> {
         Small {
             rt,
             calls: Vec::new(alloc),
             stored: None,
             ended: 0,
         }
+    }
+
+    /// How many sessions have ended.
+    pub(crate) fn ended(&self) -> u32 {
+        self.ended
     }
 
     fn keep(&mut self, call: Call)
@@ -129,17 +134,17 @@ impl<R: Abort> Session for Small<'_, R> {
     }
 }
 
-const HELLO: &str = "000000050100010000";
+pub(crate) const HELLO: &str = "000000050100010000";
 
-const HELLO_OK: &str = "00000003020001";
+pub(crate) const HELLO_OK: &str = "00000003020001";
 
-const PUT: &str = "0000000a03000000010178000131";
+pub(crate) const PUT: &str = "0000000a03000000010178000131";
 
-const PUT_DONE: &str = "0000000d05000000010000000000010000";
+pub(crate) const PUT_DONE: &str = "0000000d05000000010000000000010000";
 
-const BYE: &str = "000000010f";
+pub(crate) const BYE: &str = "000000010f";
 
-const BYE_OK: &str = "0000000110";
+pub(crate) const BYE_OK: &str = "0000000110";
 
 fn digit(c: u8) -> u8 {
     match c {
@@ -149,7 +154,7 @@ fn digit(c: u8) -> u8 {
     }
 }
 
-fn from_hex(alloc: Global, parts: &[&str]) -> Result<Vec<u8>, AllocError> {
+pub(crate) fn from_hex(alloc: Global, parts: &[&str]) -> Result<Vec<u8>, AllocError> {
     let mut bytes = Vec::new(alloc);
     for text in parts {
         let mut high = None;
