@@ -6,8 +6,8 @@ use std::marker::Model;
 /// A node, and the entries of its steps, which lead from the opened node to it.
 #[derive(Drop)]
 pub struct Book {
-    node: Node,
-    entries: Vec<Entry>,
+    pub(crate) node: Node,
+    pub(crate) entries: Vec<Entry>,
 }
 
 impl Model for Book {

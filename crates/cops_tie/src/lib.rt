@@ -5,13 +5,16 @@
 
 mod book;
 mod entry;
+mod equal;
 mod fault;
 mod laws;
 mod order;
+mod told;
 mod tying;
 
 pub use book::Book;
 pub use entry::Entry;
 pub use fault::TieFault;
 pub use laws::untied_is_not_tied;
+pub use told::{Puts, Told};
 pub use tying::tie;

@@ -179,7 +179,7 @@ fn is_sent(world: &World, put: &PutRecord) -> bool
 }
 
 /// Whether the puts are the same.
-fn is_same_put(one: &PutRecord, other: &PutRecord) -> bool
+pub(crate) fn is_same_put(one: &PutRecord, other: &PutRecord) -> bool
     ensures { IsTrue result ↔ (one.now ≡ other.now) }
 {
     if one.key != other.key {

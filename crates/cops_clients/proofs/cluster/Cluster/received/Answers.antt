@@ -1,0 +1,22 @@
+use Rattle.cops_place.specs.Place.{node_at}
+use Rattle.cops_clients.proofs.Tellings.{seen_kept, told_adds, most_adds}
+use Rattle.cops_clients.proofs.cluster.Cluster.received.Goals as goal
+
+pub returns-clause-told : goal.returns-clause-told
+returns-clause-told g c =
+    let s = c.step-answered in
+    let b = c.args.share.now.entries.items in
+    let a = s.new.share.entries.items in
+    let n = node_at c.args.spot.dc c.args.spot.place in
+    told_adds b a n c.args.event c.replied.result c.passed.result
+    (seen_kept b a n c.args.event (g.G.Gate.may_hold c.args.gate.now) n 65535 c.number.result s.result c.replied.result s.ensures.told s.ensures.answers s.ensures.none s.ensures.stop c.replied.ensures)
+    c.passed.ensures.told
+
+pub returns-clause-most : goal.returns-clause-most
+returns-clause-most g c =
+    let s = c.step-answered in
+    let b = c.args.share.now.entries.items in
+    let a = s.new.share.entries.items in
+    let n = node_at c.args.spot.dc c.args.spot.place in
+    most_adds b a n c.args.event c.replied.result
+    (seen_kept b a n c.args.event (g.G.Gate.may_hold c.args.gate.now) n 65535 c.number.result s.result c.replied.result s.ensures.told s.ensures.answers s.ensures.none s.ensures.stop c.replied.ensures)

@@ -1,0 +1,5 @@
+pub mod Shares
+pub mod Opening
+pub mod Cluster
+pub mod Replies
+pub mod Receiving

@@ -1,0 +1,22 @@
+//! Nodes by data centre and place.
+ghost use Rattle.std.specs.Prelude.{◌≡◌, ◌<◌};
+ghost use Rattle.cops_place.specs.Place.{node_at};
+
+/// A node, by its data centre and its place there. Both are in range where the number below 1,024 is to be told.
+#[derive(Clone, Copy, Debug, PartialEq, Eq)]
+pub(crate) struct Spot {
+    pub(crate) dc: u8,
+    pub(crate) place: u8,
+}
+
+impl Spot {
+    ghost use Rattle.std.specs.Prelude.{◌≡◌, ◌<◌};
+    ghost use Rattle.cops_place.specs.Place.{node_at};
+
+    /// The node's number.
+    pub(crate) fn number(self) -> u16
+        ensures { result ≡ node_at self.dc self.place }
+    {
+        u16::from(self.dc) * 64 + u16::from(self.place)
+    }
+}

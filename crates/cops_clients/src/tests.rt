@@ -1,0 +1,156 @@
+use super::*;
+use cops_node::Outcome;
+use cops_place::Place;
+use cops_types::{
+    Deps, Gate, GateHeld, Key, OpenGate, Point, PutRecord, TypeFault, Value, Version,
+};
+use std::alloc::Global;
+use std::sync::Wait;
+use std::sync::atomic::{AtomicBool, Ordering};
+use std::test::Fail;
+use std::thread;
+
+const TURNS: u32 = 10_000_000;
+
+fn key(alloc: Global, byte: u8) -> Result<Key, TypeFault> {
+    Key::new(alloc, &[byte])
+}
+
+fn value(alloc: Global) -> Result<Value, TypeFault> {
+    Value::new(alloc, b"1")
+}
+
+/// A cluster of so many data centres, each with one node or with two whose ranges meet at `m`, and with clients there.
+fn opened(alloc: Global, dcs: u8, is_split: bool, homes: &[u8]) -> Result<Opened, Fail> {
+    let mut splits = Vec::new(alloc);
+    if is_split {
+        splits.push(key(alloc, b'm')?)?;
+    }
+    let place = Place::new(dcs, splits)?;
+    Ok(Cluster::open(alloc, place, Vec::from_slice(alloc, homes)?)?)
+}
+
+fn put<R: Wait, G: Gate>(
+    rt: &R,
+    alloc: Global,
+    cluster: &Cluster,
+    client: &mut Client,
+    gate: &G,
+    byte: u8,
+) -> Result<Outcome, Fail> {
+    Ok(cluster.put(rt, client, gate, key(alloc, byte)?, value(alloc)?)?)
+}
+
+fn get<R: Wait>(
+    rt: &R,
+    alloc: Global,
+    cluster: &Cluster,
+    client: &mut Client,
+    byte: u8,
+) -> Result<Outcome, Fail> {
+    Ok(cluster.get(rt, client, &OpenGate, key(alloc, byte)?)?)
+}
+
+#[test]
+fn a_client_gets_what_it_put(rt: HostRuntime) -> Result<(), Fail> {
+    let alloc = rt.alloc();
+    let Opened {
+        cluster,
+        mut clients,
+        shares,
+    } = opened(alloc, 1, false, &[0])?;
+    let client = &mut clients[0];
+    let version = Version::new(1, 0)?;
+    assert!(rt; put(&rt, alloc, &cluster, client, &OpenGate, b'x')? == Outcome::PutDone(version));
+    assert!(rt; get(&rt, alloc, &cluster, client, b'x')? == Outcome::Got(value(alloc)?, version));
+    assert!(rt; get(&rt, alloc, &cluster, client, b'y')? == Outcome::Missed);
+    assert_eq!(rt; client.share().entries.len(), 3);
+    assert_eq!(rt; shares.len(), 1);
+    assert!(rt; cluster.status(&rt, 0, 0).is_some());
+    assert!(rt; cluster.status(&rt, 0, 1).is_none());
+    Ok(())
+}
+
+/// Two points of calls, each of which is held until the other was reached.
+#[derive(Drop)]
+struct Meeting {
+    first: Point,
+    second: Point,
+    first_reached: AtomicBool,
+    second_reached: AtomicBool,
+}
+
+impl Meeting {
+    fn new(first: Point, second: Point) -> Meeting {
+        Meeting {
+            first,
+            second,
+            first_reached: AtomicBool::new(false),
+            second_reached: AtomicBool::new(false),
+        }
+    }
+}
+
+/// Waits for the flag, for a number of turns.
+fn waits_for(flag: &AtomicBool) -> Result<(), GateHeld> {
+    for _ in 0..TURNS {
+        if flag.load(Ordering::SeqCst) {
+            return Ok(());
+        }
+        thread::yield_now();
+    }
+    Err(GateHeld)
+}
+
+impl Gate for Meeting {
+    ghost may_hold = { λ _ _. Unit {0} };
+
+    fn pass<R: Wait>(&self, _rt: &R, point: Point) -> Result<(), GateHeld> {
+        if point == self.first {
+            self.first_reached.store(true, Ordering::SeqCst);
+            return waits_for(&self.second_reached);
+        }
+        if point == self.second {
+            self.second_reached.store(true, Ordering::SeqCst);
+            return waits_for(&self.first_reached);
+        }
+        Ok(())
+    }
+}
+
+/// Whether the client's put was done.
+fn puts<R: Wait, G: Gate>(
+    rt: &R,
+    alloc: Global,
+    cluster: &Cluster,
+    client: &mut Client,
+    gate: &G,
+    byte: u8,
+) -> bool {
+    matches!(
+        put(rt, alloc, cluster, client, gate, byte),
+        Ok(Outcome::PutDone(_))
+    )
+}
+
+#[test]
+fn two_puts_stand_in_their_steps_at_once(rt: HostRuntime) -> Result<(), Fail> {
+    let alloc = rt.alloc();
+    let Opened {
+        cluster,
+        mut clients,
+        ..
+    } = opened(alloc, 1, true, &[0, 0, 0])?;
+    let gate = Meeting::new(
+        Point::InStep { node: 0, client: 1 },
+        Point::InStep { node: 1, client: 2 },
+    );
+    let (one, two) = clients.split_at_mut(2);
+    let (low, high) = thread::join(
+        &rt,
+        || puts(&rt, alloc, &cluster, &mut one[1], &gate, b'a'),
+        || puts(&rt, alloc, &cluster, &mut two[0], &gate, b'z'),
+    );
+    assert!(rt; low && high);
+    Ok(())
+}
