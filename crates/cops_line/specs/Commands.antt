@@ -1,16 +1,26 @@
 -- The program's command, as far as it says how words are read.
-use Rattle.std.specs.Prelude.{codes, true, [], Some}
+use Rattle.std.specs.Prelude.{codes, pos, true, [], Some}
 use Rattle.clap.specs.Words.{App, Rule, Text, new_app, new_rule, with_rule, with_subcommand}
 use Rattle.clap.specs.Simple.{new_shape}
 use Rattle.clap.specs.declared.builder.action.ArgAction.TheVariants.{Set}
+use Rattle.clap.specs.declared.builder.value_parser.ValueParser.TheVariants as parser
 
 -- an argument that has to be there, and takes one word
 abbrev pub positional : Text → Rule
 positional id = record (new_rule id) { action = Some Set; required = true; value_names = 1 }
 
--- `audit TRACE`
+-- `--workers N`, which may be left out and takes a number from 1 to 64
+abbrev pub workers_option : Rule
+workers_option = record (new_rule (codes "workers")) {
+  long = Some (codes "workers");
+  action = Some Set;
+  value_names = 1;
+  parser = Some (parser.Signed (pos 1) (pos 64));
+}
+
+-- `audit TRACE`, with `--workers N` or without it
 abbrev pub audit_app : App
-audit_app = with_rule (new_app (codes "audit")) (positional (codes "trace"))
+audit_app = with_rule (with_rule (new_app (codes "audit")) (positional (codes "trace"))) workers_option
 
 -- `show TRACE`
 abbrev pub show_app : App

@@ -1,5 +1,6 @@
 -- The job that words tell, and what it means that they tell none.
-use Rattle.std.specs.Prelude.{◌≡◌, ◌≢◌, List, [], ◌∷◌, codes, Option, Some}
+use Rattle.std.specs.Prelude.{◌≡◌, ◌≢◌, ◌≤◌, ℕ, List, [], ◌∷◌, codes, Option, Some, None}
+use Rattle.std.specs.Str.Parse.{IsNumeral, digits_value, without_leading_plus}
 use Rattle.clap.specs.Words.{Row, Text, first_of, subcommand_of, fault_of, IsAmong}
 use Rattle.clap.specs.declared.error.kind.ErrorKind.{ErrorKind}
 use Rattle.clap.specs.declared.error.kind.ErrorKind.TheVariants.{DisplayHelp, OutOfMemory}
@@ -9,9 +10,15 @@ use Rattle.cops_line.specs.declared.fault.LineFault.{LineFault}
 use Rattle.cops_line.specs.declared.fault.LineFault.TheVariants.{Memory, Usage, Help}
 use Rattle.cops_line.specs.Commands.{cops_app}
 
+-- the number of workers that a value tells, in digits after a plus or without it: 1 where there is no value
+abbrev pub AreWorkers : Option Text → ℕ → Type 0
+AreWorkers None n = n ≡ 1
+AreWorkers (Some text) n =
+    IsNumeral 10 (without_leading_plus text) × (n ≡ digits_value 10 (without_leading_plus text)) × (1 ≤ n) × (n ≤ 64)
+
 -- the job of a subcommand with these values
 abbrev pub IsJobOf : Text → List Row → Job → Type 0
-IsJobOf name rows (Audit trace) = (name ≡ codes "audit") × (first_of (codes "trace") rows ≡ Some trace.now)
+IsJobOf name rows (Audit trace workers) = (name ≡ codes "audit") × (first_of (codes "trace") rows ≡ Some trace.now) × AreWorkers (first_of (codes "workers") rows) workers
 IsJobOf name rows (Show trace) = (name ≡ codes "show") × (first_of (codes "trace") rows ≡ Some trace.now)
 IsJobOf name rows (Run scenario trace) = (name ≡ codes "run") × (first_of (codes "scenario") rows ≡ Some scenario.now) × (first_of (codes "trace") rows ≡ Some trace.now)
 
@@ -27,9 +34,9 @@ IsJobIn met job = (name : Text) × (rows : List Row) × (met ≡ Some (name, row
 abbrev pub HasNoJobIn : Option (Text × List Row) → Type 0
 HasNoJobIn met = (job : Job) → ¬ IsJobIn met job
 
--- the job of no words: the audit of standard input
+-- the job of no words: the audit of standard input by one worker
 abbrev pub IsDefault : Job → Type 0
-IsDefault (Audit trace) = trace.now ≡ codes "-"
+IsDefault (Audit trace workers) = (trace.now ≡ codes "-") × (workers ≡ 1)
 IsDefault (Show trace) = ⊥
 IsDefault (Run scenario trace) = ⊥
 

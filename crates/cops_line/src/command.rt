@@ -1,9 +1,9 @@
 ghost use Rattle.std.specs.Prelude.{◌≡◌, IfOk, codes, false};
 ghost use Rattle.clap.specs.Words.{app_of, rule_of};
 ghost use Rattle.clap.specs.declared.builder.command.Command.TheViews.{out-Command as fields_of};
-ghost use Rattle.cops_line.specs.Commands.{positional, cops_top, cops_app, audit_app, show_app, run_app};
+ghost use Rattle.cops_line.specs.Commands.{positional, workers_option, cops_top, cops_app, audit_app, show_app, run_app};
 
-use clap::{Arg, ArgAction, Command};
+use clap::{Arg, ArgAction, Command, value_parser};
 use std::alloc::{AllocError, Global};
 
 const ABOUT: &str =
@@ -43,6 +43,8 @@ that names the field.";
 
 const TRACE_HELP: &str = "The trace file, or `-` for standard input";
 
+const WORKERS_HELP: &str = "How many workers judge the trace, 1 to 64, and 1 where it is not given";
+
 const NEW_TRACE_HELP: &str = "The trace file to write";
 
 const SCENARIO_HELP: &str = "The scenario file, or `-` for standard input";
@@ -59,6 +61,19 @@ fn file_arg<'a>(alloc: Global, id: &'static str, name: &'static str, help: &'sta
         .help(help)
 }
 
+/// The option that names the number of workers.
+fn workers_arg<'a>(alloc: Global) -> Arg<'a>
+    ensures rule { rule_of result ≡ workers_option }
+    ensures local { result.global ≡ false }
+{
+    Arg::new(alloc, "workers")
+        .long("workers")
+        .action(ArgAction::Set)
+        .value_name("N")
+        .value_parser(value_parser!(u8).range(1..=64))
+        .help(WORKERS_HELP)
+}
+
 fn audit_command<'a>(alloc: Global) -> Result<Command<'a>, AllocError>
     ensures app { IfOk result (λ c. app_of c ≡ audit_app) }
     ensures local { IfOk result (λ c. (fields_of c).has_globals ≡ false) }
@@ -66,7 +81,8 @@ fn audit_command<'a>(alloc: Global) -> Result<Command<'a>, AllocError>
     Command::new(alloc, "audit")
         .about("Judges whether a recorded history is causally convergent")
         .long_about(AUDIT_LONG_ABOUT)
-        .arg(file_arg(alloc, "trace", "TRACE", TRACE_HELP))
+        .arg(file_arg(alloc, "trace", "TRACE", TRACE_HELP))?
+        .arg(workers_arg(alloc))
 }
 
 fn show_command<'a>(alloc: Global) -> Result<Command<'a>, AllocError>

@@ -1,14 +1,14 @@
-ghost use Rattle.std.specs.Prelude.{◌≡◌, IfSome, IfNone, codes, option_map};
+ghost use Rattle.std.specs.Prelude.{◌≡◌, ℕ, IfSome, IfNone, Some, codes, option_map};
 ghost use Rattle.clap.specs.Words.{first_of, found_of, rows_of, subcommand_rows_of};
-ghost use Rattle.cops_line.specs.Line.{IsJobOf, HasNoJob, IsJobIn, HasNoJobIn};
+ghost use Rattle.cops_line.specs.Line.{AreWorkers, IsJobOf, HasNoJob, IsJobIn, HasNoJobIn};
 
 use clap::ArgMatches;
 
 /// What the words ask for.
 #[derive(Clone, Copy, Debug, PartialEq, Eq)]
 pub enum Job<'a> {
-    /// Judge a trace and print the verdict. `-` is standard input.
-    Audit { trace: &'a str },
+    /// Judge a trace by so many workers, 1 to 64, and print the verdict. `-` is standard input.
+    Audit { trace: &'a str, workers: u8 },
     /// Print a trace, a line for each frame. `-` is standard input.
     Show { trace: &'a str },
     /// Run a scenario, print what came of it, and write the trace of it to a file. `-` as the scenario is standard input.
@@ -22,12 +22,41 @@ fn value<'a>(matches: &ArgMatches<'a>, id: &str) -> Option<&'a str>
     matches.get_str(id)
 }
 
+/// The number of workers that a text tells, from 1 to 64.
+fn workers_in(text: &str) -> Option<u8>
+    ensures some { IfSome result (AreWorkers (Some text.now)) }
+    ensures none { IfNone result ((n : ℕ) → ¬ AreWorkers (Some text.now) n) }
+{
+    let Ok(workers) = text.parse::<u8>() else {
+        return None;
+    };
+    if workers == 0 {
+        return None;
+    }
+    if workers > 64 {
+        return None;
+    }
+    Some(workers)
+}
+
+/// The number of workers: 1 where it is not given.
+fn workers(matches: &ArgMatches<'_>) -> Option<u8>
+    ensures some { IfSome result (AreWorkers (first_of (codes "workers") (rows_of (found_of matches.now)))) }
+    ensures none { IfNone result ((n : ℕ) → ¬ AreWorkers (first_of (codes "workers") (rows_of (found_of matches.now))) n) }
+{
+    match value(matches, "workers") {
+        Some(text) => workers_in(text),
+        None => Some(1),
+    }
+}
+
 fn audit_job<'a>(matches: &ArgMatches<'a>) -> Option<Job<'a>>
     ensures some { IfSome result (IsJobOf (codes "audit") (rows_of (found_of matches.now))) }
     ensures none { IfNone result (HasNoJob (codes "audit") (rows_of (found_of matches.now))) }
 {
     let trace = value(matches, "trace")?;
-    Some(Job::Audit { trace })
+    let workers = workers(matches)?;
+    Some(Job::Audit { trace, workers })
 }
 
 fn show_job<'a>(matches: &ArgMatches<'a>) -> Option<Job<'a>>

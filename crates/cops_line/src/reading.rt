@@ -24,8 +24,8 @@ fn as_fault(alloc: Global, error: Error) -> LineFault
     }
 }
 
-/// The job that the words ask for: `audit TRACE`, `show TRACE`, `run SCENARIO TRACE`, or none, which is as `audit -`. `words` are those after
-/// the program's name. `Usage` where they are no job, and `Help` where they ask for help, by `--help`, `-h` or `help`,
+/// The job that the words ask for: `audit TRACE`, with `--workers N` or without it, which is as 1, `show TRACE`,
+/// `run SCENARIO TRACE`, or none, which is as `audit -`. `words` are those after the program's name. `Usage` where they are no job, and `Help` where they ask for help, by `--help`, `-h` or `help`,
 /// each with `clap`'s text; `Memory` where a growth was refused. No words that tell a job are answered with `Usage` or
 /// `Help`, and words that only ask for help are not answered with `Usage`.
 pub fn line<'a>(alloc: Global, words: &'a [&'a str]) -> Result<Job<'a>, LineFault>
@@ -33,7 +33,10 @@ pub fn line<'a>(alloc: Global, words: &'a [&'a str]) -> Result<Job<'a>, LineFaul
     ensures fault { IfErr result (Explains (map (λ s. s.now) words.entry.now)) }
 {
     if words.is_empty() {
-        return Ok(Job::Audit { trace: "-" });
+        return Ok(Job::Audit {
+            trace: "-",
+            workers: 1,
+        });
     }
     let command = cops_command(alloc)?;
     match command.try_get_matches_from(words) {

@@ -1,11 +1,11 @@
 -- What is written, from what was read and told.
-use Rattle.std.proofs.Common.{◌≡◌, ℕ, List, ◌++◌, length, take, drop, Option, Some, None, Result, Ok, Err, refl, sym, ap, ◌∙◌, subst, inl, inr}
+use Rattle.std.proofs.Common.{◌≡◌, ℕ, List, take, drop, Option, Some, None, Result, Ok, Err, sym, ap, subst, inl, inr}
 use Rattle.std.specs.Prelude.{IfSome, IfOk, IsErrOf}
 use Rattle.std.specs.Io.KnownBytes.{Appends}
 use Rattle.std.proofs.lemmas.List.{take-append-drop}
 use Rattle.cops_trace.specs.declared.fault.TraceFault.{TraceFault}
 use Rattle.cops_trace.specs.declared.fault.TraceFault.TheVariants.{Memory, ReadFailed}
-use Rattle.cops_trace.specs.Text.{ATrace, IsTrace, text}
+use Rattle.cops_trace.specs.Text.{ATrace}
 use Rattle.cops_trace.specs.Answer.{HasFault, Says, Agrees}
 use Rattle.cops_stream.specs.declared.audit.Answer.{Answer}
 use Rattle.cops_stream.specs.declared.audit.Answer.TheVariants.{Accepted}

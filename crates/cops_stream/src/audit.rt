@@ -1,18 +1,22 @@
 //! The audit of a trace's bytes.
-ghost use Rattle.std.specs.Prelude.{◌≡◌, ◌⊎◌, List, ℕ, IfOk, IfErr, IfSome, IsErrOf, Ok, Err};
+ghost use Rattle.std.specs.Prelude.{◌≡◌, ◌⊎◌, ◌↔◌, ◌<◌, List, ℕ, IfOk, IfErr, IfSome, IsErrOf, Ok, Err};
 ghost use Rattle.std.specs.Io.KnownBytes.{Keeps};
 ghost use Rattle.cops_types.specs.Failures.{Failed};
 ghost use Rattle.cops_types.specs.Counted.{failures, inner};
 ghost use Rattle.cops_trace.specs.Answer.{Agrees};
+ghost use Rattle.cops_batch.specs.Pieces.{MayHoldPiece};
 ghost use Rattle.cops_stream.specs.Audit.{AuditSays, Writes, WritesFront, SpellsConvergent, IsTold, Converges};
 ghost use Rattle.cops_stream.specs.declared.audit.StreamFault.TheVariants.{Memory as OutOfMemory};
 
-use cops_audit::{Verdict, judge};
+use cops_audit::Verdict;
+use cops_batch::{BatchFault, judge_with};
 use cops_report::report;
 use cops_trace::{Trace, TraceFault, fault_line, read_trace, write_text};
-use cops_types::{Counted, Memory};
+use cops_types::{Counted, Gate, Memory};
 use std::alloc::Global;
 use std::io::{Read, Write};
+use std::sync::Wait;
+use std::thread::Threads;
 use thiserror::Error;
 
 /// What an audit says of a trace's bytes.
@@ -31,6 +35,10 @@ pub enum Answer {
 pub enum StreamFault {
     #[error("out of memory")]
     Memory = 0,
+    #[error("the workers are not 1 to 64")]
+    BadWorkers = 1,
+    #[error("the gate held a worker")]
+    Held = 2,
     #[error("the reader failed")]
     ReadFailed = 3,
     #[error("the writer failed")]
@@ -45,13 +53,28 @@ impl From<Memory> for StreamFault {
     }
 }
 
-/// The answer for a trace, with its report.
-fn judged(alloc: Global, trace: &Trace) -> Result<(Answer, Vec<u8>), Memory>
+/// The answer for a trace, with its report, by so many workers.
+fn judged<T: Threads + Wait + Sync, G: Gate>(
+    rt: &T,
+    alloc: Global,
+    trace: &Trace,
+    workers: u8,
+    gate: &G,
+) -> Result<(Answer, Vec<u8>), StreamFault>
     ensures told { IfOk result (λ told. IsTold trace.now told.0 told.1.items) }
     ensures convergent { IfOk result (λ told. told.0 ≡ Answer.Accepted → Converges (Ok trace.now)) }
+    ensures bad { IsErrOf result StreamFault.BadWorkers → (workers ≡ 0) ⊎ (64 < workers) }
+    ensures held { IsErrOf result StreamFault.Held → (i : ℕ) × (i < workers) × MayHoldPiece (G.may_hold gate.now) i }
+    ensures no_read { ¬ IsErrOf result StreamFault.ReadFailed }
+    ensures no_write { ¬ IsErrOf result StreamFault.WriteFailed }
 {
     let history = trace.history();
-    let verdict = judge(alloc, history)?;
+    let verdict = match judge_with(rt, alloc, history, workers, gate) {
+        Ok(verdict) => verdict,
+        Err(BatchFault::Memory) => return Err(StreamFault::Memory),
+        Err(BatchFault::BadWorkers) => return Err(StreamFault::BadWorkers),
+        Err(BatchFault::Held) => return Err(StreamFault::Held),
+    };
     let text = report(alloc, history, &verdict)?;
     match verdict {
         Verdict::Accepted(_) => Ok((Answer::Accepted, text)),
@@ -60,18 +83,23 @@ fn judged(alloc: Global, trace: &Trace) -> Result<(Answer, Vec<u8>), Memory>
 }
 
 /// The answer for what was read, with its text.
-fn told(alloc: Global, read: Result<Trace, TraceFault>) -> Result<(Answer, Vec<u8>), StreamFault>
+fn told<T: Threads + Wait + Sync, G: Gate>(
+    rt: &T,
+    alloc: Global,
+    read: Result<Trace, TraceFault>,
+    workers: u8,
+    gate: &G,
+) -> Result<(Answer, Vec<u8>), StreamFault>
     ensures says { (bytes : List ℕ) → Agrees bytes read → IfOk result (λ told. AuditSays bytes told.0 told.1.items) }
     ensures convergent { IfOk result (λ told. told.0 ≡ Answer.Accepted → Converges read) }
+    ensures bad { IsErrOf result StreamFault.BadWorkers → (workers ≡ 0) ⊎ (64 < workers) }
+    ensures held { IsErrOf result StreamFault.Held → (i : ℕ) × (i < workers) × MayHoldPiece (G.may_hold gate.now) i }
     ensures read_failed { IsErrOf result StreamFault.ReadFailed → read ≡ Err TraceFault.ReadFailed }
     ensures read_told { IsErrOf read TraceFault.ReadFailed → IsErrOf result StreamFault.ReadFailed }
     ensures no_write { ¬ IsErrOf result StreamFault.WriteFailed }
 {
     match read {
-        Ok(trace) => {
-            let told = judged(alloc, &trace)?;
-            Ok(told)
-        }
+        Ok(trace) => judged(rt, alloc, &trace, workers, gate),
         Err(TraceFault::Memory) => Err(StreamFault::Memory),
         Err(TraceFault::ReadFailed) => Err(StreamFault::ReadFailed),
         Err(fault) => {
@@ -82,13 +110,17 @@ fn told(alloc: Global, read: Result<Trace, TraceFault>) -> Result<(Answer, Vec<u
     }
 }
 
-/// Reads a trace to its end or its first fault, judges it, and writes the report or the fault's line, and nothing else.
-/// `ReadFailed` where a read failed, and `WriteFailed` where a write failed: neither is tried again. Nothing is written
-/// before the input's end. Where memory is refused nothing is written.
-pub fn audit_stream<R: Read, W: Write>(
+/// Reads a trace to its end or its first fault, judges it by `workers` workers, 1 to 64, and writes the report or the
+/// fault's line, and nothing else. `BadWorkers` exactly unless there are 1 to 64, and then nothing is read. `Held` where
+/// the gate held a worker at a point of its piece. `ReadFailed` where a read failed, and `WriteFailed` where a write
+/// failed: neither is tried again. Nothing is written before the input's end. Where memory is refused nothing is written.
+pub fn audit_stream<T: Threads + Wait + Sync, R: Read, W: Write, G: Gate>(
+    rt: &T,
     alloc: Global,
     reader: &mut Counted<R>,
     writer: &mut Counted<W>,
+    workers: u8,
+    gate: &G,
 ) -> Result<Answer, StreamFault>
     // What is written is the audit's text of the reader's bytes, and the answer is the audit's.
     ensures ok { IfOk result (λ answer. IfSome (R.remaining (inner reader.old)) (λ bytes.
@@ -100,8 +132,13 @@ pub fn audit_stream<R: Read, W: Write>(
     // A front of the text, where a write failed; else a fault writes nothing.
     ensures write_failed { IsErrOf result StreamFault.WriteFailed → IfSome (R.remaining (inner reader.old)) (λ bytes.
         WritesFront bytes (W.contents (inner writer.old)) (W.contents (inner writer.new))) }
-    ensures nothing { (IsErrOf result StreamFault.ReadFailed ⊎ IsErrOf result StreamFault.Memory)
+    ensures nothing { (IsErrOf result StreamFault.ReadFailed ⊎ IsErrOf result StreamFault.Memory ⊎ IsErrOf result StreamFault.BadWorkers ⊎ IsErrOf result StreamFault.Held)
         → Keeps (W.contents (inner writer.old)) (W.contents (inner writer.new)) }
+
+    // The workers' number is told exactly where it is bad, before anything is read; a worker is held only by the gate.
+    ensures bad { IsErrOf result StreamFault.BadWorkers ↔ ((workers ≡ 0) ⊎ (64 < workers)) }
+    ensures unread { IsErrOf result StreamFault.BadWorkers → reader.new ≡ reader.old }
+    ensures held { IsErrOf result StreamFault.Held → (i : ℕ) × (i < workers) × MayHoldPiece (G.may_hold gate.now) i }
 
     // The devices' faults are told exactly where they were met.
     ensures write_count { IsErrOf result StreamFault.WriteFailed → Failed (failures writer.old) (failures writer.new) }
@@ -109,7 +146,13 @@ pub fn audit_stream<R: Read, W: Write>(
     ensures write_heard { IsErrOf result StreamFault.WriteFailed ⊎ (failures writer.new ≡ failures writer.old) }
     ensures read_heard { IsErrOf result StreamFault.ReadFailed ⊎ (failures reader.new ≡ failures reader.old) }
 {
-    let (answer, text) = told(alloc, read_trace(alloc, reader))?;
+    if workers == 0 {
+        return Err(StreamFault::BadWorkers);
+    }
+    if workers > 64 {
+        return Err(StreamFault::BadWorkers);
+    }
+    let (answer, text) = told(rt, alloc, read_trace(alloc, reader), workers, gate)?;
     match write_text(writer, &text) {
         Ok(()) => Ok(answer),
         Err(_) => Err(StreamFault::WriteFailed),

@@ -17,17 +17,51 @@ fn usage(alloc: std::alloc::Global, words: &'static [&'static str]) -> Option<St
     }
 }
 
+fn audit(trace: &str, workers: u8) -> Job<'_> {
+    Job::Audit { trace, workers }
+}
+
+#[test]
+fn workers_are_told(rt: HostRuntime) -> Result<(), Fail> {
+    assert_eq!(rt;
+        line(rt.alloc(), &["audit", "a", "--workers", "1"])?,
+        audit("a", 1)
+    );
+    assert_eq!(rt;
+        line(rt.alloc(), &["audit", "--workers", "64", "a"])?,
+        audit("a", 64)
+    );
+    assert_eq!(rt;
+        line(rt.alloc(), &["audit", "--workers=2", "-"])?,
+        audit("-", 2)
+    );
+    static TOO_FEW: [&str; 4] = ["audit", "a", "--workers", "0"];
+    static TOO_MANY: [&str; 4] = ["audit", "a", "--workers", "65"];
+    static NO_NUMBER: [&str; 4] = ["audit", "a", "--workers", "x"];
+    static NO_VALUE: [&str; 3] = ["audit", "a", "--workers"];
+    static TWICE: [&str; 4] = ["audit", "a", "--workers=2", "--workers=2"];
+    static SHOW: [&str; 3] = ["show", "a", "--workers=2"];
+    for words in [
+        TOO_FEW.as_slice(),
+        TOO_MANY.as_slice(),
+        NO_NUMBER.as_slice(),
+        NO_VALUE.as_slice(),
+        TWICE.as_slice(),
+        SHOW.as_slice(),
+    ] {
+        usage(rt.alloc(), words).ok_or("no usage")?;
+    }
+    Ok(())
+}
+
 #[test]
 fn words_tell_jobs(rt: HostRuntime) -> Result<(), Fail> {
-    assert_eq!(rt; line(rt.alloc(), &[])?, Job::Audit { trace: "-" });
+    assert_eq!(rt; line(rt.alloc(), &[])?, audit("-", 1));
     assert_eq!(rt;
         line(rt.alloc(), &["audit", "a.trace"])?,
-        Job::Audit { trace: "a.trace" }
+        audit("a.trace", 1)
     );
-    assert_eq!(rt;
-        line(rt.alloc(), &["audit", "-"])?,
-        Job::Audit { trace: "-" }
-    );
+    assert_eq!(rt; line(rt.alloc(), &["audit", "-"])?, audit("-", 1));
     assert_eq!(rt;
         line(rt.alloc(), &["show", "--", "-x"])?,
         Job::Show { trace: "-x" }
@@ -63,7 +97,7 @@ fn help_names_every_word(rt: HostRuntime) -> Result<(), Fail> {
     static AUDIT: [&str; 2] = ["audit", "--help"];
     static SHOW: [&str; 2] = ["help", "show"];
     for (words, usage) in [
-        (AUDIT.as_slice(), "Usage: cops audit <TRACE>"),
+        (AUDIT.as_slice(), "Usage: cops audit [OPTIONS] <TRACE>"),
         (SHOW.as_slice(), "Usage: cops show <TRACE>"),
     ] {
         let text = help(rt.alloc(), words).ok_or("no help")?;

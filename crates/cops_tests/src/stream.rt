@@ -1,6 +1,7 @@
 use cops_stream::*;
-use cops_types::{Counted, FailingReader, FailingWriter, Memory};
+use cops_types::{Counted, FailingReader, FailingWriter, Gate, GateHeld, Memory, OpenGate, Point};
 use std::alloc::{AllocError, Global};
+use std::sync::Wait;
 use std::test::Fail;
 
 /// No clients, and no operations.
@@ -62,15 +63,55 @@ const AUDITS: [(&str, Answer, &str); 6] = [
 fn audits(rt: HostRuntime) -> Result<(), Fail> {
     for (text, answer, told) in AUDITS {
         let bytes = from_hex(rt.alloc(), text)?;
-        for piece in [1, 5, 4096] {
+        for (piece, workers) in [(1, 1), (5, 3), (4096, 64)] {
             let reader = FailingReader::new(bytes.as_slice(), 1_000_000, 1_000_000, piece);
             let mut reader = Counted::new(reader);
             let mut writer = Counted::new(Vec::new(rt.alloc()));
-            let got = audit_stream(rt.alloc(), &mut reader, &mut writer);
+            let got = audit_stream(
+                &rt,
+                rt.alloc(),
+                &mut reader,
+                &mut writer,
+                workers,
+                &OpenGate,
+            );
             assert_eq!(rt; got, Ok(answer), "{told}");
             let written = writer.into_inner();
             assert_eq!(rt; written.as_slice(), told.as_bytes(), "{told}");
         }
+    }
+    Ok(())
+}
+
+/// Holds the last of two workers at its end.
+#[derive(Clone, Copy)]
+struct HoldsTheSecond;
+
+impl Gate for HoldsTheSecond {
+    ghost may_hold = { λ _ _. Unit {0} };
+
+    fn pass<R: Wait>(&self, _rt: &R, point: Point) -> Result<(), GateHeld> {
+        if point == Point::PieceDone(1) {
+            return Err(GateHeld);
+        }
+        Ok(())
+    }
+}
+
+#[test]
+fn bad_or_held_workers_write_nothing(rt: HostRuntime) -> Result<(), Fail> {
+    let bytes = from_hex(rt.alloc(), TWO)?;
+    for (workers, fault) in [
+        (0, StreamFault::BadWorkers),
+        (65, StreamFault::BadWorkers),
+        (2, StreamFault::Held),
+    ] {
+        let mut reader = Counted::new(bytes.as_slice());
+        let mut writer = Counted::new(Vec::new(rt.alloc()));
+        let gate = HoldsTheSecond;
+        let got = audit_stream(&rt, rt.alloc(), &mut reader, &mut writer, workers, &gate);
+        assert_eq!(rt; got, Err(fault), "{workers}");
+        assert_eq!(rt; writer.into_inner().len(), 0, "{workers}");
     }
     Ok(())
 }
@@ -83,7 +124,7 @@ fn a_failed_read_writes_nothing(rt: HostRuntime) -> Result<(), Fail> {
         let reader = FailingReader::new(bytes.as_slice(), reads, 1_000_000, 7);
         let mut reader = Counted::new(reader);
         let mut writer = Counted::new(Vec::new(rt.alloc()));
-        let got = audit_stream(rt.alloc(), &mut reader, &mut writer);
+        let got = audit_stream(&rt, rt.alloc(), &mut reader, &mut writer, 1, &OpenGate);
         assert_eq!(rt; got, Err(StreamFault::ReadFailed), "{reads}");
         assert_eq!(rt; reader.failures(), 1, "{reads}");
         assert_eq!(rt; writer.into_inner().len(), 0, "{reads}");
@@ -99,7 +140,7 @@ fn a_failed_write_leaves_a_front(rt: HostRuntime) -> Result<(), Fail> {
         let device = FailingWriter::new(Vec::new(rt.alloc()), 100, written as u64, 9);
         let mut reader = Counted::new(bytes.as_slice());
         let mut writer = Counted::new(device);
-        let got = audit_stream(rt.alloc(), &mut reader, &mut writer);
+        let got = audit_stream(&rt, rt.alloc(), &mut reader, &mut writer, 1, &OpenGate);
         assert_eq!(rt; got, Err(StreamFault::WriteFailed), "{written}");
         assert_eq!(rt; writer.failures(), 1, "{written}");
         let out = writer.into_inner().into_inner();
@@ -178,7 +219,8 @@ fn a_run_prints_outcomes_and_the_report(rt: HostRuntime) -> Result<(), Fail> {
     assert_eq!(rt; text.as_slice(), wanted.as_bytes());
     assert!(rt; errors.is_empty());
     let mut report = Counted::new(Vec::new(rt.alloc()));
-    let answer = audit_stream(rt.alloc(), &mut Counted::new(trace.as_slice()), &mut report)?;
+    let mut reader = Counted::new(trace.as_slice());
+    let answer = audit_stream(&rt, rt.alloc(), &mut reader, &mut report, 1, &OpenGate)?;
     assert_eq!(rt; answer, Answer::Accepted);
     assert_eq!(rt;
         report.into_inner().as_slice(),

@@ -1,6 +1,5 @@
-use Rattle.std.proofs.Common.{sym, ap, ◌∙◌, subst, take, inl, inr}
+use Rattle.std.proofs.Common.{inl, inr}
 use Rattle.std.proofs.lemmas.Result.{err_from_is_err_and}
-use Rattle.std.specs.Io.KnownBytes.{Appends}
 use Rattle.cops_stream.proofs.Told.{told_writes, told_front, accepted_spells, answer_no_error, error_again}
 use Rattle.cops_stream.proofs.audit.audit_stream.Goals as goal
 

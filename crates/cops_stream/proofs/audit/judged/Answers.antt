@@ -1,36 +1,36 @@
-use Rattle.std.proofs.Common.{◌≡◌, sym, ap, ◌∙◌, subst, refl}
+use Rattle.std.proofs.Common.{sym, ap, subst}
 use Rattle.cops_types.specs.Histories.{Sessions}
 use Rattle.cops_types.specs.Convergence.{IsCausallyConvergent}
-use Rattle.cops_audit.specs.declared.verdict.Verdict.{Verdict}
 use Rattle.cops_audit.specs.Verdicts.{IsVerdict, Accepts}
 use Rattle.cops_report.specs.Reports.{IsReport}
 use Rattle.cops_stream.specs.Audit.{answer_of}
 use Rattle.cops_stream.proofs.audit.judged.Goals as goal
 
-pub returns-in-Accepted : goal.returns-in-Accepted
-returns-in-Accepted c =
+pub returns-in-Accepted-clause-told : goal.returns-in-Accepted-clause-told
+returns-in-Accepted-clause-told g c =
     let h = c.history-history.ensures.sessions in
-    let v = c.in_ok-verdict.verdict in
+    let v = c.in-Ok.verdict in
     record {
-      told = record {
-        verdict = v;
-        is_verdict = subst (λ (s : Sessions). IsVerdict s v) h c.in_ok-verdict.ensures.verdict;
-        is_report = subst (λ (s : Sessions). IsReport s v c.in_ok-text.text.items) h c.in_ok-text.ensures;
-        answer_is = sym (ap answer_of c.in-Accepted.is);
-      };
-      convergent = λ _. subst IsCausallyConvergent h (c.in_ok-verdict.ensures.convergent (subst Accepts (sym c.in-Accepted.is) tt));
+      verdict = v;
+      is_verdict = subst (λ (s : Sessions). IsVerdict s v) h c.in-Ok.ensures.ok;
+      is_report = subst (λ (s : Sessions). IsReport s v c.in_ok-text.text.items) h c.in_ok-text.ensures;
+      answer_is = sym (ap answer_of c.in-Accepted.is);
     }
 
-pub returns : goal.returns
-returns c =
+pub returns-in-Accepted-clause-convergent : goal.returns-in-Accepted-clause-convergent
+returns-in-Accepted-clause-convergent g c =
+    λ _. subst IsCausallyConvergent c.history-history.ensures.sessions (c.in-Ok.ensures.convergent (subst Accepts (sym c.in-Accepted.is) tt))
+
+pub returns-clause-told : goal.returns-clause-told
+returns-clause-told g c =
     let h = c.history-history.ensures.sessions in
-    let v = c.in_ok-verdict.verdict in
+    let v = c.in-Ok.verdict in
     record {
-      told = record {
-        verdict = v;
-        is_verdict = subst (λ (s : Sessions). IsVerdict s v) h c.in_ok-verdict.ensures.verdict;
-        is_report = subst (λ (s : Sessions). IsReport s v c.in_ok-text.text.items) h c.in_ok-text.ensures;
-        answer_is = sym (ap answer_of c.in-Refused.is);
-      };
-      convergent = λ e. absurd cc;
+      verdict = v;
+      is_verdict = subst (λ (s : Sessions). IsVerdict s v) h c.in-Ok.ensures.ok;
+      is_report = subst (λ (s : Sessions). IsReport s v c.in_ok-text.text.items) h c.in_ok-text.ensures;
+      answer_is = sym (ap answer_of c.in-Refused.is);
     }
+
+pub returns-clause-convergent : goal.returns-clause-convergent
+returns-clause-convergent g c = λ e. absurd cc
