@@ -325,6 +325,18 @@ def random_scenarios():
         check(f"its trace {seed}", cops("audit", "-", stdin=recorded), (0, report.encode() + b"\n", b""))
 
 
+def many_workers():
+    """However many workers judge a trace, the answer is that of one."""
+    for name, status, text in TRACES:
+        for workers in ("1", "2", "64"):
+            answer = cops("audit", "--workers", workers, "-", stdin=example(f"{name}.trace"))
+            check(f"{name} by {workers} workers", answer, (status, text.encode(), b""))
+    path = os.path.join(ROOT, "examples", "stale.trace")
+    for given in (["--workers", "0"], ["--workers", "65"], ["--workers", "x"], ["--workers"], ["--workers=2", "--workers=2"]):
+        status, out, err = cops("audit", path, *given)
+        check(f"usage of {given}", (status, out, err != b""), (2, b"", True))
+
+
 def words():
     path = os.path.join(ROOT, "examples", "empty.trace")
     for given in (["audit"], ["audit", b"\xff"], [b"\xff"], ["nothing"], ["audit", path, "more"], ["audit", "--nothing", path], ["show"], ["run", "a"], ["judge", "a", "b"]):
@@ -386,7 +398,7 @@ def little_memory():
 
 
 for tests in (
-    examples, long_chain, faults, shown, scenarios, refusals, faulty_scenarios, random_scenarios, words, devices, generated, little_memory,
+    examples, long_chain, faults, shown, scenarios, refusals, faulty_scenarios, random_scenarios, many_workers, words, devices, generated, little_memory,
 ):
     tests()
 print(f"{passed} passed, {failed} failed")

@@ -8,12 +8,14 @@ ghost use Rattle.cops.specs.Status.{status_of};
 
 use cops_line::{Job, LineFault, line};
 use cops_stream::{Answer, StreamFault, audit_stream, run_stream, show_stream};
-use cops_types::{Counted, Memory};
+use cops_types::{Counted, Memory, OpenGate};
 use std::alloc::AllocError;
 use std::fs::File;
 use std::io::{ErrorKind, Read, Write};
 use std::process::ExitCode;
 use std::rt::{Env, Files};
+use std::sync::Wait;
+use std::thread::Threads;
 use std::{env, io};
 
 const ACCEPTED: u8 = 0;
@@ -45,16 +47,21 @@ fn status_of(answer: Answer) -> u8
     }
 }
 
-/// Audits the input, and gives the status: `ACCEPTED` only where the bytes spell one history, and it is causally
-/// convergent.
-fn audit<R: Print + Eprint + AllocGlobal, I: Read + Drop>(rt: &R, input: I) -> u8
+/// Audits the input by so many workers, and gives the status: `ACCEPTED` only where the bytes spell one history, and it is
+/// causally convergent.
+fn audit<R, I>(rt: &R, input: I, workers: u8) -> u8
+where
+    R: Print + Eprint + AllocGlobal + Threads + Wait + Sync,
+    I: Read + Drop,
     ensures { result ≡ 0 → IfSome (I.remaining input) SpellsConvergent }
 {
     let mut reader = Counted::new(input);
     let mut writer = Counted::new(io::writer(rt));
-    match audit_stream(rt.alloc(), &mut reader, &mut writer) {
+    match audit_stream(rt, rt.alloc(), &mut reader, &mut writer, workers, &OpenGate) {
         Ok(answer) => status_of(answer),
         Err(StreamFault::Memory) => failed(rt, "memory", NO_MEMORY),
+        Err(StreamFault::BadWorkers) => failed(rt, "workers", FAULTY),
+        Err(StreamFault::Held) => failed(rt, "held", FAILED),
         Err(StreamFault::ReadFailed) => failed(rt, "read", FAILED),
         Err(StreamFault::WriteFailed) => failed(rt, "write", FAILED),
     }
@@ -97,12 +104,12 @@ where
 
 fn command<R, I, E>(rt: &R, job: Job<'_>, input: I, errors: E) -> u8
 where
-    R: Files + Print + Eprint + AllocGlobal,
+    R: Files + Print + Eprint + AllocGlobal + Threads + Wait + Sync,
     I: Read + Drop,
     E: Write + Drop,
 {
     match job {
-        Job::Audit { .. } => audit(rt, input),
+        Job::Audit { workers, .. } => audit(rt, input, workers),
         Job::Show { .. } => show(rt, input, errors),
         Job::Run { trace, .. } => run_scenario(rt, input, trace, errors),
     }
@@ -111,10 +118,10 @@ where
 /// Runs the job over the file that it names, or over standard input where that is `-`.
 fn perform<R, E>(rt: &R, job: Job<'_>, errors: E) -> u8
 where
-    R: Files + Input + Print + Eprint + AllocGlobal,
+    R: Files + Input + Print + Eprint + AllocGlobal + Threads + Wait + Sync,
     E: Write + Drop,
 {
-    let (Job::Audit { trace: input }
+    let (Job::Audit { trace: input, .. }
     | Job::Show { trace: input }
     | Job::Run {
         scenario: input,
@@ -132,7 +139,7 @@ where
 /// Does what the words after the program's name ask for.
 fn run<R, E>(rt: &R, arguments: &[String], errors: E) -> Result<u8, AllocError>
 where
-    R: Files + Input + Print + Eprint + AllocGlobal,
+    R: Files + Input + Print + Eprint + AllocGlobal + Threads + Wait + Sync,
     E: Write + Drop,
 {
     let words: Vec<&str> = arguments
