@@ -234,3 +234,71 @@ fn a_put_comes_into_another_data_centre(rt: HostRuntime) -> Result<(), Fail> {
     assert_eq!(rt; share.entries.len(), 5);
     Ok(())
 }
+
+/// The shares of the clients, and then of the receivers.
+fn all_shares(
+    alloc: Global,
+    clients: Vec<Client>,
+    receivers: Vec<Share>,
+) -> Result<Vec<Share>, Fail> {
+    let mut shares = Vec::new(alloc);
+    for client in clients {
+        shares.push(client.into_share())?;
+    }
+    for share in receivers {
+        shares.push(share)?;
+    }
+    Ok(shares)
+}
+
+/// How a cluster with one node ends in which client 0 was held, and client 1 put twice: an entry of its share may be lost, or
+/// a whole share.
+fn ended<R: Wait>(
+    rt: &R,
+    alloc: Global,
+    is_entry_lost: bool,
+    is_share_lost: bool,
+) -> Result<Result<Closed, CloseFault>, Fail> {
+    let Opened {
+        cluster,
+        mut clients,
+        shares,
+    } = opened(alloc, 1, false, &[0, 0])?;
+    let _held = puts(rt, alloc, &cluster, &mut clients[0], &Holding, b'x');
+    let _one = puts(rt, alloc, &cluster, &mut clients[1], &Holding, b'x');
+    let _two = puts(rt, alloc, &cluster, &mut clients[1], &Holding, b'y');
+    if is_entry_lost {
+        let _lost = clients[1].share().entries.pop();
+    }
+    let mut shares = all_shares(alloc, clients, shares)?;
+    if is_share_lost {
+        let _lost = shares.pop();
+    }
+    Ok(cluster.close(shares))
+}
+
+#[test]
+fn a_cluster_ends_with_its_entries(rt: HostRuntime) -> Result<(), Fail> {
+    let alloc = rt.alloc();
+    let Ok(closed) = ended(&rt, alloc, false, false)? else {
+        return Err(Fail::new("not closed"));
+    };
+    assert_eq!(rt; closed.books.len(), 1);
+    assert_eq!(rt; closed.books[0].len(), 2);
+    assert_eq!(rt; closed.trace.len(), 2);
+    Ok(())
+}
+
+#[test]
+fn a_share_without_an_entry_is_not_kept(rt: HostRuntime) -> Result<(), Fail> {
+    let ended = ended(&rt, rt.alloc(), true, false)?;
+    assert!(rt; matches!(ended, Err(CloseFault::NotKept { ticket: 1 })));
+    Ok(())
+}
+
+#[test]
+fn a_cluster_without_all_shares_comes_back(rt: HostRuntime) -> Result<(), Fail> {
+    let ended = ended(&rt, rt.alloc(), false, true)?;
+    assert!(rt; matches!(ended, Err(CloseFault::SharesMissing(_, _))));
+    Ok(())
+}
