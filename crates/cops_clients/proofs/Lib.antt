@@ -1,2 +1,4 @@
 pub mod Nodes
 pub mod Tellings
+pub mod Lists
+pub mod Joins

@@ -3,3 +3,6 @@ pub mod Opening
 pub mod Cluster
 pub mod Replies
 pub mod Receiving
+pub mod Close
+pub mod Differing
+pub mod HandedBack

@@ -1,10 +1,12 @@
 //! A COPS cluster on threads (COPS, sections 3 and 4): each node under a lock of its own, clients that call from threads of
 //! their own, and what each caller was told. Stands on the nodes' books, places, contexts and the recorder. The layers above
-//! use that what every caller was told is what the books' nodes answered.
+//! use that, where a cluster is closed, what every caller was told is what the books' nodes answered.
 #![tactic(auto)]
 
 mod client;
+mod closing;
 mod cluster;
+mod differing;
 mod fault;
 mod receiving;
 mod refusal;
@@ -13,6 +15,7 @@ mod spot;
 mod stepping;
 
 pub use client::Client;
+pub use closing::{CloseFault, Closed};
 pub use cluster::{Cluster, Opened};
 pub use fault::OpenFault;
 pub use receiving::{Asked, RECEIVER, Yes};

@@ -127,8 +127,14 @@ fn puts<R: Wait, G: Gate>(
     gate: &G,
     byte: u8,
 ) -> bool {
+    let Ok(key) = key(alloc, byte) else {
+        return false;
+    };
+    let Ok(value) = value(alloc) else {
+        return false;
+    };
     matches!(
-        put(rt, alloc, cluster, client, gate, byte),
+        cluster.put(rt, client, gate, key, value),
         Ok(Outcome::PutDone(_))
     )
 }
@@ -152,5 +158,147 @@ fn two_puts_stand_in_their_steps_at_once(rt: HostRuntime) -> Result<(), Fail> {
         || puts(&rt, alloc, &cluster, &mut two[0], &gate, b'z'),
     );
     assert!(rt; low && high);
+    Ok(())
+}
+
+/// A gate that holds each step of client 0 under the node's lock.
+struct Holding;
+
+impl Gate for Holding {
+    ghost may_hold = { λ _ _. Unit {0} };
+
+    fn pass<R: Wait>(&self, _rt: &R, point: Point) -> Result<(), GateHeld> {
+        match point {
+            Point::InStep { client: 0, .. } => Err(GateHeld),
+            _ => Ok(()),
+        }
+    }
+}
+
+#[test]
+fn a_held_step_changes_nothing(rt: HostRuntime) -> Result<(), Fail> {
+    let alloc = rt.alloc();
+    let Opened {
+        cluster,
+        mut clients,
+        ..
+    } = opened(alloc, 1, false, &[0, 0])?;
+    let (zero, one) = clients.split_at_mut(1);
+    assert!(rt; !puts(&rt, alloc, &cluster, &mut zero[0], &Holding, b'x'));
+    assert!(rt; puts(&rt, alloc, &cluster, &mut one[0], &Holding, b'x'));
+    assert_eq!(rt; zero[0].share().entries.len(), 0);
+    assert_eq!(rt; one[0].share().entries.len(), 1);
+    Ok(())
+}
+
+/// A put of x=1 at 1.0, without dependencies.
+fn sent(alloc: Global) -> Result<PutRecord, TypeFault> {
+    Ok(PutRecord {
+        key: key(alloc, b'x')?,
+        value: value(alloc)?,
+        version: Version::new(1, 0)?,
+        deps: Deps::new(Vec::new(alloc))?,
+    })
+}
+
+/// Whether exactly x at 1.0 is settled in data centre 1.
+fn is_settled<R: Wait>(
+    rt: &R,
+    alloc: Global,
+    cluster: &Cluster,
+    share: &mut Share,
+) -> Result<bool, Fail> {
+    let version = Version::new(1, 0)?;
+    let asked = cluster.ask(rt, share, &OpenGate, 1, &key(alloc, b'x')?, version)?;
+    Ok(matches!(asked, Asked::Yes(_)))
+}
+
+#[test]
+fn a_put_comes_into_another_data_centre(rt: HostRuntime) -> Result<(), Fail> {
+    let alloc = rt.alloc();
+    let Opened {
+        cluster,
+        mut clients,
+        mut shares,
+    } = opened(alloc, 2, false, &[0, 1])?;
+    let version = Version::new(1, 0)?;
+    let share = &mut shares[1];
+    assert!(rt; puts(&rt, alloc, &cluster, &mut clients[0], &OpenGate, b'x'));
+    assert!(rt; get(&rt, alloc, &cluster, &mut clients[1], b'x')? == Outcome::Missed);
+    assert!(rt; cluster.deliver(&rt, share, &OpenGate, 1, sent(alloc)?)? == Outcome::Held);
+    assert!(rt; cluster.deliver(&rt, share, &OpenGate, 1, sent(alloc)?)? == Outcome::Repeat);
+    assert!(rt; !is_settled(&rt, alloc, &cluster, share)?);
+    assert!(rt; cluster.settle(&rt, share, &OpenGate, 1, version)? == Outcome::Settled);
+    assert!(rt; is_settled(&rt, alloc, &cluster, share)?);
+    assert!(rt; cluster.settle(&rt, share, &OpenGate, 2, version)? == Outcome::Refused(10));
+    assert_eq!(rt; share.entries.len(), 5);
+    Ok(())
+}
+
+/// The shares of the clients, and then of the receivers.
+fn all_shares(
+    alloc: Global,
+    clients: Vec<Client>,
+    receivers: Vec<Share>,
+) -> Result<Vec<Share>, Fail> {
+    let mut shares = Vec::new(alloc);
+    for client in clients {
+        shares.push(client.into_share())?;
+    }
+    for share in receivers {
+        shares.push(share)?;
+    }
+    Ok(shares)
+}
+
+/// How a cluster with one node ends in which client 0 was held, and client 1 put twice: an entry of its share may be lost, or
+/// a whole share.
+fn ended<R: Wait>(
+    rt: &R,
+    alloc: Global,
+    is_entry_lost: bool,
+    is_share_lost: bool,
+) -> Result<Result<Closed, CloseFault>, Fail> {
+    let Opened {
+        cluster,
+        mut clients,
+        shares,
+    } = opened(alloc, 1, false, &[0, 0])?;
+    let _held = puts(rt, alloc, &cluster, &mut clients[0], &Holding, b'x');
+    let _one = puts(rt, alloc, &cluster, &mut clients[1], &Holding, b'x');
+    let _two = puts(rt, alloc, &cluster, &mut clients[1], &Holding, b'y');
+    if is_entry_lost {
+        let _lost = clients[1].share().entries.pop();
+    }
+    let mut shares = all_shares(alloc, clients, shares)?;
+    if is_share_lost {
+        let _lost = shares.pop();
+    }
+    Ok(cluster.close(shares))
+}
+
+#[test]
+fn a_cluster_ends_with_its_entries(rt: HostRuntime) -> Result<(), Fail> {
+    let alloc = rt.alloc();
+    let Ok(closed) = ended(&rt, alloc, false, false)? else {
+        return Err(Fail::new("not closed"));
+    };
+    assert_eq!(rt; closed.books.len(), 1);
+    assert_eq!(rt; closed.books[0].len(), 2);
+    assert_eq!(rt; closed.trace.len(), 2);
+    Ok(())
+}
+
+#[test]
+fn a_share_without_an_entry_is_not_kept(rt: HostRuntime) -> Result<(), Fail> {
+    let ended = ended(&rt, rt.alloc(), true, false)?;
+    assert!(rt; matches!(ended, Err(CloseFault::NotKept { ticket: 1 })));
+    Ok(())
+}
+
+#[test]
+fn a_cluster_without_all_shares_comes_back(rt: HostRuntime) -> Result<(), Fail> {
+    let ended = ended(&rt, rt.alloc(), false, true)?;
+    assert!(rt; matches!(ended, Err(CloseFault::SharesMissing(_, _))));
     Ok(())
 }

@@ -1,4 +1,4 @@
-use Rattle.std.proofs.Common.{◌≡◌, ◌++◌, ◌∷◌, [], ap, ap₂, ◌∙◌, ℕ, List}
+use Rattle.std.proofs.Common.{◌≡◌, ◌++◌, ◌∷◌, [], ap, ap₂, ◌∙◌, ℕ}
 use Rattle.cops_node.specs.declared.event.NodeEvent.TheVariants.{Get}
 use Rattle.cops_place.specs.Place.{node_at}
 use Rattle.cops_tie.specs.Book.{entry}

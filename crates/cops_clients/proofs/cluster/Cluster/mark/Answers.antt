@@ -1,4 +1,4 @@
-use Rattle.std.proofs.Common.{◌≡◌, ap, ap₂, ◌∙◌, subst, ℕ}
+use Rattle.std.proofs.Common.{◌≡◌, ap₂, ◌∙◌, subst, ℕ}
 use Rattle.std.specs.Prelude.{IfOk}
 use Rattle.cops_node.specs.declared.event.NodeEvent.TheVariants.{Mark}
 use Rattle.cops_core.specs.World.{place_of}

@@ -1,5 +1,4 @@
-use Rattle.std.proofs.Common.{◌≡◌, refl}
-use Rattle.cops_types.specs.declared.dep.Dep.{Dep}
+use Rattle.std.proofs.Common.{refl}
 use Rattle.cops_node.specs.declared.event.NodeEvent.TheVariants.{Put}
 use Rattle.cops_clients.specs.Cluster.{node_of, after_put}
 use Rattle.cops_clients.proofs.Tellings.{answer_kept, told_adds, most_adds, told_context}

@@ -1,0 +1,159 @@
+//! Whether the entries of books are those of shares.
+ghost use Rattle.std.specs.Prelude.{◌≡◌, ◌≤◌, ◌<◌, ◌+◌, ◌++◌, ◌∷◌, [], ◌↔◌, length, map, take, IfOk, OnOk, IsNone, IsTrue, slice_index_or};
+ghost use Rattle.std.specs.List.Sorted.{IsPermutation};
+ghost use Rattle.cops_clients.specs.Close.{entries_at, made_by, number_of, told};
+ghost use Rattle.cops_clients.specs.Shares.{made};
+ghost use Rattle.cops_clients.specs.declared.differing.Noted.{Noted};
+ghost use Rattle.cops_clients.specs.Differing.{shown};
+
+use crate::closing::number_at;
+use crate::share::Share;
+use cops_tie::{Book, Entry};
+use std::alloc::{AllocError, Global};
+
+/// An entry, with the number of its node.
+#[derive(Clone, Copy)]
+pub struct Noted<'a> {
+    pub entry: &'a Entry,
+    pub node: u16,
+}
+
+/// The least ticket whose entries in the books are not those in the shares; `None` where the entries are the same, each as
+/// often.
+pub(crate) fn difference(
+    alloc: Global,
+    places: usize,
+    books: &[Book],
+    shares: &[Share],
+) -> Result<Option<u64>, AllocError>
+    requires places { 0 < places × places ≤ 64 }
+    requires few { length books.now ≤ 1024 }
+    ensures { IfOk result (λ o. IsNone o → IsPermutation (made_by places 0 books.now) (told shares.now)) }
+{
+    let mut kept = kept_in(alloc, places, books)?;
+    let mut heard = told_in(alloc, shares)?;
+    kept.sort_unstable_by_key(|noted| noted.entry.ticket);
+    heard.sort_unstable_by_key(|noted| noted.entry.ticket);
+    Ok(first_difference(&kept, &mut heard))
+}
+
+/// The entries of the books, each with its node.
+fn kept_in<'a>(
+    alloc: Global,
+    places: usize,
+    books: &'a [Book],
+) -> Result<Vec<Noted<'a>>, AllocError>
+    requires places { 0 < places × places ≤ 64 }
+    requires few { length books.now ≤ 1024 }
+    ensures { IfOk result (λ all. map shown all.items ≡ made_by places 0 books.now) }
+{
+    let mut all = Vec::new(alloc);
+    for n in 0..books.len() {
+        add_book(&mut all, places, n, &books[n])?;
+    }
+    Ok(all)
+}
+
+/// Those of a book more, where it is the nth node's.
+fn add_book<'a>(
+    all: &mut Vec<Noted<'a>>,
+    places: usize,
+    n: usize,
+    book: &'a Book,
+) -> Result<(), AllocError>
+    requires places { 0 < places × places ≤ 64 }
+    requires few { n < 1024 }
+    ensures { OnOk result (map shown all.new.items ≡ map shown all.old.items ++ map (made (number_of places n)) (entries_at places n book.now)) }
+{
+    let node = book.node().number();
+    if usize::from(node) == number_at(places, n) {
+        add_entries(all, node, book.entries())?;
+    }
+    Ok(())
+}
+
+fn add_entries<'a>(
+    all: &mut Vec<Noted<'a>>,
+    node: u16,
+    entries: &'a [Entry],
+) -> Result<(), AllocError>
+    ensures { OnOk result (map shown all.new.items ≡ map shown all.old.items ++ map (made node) entries.now) }
+{
+    for entry in entries {
+        all.push(Noted { entry, node })?;
+    }
+    Ok(())
+}
+
+/// The entries of the shares.
+fn told_in<'a>(alloc: Global, shares: &'a [Share]) -> Result<Vec<Noted<'a>>, AllocError>
+    ensures { IfOk result (λ all. map shown all.items ≡ told shares.now) }
+{
+    let mut all = Vec::new(alloc);
+    for share in shares {
+        add_share(&mut all, share)?;
+    }
+    Ok(all)
+}
+
+/// Those of a share more.
+fn add_share<'a>(all: &mut Vec<Noted<'a>>, share: &'a Share) -> Result<(), AllocError>
+    ensures { OnOk result (map shown all.new.items ≡ map shown all.old.items ++ share.now.entries.items) }
+{
+    for made in &share.entries {
+        all.push(Noted {
+            entry: &made.entry,
+            node: made.node,
+        })?;
+    }
+    Ok(())
+}
+
+/// The least ticket at which two lists in order of tickets differ. Entries of one ticket may come in any order.
+fn first_difference(kept: &[Noted<'_>], heard: &mut [Noted<'_>]) -> Option<u64>
+    ensures order { IsPermutation heard.old heard.new }
+    ensures same { IsNone result → map shown kept.now ≡ map shown heard.new }
+{
+    let both = kept.len().min(heard.len());
+    for i in 0..both {
+        if !bring(&kept[i], heard, i) {
+            return Some(kept[i].entry.ticket.min(heard[i].entry.ticket));
+        }
+    }
+    if both < kept.len() {
+        return Some(kept[both].entry.ticket);
+    }
+    if both < heard.len() {
+        return Some(heard[both].entry.ticket);
+    }
+    None
+}
+
+/// Brings the same entry to a place, from among those of its ticket that stand there and behind it, if it is there.
+fn bring(noted: &Noted<'_>, heard: &mut [Noted<'_>], i: usize) -> bool
+    requires { i < length heard.old }
+    ensures order { IsPermutation heard.old heard.new }
+    ensures before { take i heard.new ≡ take i heard.old }
+    ensures len { length heard.new ≡ length heard.old }
+    ensures found { IsTrue result → (d : Noted) × ((slice_index_or heard.new i d ≡ d) × (shown d ≡ shown noted.now)) }
+{
+    for j in i..heard.len() {
+        if heard[j].entry.ticket != noted.entry.ticket {
+            return false;
+        }
+        if is_same(&heard[j], noted) {
+            heard.swap(i, j);
+            return true;
+        }
+    }
+    false
+}
+
+fn is_same(one: &Noted<'_>, other: &Noted<'_>) -> bool
+    ensures { IsTrue result ↔ (shown one.now ≡ shown other.now) }
+{
+    if one.node != other.node {
+        return false;
+    }
+    one.entry.is(other.entry)
+}
