@@ -1,20 +1,35 @@
 #!/usr/bin/env python3
 """Times the tie of the books of a run of 10,000 and of 100,000 entries, and prints the ratio of the times.
 
-Times are of wall time, the best of five runs, without the time to read the events and to make the books.
+Times are of the processor, without the time to read the events and to make the books: the median of runs with the tie, less the
+median of runs without it, which take turns.
 """
 import os
+import resource
+import statistics
+import subprocess
 import tempfile
 
-from building import build, seconds
+from building import build
 from events import lines
 
 
-def took(program, count, folder):
+def processor_seconds(*command):
+    before = resource.getrusage(resource.RUSAGE_CHILDREN)
+    subprocess.run(command, check=True, stdout=subprocess.DEVNULL)
+    after = resource.getrusage(resource.RUSAGE_CHILDREN)
+    return after.ru_utime + after.ru_stime - before.ru_utime - before.ru_stime
+
+
+def took(program, count, runs, folder):
     path = os.path.join(folder, "events.txt")
     with open(path, "w") as file:
         file.write(lines(count))
-    return max(1e-9, seconds(program, "tie", path, "run") - seconds(program, "tie", path, "read"))
+    tied, read = [], []
+    for _ in range(runs):
+        tied.append(processor_seconds(program, "tie", path, "run"))
+        read.append(processor_seconds(program, "tie", path, "read"))
+    return max(1e-9, statistics.median(tied) - statistics.median(read))
 
 
 def main():
@@ -22,10 +37,10 @@ def main():
     print("|---|---|---|---|")
     with tempfile.TemporaryDirectory() as folder:
         program, first = build(), None
-        for count in (10_000, 100_000):
-            found = took(program, count, folder)
+        for count, runs in ((10_000, 101), (100_000, 21)):
+            found = took(program, count, runs, folder)
             first = first or found
-            print(f"| {count:,} | {found:.3f} | {count / found:,.0f} | {found / first:.1f} |", flush=True)
+            print(f"| {count:,} | {found:.4f} | {count / found:,.0f} | {found / first:.1f} |", flush=True)
 
 
 if __name__ == "__main__":
