@@ -1,3 +1,5 @@
+ghost use Rattle.std.specs.Prelude.{◌≡◌, IfOk, length, vec_len};
+
 use super::*;
 use cops_node::Outcome;
 use cops_place::Place;
@@ -21,13 +23,23 @@ fn value(alloc: Global) -> Result<Value, TypeFault> {
 }
 
 /// A cluster of so many data centres, each with one node or with two whose ranges meet at `m`, and with clients there.
-fn opened(alloc: Global, dcs: u8, is_split: bool, homes: &[u8]) -> Result<Opened, Fail> {
+fn opened(alloc: Global, dcs: u8, is_split: bool, homes: &[u8]) -> Result<Opened, Fail>
+    ensures clients { IfOk result (λ o. vec_len o.clients ≡ length homes.now) }
+    ensures shares { IfOk result (λ o. vec_len o.shares ≡ dcs) }
+{
     let mut splits = Vec::new(alloc);
     if is_split {
         splits.push(key(alloc, b'm')?)?;
     }
     let place = Place::new(dcs, splits)?;
-    Ok(Cluster::open(alloc, place, Vec::from_slice(alloc, homes)?)?)
+    let opened = Cluster::open(alloc, place, Vec::from_slice(alloc, homes)?)?;
+    if opened.clients.len() != homes.len() {
+        return Err(Fail::new("there is not a client for each home"));
+    }
+    if opened.shares.len() != dcs as usize {
+        return Err(Fail::new("there is not a share for each data centre"));
+    }
+    Ok(opened)
 }
 
 fn put<R: Wait, G: Gate>(
