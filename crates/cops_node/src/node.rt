@@ -31,9 +31,9 @@ impl Model for Node {
 }
 
 impl Node {
-    ghost use Rattle.std.specs.Prelude.{◌≡◌, ◌<◌, length, option_copied, IfOk, IfErr, OnOk, OnErr};
+    ghost use Rattle.std.specs.Prelude.{◌≡◌, ◌<◌, ◌≤◌, length, option_copied, IfOk, IfErr, OnOk, OnErr};
     ghost use Rattle.std.specs.Option.{option_map};
-    ghost use Rattle.cops_store.specs.Store.{Stored, shown, shown_keys};
+    ghost use Rattle.cops_store.specs.Store.{Stored, has_pair, shown, shown_keys};
     ghost use Rattle.cops_held.specs.Held.{waiting};
     ghost use Rattle.cops_node.specs.declared.event.NodeEvent.TheVariants.{Put, Get, Deliver, Ask, Mark, Settle};
     ghost use Rattle.cops_node.specs.Node.{NodeHappens, node_step, opened, settled_at, dep_at};
@@ -169,6 +169,13 @@ impl Node {
         self.store.get(key)
     }
 
+    /// Whether exactly this pair is settled here, as `ask` answers it.
+    pub fn has(&self, key: &Key, version: Version) -> bool
+        ensures { result ≡ has_pair self.now.settled (record { key = key.now; version = version }) }
+    {
+        self.store.has(key, version)
+    }
+
     /// A dependency of the put that waits at a version, by its index. None where there is no such put or dependency.
     pub fn dep_of(&self, version: Version, dep: u16) -> Option<&Dep>
         ensures { option_copied result ≡ dep_at (waiting self.now.held version) dep }
@@ -179,7 +186,8 @@ impl Node {
 
     /// The clock, and how many keys show a value, pairs are settled, and puts wait.
     pub fn status(&self) -> NodeStatus
-        ensures { result ≡ record { clock = self.now.clock; keys = length (shown_keys self.now.settled); settled = length self.now.settled; held = length self.now.held } }
+        ensures status { result ≡ record { clock = self.now.clock; keys = length (shown_keys self.now.settled); settled = length self.now.settled; held = length self.now.held } }
+        ensures clock { result.clock ≤ 281474976710655 }
     {
         NodeStatus {
             clock: self.clock.clock(),

@@ -2,7 +2,7 @@
 use cops_core::{Event, World, WorldFault};
 use cops_place::Place;
 use cops_types::{Key, Memory, Value};
-use std::alloc::Global;
+use std::alloc::{AllocError, Global};
 use std::marker::Model;
 
 /// The most clients of a scenario.
@@ -59,7 +59,7 @@ impl Model for Scenario {
 
 impl Scenario {
     ghost use Rattle.std.specs.Prelude.{◌≡◌, ◌≤◌, length, All, IfOk, option_map};
-    ghost use Rattle.cops_core.specs.World.{opened_cluster};
+    ghost use Rattle.cops_core.specs.World.{AreClients, opened_cluster};
     ghost use Rattle.cops_scenario.specs.Scenario.{IsScenario, IsClientOf, AreEventsOf, homes_of};
 
     /// The scenario of these parts, which are within their limits.
@@ -118,15 +118,23 @@ impl Scenario {
         &self.clients
     }
 
-    /// A world of the scenario's data centres and clients, in which nothing has happened.
-    pub fn open_world(&self, alloc: Global) -> Result<World, Memory>
-        ensures { IfOk result (λ world. world ≡ opened_cluster self.now.place (homes_of self.now)) }
+    /// The data centre of each client.
+    pub fn homes(&self, alloc: Global) -> Result<Vec<u8>, AllocError>
+        ensures homes { IfOk result (λ homes. homes.items ≡ homes_of self.now) }
+        ensures there { IfOk result (λ homes. AreClients self.now.place homes.items) }
     {
         let mut homes = Vec::new(alloc);
         for client in &self.clients {
             homes.push(client.at)?;
         }
-        match World::open(alloc, self.place.clone()?, homes) {
+        Ok(homes)
+    }
+
+    /// A world of the scenario's data centres and clients, in which nothing has happened.
+    pub fn open_world(&self, alloc: Global) -> Result<World, Memory>
+        ensures { IfOk result (λ world. world ≡ opened_cluster self.now.place (homes_of self.now)) }
+    {
+        match World::open(alloc, self.place.clone()?, self.homes(alloc)?) {
             Ok(world) => Ok(world),
             Err(WorldFault::Memory) => Err(Memory),
             Err(WorldFault::BadClient) => unreachable!(),

@@ -1,4 +1,4 @@
-ghost use Rattle.std.specs.Prelude.{◌≡◌, ◌<◌, ◌≤◌, ◌↔◌, ◌==◌, List, ℕ, length, IfOk, IfErr, IsErrOf, IsTrue};
+ghost use Rattle.std.specs.Prelude.{◌≡◌, ◌<◌, ◌≤◌, ◌↔◌, ◌==◌, List, ℕ, length, [], IfOk, IfErr, IsErrOf, IsTrue};
 ghost use Rattle.cops_types.specs.Key.{IsKey};
 ghost use Rattle.cops_types.specs.TypeFaults.{IsKeyFault};
 
@@ -144,5 +144,32 @@ impl Key {
         ensures { IsTrue result ↔ (self.now ≡ other.now) }
     {
         self.bytes.as_slice() == other.bytes.as_slice()
+    }
+}
+
+/// Room for a copy of any key, which then takes no memory.
+#[derive(Drop)]
+pub struct KeyRoom {
+    bytes: SmallVec<u8, INLINE>,
+    ghost empty: { bytes.items ≡ [] },
+    ghost room: { 64 ≤ bytes.capacity },
+}
+
+impl KeyRoom {
+    /// Room for one copy.
+    pub fn new(alloc: Global) -> Result<Self, AllocError> {
+        Ok(KeyRoom {
+            bytes: SmallVec::with_capacity(alloc, MAX_KEY)?,
+        })
+    }
+
+    /// A copy of a key, in this room.
+    pub fn copy(self, key: &Key) -> Key
+        ensures { result ≡ key.now }
+    {
+        let KeyRoom { bytes: room } = self;
+        let mut bytes = room;
+        bytes.extend_from_slice(key.as_bytes()).unwrap();
+        Key { bytes }
     }
 }

@@ -1,4 +1,4 @@
-ghost use Rattle.std.specs.Prelude.{◌≡◌, ◌<◌, ◌≤◌, ◌↔◌, ◌==◌, List, ℕ, length, IfOk, IfErr, IsErrOf, IsTrue};
+ghost use Rattle.std.specs.Prelude.{◌≡◌, ◌<◌, ◌≤◌, ◌↔◌, ◌==◌, List, ℕ, length, [], IfOk, IfErr, IsErrOf, IsTrue};
 ghost use Rattle.cops_types.specs.Value.{IsValue};
 ghost use Rattle.cops_types.specs.Format.{most_value};
 ghost use Rattle.cops_types.specs.TypeFaults.{IsValueFault};
@@ -99,5 +99,32 @@ impl Value {
         ensures { IsTrue result ↔ (self.now ≡ other.now) }
     {
         self.bytes.as_slice() == other.bytes.as_slice()
+    }
+}
+
+/// Room for a copy of any value of format 1, which then takes no memory.
+#[derive(Drop)]
+pub struct ValueRoom {
+    bytes: SmallVec<u8, INLINE>,
+    ghost empty: { bytes.items ≡ [] },
+    ghost room: { 4096 ≤ bytes.capacity },
+}
+
+impl ValueRoom {
+    /// Room for one copy.
+    pub fn new(alloc: Global) -> Result<Self, AllocError> {
+        Ok(ValueRoom {
+            bytes: SmallVec::with_capacity(alloc, MAX_VALUE)?,
+        })
+    }
+
+    /// A copy of a value, in this room.
+    pub fn copy(self, value: &Value) -> Value
+        ensures { result ≡ value.now }
+    {
+        let ValueRoom { bytes: room } = self;
+        let mut bytes = room;
+        bytes.extend_from_slice(value.as_bytes()).unwrap();
+        Value { bytes }
     }
 }

@@ -1,11 +1,11 @@
-use Rattle.std.proofs.Common.{rules, ◌≡◌, ◌≤◌, ◌<◌, ◌+◌, ◌∙◌, ◌++◌, ◌∷◌, [], ℕ, List, All, length, map, take, sym, ap, ap₂, subst, arith}
+use Rattle.std.proofs.Common.{◌≡◌, ◌≤◌, ◌<◌, ◌+◌, ◌∙◌, ◌++◌, ◌∷◌, [], ℕ, List, All, length, map, take, sym, ap, subst, arith}
 use Rattle.std.proofs.lemmas.List.{take_more, take_all, map-append, length-map}
 use Rattle.std.proofs.lemmas.List.Elements.{All-map}
 use Rattle.cops_place.specs.Place.{APlace}
-use Rattle.cops_core.specs.World.{AreClients, opened_cluster}
+use Rattle.cops_core.specs.World.{AreClients}
 use Rattle.cops_scenario.specs.declared.scenario.ScriptedClient.{ScriptedClient}
 use Rattle.cops_scenario.specs.Scenario.{AScenario, IsClientOf, homes_of}
-use Rattle.cops_scenario.proofs.scenario.Scenario.open_world.Goals as goal
+use Rattle.cops_scenario.proofs.scenario.Scenario.homes.Goals as goal
 
 all_homes : (items : List ScriptedClient) (i : ℕ) (homes : List ℕ) → length items ≤ i → homes ≡ map (λ c. c.at) (take i items) → homes ≡ map (λ c. c.at) items
 all_homes items i homes done are = are ∙ ap (map (λ (c : ScriptedClient). c.at)) (take_all i items done)
@@ -23,13 +23,13 @@ loop-client-preserved c =
     c.in_ok-push.ensures.items ∙ ap (λ (xs : List ℕ). xs ++ c.client-item.result.at ∷ []) c.loop-client.invariant
     ∙ sym (ap (map (λ (x : ScriptedClient). x.at)) more ∙ map-append (λ (x : ScriptedClient). x.at) (take i items) (c.client-item.result ∷ []))
 
-pub unreachable-requires : goal.unreachable-requires
-unreachable-requires c =
+pub returns-clause-homes : goal.returns-clause-homes
+returns-clause-homes c =
+    all_homes c.self.inside.clients.items c.loop-client.client-index c.loop-client.homes.items (omega (arith, c.loop-client-test.false, c.deref-client-items.ensures.value)) (subst (λ (l : List ScriptedClient). c.loop-client.homes.items ≡ map (λ x. x.at) (take c.loop-client.client-index l)) c.deref-client-items.ensures.value c.loop-client.invariant)
+    ∙ ap homes_of c.self.view_is
+
+pub returns-clause-there : goal.returns-clause-there
+returns-clause-there c =
     let here = all_homes c.self.inside.clients.items c.loop-client.client-index c.loop-client.homes.items (omega (arith, c.loop-client-test.false, c.deref-client-items.ensures.value)) (subst (λ (l : List ScriptedClient). c.loop-client.homes.items ≡ map (λ x. x.at) (take c.loop-client.client-index l)) c.deref-client-items.ensures.value c.loop-client.invariant) in
     let are = are_clients c.self.inside.place c.self.inside.clients.items c.self.invariant.each_client c.self.invariant.few_clients in
-    c.in-Err-BadClient.ensures.bad.0 (search rules) (rw (c.in_ok-clone.ensures.cases, here) are)
-
-pub returns-in-Ok : goal.returns-in-Ok
-returns-in-Ok c =
-    let here = all_homes c.self.inside.clients.items c.loop-client.client-index c.loop-client.homes.items (omega (arith, c.loop-client-test.false, c.deref-client-items.ensures.value)) (subst (λ (l : List ScriptedClient). c.loop-client.homes.items ≡ map (λ x. x.at) (take c.loop-client.client-index l)) c.deref-client-items.ensures.value c.loop-client.invariant) in
-    c.in-Ok.ensures.ok ∙ ap₂ opened_cluster c.in_ok-clone.ensures.cases here ∙ ap (λ (s : AScenario). opened_cluster s.place (homes_of s)) c.self.view_is
+    subst (λ (s : AScenario). AreClients s.place c.loop-client.homes.items) c.self.view_is (rw here are)
