@@ -4,8 +4,8 @@ use Rattle.std.proofs.lemmas.List.{length-map, get_or-map}
 use Rattle.std.proofs.lemmas.List.Elements.{Contains-get_or}
 use Rattle.cops_types.specs.declared.op.OpName.{OpName}
 use Rattle.cops_types.specs.Histories.{Sessions, IsNamed}
-use Rattle.cops_types.specs.Faults.{HasNoSource, IsDoubled, IsNotAbove, IsStale, Lists}
-use Rattle.cops_types.specs.Verdicts.{AllHaveSources, NoneDoubled}
+use Rattle.cops_types.specs.Faults.{HasNoSource, IsDoubled, IsNewer, IsNotAbove, IsStale, Lists}
+use Rattle.cops_types.specs.Verdicts.{AllHaveSources, NoneDoubled, NoneStale}
 use Rattle.cops_audit.specs.SoFar.{HaveSourcesOrWait}
 use Rattle.cops_audit.specs.declared.table.VersionedPut.{VersionedPut}
 use Rattle.cops_audit.specs.declared.notes.Note.{Note}
@@ -71,6 +71,15 @@ module _ (h : Sessions) (names : List OpName) (all : Lists (λ n. n) (IsNamed h)
     above_listed sources faults lists = among_all (λ f. f.op) (λ f. IsNotAbove h f.op f.earlier) names faults
         (among_same (λ f. f.op) (λ f. SeesNotAbove notes f.op f.earlier) (λ f. IsNotAbove h f.op f.earlier) names faults (λ x. above_same h table t notes noted sources x.op x.earlier) lists)
         (λ x f. (all.members x.op).1 (_, f.is_not_below.put.2))
+
+-- where no suspect is stale, no get is
+pub none_stale : (h : Sessions) (table : List VersionedPut) (names : List OpName) (suspects : List Suspect) → Lists (λ n. n) (IsNamed h) names → AreSuspects h table names suspects
+    → ((k : ℕ) (d : Suspect) → k < length suspects → (newer : OpName) (version : ℕ) → ¬ IsNewer h (get_or suspects k d).op newer version) → NoneStale h
+none_stale h table names suspects all are none name newer f =
+    let there = (all.members name).1 (past_to h newer name f.is_newer.past) in
+    let s = are.others name newer f.version there f.is_newer in
+    let at = s.2 in
+    none at.0 s.0 at.1 newer f.version (subst (λ (x : OpName). IsNewer h x newer f.version) (sym (ap (λ (x : Suspect). x.op) at.2 ∙ s.1)) f.is_newer)
 
 -- where versions rise, none is borne twice
 pub none_doubled : (h : Sessions) (table : List VersionedPut) → IsVersionTable h table → NoneDoubled h

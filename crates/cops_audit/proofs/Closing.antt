@@ -125,7 +125,7 @@ module _ (table : List VersionedPut) (notes : List (List Note)) (firsts : List �
   pub raised_sweeping : IsSweeping table notes firsts floor old (λ _. ⊥) → IsSweeping table notes firsts floor new (λ _. ⊥)
   raised_sweeping was = record {
     clients = raises.width ∙ was.clients;
-    places = ap length raises.newest ∙ was.places;
+    places = let e : length new.newest ≡ length old.newest = ap length raises.newest in omega (arith, e, was.places);
     newest = λ first place is.
         let w = was.newest first place (ap (λ (l : List ℕ). get_or l first 0) (sym raises.newest) ∙ is) in
         (w.0, w.1, w.2, raises.kept w.0 w.3, w.4);

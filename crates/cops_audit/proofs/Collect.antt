@@ -1,5 +1,6 @@
 -- A loop over the names that collects the faults of a class.
 use Rattle.std.proofs.Common.{◌≡◌, ◌<◌, ◌≤◌, ◌+◌, ◌↔◌, ℕ, zero, suc, List, [], ◌∷◌, ◌++◌, length, get_or, take, take_all, refl, sym, ◌∙◌, ap, subst, inl, inr, arith, Contains, AllPairs}
+use Rattle.std.proofs.Math.Nat.{eq-or-lt_of_le}
 use Rattle.std.proofs.lemmas.List.Quantifiers.{all_pairs_push}
 use Rattle.std.proofs.lemmas.List.Elements.{Contains-append_left, Contains-push, Contains-push_cases, Contains-get_or}
 use Rattle.std.proofs.lemmas.List.{take_more}
@@ -109,3 +110,10 @@ pub all_listed : {A : Type 0} (name_of : A → OpName) (IsFault : A → Type 0) 
     → ((x : A) → IsFault x → Contains names (name_of x)) → Lists name_of IsFault faults
 all_listed name_of IsFault names i faults enough lists named =
     among_all name_of IsFault names faults (subst (λ ns. ListsAmong name_of IsFault ns faults) (take_all i names enough) lists) named
+
+-- what holds of each element so far and of the next one
+pub each_next : {A : Type 0} (P : A → Type 0) (xs : List A) (i : ℕ) (e : A) → i < length xs → ((k : ℕ) (d : A) → k < i → P (get_or xs k d)) → P (get_or xs i e) → (k : ℕ) (d : A) → k < i + 1 → P (get_or xs k d)
+each_next P xs i e inside old new k d less = elim (eq-or-lt_of_le (let le : k ≤ i = omega (arith, less) in le)) [
+  | inl same ↦ subst (λ (j : ℕ). P (get_or xs j d)) (sym same) (subst P (get_or-default xs i e d inside) new)
+  | inr before ↦ old k d before
+]

@@ -1,13 +1,17 @@
 -- What is said so far, from the faults of each class.
 use Rattle.std.proofs.Common.{◌<◌, ℕ, List, get_or, length, sym, subst, inl, inr}
-use Rattle.std.proofs.lemmas.List.Elements.{Contains-get_or}
 use Rattle.cops_types.specs.declared.op.OpName.{OpName}
-use Rattle.cops_types.specs.Histories.{Sessions, PutsVersion, SourceStep}
+use Rattle.cops_types.specs.Histories.{Sessions, IsNamed, PutsVersion, SourceStep}
 use Rattle.cops_types.specs.Faults.{HasNoSource, Lists}
 use Rattle.cops_types.specs.Verdicts.{AllAbove, NoneDoubled, NoneStale}
+use Rattle.cops_audit.specs.declared.notes.Note.{Note}
+use Rattle.cops_audit.specs.declared.table.VersionedPut.{VersionedPut}
+use Rattle.cops_audit.specs.Notes.{IsNoted, SeesNotBelow}
+use Rattle.cops_audit.specs.Tables.{IsVersionTable}
 use Rattle.cops_audit.specs.SoFar.{HasLastingFault, HaveSourcesOrWait, IsMismatched, IsWaiting}
 use Rattle.cops_audit.proofs.Differing.{name_cases}
 use Rattle.cops_audit.proofs.Exact.{source_version}
+use Rattle.cops_audit.proofs.Reading.{above_same}
 use Rattle.cops_audit.proofs.Gets.{one_get_version}
 
 -- a get that waits has no source
@@ -49,16 +53,23 @@ module _ (h : Sessions) (doubled : NoneDoubled h) where
       let f = m.2 in
       waits.none m.1 (subst (λ v. PutsVersion h m.1 v) (one_get_version h m.0 f.version waits.version f.gets waits.gets) f.puts)
 
--- where each of the gets without a source waits, each get without a source does, and those are all that wait
-pub all_wait : (h : Sessions) (gets : List OpName) → Lists (λ n. n) (HasNoSource h) gets → ((k : ℕ) (d : OpName) → k < length gets → IsWaiting h (get_or gets k d)) → HaveSourcesOrWait h
-all_wait h gets lists waits n f = let at = (lists.members n).1 f in subst (IsWaiting h) at.2 (waits at.0 n at.1)
+-- where each of the names without a source waits, each get without a source does
+pub all_wait : (h : Sessions) (names : List OpName) → Lists (λ n. n) (IsNamed h) names → ((k : ℕ) (d : OpName) → k < length names → HasNoSource h (get_or names k d) → IsWaiting h (get_or names k d)) → HaveSourcesOrWait h
+all_wait h names all waits n f =
+    let at = (all.members n).1 (_, f.got) in
+    subst (IsWaiting h) at.2 (waits at.0 n at.1 (subst (HasNoSource h) (sym at.2) f))
 
+-- where none of the names is a put that saw what is not below it, all puts are above what their sessions saw
+pub all_above : (h : Sessions) (names : List OpName) → Lists (λ n. n) (IsNamed h) names → (table : List VersionedPut) → IsVersionTable h table → (notes : List (List Note)) → IsNoted h table notes → HaveSourcesOrWait h
+    → ((k : ℕ) (d : OpName) → k < length names → (earlier : OpName) → ¬ SeesNotBelow notes earlier (get_or names k d)) → AllAbove h
+all_above h names all table t notes noted waits none n earlier f =
+    let at = (all.members n).1 (_, f.is_not_below.put.2) in
+    let sees = ((above_same h table t notes noted waits n earlier).1 f).not_below in
+    none at.0 n at.1 earlier (subst (SeesNotBelow notes earlier) (sym at.2) sees)
+
+-- those are all that wait
 pub waiting_listed : (h : Sessions) (gets : List OpName) → Lists (λ n. n) (HasNoSource h) gets → HaveSourcesOrWait h → Lists (λ n. n) (IsWaiting h) gets
 waiting_listed h gets lists sources = record {
   members = λ n. ((λ at. sources n ((lists.members n).0 at)), (λ w. (lists.members n).1 (waiting_sourceless h n w)));
   in_order = lists.in_order;
 }
-
--- each of the listed gets has no source
-pub each_sourceless : (h : Sessions) (gets : List OpName) → Lists (λ n. n) (HasNoSource h) gets → (k : ℕ) (d : OpName) → k < length gets → HasNoSource h (get_or gets k d)
-each_sourceless h gets lists k d inside = (lists.members (get_or gets k d)).0 (Contains-get_or gets k d inside)

@@ -19,12 +19,14 @@ pub mod Crossing
 pub mod Reading
 pub mod TallyLemmas
 pub mod Linking
+pub mod Numbering
 pub mod Passing
 pub mod PastMarks
 pub mod Suspecting
 pub mod Clearing
 pub mod Gathering
 pub mod Raising
+pub mod Fitting
 pub mod Learning
 pub mod Sweeping
 pub mod Closing
@@ -37,3 +39,4 @@ pub mod Counting
 pub mod Finding
 pub mod Continuing
 pub mod Lasting
+pub mod Growing

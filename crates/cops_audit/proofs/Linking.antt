@@ -1,15 +1,14 @@
 -- The puts on each key, from the last place down.
-use Rattle.std.proofs.Common.{◌≡◌, ◌≢◌, ◌<◌, ◌+◌, ℕ, zero, suc, List, [], ◌∷◌, ◌++◌, length, length-append, Some, None, Option, unwrap_or, get_or, refl, sym, ◌∙◌, ap, subst, inl, inr, ◌⊎◌, arith, slice_get, slice_set}
+use Rattle.std.proofs.Common.{◌≡◌, ◌≢◌, ◌<◌, ◌+◌, ℕ, zero, suc, List, [], ◌∷◌, length, Some, None, Option, get_or, refl, sym, ◌∙◌, ap, subst, inl, inr, ◌⊎◌, arith, slice_get, slice_set}
 use Rattle.std.proofs.Math.Nat.{eq-or-lt_of_le}
 use Rattle.cops_types.specs.declared.op.Op.TheVariants.{Put}
 use Rattle.cops_types.specs.declared.op.OpName.{OpName}
 use Rattle.cops_types.specs.Histories.{Sessions, op_at, PutsKey}
 use Rattle.cops_audit.specs.declared.table.VersionedPut.{VersionedPut}
-use Rattle.cops_audit.specs.Keys.{AreNexts, IsFirstFrom, IsFirstOn, IsNext, OnKey}
+use Rattle.cops_audit.specs.Keys.{AreNexts, IsFirstFrom, IsNext, OnKey}
 use Rattle.cops_audit.specs.Tables.{IsVersionTable, Rises}
 use Rattle.cops_audit.proofs.Places.{inside_table, same_put_at, stands_item}
 use Rattle.cops_audit.proofs.Acyclic.{one_version}
-use Rattle.cops_audit.proofs.Marks.{slice_get_push}
 use Rattle.cops_audit.proofs.Unique.{stands}
 
 -- a put has one key
@@ -82,26 +81,3 @@ pub next_at : (h : Sessions) (table : List VersionedPut) (nexts : List (Option �
     → read ≡ get_or nexts place read → read ≡ found → IsNext h table place found
 next_at h table nexts are place inside read found at is =
     are.each place found (stands nexts place read (omega (arith, inside, are.whole)) ∙ ap (λ (o : Option ℕ). Some o) (sym at ∙ is))
-
--- the first place on a key, as it was read
-pub first_read : (h : Sessions) (table : List VersionedPut) (place : ℕ) (key : List ℕ) (o : Option ℕ) (x : ℕ) → IsFirstFrom h table 0 key o → OnKey h table place key → x ≡ unwrap_or o 0 → IsFirstOn h table key x
-first_read h table place key None x none on e = absurd (none place (omega arith) on)
-first_read h table place key (Some f) x is on e = subst (IsFirstOn h table key) (sym e) (record { on_key = is.1; least = λ other there. is.2 other (omega arith) there })
-
--- the first places so far
-pub record FirstsTo (h : Sessions) (table : List VersionedPut) (firsts : List ℕ) (count : ℕ) : Type 0 where
-  pub whole : length firsts ≡ count
-  pub each : (place first : ℕ) (key : List ℕ) → slice_get firsts place ≡ Some first → OnKey h table place key → IsFirstOn h table key first
-
-pub one_first_more : (h : Sessions) (table : List VersionedPut) → Rises table → (firsts : List ℕ) (count x : ℕ) (key : List ℕ) → FirstsTo h table firsts count → OnKey h table count key → IsFirstOn h table key x
-    → FirstsTo h table (firsts ++ x ∷ []) (count + 1)
-one_first_more h table rising firsts count x key was on is = record {
-  whole = omega (arith, length-append firsts (x ∷ []), was.whole);
-  each = λ place first k at there. elim (slice_get_push firsts x first place at) [
-    | inl old ↦ was.each place first k old there
-    | inr last ↦
-        let here : OnKey h table place key = subst (λ (j : ℕ). OnKey h table j key) (sym (last.0 ∙ was.whole)) on in
-        let same : key ≡ k = same_key h table rising place key k here there in
-        subst (λ (f : ℕ). IsFirstOn h table k f) last.1 (subst (λ y. IsFirstOn h table y x) same is)
-  ];
-}

@@ -3,7 +3,7 @@ use Rattle.std.proofs.Common.{◌≡◌, ◌≢◌, ◌<◌, ◌≤◌, ◌+◌,
 use Rattle.std.proofs.Math.ListN.{length-set}
 use Rattle.std.proofs.Math.Nat.{eq-or-lt_of_le}
 use Rattle.std.proofs.lemmas.Bool.{cases_order}
-use Rattle.std.proofs.lemmas.List.{length-map}
+use Rattle.std.proofs.lemmas.List.{get_or-map, length-map}
 use Rattle.cops_types.specs.declared.op.OpName.{OpName}
 use Rattle.cops_types.specs.Histories.{Sessions, IsNamed}
 use Rattle.cops_audit.specs.declared.table.VersionedPut.{VersionedPut}
@@ -11,7 +11,7 @@ use Rattle.cops_audit.specs.declared.notes.Note.{Note}
 use Rattle.cops_audit.specs.declared.notes.Seen.{Seen}
 use Rattle.cops_audit.specs.declared.notes.Seen.TheVariants.{Put, Got, Missed, Sourceless}
 use Rattle.cops_audit.specs.Tables.{IsVersionTable}
-use Rattle.cops_audit.specs.Notes.{above, AreFrontsNoted, AreLongEnough, AreMarks, IsFrontNoted, IsMark, IsNoted, IsSeen, IsSessionNoted, note_at}
+use Rattle.cops_audit.specs.Notes.{above, AreAsLong, AreFrontsNoted, AreLongEnough, AreMarks, IsFrontNoted, IsMark, IsNoted, IsSeen, IsSessionNoted, LengthensBy, note_at}
 use Rattle.cops_audit.proofs.Listing.{named_client, named_index, slice_get_there}
 use Rattle.cops_audit.proofs.Places.{inside_table}
 use Rattle.cops_audit.proofs.Unique.{stands}
@@ -173,3 +173,33 @@ noted_whole h table notes count fronts whole each = record {
       let front = fronts.sessions c less in
       record { whole = omega (arith, front.within, whole c less (each c)); seen = front.seen; marks = front.marks };
 }
+
+-- one more note in a session
+pub lengthened : {A : Type 0} (f : A → List Note) (xs : List A) (k : ℕ) (old new : A) (note : Note) → k < length xs → old ≡ get_or xs k old → f new ≡ f old ++ note ∷ [] → LengthensBy (map f xs) (map f (slice_set xs k new)) k
+lengthened f xs k old new note inside at more =
+    let here : get_or (map f (slice_set xs k new)) k [] ≡ f old ++ note ∷ [] = set_here f [] xs k new inside ∙ more in
+    let before : get_or (map f xs) k [] ≡ f old = get_or-map f xs k old [] inside ∙ ap f (sym at) in
+    record {
+      clients = omega (arith, length-map (slice_set xs k new) f, length-set xs k new, length-map xs f);
+      here = omega (arith, ap length here, ap length before, length-append (f old) (note ∷ []));
+      others = λ other differs. set_other f [] xs k other new differs;
+    }
+
+-- the notes on a session in place of as many
+module _ {A : Type 0} (f : A → List Note) (h : Sessions) (table : List VersionedPut) (xs : List A) (k : ℕ) (x : A) (inside : k < length xs) (noted : IsSessionNoted h table k (f x)) where
+  pub as_long : AreAsLong h (map f xs) → AreAsLong h (map f (slice_set xs k x))
+  as_long long = record {
+    clients = omega (arith, length-map (slice_set xs k x) f, length-set xs k x, length-map xs f, long.clients);
+    each = λ c. elim (cases_order c k) [
+      | inl same ↦ subst (λ (n : ℕ). length (get_or (map f (slice_set xs k x)) n []) ≡ length (slice_index_or h n [])) (sym same) (ap length (set_here f [] xs k x inside) ∙ noted.whole)
+      | inr other ↦
+          let differs : c ≢ k = λ e. elim other [ inl l ↦ omega (arith, l, e) | inr m ↦ omega (arith, m, e) ] in
+          ap length (set_other f [] xs k c x differs) ∙ long.each c
+    ];
+  }
+
+  pub noted_to : ((c : ℕ) → c < k → IsSessionNoted h table c (slice_index_or (map f xs) c [])) → (c : ℕ) → c < k + 1 → IsSessionNoted h table c (slice_index_or (map f (slice_set xs k x)) c [])
+  noted_to before c less = elim (eq-or-lt_of_le (let l : c ≤ k = omega (arith, less) in l)) [
+    | inl same ↦ subst (λ (n : ℕ). IsSessionNoted h table n (get_or (map f (slice_set xs k x)) n [])) (sym same) (subst (IsSessionNoted h table k) (sym (set_here f [] xs k x inside)) noted)
+    | inr lower ↦ subst (IsSessionNoted h table c) (sym (set_other f [] xs k c x (λ e. omega (arith, lower, e)))) (before c lower)
+  ]

@@ -59,7 +59,7 @@ module _ (table : List VersionedPut) (notes : List (List Note)) (rising : AreRis
       → IsSweeping table notes firsts floor new (InRange (record { client = name.client; from = from; to = name.index }))
   sweep_on old new name from note low at learns was = record {
     clients = learns.clients ∙ was.clients;
-    places = learns.places ∙ was.places;
+    places = omega (arith, learns.places, was.places);
     newest = λ first place is. elim (learns.newest first place is) [
       | inl before ↦ let w = was.newest first place before in (w.0, w.1, w.2, learns.kept w.0 w.3, w.4)
       | inr now ↦
@@ -161,7 +161,7 @@ module _ (table : List VersionedPut) (notes : List (List Note)) (rising : AreRis
       → IsSweeping table notes firsts floor old (λ _. ⊥) → IsSweeping table notes firsts floor new (InRange range)
   popped old new range counts newest pending was = record {
     clients = ap length counts ∙ was.clients;
-    places = ap length newest ∙ was.places;
+    places = let e : length new.newest ≡ length old.newest = ap length newest in omega (arith, e, was.places);
     newest = λ first place is.
         let w = was.newest first place (ap (λ (l : List ℕ). get_or l first 0) (sym newest) ∙ is) in
         (w.0, w.1, w.2, subst (λ cs. Counted cs w.0) (sym counts) w.3, w.4);

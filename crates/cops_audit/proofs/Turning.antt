@@ -1,6 +1,7 @@
 -- Suspects that are judged in turn.
-use Rattle.std.proofs.Common.{◌≡◌, ◌≢◌, ◌<◌, ◌≤◌, ◌+◌, ◌-◌, ℕ, zero, suc, List, length, get_or, replicate, Option, Some, None, refl, sym, ◌∙◌, ap, subst, inl, inr, arith, slice_set, get_or-set_same, get_or-set_other, AllPairs}
+use Rattle.std.proofs.Common.{◌≡◌, ◌≢◌, ◌<◌, ◌≤◌, ◌+◌, ◌-◌, ℕ, zero, suc, List, length, get_or, replicate, Option, Some, None, Vec, Global, refl, sym, ◌∙◌, ap, subst, inl, inr, arith, slice_set, get_or-set_same, get_or-set_other, AllPairs}
 use Rattle.std.specs.Option.{IfNone, IfSome}
+use Rattle.std.specs.Prelude.{vec_capacity}
 use Rattle.std.proofs.Math.Nat.{eq-or-lt_of_le}
 use Rattle.std.proofs.Math.ListN.{length-set}
 use Rattle.std.proofs.lemmas.List.{length-replicate}
@@ -8,10 +9,11 @@ use Rattle.cops_types.specs.declared.op.OpName.{OpName}
 use Rattle.cops_types.specs.Faults.{IsBefore}
 use Rattle.cops_audit.specs.declared.table.VersionedPut.{VersionedPut}
 use Rattle.cops_audit.specs.declared.notes.Note.{Note}
+use Rattle.cops_audit.specs.declared.sweep.Range.{Range}
 use Rattle.cops_audit.specs.declared.sweep.Sweep.{Sweep}
 use Rattle.cops_audit.specs.declared.window.Suspect.{Suspect}
 use Rattle.cops_audit.specs.Notes.{note_at}
-use Rattle.cops_audit.specs.Sweeps.{Counted, IsAbout, IsFresh, IsSweeping, more}
+use Rattle.cops_audit.specs.Sweeps.{Counted, HasRoom, IsAbout, IsFresh, IsSweeping, more}
 use Rattle.cops_audit.specs.Turns.{AreFloors, IsAfter, IsNotedSuspect}
 use Rattle.cops_audit.proofs.Closing.{none_in_nothing}
 use Rattle.cops_audit.proofs.Collect.{get_or-default}
@@ -70,10 +72,10 @@ module _ (table : List VersionedPut) (notes : List (List Note)) (firsts : List �
       omega (arith, there, e, zero_at clients n.client)
 
   -- a sweep that knows nothing
-  pub fresh_sweeping : (clients puts : ℕ) (s : Sweep) → IsFresh clients puts s → clients ≡ length notes → puts ≡ length table → IsSweeping table notes firsts floor s (λ _. ⊥)
+  pub fresh_sweeping : (clients puts : ℕ) (s : Sweep) → IsFresh clients puts s → clients ≡ length notes → length table ≤ puts → IsSweeping table notes firsts floor s (λ _. ⊥)
   fresh_sweeping clients puts s fresh c p = record {
     clients = ap length fresh.counts ∙ length-replicate {A = ℕ} clients 0 ∙ c;
-    places = ap length fresh.newest ∙ length-replicate {A = ℕ} puts 0 ∙ p;
+    places = let e : length s.newest ≡ length (replicate {A = ℕ} puts 0) = ap length fresh.newest in omega (arith, e, length-replicate {A = ℕ} puts 0, p);
     newest = λ first place is.
         let e : get_or s.newest first 0 ≡ get_or (replicate puts 0) first 0 = ap (λ (l : List ℕ). get_or l first 0) fresh.newest in
         absurd (omega (arith, is, e, zero_at puts first));
@@ -136,3 +138,16 @@ some_at {A} P (Some y) x e p = let same : y ≡ x = cc in subst P same p
 pub none_at : {A : Type 0} (P : Type 0) (o : Option A) → o ≡ None → IfNone o P → P
 none_at P None e p = p
 none_at P (Some y) e p = absurd cc
+
+-- a sweep that forgot all it knew has room
+pub room_again : (lengths : List ℕ) (clients puts : ℕ) (old new : Sweep) → clients ≡ length old.counts → puts ≡ length old.newest → IsFresh clients puts new → new.pending ≡ old.pending → HasRoom lengths old → HasRoom lengths new
+room_again lengths clients puts old new same width fresh pending room =
+    let none : length new.pending.items ≡ 0 = ap length fresh.pending in
+    let capacity : vec_capacity new.pending ≡ vec_capacity old.pending = ap (λ (v : Vec Range Global). vec_capacity v) pending in
+    record {
+      width = ap length fresh.counts ∙ length-replicate {A = ℕ} clients 0 ∙ same ∙ room.width;
+      within = λ c. let e : get_or new.counts c 0 ≡ get_or (replicate clients 0) c 0 = ap (λ (l : List ℕ). get_or l c 0) fresh.counts in omega (arith, e, zero_at clients c);
+      whole = omega (arith, room.whole, capacity);
+      places = let e : length new.newest ≡ length (replicate {A = ℕ} puts 0) = ap length fresh.newest in omega (arith, e, length-replicate {A = ℕ} puts 0, width, room.places);
+      left = omega (arith, room.whole, capacity, none, new.pending.ok.0);
+    }

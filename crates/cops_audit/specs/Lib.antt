@@ -1,6 +1,9 @@
 pub mod Keys
+pub mod Known
 pub mod Names
 pub mod Notes
+pub mod Numbers
+pub mod Rooms
 pub mod Searches
 pub mod SoFar
 pub mod Sweeps

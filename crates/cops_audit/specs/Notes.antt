@@ -1,5 +1,5 @@
 -- What each operation did, by places in the table of puts in order of versions.
-use Rattle.std.specs.Prelude.{◌≡◌, ◌<◌, ◌≤◌, ◌+◌, ◌⊎◌, ℕ, List, [], length, slice_index_or, slice_get, Option, Some}
+use Rattle.std.specs.Prelude.{◌≡◌, ◌≢◌, ◌<◌, ◌≤◌, ◌+◌, ◌⊎◌, ℕ, List, [], length, slice_index_or, slice_get, Option, Some}
 use Rattle.cops_types.specs.declared.op.OpName.{OpName}
 use Rattle.cops_types.specs.Histories.{Sessions, IsMissed, PutsVersion, SourceStep}
 use Rattle.cops_types.specs.Faults.{HasNoSource}
@@ -91,3 +91,14 @@ pub record SeesNotBelow (notes : List (List Note)) (earlier name : OpName) : Typ
 pub record SeesNotAbove (notes : List (List Note)) (name earlier : OpName) : Type 0 where
   pub not_below : SeesNotBelow notes earlier name
   pub first : (e : OpName) → SeesNotBelow notes e name → earlier.index ≤ e.index
+
+-- a note for each operation
+pub record AreAsLong (h : Sessions) (notes : List (List Note)) : Type 0 where
+  pub clients : length notes ≡ length h
+  pub each : (client : ℕ) → length (slice_index_or notes client []) ≡ length (slice_index_or h client [])
+
+-- one more note on the client
+pub record LengthensBy (old new : List (List Note)) (client : ℕ) : Type 0 where
+  pub clients : length new ≡ length old
+  pub here : length (slice_index_or new client []) ≡ length (slice_index_or old client []) + 1
+  pub others : (other : ℕ) → other ≢ client → slice_index_or new other [] ≡ slice_index_or old other []

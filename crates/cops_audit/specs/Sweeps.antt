@@ -1,5 +1,5 @@
 -- Pasts as counts, learned by walking notes backward.
-use Rattle.std.specs.Prelude.{◌≡◌, ◌<◌, ◌≤◌, ◌+◌, ◌-◌, ◌*◌, ◌^◌, ◌⊎◌, ℕ, List, [], length, slice_index, slice_index_or, slice_get, Some, Contains, sum_by, vec_len, replicate}
+use Rattle.std.specs.Prelude.{◌≡◌, ◌<◌, ◌≤◌, ◌+◌, ◌-◌, ◌*◌, ◌^◌, ◌⊎◌, ℕ, List, [], length, slice_index, slice_index_or, slice_get, Some, Contains, sum_by, vec_len, vec_capacity, replicate}
 use Rattle.cops_types.specs.declared.op.OpName.{OpName}
 use Rattle.cops_audit.specs.declared.table.VersionedPut.{VersionedPut}
 use Rattle.cops_audit.specs.declared.notes.Note.{Note}
@@ -49,7 +49,7 @@ pub record IsLearned (table : List VersionedPut) (firsts : List ℕ) (sweep : Sw
 -- all that is counted and has a mark above the floor was taken in, but for what is still to be looked at
 pub record IsSweeping (table : List VersionedPut) (notes : List (List Note)) (firsts : List ℕ) (floor : ℕ) (sweep : Sweep) (IsOpen : OpName → Type 0) : Type 0 where
   pub clients : length sweep.counts ≡ length notes
-  pub places : length sweep.newest ≡ length table
+  pub places : length table ≤ length sweep.newest
   pub newest : (first place : ℕ) → slice_index sweep.newest first ≡ place + 1 → (put : OpName) × (version : ℕ) × StandsAt table place put version × Counted sweep.counts put × (slice_get firsts place ≡ Some first)
   pub open_counted : (name : OpName) → IsOpen name → Counted sweep.counts name
   pub pending_counted : (name : OpName) → InSome sweep.pending.items name → Counted sweep.counts name
@@ -126,3 +126,21 @@ pub record IsFresh (clients puts : ℕ) (sweep : Sweep) : Type 0 where
   pub counts : sweep.counts ≡ replicate clients 0
   pub newest : sweep.newest ≡ replicate puts 0
   pub pending : sweep.pending.items ≡ []
+
+-- nothing is left to look at, and there is a count for each session and a place for each put
+pub record IsIdle (sessions puts : ℕ) (sweep : Sweep) : Type 0 where
+  pub empty : sweep.pending.items ≡ []
+  pub clients : length sweep.counts ≡ sessions
+  pub places : puts ≤ length sweep.newest
+
+-- each put stands in its session
+abbrev pub Covers : List ℕ → List VersionedPut → Type 0
+Covers lengths table = (place : ℕ) (put : OpName) (version : ℕ) → StandsAt table place put version → put.index < slice_index lengths put.client
+
+-- what is still to be looked at has room, whatever else of sessions of these lengths is counted, and each operation a place
+pub record HasRoom (lengths : List ℕ) (sweep : Sweep) : Type 0 where
+  pub width : length sweep.counts ≡ length lengths
+  pub within : (client : ℕ) → slice_index sweep.counts client ≤ slice_index lengths client
+  pub whole : sum_by (λ n. n) lengths ≤ vec_capacity sweep.pending
+  pub places : sum_by (λ n. n) lengths ≤ length sweep.newest
+  pub left : vec_len sweep.pending + sum_by (λ n. n) lengths ≤ vec_capacity sweep.pending + sum_by (λ n. n) sweep.counts

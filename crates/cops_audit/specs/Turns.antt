@@ -24,6 +24,6 @@ pub record IsNotedSuspect (notes : List (List Note)) (suspect : Suspect) : Type 
 pub record IsAfter (table : List VersionedPut) (notes : List (List Note)) (firsts : List ℕ) (suspects : List Suspect) (floors : List ℕ) (k : ℕ) (sweep : Sweep) : Type 0 where
   pub empty : sweep.pending.items ≡ []
   pub clients : length sweep.counts ≡ length notes
-  pub places : length sweep.newest ≡ length table
+  pub places : length table ≤ length sweep.newest
   pub sweeping : (j : ℕ) → j + 1 ≡ k → IsSweeping table notes firsts (slice_index floors j) sweep (λ _. ⊥)
   pub about : (j : ℕ) (d : Suspect) → j + 1 ≡ k → IsAbout table notes sweep (slice_index_or suspects j d).op

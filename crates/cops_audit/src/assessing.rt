@@ -1,19 +1,27 @@
-ghost use Rattle.std.specs.Prelude.{◌<◌, ℕ, IfOk, IsTrue, length, slice_index_or};
+ghost use Rattle.std.specs.Prelude.{◌≡◌, ◌<◌, ◌≤◌, ℕ, IfOk, IsOk, IsTrue, OnOk, length, slice_index_or};
 ghost use Rattle.cops_types.specs.declared.op.OpName.{OpName};
-ghost use Rattle.cops_types.specs.Histories.{IsNamed};
-ghost use Rattle.cops_types.specs.Faults.{HasNoSource, Lists};
-ghost use Rattle.cops_audit.specs.SoFar.{IsMismatched, IsSoFar, IsWaiting};
+ghost use Rattle.cops_types.specs.Faults.{HasNoSource, IsStale};
+ghost use Rattle.cops_types.specs.Recorded.{IsWithinLimits};
+ghost use Rattle.cops_types.specs.Verdicts.{AllAbove, NoneStale};
+ghost use Rattle.cops_audit.specs.Notes.{IsNoted};
+ghost use Rattle.cops_audit.specs.Rooms.{Fits, IsFilled};
+ghost use Rattle.cops_audit.specs.SoFar.{HaveSourcesOrWait, IsMismatched, IsSoFar, IsWaiting};
 ghost use Rattle.cops_audit.specs.Tables.{IsVersionTable};
 
-use crate::names::all_names;
-use crate::notes::{Notes, without_source};
+use crate::keys::set_firsts;
+use crate::known::Firsts;
+use crate::names::set_names;
+use crate::notes::{Notes, count_sourceless, is_sourceless};
 use crate::ops::got_version;
-use crate::rising::not_above;
-use crate::stale::stale_among;
-use crate::table::{VersionedPut, is_rising, place_of, puts_by_version};
+use crate::rising::has_not_above;
+use crate::room::Room;
+use crate::stale::has_stale;
+use crate::table::{VersionedPut, is_rising, place_of, set_puts};
+use crate::turns::set_floors;
 use crate::verdict::SoFar;
-use cops_types::{History, Memory, OpName};
-use std::alloc::Global;
+use crate::window::push_suspects;
+use cops_types::{History, OpName};
+use std::alloc::AllocError;
 
 /// Whether a put bears the version of a get that has no source.
 fn is_mismatched(history: &History, table: &[VersionedPut], got: OpName) -> bool
@@ -31,63 +39,121 @@ fn is_mismatched(history: &History, table: &[VersionedPut], got: OpName) -> bool
     }
 }
 
-/// Whether a put bears the version of one of these gets, which have no source.
-fn has_mismatched(history: &History, table: &[VersionedPut], gets: &[OpName]) -> bool
+/// Whether a put bears the version of a get without a source among these names.
+fn has_mismatched(
+    history: &History,
+    table: &[VersionedPut],
+    notes: &Notes,
+    names: &[OpName],
+) -> bool
     requires table { IsVersionTable history.now.sessions table.now }
-    requires sourceless { (k : ℕ) (d : OpName) → k < length gets.now → HasNoSource history.now.sessions (slice_index_or gets.now k d) }
+    requires notes { IsNoted history.now.sessions table.now notes.now }
     ensures mismatched { IsTrue result → (got : OpName) × (put : OpName) × IsMismatched history.now.sessions got put }
-    ensures waiting { ¬ IsTrue result → (k : ℕ) (d : OpName) → k < length gets.now → IsWaiting history.now.sessions (slice_index_or gets.now k d) }
+    ensures waiting { ¬ IsTrue result → (k : ℕ) (d : OpName) → k < length names.now → HasNoSource history.now.sessions (slice_index_or names.now k d) → IsWaiting history.now.sessions (slice_index_or names.now k d) }
 {
-    for got in gets {
-        if is_mismatched(history, table, *got) {
-            return true;
+    for got in names {
+        if is_sourceless(notes, *got) {
+            if is_mismatched(history, table, *got) {
+                return true;
+            }
         }
     }
     false
 }
 
-/// What is said so far of a history in which no version is borne by two puts.
-fn assess_gets(
-    alloc: Global,
-    history: &History,
-    names: &[OpName],
-    table: &[VersionedPut],
-) -> Result<SoFar, Memory>
-    requires names { Lists (λ n. n) (IsNamed history.now.sessions) names.now }
-    requires table { IsVersionTable history.now.sessions table.now }
-    ensures { IfOk result (IsSoFar history.now.sessions) }
-{
-    let notes = Notes::new(alloc, history, table)?;
-    let list = without_source(alloc, &notes, names)?;
-    let gets = list.as_slice();
-    if has_mismatched(history, table, gets) {
-        return Ok(SoFar::Refused);
+impl Room {
+    /// Whether a get is stale in a history where each get has its source or waits for it, and each put is above what its
+    /// session saw.
+    fn has_stale(&mut self, history: &History) -> Result<bool, AllocError>
+        requires fits { Fits history.now.sessions self.old }
+        requires limits { IsWithinLimits history.now.sessions }
+        requires filled { IsFilled history.now.sessions self.old }
+        requires notes { IsNoted history.now.sessions self.old.table.items self.old.notes }
+        requires sources { HaveSourcesOrWait history.now.sessions }
+        requires above { AllAbove history.now.sessions }
+        ensures ok { IsOk result }
+        ensures stale { IfOk result (λ found. IsTrue found → (name : OpName) × (newer : OpName) × IsStale history.now.sessions name newer) }
+        ensures none { IfOk result (λ found. ¬ IsTrue found → NoneStale history.now.sessions) }
+        ensures fits { OnOk result (Fits history.now.sessions self.new) }
+        ensures names { OnOk result (self.new.names ≡ self.old.names) }
+        ensures notes { OnOk result (self.new.notes ≡ self.old.notes) }
+    {
+        let table = self.table.as_slice();
+        let names = self.names.as_slice();
+        self.numbers.link(&mut self.nexts, history, table)?;
+        let nexts = self.nexts.as_slice();
+        set_firsts(&mut self.firsts, history, table, nexts)?;
+        let firsts = self.firsts.as_slice();
+        let known = Firsts::Numbered(&self.numbers);
+        self.suspects.clear();
+        push_suspects(
+            &mut self.suspects,
+            history,
+            table,
+            &self.notes,
+            nexts,
+            &known,
+            names,
+        )?;
+        let suspects = self.suspects.as_slice();
+        set_floors(&mut self.floors, suspects)?;
+        let floors = self.floors.as_slice();
+        self.sweep.restart();
+        let notes = &self.notes;
+        let found = has_stale(
+            &mut self.sweep,
+            history,
+            table,
+            notes,
+            firsts,
+            suspects,
+            floors,
+        )?;
+        Ok(found)
     }
-    let faults = not_above(alloc, &notes, names)?;
-    if !faults.is_empty() {
-        return Ok(SoFar::Refused);
-    }
-    let faults = stale_among(alloc, history, table, &notes, names)?;
-    if !faults.is_empty() {
-        return Ok(SoFar::Refused);
-    }
-    if gets.is_empty() {
-        return Ok(SoFar::Clean);
-    }
-    Ok(SoFar::Waiting(gets.len()))
-}
 
-/// What is said so far of a history that goes on.
-pub fn assess(alloc: Global, history: &History) -> Result<SoFar, Memory>
-    ensures { IfOk result (IsSoFar history.now.sessions) }
-{
-    let list = all_names(alloc, history)?;
-    let names = list.as_slice();
-    let puts = puts_by_version(alloc, history, names)?;
-    let table = puts.as_slice();
-    if !is_rising(table) {
-        return Ok(SoFar::Refused);
+    /// What is said so far of a history in which no version is borne by two puts.
+    fn assess_gets(&mut self, history: &History) -> Result<SoFar, AllocError>
+        requires fits { Fits history.now.sessions self.old }
+        requires limits { IsWithinLimits history.now.sessions }
+        requires filled { IsFilled history.now.sessions self.old }
+        ensures ok { IsOk result }
+        ensures so_far { IfOk result (IsSoFar history.now.sessions) }
+        ensures fits { OnOk result (Fits history.now.sessions self.new) }
+    {
+        let table = self.table.as_slice();
+        let names = self.names.as_slice();
+        self.notes.renew(history, table);
+        if has_mismatched(history, table, &self.notes, names) {
+            return Ok(SoFar::Refused);
+        }
+        if has_not_above(&self.notes, names) {
+            return Ok(SoFar::Refused);
+        }
+        let stale = self.has_stale(history)?;
+        if stale {
+            return Ok(SoFar::Refused);
+        }
+        let waiting = count_sourceless(&self.notes, self.names.as_slice());
+        if waiting == 0 {
+            return Ok(SoFar::Clean);
+        }
+        Ok(SoFar::Waiting(waiting))
     }
-    let so_far = assess_gets(alloc, history, names, table)?;
-    Ok(so_far)
+
+    /// What is said so far of a history that goes on. It takes no memory.
+    pub fn assess(&mut self, history: &History) -> Result<SoFar, AllocError>
+        requires { Fits history.now.sessions self.old }
+        ensures ok { IsOk result }
+        ensures so_far { IfOk result (IsSoFar history.now.sessions) }
+        ensures fits { OnOk result (Fits history.now.sessions self.new) }
+    {
+        set_names(&mut self.names, history);
+        set_puts(&mut self.table, history, self.names.as_slice())?;
+        if !is_rising(self.table.as_slice()) {
+            return Ok(SoFar::Refused);
+        }
+        let so_far = self.assess_gets(history)?;
+        Ok(so_far)
+    }
 }

@@ -92,7 +92,8 @@ impl Hints {
         }
     }
 
-    fn get(&self, name: OpName) -> u32 {
+    /// The hint for an operation.
+    pub fn get(&self, name: OpName) -> u32 {
         let Some(session) = self.sessions.get(name.client as usize) else {
             return NONE;
         };
@@ -101,18 +102,41 @@ impl Hints {
             None => NONE,
         }
     }
+}
 
-    /// The place of a put that bears the version of an operation.
-    pub fn place_of(&self, table: &[VersionedPut], name: OpName, version: Version) -> Option<usize>
-        requires { VersionsNeverFall table.now }
-        ensures inside { IfSome result (λ place. place < length table.now) }
-        ensures found { IfSome result (λ place. (d : VersionedPut) → (slice_index_or table.now place d).version ≡ version) }
-        ensures none { IfNone result ((k : ℕ) (d : VersionedPut) → k < length table.now → (slice_index_or table.now k d).version ≢ version) }
-    {
-        let hint = self.get(name);
-        if stands_at(table, hint, version) {
-            return Some(hint as usize);
-        }
-        place_of(table, version)
+/// The place of a put that bears a version, which may stand at a hint.
+pub fn hinted_place(table: &[VersionedPut], hint: u32, version: Version) -> Option<usize>
+    requires { VersionsNeverFall table.now }
+    ensures inside { IfSome result (λ place. place < length table.now) }
+    ensures found { IfSome result (λ place. (d : VersionedPut) → (slice_index_or table.now place d).version ≡ version) }
+    ensures none { IfNone result ((k : ℕ) (d : VersionedPut) → k < length table.now → (slice_index_or table.now k d).version ≢ version) }
+{
+    if stands_at(table, hint, version) {
+        return Some(hint as usize);
     }
+    place_of(table, version)
+}
+
+/// How far from a place a version is looked for, before it is searched for in the whole table.
+const WIDTHS: [usize; 3] = [16, 256, 4096];
+
+/// A hint for the version of an operation, by the puts that stand near a place.
+pub fn hint_near(history: &History, table: &[VersionedPut], name: OpName, place: u32) -> u32 {
+    let version = match history.op(name) {
+        Some(Op::Put { version, .. }) => version.as_u64(),
+        Some(Op::Got { version, .. }) => version.as_u64(),
+        _ => return NONE,
+    };
+    for width in WIDTHS {
+        let from = (place as usize).saturating_sub(width).min(table.len());
+        let to = (place as usize).saturating_add(width).min(table.len());
+        let near = &table[from..to];
+        if let (Some(first), Some(last)) = (near.first(), near.last()) {
+            if first.version.as_u64() <= version && version <= last.version.as_u64() {
+                let before = near.partition_point(|put| put.version.as_u64() < version);
+                return from.saturating_add(before).min(NONE as usize) as u32;
+            }
+        }
+    }
+    NONE
 }

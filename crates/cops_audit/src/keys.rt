@@ -1,21 +1,21 @@
-ghost use Rattle.std.specs.Prelude.{◌≡◌, ◌<◌, ◌≤◌, ℕ, List, IfOk, IfSome, IfNone, length, slice_get, slice_index_or, Some, Option};
+ghost use Rattle.std.specs.Prelude.{◌≡◌, ◌<◌, ◌≤◌, ℕ, IfOk, IsOk, OnOk, length, slice_get, vec_capacity, Some};
 ghost use Rattle.cops_types.specs.Histories.{PutsKey, Puts};
 ghost use Rattle.cops_audit.specs.Keys.{AreFirsts, AreNexts, KnowsFirsts};
 ghost use Rattle.cops_audit.specs.Tables.{IsVersionTable};
 
 use crate::table::VersionedPut;
-use cops_types::{History, Op, OpName};
+use cops_types::{History, Key, Op, OpName};
 use std::alloc::{AllocError, Global};
 use std::collections::HashMap;
 
 /// The key of a put.
-pub fn put_key(history: &History, name: OpName) -> &[u8]
+pub fn put_key(history: &History, name: OpName) -> &Key
     requires { Puts history.now.sessions name }
     ensures { (version : ℕ) × PutsKey history.now.sessions name result.now version }
 {
     match history.op(name) {
-        Some(Op::Put { key, .. }) => key.as_bytes(),
-        _ => &[],
+        Some(Op::Put { key, .. }) => key,
+        _ => unreachable!(),
     }
 }
 
@@ -40,46 +40,54 @@ pub fn link<'a>(
     let mut firsts = HashMap::new(alloc);
     for place in (0..table.len()).rev() {
         let put = &table[place];
-        let key = put_key(history, put.name);
+        let key = put_key(history, put.name).as_bytes();
         let next = firsts.insert(key, place as u32)?;
         nexts[place] = next;
     }
     Ok(Keys { nexts, firsts })
 }
 
-/// Of each put, the place of the first put on its key.
-pub fn first_places(
-    alloc: Global,
+/// Makes it so many places, each with itself. It takes no memory where there is room for them.
+fn set_own_places(places: &mut Vec<u32>, count: usize) -> Result<(), AllocError>
+    requires { count ≤ 16000000 }
+    ensures count { OnOk result (length places.new.items ≡ count) }
+    ensures own { OnOk result ((k : ℕ) → k < count → slice_get places.new.items k ≡ Some k) }
+    ensures capacity { vec_capacity places.old ≤ vec_capacity places.new }
+    ensures succeeds { count ≤ vec_capacity places.old → IsOk result }
+{
+    places.clear();
+    places.reserve(count)?;
+    for place in 0..count {
+        places.push_reserved(place as u32);
+    }
+    Ok(())
+}
+
+/// Makes it, of each put, the place of the first put on its key: each put passes that place on to the next put on the
+/// key. It takes no memory where there is room for as many as there are puts.
+pub fn set_firsts(
+    places: &mut Vec<u32>,
     history: &History,
     table: &[VersionedPut],
-    keys: &Keys,
-) -> Result<Vec<u32>, AllocError>
+    nexts: &[Option<u32>],
+) -> Result<(), AllocError>
     requires table { IsVersionTable history.now.sessions table.now }
-    requires firsts { KnowsFirsts history.now.sessions table.now keys.now.firsts }
-    ensures { IfOk result (λ v. AreFirsts history.now.sessions table.now v.items) }
+    requires nexts { AreNexts history.now.sessions table.now nexts.now }
+    ensures firsts { OnOk result (AreFirsts history.now.sessions table.now places.new.items) }
+    ensures capacity { vec_capacity places.old ≤ vec_capacity places.new }
+    ensures succeeds { length table.now ≤ vec_capacity places.old → IsOk result }
 {
-    let mut places = Vec::new(alloc);
-    for put in table {
-        let key = put_key(history, put.name);
-        let first = keys.firsts.get(&key).copied();
-        places.push(first.unwrap_or(0))?;
+    let _history = history;
+    set_own_places(places, table.len())?;
+    for place in 0..table.len() {
+        if let Some(next) = nexts[place] {
+            places[next as usize] = places[place];
+        }
     }
-    Ok(places)
+    Ok(())
 }
 
-/// So many places, each with itself.
-fn own_places(alloc: Global, count: usize) -> Result<Vec<u32>, AllocError>
-    requires { count ≤ 16000000 }
-    ensures { IfOk result (λ v. (length v.items ≡ count) × ((k : ℕ) → k < count → slice_get v.items k ≡ Some k)) }
-{
-    let mut places = Vec::with_capacity(alloc, count)?;
-    for place in 0..count {
-        places.push(place as u32)?;
-    }
-    Ok(places)
-}
-
-/// The same from the links alone: each put passes the first place on its key on to the next put.
+/// Of each put, the place of the first put on its key, from the links alone.
 pub fn passed_firsts(
     alloc: Global,
     history: &History,
@@ -90,12 +98,7 @@ pub fn passed_firsts(
     requires nexts { AreNexts history.now.sessions table.now nexts.now }
     ensures { IfOk result (λ v. AreFirsts history.now.sessions table.now v.items) }
 {
-    let _history = history;
-    let mut places = own_places(alloc, table.len())?;
-    for place in 0..table.len() {
-        if let Some(next) = nexts[place] {
-            places[next as usize] = places[place];
-        }
-    }
+    let mut places = Vec::new(alloc);
+    set_firsts(&mut places, history, table, nexts)?;
     Ok(places)
 }

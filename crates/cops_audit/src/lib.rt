@@ -11,12 +11,15 @@ mod assessing;
 mod hints;
 mod judging;
 mod keys;
+mod known;
 mod laws;
 mod names;
 mod notes;
+mod numbers;
 mod online;
 mod ops;
 mod rising;
+mod room;
 mod search;
 mod settling;
 mod stale;
@@ -27,9 +30,8 @@ mod turns;
 mod verdict;
 mod window;
 
-pub use assessing::assess;
 pub use judging::judge;
-pub use keys::{Keys, first_places, link, passed_firsts};
+pub use keys::{Keys, link, passed_firsts};
 pub use laws::{
     accepted_exactly_where_convergent, clean_exactly_where_accepted, one_verdict,
     refused_stays_refused, verdict_on_convergence,
@@ -43,4 +45,4 @@ pub use settling::{refused_before_stale, refused_doubled, verdict_by_stale};
 pub use stale::{stale_among, stale_by};
 pub use table::{VersionedPut, doubled, is_rising, put_names, puts_by_version};
 pub use verdict::{Faults, NotAbove, SoFar, Stale, Verdict};
-pub use window::{Suspect, suspects};
+pub use window::Suspect;

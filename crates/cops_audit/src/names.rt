@@ -1,22 +1,38 @@
-ghost use Rattle.std.specs.Prelude.{IfOk, OnOk, ◌≡◌, ◌+◌, ◌≤◌, length, vec_len, slice_index_or, []};
+ghost use Rattle.std.specs.Prelude.{IfOk, ◌≡◌, ◌+◌, ◌≤◌, length, vec_len, vec_capacity, slice_index_or, []};
 ghost use Rattle.cops_types.specs.Histories.{IsNamed};
+ghost use Rattle.cops_types.specs.Recorded.{IsWithinLimits, count_of};
 ghost use Rattle.cops_types.specs.Faults.{Lists};
 ghost use Rattle.cops_audit.specs.Names.{ListsBefore};
 
 use cops_types::{History, OpName};
 use std::alloc::{AllocError, Global};
 
-/// Adds the names of one session.
-fn push_session(names: &mut Vec<OpName>, history: &History, client: u16) -> Result<(), AllocError>
-    requires { ListsBefore history.now.sessions client 0 names.old.items }
-    ensures names { OnOk result (ListsBefore history.now.sessions client (length (slice_index_or history.now.sessions client [])) names.new.items) }
-    ensures count { OnOk result (vec_len names.new ≡ vec_len names.old + length (slice_index_or history.now.sessions client [])) }
+/// Adds the names of one session, for which there is room.
+fn push_session(names: &mut Vec<OpName>, history: &History, client: u16)
+    requires names { ListsBefore history.now.sessions client 0 names.old.items }
+    requires room { vec_len names.old + length (slice_index_or history.now.sessions client []) ≤ vec_capacity names.old }
+    ensures names { ListsBefore history.now.sessions client (length (slice_index_or history.now.sessions client [])) names.new.items }
+    ensures count { vec_len names.new ≡ vec_len names.old + length (slice_index_or history.now.sessions client []) }
+    ensures capacity { vec_capacity names.new ≡ vec_capacity names.old }
 {
     for index in 0..history.session(client).len() {
         let index = index as u32;
-        names.push(OpName { client, index })?;
+        names.push_reserved(OpName { client, index });
     }
-    Ok(())
+}
+
+/// Makes it the names of all operations, in their order; there is room for them.
+pub fn set_names(names: &mut Vec<OpName>, history: &History)
+    requires { count_of history.now.sessions ≤ vec_capacity names.old }
+    ensures names { Lists (λ n. n) (IsNamed history.now.sessions) names.new.items }
+    ensures count { vec_len names.new ≡ count_of history.now.sessions }
+    ensures limits { IsWithinLimits history.now.sessions }
+    ensures capacity { vec_capacity names.new ≡ vec_capacity names.old }
+{
+    names.clear();
+    for client in 0..history.clients() {
+        push_session(names, history, client as u16);
+    }
 }
 
 /// The names of all operations, in their order.
@@ -24,9 +40,7 @@ pub fn all_names(alloc: Global, history: &History) -> Result<Vec<OpName>, AllocE
     ensures names { IfOk result (λ v. Lists (λ n. n) (IsNamed history.now.sessions) v.items) }
     ensures few { IfOk result (λ v. vec_len v ≤ 16000000) }
 {
-    let mut names = Vec::new(alloc);
-    for client in 0..history.clients() {
-        push_session(&mut names, history, client as u16)?;
-    }
+    let mut names = Vec::with_capacity(alloc, history.len())?;
+    set_names(&mut names, history);
     Ok(names)
 }

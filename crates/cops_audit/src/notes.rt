@@ -1,13 +1,13 @@
-ghost use Rattle.std.specs.Prelude.{◌≡◌, ◌<◌, ◌≤◌, ◌+◌, ◌^◌, ◌↔◌, IfOk, OnOk, IsTrue, length, map, vec_len, All, AllPairs, slice_index_or, []};
+ghost use Rattle.std.specs.Prelude.{◌≡◌, ◌<◌, ◌≤◌, ◌+◌, ◌^◌, ◌↔◌, List, IfOk, OnOk, IsTrue, length, map, vec_len, All, AllPairs, slice_index_or, []};
 ghost use Rattle.cops_types.specs.declared.op.OpName.{OpName};
 ghost use Rattle.cops_types.specs.Histories.{IsNamed};
 ghost use Rattle.cops_types.specs.Faults.{IsBefore};
 ghost use Rattle.cops_audit.specs.Names.{ListsAmong};
-ghost use Rattle.cops_audit.specs.Notes.{above as above_of, AreFrontsNoted, AreLongEnough, AreMarks, IsFrontNoted, IsMark, IsSeen, IsSourceless};
+ghost use Rattle.cops_audit.specs.Notes.{above as above_of, AreFrontsNoted, AreLongEnough, AreMarks, IsFrontNoted, IsMark, IsSeen, IsSessionNoted, IsSourceless};
 ghost use Rattle.cops_audit.specs.Tables.{GetsVersion, IsVersionTable};
 ghost use Rattle.cops_audit.specs.declared.table.VersionedPut.{VersionedPut};
 
-use crate::hints::Hints;
+use crate::hints::{Hints, hint_near, hinted_place};
 use crate::ops::is_source;
 use crate::table::{VersionedPut, first_from};
 use cops_types::{History, MAX_CLIENT_OPS, Op, OpName};
@@ -39,17 +39,17 @@ pub struct Note {
 const STRETCH: usize = 4;
 
 /// What an operation did.
-fn see(history: &History, table: &[VersionedPut], hints: &Hints, name: OpName) -> Seen
+fn see(history: &History, table: &[VersionedPut], hint: u32, name: OpName) -> Seen
     requires table { IsVersionTable history.now.sessions table.now }
     requires named { IsNamed history.now.sessions name }
     ensures { IsSeen history.now.sessions table.now name result }
 {
     match history.op(name) {
-        Some(Op::Put { version, .. }) => match hints.place_of(table, name, *version) {
+        Some(Op::Put { version, .. }) => match hinted_place(table, hint, *version) {
             Some(place) => Seen::Put(place as u32),
             None => Seen::Missed,
         },
-        Some(Op::Got { version, .. }) => match hints.place_of(table, name, *version) {
+        Some(Op::Got { version, .. }) => match hinted_place(table, hint, *version) {
             Some(place) => see_source(history, table, name, place),
             None => Seen::Sourceless(first_from(table, *version) as u32),
         },
@@ -114,7 +114,8 @@ fn note_on(
     let mut mark = last_mark(notes.as_slice());
     for index in notes.len()..end {
         let index = index as u32;
-        let seen = see(history, table, hints, OpName { client, index });
+        let hint = hints.get(OpName { client, index });
+        let seen = see(history, table, hint, OpName { client, index });
         let above = seen.above();
         if mark < above {
             mark = above;
@@ -156,6 +157,34 @@ fn no_notes(alloc: Global, history: &History) -> Result<Vec<Vec<Note>>, AllocErr
     Ok(sessions)
 }
 
+/// A note that says nothing yet.
+const BLANK: Note = Note {
+    seen: Seen::Missed,
+    mark: 0,
+};
+
+/// Notes the operations of a session: there is a note for each.
+fn renew_session(notes: &mut Vec<Note>, history: &History, table: &[VersionedPut], client: u16)
+    requires table { IsVersionTable history.now.sessions table.now }
+    requires len { vec_len notes.old ≡ length (slice_index_or history.now.sessions client []) }
+    ensures { IsSessionNoted history.now.sessions table.now client notes.new.items }
+{
+    let mut mark = 0;
+    for index in 0..history.session(client).len() {
+        let name = OpName {
+            client,
+            index: index as u32,
+        };
+        let hint = hint_near(history, table, name, mark);
+        let seen = see(history, table, hint, name);
+        let above = seen.above();
+        if mark < above {
+            mark = above;
+        }
+        notes[index] = Note { seen, mark };
+    }
+}
+
 /// The notes on the operations of a history, by client and index.
 #[derive(Drop)]
 pub struct Notes {
@@ -172,9 +201,9 @@ impl Model for Notes {
 }
 
 impl Notes {
-    ghost use Rattle.std.specs.Prelude.{◌≡◌, IfOk, length, slice_index_or, []};
+    ghost use Rattle.std.specs.Prelude.{◌≡◌, ◌<◌, IfOk, OnOk, OnErr, length, replicate, slice_index_or, []};
     ghost use Rattle.std.specs.Option.{option_copied};
-    ghost use Rattle.cops_audit.specs.Notes.{note_at, IsNoted};
+    ghost use Rattle.cops_audit.specs.Notes.{note_at, AreAsLong, IsNoted, LengthensBy};
     ghost use Rattle.cops_audit.specs.Tables.{IsVersionTable};
 
     /// The notes on all operations.
@@ -190,6 +219,40 @@ impl Notes {
         }
         note_all(&mut sessions, history, table, &hints, MAX_CLIENT_OPS)?;
         Ok(Notes { sessions })
+    }
+
+    /// No notes, on so many clients.
+    pub fn empty(alloc: Global, clients: u16) -> Result<Self, AllocError>
+        ensures { IfOk result (λ notes. notes ≡ replicate clients []) }
+    {
+        let mut sessions = Vec::new(alloc);
+        for _ in 0..clients {
+            sessions.push(Vec::new(alloc))?;
+        }
+        Ok(Notes { sessions })
+    }
+
+    /// Adds a note on a client's next operation, which says nothing yet.
+    pub fn grow(&mut self, client: u16) -> Result<(), AllocError>
+        requires { client < length self.old }
+        ensures ok { OnOk result (LengthensBy self.old self.new client) }
+        ensures err { OnErr result (self.new ≡ self.old) }
+    {
+        let session = &mut self.sessions[client as usize];
+        session.push(BLANK)?;
+        Ok(())
+    }
+
+    /// Notes all operations anew: there is a note on each.
+    pub fn renew(&mut self, history: &History, table: &[VersionedPut])
+        requires table { IsVersionTable history.now.sessions table.now }
+        requires fits { AreAsLong history.now.sessions self.old }
+        ensures { IsNoted history.now.sessions table.now self.new }
+    {
+        for client in 0..history.clients() {
+            let session = &mut self.sessions[client];
+            renew_session(session, history, table, client as u16);
+        }
     }
 
     /// The notes on a client's operations, in their order.
@@ -211,7 +274,7 @@ impl Notes {
 }
 
 /// Whether it is a get that was seen to have no source.
-fn is_sourceless(notes: &Notes, name: OpName) -> bool
+pub fn is_sourceless(notes: &Notes, name: OpName) -> bool
     ensures { IsTrue result ↔ IsSourceless notes.now name }
 {
     let Some(note) = notes.get(name) else {
@@ -239,4 +302,18 @@ pub fn without_source(
         }
     }
     Ok(faults)
+}
+
+/// How many of the gets among these names have no source.
+pub fn count_sourceless(notes: &Notes, names: &[OpName]) -> usize
+    requires { AllPairs IsBefore names.now }
+    ensures { (gets : List OpName) × ListsAmong (λ n. n) (IsSourceless notes.now) names.now gets × (length gets ≡ result) }
+{
+    let mut count = 0;
+    for name in names {
+        if is_sourceless(notes, *name) {
+            count += 1;
+        }
+    }
+    count
 }

@@ -1,24 +1,28 @@
-use crate::assessing::assess;
 use crate::judging::judge;
+use crate::room::Room;
 use crate::verdict::{SoFar, Verdict};
 use cops_types::{History, Memory, Op, TypeFault};
 use std::alloc::Global;
 use std::marker::Model;
 
 /// An auditor that is fed one operation after the other: the clients in any order, and each client's operations in
-/// their own.
+/// their own. Beside what was fed it holds the room that an answer takes, some hundred bytes for each operation.
 #[derive(Drop)]
 pub struct Online {
     alloc: Global,
     history: History,
+    room: Room,
 }
 
 impl Model for Online {
     ghost use Rattle.cops_types.specs.Histories.{Sessions};
+    ghost use Rattle.cops_audit.specs.Rooms.{Fits};
 
     ghost Value = { Sessions };
 
     ghost view = { λ a. a.history.sessions };
+
+    ghost invariant = { λ a. Fits a.history.sessions a.room };
 }
 
 impl Online {
@@ -33,7 +37,12 @@ impl Online {
         ensures { IfOk result (λ online. online ≡ replicate clients []) }
     {
         let history = History::new(alloc, clients)?;
-        Ok(Online { alloc, history })
+        let room = Room::new(alloc, clients)?;
+        Ok(Online {
+            alloc,
+            history,
+            room,
+        })
     }
 
     /// Takes a client's next operation: `UnknownClient` where there is no such client, then `TooManyOps` where the
@@ -45,22 +54,30 @@ impl Online {
         ensures too_many { IsErrOf result TypeFault.TooManyOps ↔ (client < length self.old × IsFull self.old client) }
         ensures only { IfErr result IsHistoryFault }
     {
-        self.history.push(client, op)
+        self.history.reserve(client)?;
+        self.room.grow(&self.history, client, &op)?;
+        match self.history.push(client, op) {
+            Ok(()) => Ok(()),
+            Err(_) => unreachable!(),
+        }
     }
 
-    /// What is said so far of what was fed.
-    pub fn so_far(&self) -> Result<SoFar, Memory>
-        ensures { IfOk result (IsSoFar self.now) }
+    /// What is said so far of what was fed. It takes no memory, and about the time of a judge.
+    pub fn so_far(&mut self) -> SoFar
+        ensures so_far { IsSoFar self.old result }
+        ensures same { self.new ≡ self.old }
     {
-        let so_far = assess(self.alloc, &self.history)?;
-        Ok(so_far)
+        match self.room.assess(&self.history) {
+            Ok(so_far) => so_far,
+            Err(_) => unreachable!(),
+        }
     }
 
     /// The verdict on what was fed.
     pub fn finish(self) -> Result<Verdict, Memory>
         ensures { IfOk result (IsVerdict self) }
     {
-        let Online { alloc, history } = self;
+        let Online { alloc, history, .. } = self;
         let verdict = judge(alloc, &history)?;
         Ok(verdict)
     }

@@ -1,4 +1,4 @@
-ghost use Rattle.std.specs.Prelude.{◌≡◌, ◌<◌, ◌≤◌, ◌↔◌, ℕ, IfOk, IfSome, IfNone, Some, length, slice_get, slice_index_or, [], AllPairs};
+ghost use Rattle.std.specs.Prelude.{◌≡◌, ◌<◌, ◌≤◌, ◌↔◌, ℕ, IfOk, IfSome, IfNone, IsTrue, Some, length, slice_get, slice_index_or, [], AllPairs};
 ghost use Rattle.cops_types.specs.declared.op.OpName.{OpName};
 ghost use Rattle.cops_types.specs.Faults.{IsBefore};
 ghost use Rattle.cops_audit.specs.declared.notes.Note.{Note};
@@ -63,4 +63,18 @@ pub fn not_above(
         }
     }
     Ok(faults)
+}
+
+/// Whether one of the puts among these names is not above what its session saw.
+pub fn has_not_above(notes: &Notes, names: &[OpName]) -> bool
+    requires { (client : ℕ) → AreMarks (slice_index_or notes.now client []) }
+    ensures some { IsTrue result → (name : OpName) × (earlier : OpName) × SeesNotAbove notes.now name earlier }
+    ensures none { ¬ IsTrue result → (k : ℕ) (d : OpName) → k < length names.now → (earlier : OpName) → ¬ SeesNotBelow notes.now earlier (slice_index_or names.now k d) }
+{
+    for name in names {
+        if let Some(_earlier) = first_not_below(notes, *name) {
+            return true;
+        }
+    }
+    false
 }

@@ -1,21 +1,26 @@
-ghost use Rattle.std.specs.Prelude.{◌<◌, ℕ, IfOk, length, map, AllPairs, slice_index_or};
-ghost use Rattle.cops_types.specs.Faults.{IsBefore, IsStale};
+ghost use Rattle.std.specs.Prelude.{◌<◌, ℕ, IfOk, IsOk, IsTrue, OnOk, length, map, AllPairs, slice_index_or};
+ghost use Rattle.cops_types.specs.declared.op.OpName.{OpName};
+ghost use Rattle.cops_types.specs.Faults.{IsBefore, IsNewer, IsStale};
+ghost use Rattle.cops_types.specs.Recorded.{IsWithinLimits};
 ghost use Rattle.cops_types.specs.Verdicts.{AllAbove};
 ghost use Rattle.cops_audit.specs.SoFar.{HaveSourcesOrWait};
 ghost use Rattle.cops_audit.specs.declared.window.Suspect.{Suspect};
 ghost use Rattle.cops_audit.specs.Keys.{AreFirsts, AreNexts, KnowsFirsts};
 ghost use Rattle.cops_audit.specs.Names.{ListsAmong};
 ghost use Rattle.cops_audit.specs.Notes.{IsNoted};
+ghost use Rattle.cops_audit.specs.Sweeps.{HasRoom, IsIdle};
 ghost use Rattle.cops_audit.specs.Tables.{IsVersionTable};
+ghost use Rattle.cops_audit.specs.Turns.{AreFloors};
 ghost use Rattle.cops_audit.specs.Windows.{IsSuspect};
 
 use crate::keys::{Keys, link, passed_firsts};
+use crate::known::Firsts;
 use crate::notes::Notes;
 use crate::sweep::Sweep;
 use crate::table::VersionedPut;
-use crate::turns::{floors, judge_next};
+use crate::turns::{judge_next, set_floors};
 use crate::verdict::Stale;
-use crate::window::{Suspect, suspects};
+use crate::window::{Suspect, push_suspects};
 use cops_types::{History, OpName};
 use std::alloc::{AllocError, Global};
 
@@ -37,7 +42,8 @@ fn judge_suspects(
     requires in_order { AllPairs (λ s t. IsBefore s.op t.op) suspects.now }
     ensures { IfOk result (λ v. ListsAmong (λ f. f.op) (λ f. IsStale history.now.sessions f.op f.newer) (map (λ s. s.op) suspects.now) v.items) }
 {
-    let list = floors(alloc, suspects)?;
+    let mut list = Vec::new(alloc);
+    set_floors(&mut list, suspects)?;
     let floors = list.as_slice();
     let mut sweep = Sweep::new(alloc, history.clients(), table.len())?;
     let mut faults = Vec::new(alloc);
@@ -71,12 +77,15 @@ pub fn stale_among(
     ensures { IfOk result (λ v. ListsAmong (λ f. f.op) (λ f. IsStale history.now.sessions f.op f.newer) names.now v.items) }
 {
     let keys = link(alloc, history, table)?;
-    let found = suspects(alloc, history, table, notes, &keys, names)?;
+    let nexts = keys.nexts.as_slice();
+    let mut found = Vec::new(alloc);
+    let known = Firsts::Mapped(&keys.firsts);
+    push_suspects(&mut found, history, table, notes, nexts, &known, names)?;
     let suspects = found.as_slice();
     if suspects.is_empty() {
         return Ok(Vec::new(alloc));
     }
-    let places = passed_firsts(alloc, history, table, keys.nexts.as_slice())?;
+    let places = passed_firsts(alloc, history, table, nexts)?;
     let firsts = places.as_slice();
     let faults = judge_suspects(alloc, history, table, notes, firsts, suspects)?;
     Ok(faults)
@@ -103,11 +112,49 @@ pub fn stale_by(
     requires in_order { AllPairs IsBefore names.now }
     ensures { IfOk result (λ v. ListsAmong (λ f. f.op) (λ f. IsStale history.now.sessions f.op f.newer) names.now v.items) }
 {
-    let found = suspects(alloc, history, table, notes, keys, names)?;
+    let nexts = keys.nexts.as_slice();
+    let mut found = Vec::new(alloc);
+    let known = Firsts::Mapped(&keys.firsts);
+    push_suspects(&mut found, history, table, notes, nexts, &known, names)?;
     let suspects = found.as_slice();
     if suspects.is_empty() {
         return Ok(Vec::new(alloc));
     }
     let faults = judge_suspects(alloc, history, table, notes, firsts, suspects)?;
     Ok(faults)
+}
+
+/// Whether a suspect is stale, by a sweep that has looked at nothing or that is through with what it looked at. It takes no
+/// memory where the sweep has room.
+pub fn has_stale(
+    sweep: &mut Sweep,
+    history: &History,
+    table: &[VersionedPut],
+    notes: &Notes,
+    firsts: &[u32],
+    suspects: &[Suspect],
+    floors: &[u32],
+) -> Result<bool, AllocError>
+    requires table { IsVersionTable history.now.sessions table.now }
+    requires notes { IsNoted history.now.sessions table.now notes.now }
+    requires sources { HaveSourcesOrWait history.now.sessions }
+    requires above { AllAbove history.now.sessions }
+    requires firsts { AreFirsts history.now.sessions table.now firsts.now }
+    requires suspects { (k : ℕ) (d : Suspect) → k < length suspects.now → IsSuspect history.now.sessions table.now (slice_index_or suspects.now k d) }
+    requires in_order { AllPairs (λ s t. IsBefore s.op t.op) suspects.now }
+    requires floors { AreFloors suspects.now floors.now }
+    requires limits { IsWithinLimits history.now.sessions }
+    requires idle { IsIdle (length history.now.sessions) (length table.now) sweep.old }
+    ensures stale { IfOk result (λ found. IsTrue found → (name : OpName) × (newer : OpName) × IsStale history.now.sessions name newer) }
+    ensures none { IfOk result (λ found. ¬ IsTrue found → (k : ℕ) (d : Suspect) → k < length suspects.now → (newer : OpName) (version : ℕ) → ¬ IsNewer history.now.sessions (slice_index_or suspects.now k d).op newer version) }
+    ensures idle { OnOk result (IsIdle (length history.now.sessions) (length table.now) sweep.new) }
+    ensures room { HasRoom (map length notes.now) sweep.old → IsOk result × HasRoom (map length notes.now) sweep.new }
+{
+    for k in 0..suspects.len() {
+        let found = judge_next(sweep, table, notes, firsts, suspects, floors, k)?;
+        if let Some(_place) = found {
+            return Ok(true);
+        }
+    }
+    Ok(false)
 }

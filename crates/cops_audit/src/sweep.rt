@@ -1,8 +1,8 @@
-ghost use Rattle.std.specs.Prelude.{◌≡◌, ◌<◌, ◌≤◌, ◌+◌, ℕ, IfOk, IfSome, IfNone, OnOk, IsTrue, Some, length, slice_index, vec_len, replicate, []};
+ghost use Rattle.std.specs.Prelude.{◌≡◌, ◌<◌, ◌≤◌, ◌+◌, ℕ, List, IfOk, IfSome, IfNone, IsOk, OnOk, IsTrue, Some, length, map, slice_index, []};
 ghost use Rattle.cops_types.specs.declared.op.OpName.{OpName};
 ghost use Rattle.cops_audit.specs.Notes.{above, StandsAt, note_at};
 ghost use Rattle.cops_audit.specs.declared.notes.Note.{Note};
-ghost use Rattle.cops_audit.specs.Sweeps.{ArePlaces, AreRising, Grows, InRange, IsAbout, IsFresh, IsNewestIn, IsSweeping, NoneFrom, Learns, Raises, TakesPut, work_left};
+ghost use Rattle.cops_audit.specs.Sweeps.{ArePlaces, AreRising, Covers, Grows, HasRoom, InRange, IsAbout, IsFresh, IsNewestIn, IsSweeping, NoneFrom, Learns, Raises, TakesPut, work_left};
 
 use crate::notes::{Notes, Seen};
 use crate::table::VersionedPut;
@@ -44,7 +44,8 @@ impl Sweep {
 
     /// Forgets all that is known.
     pub fn restart(&mut self)
-        ensures { self.old.pending.items ≡ [] → IsFresh (length self.old.counts) (length self.old.newest) self.new }
+        ensures fresh { self.old.pending.items ≡ [] → IsFresh (length self.old.counts) (length self.old.newest) self.new }
+        ensures pending { self.new.pending ≡ self.old.pending }
     {
         self.counts.restart();
         self.newest.restart();
@@ -53,7 +54,8 @@ impl Sweep {
     /// Counts the first operations of a client, so many.
     pub fn raise(&mut self, client: u16, to: u32) -> Result<(), AllocError>
         requires { client < length self.old.counts }
-        ensures { OnOk result (Raises self.old self.new client to) }
+        ensures raises { OnOk result (Raises self.old self.new client to) }
+        ensures room { (lengths : List ℕ) → to ≤ slice_index lengths client → HasRoom lengths self.old → IsOk result × HasRoom lengths self.new }
     {
         let from = self.counts.get(client as usize);
         if from < to {
@@ -87,10 +89,11 @@ impl Sweep {
     ) -> Result<(), AllocError>
         requires few { length table.now ≤ 16000000 }
         requires firsts { ArePlaces table.now firsts.now }
-        requires places { length self.old.newest ≡ length table.now }
+        requires places { length table.now ≤ length self.old.newest }
         requires puts { (place : ℕ) (put : OpName) (version : ℕ) → StandsAt table.now place put version → (put.client < length self.old.counts) × (put.index < 1000000) }
         requires seen { above seen ≤ length table.now }
-        ensures { OnOk result (Learns table.now firsts.now self.old self.new seen) }
+        ensures learns { OnOk result (Learns table.now firsts.now self.old self.new seen) }
+        ensures room { (lengths : List ℕ) → Covers lengths table.now → HasRoom lengths self.old → IsOk result × HasRoom lengths self.new }
     {
         match seen {
             Seen::Put(place) => {
@@ -125,6 +128,7 @@ impl Sweep {
         ensures done { IfOk result (λ on. ¬ IsTrue on → IsSweeping table.now notes.now firsts.now floor self.new (λ _. ⊥)) }
         ensures grows { OnOk result (Grows table.now notes.now self.old self.new) }
         ensures work { OnOk result (work_left self.new ≤ work_left self.old) }
+        ensures room { HasRoom (map length notes.now) self.old → IsOk result × HasRoom (map length notes.now) self.new }
     {
         let Some(note) = notes.get(name) else {
             return Ok(true);
@@ -151,6 +155,7 @@ impl Sweep {
         ensures sweeping { OnOk result (IsSweeping table.now notes.now firsts.now floor self.new (λ _. ⊥)) }
         ensures grows { OnOk result (Grows table.now notes.now self.old self.new) }
         ensures work { OnOk result (work_left self.new ≤ work_left self.old) }
+        ensures room { HasRoom (map length notes.now) self.old → IsOk result × HasRoom (map length notes.now) self.new }
     {
         for index in (range.from..range.to).rev() {
             let name = OpName {
@@ -179,6 +184,7 @@ impl Sweep {
         ensures sweeping { OnOk result (IsSweeping table.now notes.now firsts.now floor self.new (λ _. ⊥)) }
         ensures grows { OnOk result (Grows table.now notes.now self.old self.new) }
         ensures empty { OnOk result (self.new.pending.items ≡ []) }
+        ensures room { HasRoom (map length notes.now) self.old → IsOk result × HasRoom (map length notes.now) self.new }
     {
         while let Some(range) = self.pending.pop() {
             self.look(table, notes, firsts, floor, range)?;
@@ -208,6 +214,7 @@ impl Sweep {
         ensures about { OnOk result (IsAbout table.now notes.now self.new suspect.op) }
         ensures found { IfOk result (λ found. IfSome found (λ place. (suspect.from ≤ place) × IsNewestIn table.now notes.now firsts.now suspect.op suspect.first place)) }
         ensures none { IfOk result (λ found. IfNone found (NoneFrom table.now notes.now firsts.now suspect.op suspect.first suspect.from)) }
+        ensures room { HasRoom (map length notes.now) self.old → IsOk result × HasRoom (map length notes.now) self.new }
     {
         self.raise(suspect.op.client, suspect.op.index)?;
         self.drain(table, notes, firsts, floor)?;

@@ -1,4 +1,4 @@
-ghost use Rattle.std.specs.Prelude.{◌≡◌, ◌≢◌, ◌⊎◌, ◌<◌, ◌≤◌, ◌+◌, ◌↔◌, ℕ, IfOk, IfSome, IfNone, IsTrue, length, map, AllPairs, vec_len, slice_index_or};
+ghost use Rattle.std.specs.Prelude.{◌≡◌, ◌≢◌, ◌⊎◌, ◌<◌, ◌≤◌, ◌+◌, ◌↔◌, ℕ, IfOk, IfSome, IfNone, IsOk, IsTrue, OnOk, [], length, map, AllPairs, vec_len, vec_capacity, slice_index_or};
 ghost use Rattle.cops_types.specs.declared.op.OpName.{OpName};
 ghost use Rattle.cops_types.specs.Histories.{IsNamed, PutsVersion};
 ghost use Rattle.cops_types.specs.Faults.{IsBefore, IsDoubled, Lists};
@@ -17,17 +17,19 @@ pub struct VersionedPut {
     pub name: OpName,
 }
 
-/// The puts with their versions, in order of names.
-fn all_puts(
-    alloc: Global,
+/// Adds the puts with their versions, in order of names.
+fn push_puts(
+    puts: &mut Vec<VersionedPut>,
     history: &History,
     names: &[OpName],
-) -> Result<Vec<VersionedPut>, AllocError>
-    requires { Lists (λ n. n) (IsNamed history.now.sessions) names.now }
-    ensures puts { IfOk result (λ v. Lists (λ p. p.name) (λ p. PutsVersion history.now.sessions p.name p.version) v.items) }
-    ensures few { IfOk result (λ v. vec_len v ≤ length names.now) }
+) -> Result<(), AllocError>
+    requires names { Lists (λ n. n) (IsNamed history.now.sessions) names.now }
+    requires empty { puts.old.items ≡ [] }
+    ensures puts { OnOk result (Lists (λ p. p.name) (λ p. PutsVersion history.now.sessions p.name p.version) puts.new.items) }
+    ensures few { OnOk result (vec_len puts.new ≤ length names.now) }
+    ensures capacity { vec_capacity puts.old ≤ vec_capacity puts.new }
+    ensures succeeds { length names.now ≤ vec_capacity puts.old → IsOk result }
 {
-    let mut puts = Vec::new(alloc);
     for name in names {
         if let Some(version) = put_version(history, *name) {
             puts.push(VersionedPut {
@@ -36,7 +38,27 @@ fn all_puts(
             })?;
         }
     }
-    Ok(puts)
+    Ok(())
+}
+
+/// Makes it the puts with their versions, in order of versions. It takes no memory where there is room for as many as
+/// there are names.
+pub fn set_puts(
+    puts: &mut Vec<VersionedPut>,
+    history: &History,
+    names: &[OpName],
+) -> Result<(), AllocError>
+    requires names { Lists (λ n. n) (IsNamed history.now.sessions) names.now }
+    requires few { length names.now ≤ 16000000 }
+    ensures puts { OnOk result (IsPutTable history.now.sessions puts.new.items) }
+    ensures count { OnOk result (vec_len puts.new ≤ length names.now) }
+    ensures capacity { vec_capacity puts.old ≤ vec_capacity puts.new }
+    ensures succeeds { length names.now ≤ vec_capacity puts.old → IsOk result }
+{
+    puts.clear();
+    push_puts(puts, history, names)?;
+    puts.sort_unstable_by_key(|put| put.version.as_u64());
+    Ok(())
 }
 
 /// The puts with their versions, in order of versions.
@@ -49,8 +71,8 @@ pub fn puts_by_version(
     requires few { length names.now ≤ 16000000 }
     ensures { IfOk result (λ v. IsPutTable history.now.sessions v.items) }
 {
-    let mut puts = all_puts(alloc, history, names)?;
-    puts.sort_unstable_by_key(|put| put.version.as_u64());
+    let mut puts = Vec::new(alloc);
+    set_puts(&mut puts, history, names)?;
     Ok(puts)
 }
 

@@ -38,7 +38,7 @@ impl Model for Tally {
 }
 
 impl Tally {
-    ghost use Rattle.std.specs.Prelude.{◌≡◌, ◌<◌, IfOk, length, slice_index, slice_set, max, replicate};
+    ghost use Rattle.std.specs.Prelude.{◌≡◌, ◌<◌, ◌+◌, IfOk, OnErr, OnOk, length, slice_index, slice_set, max, replicate};
 
     /// So many zeros.
     pub fn new(alloc: Global, len: usize) -> Result<Self, AllocError>
@@ -78,5 +78,21 @@ impl Tally {
             turn: self.turn,
             number,
         };
+    }
+
+    /// How many numbers there are.
+    pub fn len(&self) -> usize
+        ensures { result ≡ length self.now }
+    {
+        self.entries.len()
+    }
+
+    /// Adds a number, which is 0.
+    pub fn grow(&mut self) -> Result<(), AllocError>
+        ensures ok { OnOk result (length self.new ≡ length self.old + 1) }
+        ensures err { OnErr result (self.new ≡ self.old) }
+    {
+        self.entries.push(Entry { turn: 0, number: 0 })?;
+        Ok(())
     }
 }

@@ -1,7 +1,7 @@
-ghost use Rattle.std.specs.Prelude.{◌≡◌, ◌<◌, ◌≤◌, ◌+◌, ◌-◌, ℕ, IfOk, IfSome, IfNone, OnOk, IsTrue, length, slice_index, slice_index_or, AllPairs};
+ghost use Rattle.std.specs.Prelude.{◌≡◌, ◌<◌, ◌≤◌, ◌+◌, ◌-◌, ℕ, IfOk, IfSome, IfNone, IsOk, OnOk, IsTrue, length, map, slice_index, slice_index_or, vec_capacity, AllPairs};
 ghost use Rattle.cops_types.specs.Faults.{IsBefore};
 ghost use Rattle.cops_audit.specs.declared.window.Suspect.{Suspect};
-ghost use Rattle.cops_audit.specs.Sweeps.{ArePlaces, AreRising, IsNewestIn, NoneFrom};
+ghost use Rattle.cops_audit.specs.Sweeps.{ArePlaces, AreRising, HasRoom, IsNewestIn, NoneFrom};
 ghost use Rattle.cops_audit.specs.Turns.{AreFloors, IsAfter, IsNotedSuspect};
 
 use crate::notes::Notes;
@@ -21,11 +21,15 @@ fn goes_on(suspects: &[Suspect], k: usize) -> bool
     suspects[k + 1].op.client == suspects[k].op.client
 }
 
-/// Of each suspect, the least place that matters to it and to its client's later suspects.
-pub fn floors(alloc: Global, suspects: &[Suspect]) -> Result<Vec<u32>, AllocError>
-    ensures { IfOk result (λ v. AreFloors suspects.now v.items) }
+/// Makes it, of each suspect, the least place that matters to it and to its client's later suspects. It takes no memory
+/// where there is room for as many as there are suspects.
+pub fn set_floors(floors: &mut Vec<u32>, suspects: &[Suspect]) -> Result<(), AllocError>
+    ensures floors { OnOk result (AreFloors suspects.now floors.new.items) }
+    ensures capacity { vec_capacity floors.old ≤ vec_capacity floors.new }
+    ensures succeeds { length suspects.now ≤ vec_capacity floors.old → IsOk result }
 {
-    let mut floors = vec![in alloc; 0u32; suspects.len()]?;
+    floors.clear();
+    floors.resize(suspects.len(), 0)?;
     let mut floor = 0u32;
     for k in (0..suspects.len()).rev() {
         let from = suspects[k].from;
@@ -37,7 +41,7 @@ pub fn floors(alloc: Global, suspects: &[Suspect]) -> Result<Vec<u32>, AllocErro
         }
         floors[k] = floor;
     }
-    Ok(floors)
+    Ok(())
 }
 
 /// Whether the suspect before is of the same client.
@@ -73,6 +77,7 @@ pub fn judge_next(
     ensures after { OnOk result (IsAfter table.now notes.now firsts.now suspects.now floors.now (k + 1) sweep.new) }
     ensures found { IfOk result (λ found. IfSome found (λ place. (d : Suspect) → ((slice_index_or suspects.now k d).from ≤ place) × IsNewestIn table.now notes.now firsts.now (slice_index_or suspects.now k d).op (slice_index_or suspects.now k d).first place)) }
     ensures none { IfOk result (λ found. IfNone found ((d : Suspect) → NoneFrom table.now notes.now firsts.now (slice_index_or suspects.now k d).op (slice_index_or suspects.now k d).first (slice_index_or suspects.now k d).from)) }
+    ensures room { HasRoom (map length notes.now) sweep.old → IsOk result × HasRoom (map length notes.now) sweep.new }
 {
     if !follows(suspects, k) {
         sweep.restart();

@@ -1,19 +1,21 @@
-ghost use Rattle.std.specs.Prelude.{◌≡◌, ◌≤◌, ℕ, List, IfOk, IfSome, IfNone, Some, AllPairs};
+ghost use Rattle.std.specs.Prelude.{◌≡◌, ◌≤◌, ℕ, List, [], IfSome, IfNone, IsOk, OnOk, AllPairs, length, vec_len, vec_capacity};
 ghost use Rattle.cops_types.specs.declared.op.OpName.{OpName};
 ghost use Rattle.cops_types.specs.Histories.{IsGot, IsMissed, IsNamed};
 ghost use Rattle.cops_types.specs.Faults.{IsBefore, IsNewer};
 ghost use Rattle.cops_types.specs.Verdicts.{AllAbove};
 ghost use Rattle.cops_audit.specs.SoFar.{HaveSourcesOrWait, IsWaiting};
-ghost use Rattle.cops_audit.specs.Keys.{AreNexts, IsFirstFrom, KnowsFirsts, OnKey};
+ghost use Rattle.cops_audit.specs.Known.{KnowsAllFirsts};
+ghost use Rattle.cops_audit.specs.Keys.{AreNexts};
 ghost use Rattle.cops_audit.specs.Notes.{IsNoted, IsSeen};
 ghost use Rattle.cops_audit.specs.Tables.{IsVersionTable};
 ghost use Rattle.cops_audit.specs.Windows.{AreSuspects, IsSuspect, NoneWithin};
 
-use crate::keys::{Keys, put_key};
+use crate::keys::put_key;
+use crate::known::Firsts;
 use crate::notes::{Notes, Seen};
 use crate::table::VersionedPut;
-use cops_types::{History, Op, OpName};
-use std::alloc::{AllocError, Global};
+use cops_types::{History, Key, Op, OpName};
+use std::alloc::AllocError;
 
 /// A get that is stale where its past has a put from this place on, on the key whose first put stands at `first`.
 #[derive(Clone, Copy, Debug, PartialEq, Eq)]
@@ -24,13 +26,13 @@ pub struct Suspect {
 }
 
 /// The key of a get that found nothing.
-fn missed_key(history: &History, name: OpName) -> &[u8]
+fn missed_key(history: &History, name: OpName) -> &Key
     requires { (key : List ℕ) × IsMissed history.now.sessions name key }
     ensures { IsMissed history.now.sessions name result.now }
 {
     match history.op(name) {
-        Some(Op::Missed { key }) => key.as_bytes(),
-        _ => &[],
+        Some(Op::Missed { key }) => key,
+        _ => unreachable!(),
     }
 }
 
@@ -38,19 +40,20 @@ fn missed_key(history: &History, name: OpName) -> &[u8]
 fn got_suspect(
     history: &History,
     table: &[VersionedPut],
-    keys: &Keys,
+    nexts: &[Option<u32>],
+    firsts: &Firsts,
     op: OpName,
     place: u32,
     mark: u32,
 ) -> Option<Suspect>
     requires table { IsVersionTable history.now.sessions table.now }
-    requires nexts { AreNexts history.now.sessions table.now keys.now.nexts.items }
-    requires firsts { KnowsFirsts history.now.sessions table.now keys.now.firsts }
+    requires nexts { AreNexts history.now.sessions table.now nexts.now }
+    requires firsts { KnowsAllFirsts history.now.sessions table.now firsts.now }
     requires got { IsSeen history.now.sessions table.now op (Seen.Got place) }
     ensures suspect { IfSome result (λ s. (s.op ≡ op) × IsSuspect history.now.sessions table.now s) }
     ensures none { IfNone result (NoneWithin history.now.sessions table.now op mark) }
 {
-    let Some(from) = keys.nexts[place as usize] else {
+    let Some(from) = nexts[place as usize] else {
         return None;
     };
     if from >= mark {
@@ -58,7 +61,7 @@ fn got_suspect(
     }
     let put = &table[place as usize];
     let key = put_key(history, put.name);
-    let Some(first) = keys.firsts.get(&key).copied() else {
+    let Some(first) = firsts.on(history, table, key) else {
         return None;
     };
     Some(Suspect { op, first, from })
@@ -68,18 +71,18 @@ fn got_suspect(
 fn missed_suspect(
     history: &History,
     table: &[VersionedPut],
-    keys: &Keys,
+    firsts: &Firsts,
     op: OpName,
     mark: u32,
 ) -> Option<Suspect>
     requires table { IsVersionTable history.now.sessions table.now }
-    requires firsts { KnowsFirsts history.now.sessions table.now keys.now.firsts }
+    requires firsts { KnowsAllFirsts history.now.sessions table.now firsts.now }
     requires missed { (key : List ℕ) × IsMissed history.now.sessions op key }
     ensures suspect { IfSome result (λ s. (s.op ≡ op) × IsSuspect history.now.sessions table.now s) }
     ensures none { IfNone result (NoneWithin history.now.sessions table.now op mark) }
 {
     let key = missed_key(history, op);
-    let Some(first) = keys.firsts.get(&key).copied() else {
+    let Some(first) = firsts.on(history, table, key) else {
         return None;
     };
     if first >= mark {
@@ -93,13 +96,13 @@ fn missed_suspect(
 }
 
 /// The key of a get that returned a value.
-fn got_key(history: &History, name: OpName) -> &[u8]
+fn got_key(history: &History, name: OpName) -> &Key
     requires { (key : List ℕ) × (value : List ℕ) × (version : ℕ) × IsGot history.now.sessions name key value version }
     ensures { (value : List ℕ) × (version : ℕ) × IsGot history.now.sessions name result.now value version }
 {
     match history.op(name) {
-        Some(Op::Got { key, .. }) => key.as_bytes(),
-        _ => &[],
+        Some(Op::Got { key, .. }) => key,
+        _ => unreachable!(),
     }
 }
 
@@ -108,13 +111,13 @@ fn got_key(history: &History, name: OpName) -> &[u8]
 fn waiting_suspect(
     history: &History,
     table: &[VersionedPut],
-    keys: &Keys,
+    firsts: &Firsts,
     op: OpName,
     place: u32,
     mark: u32,
 ) -> Option<Suspect>
     requires table { IsVersionTable history.now.sessions table.now }
-    requires firsts { KnowsFirsts history.now.sessions table.now keys.now.firsts }
+    requires firsts { KnowsAllFirsts history.now.sessions table.now firsts.now }
     requires seen { IsSeen history.now.sessions table.now op (Seen.Sourceless place) }
     requires waiting { IsWaiting history.now.sessions op }
     ensures suspect { IfSome result (λ s. (s.op ≡ op) × IsSuspect history.now.sessions table.now s) }
@@ -124,7 +127,7 @@ fn waiting_suspect(
         return None;
     }
     let key = got_key(history, op);
-    let Some(first) = keys.firsts.get(&key).copied() else {
+    let Some(first) = firsts.on(history, table, key) else {
         return None;
     };
     Some(Suspect {
@@ -139,13 +142,14 @@ fn find_suspect(
     history: &History,
     table: &[VersionedPut],
     notes: &Notes,
-    keys: &Keys,
+    nexts: &[Option<u32>],
+    firsts: &Firsts,
     op: OpName,
 ) -> Option<Suspect>
     requires table { IsVersionTable history.now.sessions table.now }
     requires notes { IsNoted history.now.sessions table.now notes.now }
-    requires nexts { AreNexts history.now.sessions table.now keys.now.nexts.items }
-    requires firsts { KnowsFirsts history.now.sessions table.now keys.now.firsts }
+    requires nexts { AreNexts history.now.sessions table.now nexts.now }
+    requires firsts { KnowsAllFirsts history.now.sessions table.now firsts.now }
     requires sources { HaveSourcesOrWait history.now.sessions }
     requires above { AllAbove history.now.sessions }
     ensures suspect { IfSome result (λ s. (s.op ≡ op) × IsSuspect history.now.sessions table.now s) }
@@ -155,36 +159,40 @@ fn find_suspect(
         return None;
     };
     match note.seen {
-        Seen::Got(place) => got_suspect(history, table, keys, op, place, note.mark),
-        Seen::Missed => missed_suspect(history, table, keys, op, note.mark),
-        Seen::Sourceless(place) => waiting_suspect(history, table, keys, op, place, note.mark),
+        Seen::Got(place) => got_suspect(history, table, nexts, firsts, op, place, note.mark),
+        Seen::Missed => missed_suspect(history, table, firsts, op, note.mark),
+        Seen::Sourceless(place) => waiting_suspect(history, table, firsts, op, place, note.mark),
         _ => None,
     }
 }
 
-/// The suspects among these names.
-pub fn suspects(
-    alloc: Global,
+/// Adds the suspects among these names. It takes no memory where there is room for as many as there are names.
+pub fn push_suspects(
+    suspects: &mut Vec<Suspect>,
     history: &History,
     table: &[VersionedPut],
     notes: &Notes,
-    keys: &Keys,
+    nexts: &[Option<u32>],
+    firsts: &Firsts,
     names: &[OpName],
-) -> Result<Vec<Suspect>, AllocError>
+) -> Result<(), AllocError>
+    requires empty { suspects.old.items ≡ [] }
     requires table { IsVersionTable history.now.sessions table.now }
     requires notes { IsNoted history.now.sessions table.now notes.now }
-    requires nexts { AreNexts history.now.sessions table.now keys.now.nexts.items }
-    requires firsts { KnowsFirsts history.now.sessions table.now keys.now.firsts }
+    requires nexts { AreNexts history.now.sessions table.now nexts.now }
+    requires firsts { KnowsAllFirsts history.now.sessions table.now firsts.now }
     requires sources { HaveSourcesOrWait history.now.sessions }
     requires above { AllAbove history.now.sessions }
     requires in_order { AllPairs IsBefore names.now }
-    ensures { IfOk result (λ v. AreSuspects history.now.sessions table.now names.now v.items) }
+    ensures suspects { OnOk result (AreSuspects history.now.sessions table.now names.now suspects.new.items) }
+    ensures count { OnOk result (vec_len suspects.new ≤ length names.now) }
+    ensures capacity { vec_capacity suspects.old ≤ vec_capacity suspects.new }
+    ensures succeeds { length names.now ≤ vec_capacity suspects.old → IsOk result }
 {
-    let mut suspects = Vec::new(alloc);
     for name in names {
-        if let Some(found) = find_suspect(history, table, notes, keys, *name) {
+        if let Some(found) = find_suspect(history, table, notes, nexts, firsts, *name) {
             suspects.push(found)?;
         }
     }
-    Ok(suspects)
+    Ok(())
 }

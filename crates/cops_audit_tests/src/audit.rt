@@ -401,7 +401,7 @@ fn fed(alloc: Global, clients: u16, entries: &[(u16, Did)]) -> Result<(SoFar, Ve
     for (client, did) in entries {
         online.feed(*client, op(alloc, *did)?)?;
     }
-    let so_far = online.so_far()?;
+    let so_far = online.so_far();
     Ok((so_far, online.finish()?))
 }
 
@@ -444,6 +444,118 @@ fn refused_while_a_get_waits(rt: HostRuntime) -> Result<(), Fail> {
     Ok(())
 }
 
+/// What is said after each of these operations, asked twice.
+fn said(alloc: Global, clients: u16, entries: &[(u16, Did)]) -> Result<Vec<SoFar>, Fail> {
+    let mut online = Online::new(alloc, clients)?;
+    let mut answers = Vec::new(alloc);
+    for (client, did) in entries {
+        online.feed(*client, op(alloc, *did)?)?;
+        answers.push(online.so_far())?;
+        answers.push(online.so_far())?;
+    }
+    Ok(answers)
+}
+
+#[test]
+fn refused_from_then_on(rt: HostRuntime) -> Result<(), Fail> {
+    let entries = [
+        (0, Did::Put(b'x', 1, 1, 0)),
+        (1, Did::Got(b'y', 9, 9, 0)),
+        (0, Did::Put(b'x', 2, 2, 0)),
+        (1, Did::Got(b'x', 2, 2, 0)),
+        (1, Did::Got(b'x', 1, 1, 0)),
+        (0, Did::Put(b'y', 9, 9, 0)),
+        (1, Did::Missed(b'z')),
+    ];
+    let wait = SoFar::Waiting(1);
+    let refused = SoFar::Refused;
+    assert_eq!(rt;
+        said(rt.alloc(), 2, &entries)?.as_slice(),
+        [
+            SoFar::Clean,
+            SoFar::Clean,
+            wait,
+            wait,
+            wait,
+            wait,
+            wait,
+            wait,
+            refused,
+            refused,
+            refused,
+            refused,
+            refused,
+            refused
+        ]
+        .as_slice()
+    );
+    Ok(())
+}
+
+/// A client's rounds: in each it puts on its own key, and gets what the next of ten clients puts in the same round.
+fn rounds(alloc: Global, client: u8) -> Result<Vec<Did>, Fail> {
+    let mut dids = Vec::new(alloc);
+    let next = client.wrapping_add(1) % 10;
+    for round in 1..101u8 {
+        let clock = u64::from(round);
+        let own = b'a'.wrapping_add(client);
+        let other = b'a'.wrapping_add(next);
+        dids.push(Did::Put(own, round, clock, u16::from(client)))?;
+        dids.push(Did::Got(other, round, clock, u16::from(next)))?;
+    }
+    Ok(dids)
+}
+
+fn feed_rounds(alloc: Global, online: &mut Online, client: u8) -> Result<(), Fail> {
+    let dids = rounds(alloc, client)?;
+    for did in &dids {
+        online.feed(u16::from(client), op(alloc, *did)?)?;
+    }
+    Ok(())
+}
+
+/// The puts of ten clients in a hundred rounds, in order of versions.
+fn puts_of_rounds(alloc: Global) -> Result<Vec<OpName>, Fail> {
+    let mut puts = Vec::new(alloc);
+    for round in 0..100u32 {
+        for client in 0..10u16 {
+            puts.push(name(client, 2 * round))?;
+        }
+    }
+    Ok(puts)
+}
+
+#[test]
+fn many_gets_before_their_puts(rt: HostRuntime) -> Result<(), Fail> {
+    let a = rt.alloc();
+    let mut online = Online::new(a, 10)?;
+    for client in 0..9u8 {
+        feed_rounds(a, &mut online, client)?;
+        assert_eq!(rt; online.so_far(), SoFar::Waiting(100));
+    }
+    feed_rounds(a, &mut online, 9)?;
+    assert_eq!(rt; online.so_far(), SoFar::Clean);
+    let puts = puts_of_rounds(a)?;
+    assert_eq!(rt; online.finish()?, accepted(a, puts.as_slice())?);
+    Ok(())
+}
+
+#[test]
+fn a_stale_get_after_many(rt: HostRuntime) -> Result<(), Fail> {
+    let a = rt.alloc();
+    let mut online = Online::new(a, 10)?;
+    for client in 0..10u8 {
+        feed_rounds(a, &mut online, client)?;
+    }
+    online.feed(0, op(a, Did::Got(b'b', 7, 7, 1))?)?;
+    assert_eq!(rt; online.so_far(), SoFar::Refused);
+    assert_eq!(rt;
+        online.finish()?,
+        stale(a, &[(name(0, 200), name(1, 198))])?
+    );
+    Ok(())
+}
+
 #[test]
 fn faults_that_last(rt: HostRuntime) -> Result<(), Fail> {
     let a = rt.alloc();
@@ -461,9 +573,10 @@ fn faults_that_last(rt: HostRuntime) -> Result<(), Fail> {
 fn clients_that_are_not_there(rt: HostRuntime) -> Result<(), Fail> {
     let a = rt.alloc();
     let mut online = Online::new(a, 1)?;
-    let refused = online.feed(1, op(a, Did::Missed(b'x'))?);
+    online.feed(0, op(a, Did::Got(b'x', 1, 1, 0))?)?;
+    let refused = online.feed(1, op(a, Did::Put(b'x', 1, 1, 0))?);
     assert_eq!(rt; refused, Err(TypeFault::UnknownClient));
-    assert_eq!(rt; online.so_far()?, SoFar::Clean);
-    let _verdict = online.finish()?;
+    assert_eq!(rt; online.so_far(), SoFar::Waiting(1));
+    assert_eq!(rt; online.finish()?, no_source(a, &[name(0, 0)])?);
     Ok(())
 }

@@ -19,8 +19,8 @@ loop-place-init c = record {
       subst (IsFirstFrom c.args.history.now.sessions c.args.table.now (length c.args.table.now) q.now) (sym got) (none_past_end c.args.history.now.sessions c.args.table.now q.now);
 }
 
-pub put_key-key-requires : goal.put_key-key-requires
-put_key-key-requires c =
+pub put_key-requires : goal.put_key-requires
+put_key-requires c =
     let put = (c.requires.table.members c.index-table-place.result).0 (c.loop-place.place - 1, omega arith, sym c.index-table-place.is) in
     (c.index-table-place.result.version, put)
 
@@ -31,8 +31,9 @@ loop-place-preserved c =
     let k = c.loop-place.place - 1 in
     let e : c.loop-place.place ≡ k + 1 = omega arith in
     let put = c.index-table-place.result in
-    let key = c.put_key-key.result in
-    let here : OnKey h table k key.now = on_key h table c.requires k put key.now c.put_key-key.ensures.0 (omega arith) c.index-table-place.is c.put_key-key.ensures.1 in
+    let key = c.as_bytes-key.result in
+    let here : OnKey h table k key.now = subst (OnKey h table k) (sym c.as_bytes-key.ensures.bytes)
+    (on_key h table c.requires k put c.put_key.result.now c.put_key.ensures.0 (omega arith) c.index-table-place.is c.put_key.ensures.1) in
     let found : c.in_ok-next.next ≡ hash.get (λ x y. pointwise nat_eq x.now y.now) c.loop-place.firsts key = c.in_ok-next.ensures.old in
     record {
       whole = omega (arith, length-set c.loop-place.nexts.items k c.in_ok-next.next, c.loop-place.invariant.whole);

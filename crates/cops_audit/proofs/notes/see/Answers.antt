@@ -20,9 +20,9 @@ returns-in-None c =
     (c.in-Some-Put.field-0-0, c.in-Some-Put.field-0-1, sym c.in-Some-Put.ensures.operation ∙ ap (λ o. Some o) c.in-Some-Put.field-0-is) in
     absurd (c.in-None.ensures.none at.0 d at.1 (ap (λ (q : VersionedPut). q.version) (at.2 d)))
 
-pub returns-in-None-place_of : goal.returns-in-None-place_of
-returns-in-None-place_of c =
+pub returns-in-None-hinted_place : goal.returns-in-None-hinted_place
+returns-in-None-hinted_place c =
     sourceless_at c.args.history.now.sessions c.args.table.now c.requires.table c.args.name c.in-Some-Got.version
     (c.in-Some-Got.field-0-0, c.in-Some-Got.field-0-1, sym c.in-Some-Got.ensures.operation ∙ ap (λ o. Some o) c.in-Some-Got.field-0-is)
-    (λ k d inside same. c.in-None-place_of.ensures.none k d inside same)
+    (λ k d inside same. c.in-None-hinted_place.ensures.none k d inside same)
     c.first_from.result (divides_found c.args.table.now c.first_from.result c.in-Some-Got.version c.first_from.ensures.inside c.first_from.ensures.before c.first_from.ensures.from)

@@ -1,5 +1,4 @@
-use Rattle.std.proofs.Common.{subst, sym, ◌∙◌, refl}
-use Rattle.cops_audit.specs.Keys.{IsFirstFrom}
+use Rattle.std.proofs.Common.{refl}
 use Rattle.cops_audit.proofs.Suspecting.{missed_clear, missed_far, missed_is}
 use Rattle.cops_audit.proofs.window.missed_suspect.Goals as goal
 
@@ -8,14 +7,14 @@ returns-in_default-clause-none c =
     let h = c.args.history.now.sessions in
     let key = c.missed_key-key.result in
     missed_clear h c.args.table.now c.requires.table c.args.op key.now c.missed_key-key.ensures c.args.mark
-    (subst (IsFirstFrom h c.args.table.now 0 key.now) (sym (c.in_default.ensures ∙ c.get.ensures.value)) (c.requires.firsts key))
+    c.in_default.ensures
 
 pub returns-then-first-mark-clause-none : goal.returns-then-first-mark-clause-none
 returns-then-first-mark-clause-none c =
     let h = c.args.history.now.sessions in
     let key = c.missed_key-key.result in
     missed_far h c.args.table.now c.requires.table c.args.op key.now c.missed_key-key.ensures c.args.mark c.in-Some.first
-    (subst (IsFirstFrom h c.args.table.now 0 key.now) (sym (c.in-Some.ensures ∙ c.get.ensures.value)) (c.requires.firsts key)) c.if-first-mark.true
+    c.in-Some.ensures c.if-first-mark.true
 
 pub returns-clause-suspect : goal.returns-clause-suspect
 returns-clause-suspect c =
@@ -23,5 +22,5 @@ returns-clause-suspect c =
     let key = c.missed_key-key.result in (
       refl,
       missed_is h c.args.table.now c.requires.table c.args.op key.now c.missed_key-key.ensures c.in-Some.first
-          (subst (IsFirstFrom h c.args.table.now 0 key.now) (sym (c.in-Some.ensures ∙ c.get.ensures.value)) (c.requires.firsts key)),
+          c.in-Some.ensures,
     )

@@ -1,4 +1,4 @@
-use Rattle.std.proofs.Common.{Some, None, subst, sym, ◌∙◌, refl}
+use Rattle.std.proofs.Common.{Some, None, subst, refl}
 use Rattle.cops_audit.specs.Keys.{IsFirstFrom}
 use Rattle.cops_audit.proofs.Suspecting.{got_is_own, waiting_clear, waiting_far, waiting_is}
 use Rattle.cops_audit.proofs.window.waiting_suspect.Goals as goal
@@ -15,7 +15,7 @@ returns-in_default-clause-none c =
     let key = c.got_key-key.result in
     waiting_clear h c.args.table.now c.requires.table c.args.op c.args.place c.requires.seen c.requires.waiting c.args.mark
     (subst (λ k. IsFirstFrom h c.args.table.now 0 k None) (got_is_own h c.args.op key.now c.requires.seen.0 c.got_key-key.ensures)
-    (subst (IsFirstFrom h c.args.table.now 0 key.now) (sym (c.in_default.ensures ∙ c.get.ensures.value)) (c.requires.firsts key)))
+    c.in_default.ensures)
 
 pub returns-clause-suspect : goal.returns-clause-suspect
 returns-clause-suspect c =
@@ -24,5 +24,5 @@ returns-clause-suspect c =
       refl,
       waiting_is h c.args.table.now c.requires.table c.args.op c.args.place c.requires.seen c.requires.waiting c.in-Some.first
           (subst (λ k. IsFirstFrom h c.args.table.now 0 k (Some c.in-Some.first)) (got_is_own h c.args.op key.now c.requires.seen.0 c.got_key-key.ensures)
-          (subst (IsFirstFrom h c.args.table.now 0 key.now) (sym (c.in-Some.ensures ∙ c.get.ensures.value)) (c.requires.firsts key))),
+          c.in-Some.ensures),
     )

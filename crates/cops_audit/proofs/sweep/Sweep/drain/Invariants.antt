@@ -1,10 +1,12 @@
-use Rattle.cops_audit.specs.Sweeps.{Grows, IsSweeping, work_left}
+use Rattle.std.proofs.Common.{map, length}
+use Rattle.cops_audit.specs.Sweeps.{Grows, HasRoom, IsSweeping, work_left}
 use Rattle.cops_audit.proofs.sweep.Sweep.drain.Given as goal
 
 abbrev pub invariant-loop-range : goal.invariant-loop-range
 invariant-loop-range l = record {
   sweeping : IsSweeping l.table l.notes l.firsts l.floor l.self (λ _. ⊥);
   grows : Grows l.table l.notes l.fn.self l.self;
+  room : HasRoom (map length l.notes) l.fn.self → HasRoom (map length l.notes) l.self;
 }
 
 abbrev pub decreases-loop-range : goal.decreases-loop-range

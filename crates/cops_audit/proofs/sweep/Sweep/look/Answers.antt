@@ -1,4 +1,5 @@
-use Rattle.std.proofs.Common.{◌≡◌, true, arith}
+use Rattle.std.proofs.Common.{◌≡◌, true, arith, rules}
+use Rattle.cops_audit.proofs.Fitting.{no_ok}
 use Rattle.cops_audit.proofs.Sweeping.{grows_on}
 use Rattle.cops_audit.proofs.sweep.Sweep.look.Goals as goal
 
@@ -10,4 +11,14 @@ loop-index-preserved c = record {
   sweeping = c.in_ok-on.ensures.on (let t : c.in_ok-on.on ≡ true = cc in t);
   grows = grows_on c.args.table.now c.args.notes.now c.args.self.now c.loop-index.self c.look_at.new.self c.loop-index.invariant.grows c.in_ok-on.ensures.grows;
   work = omega (arith, c.in_ok-on.ensures.work, c.loop-index.invariant.work);
+  room = λ room. (c.in_ok-on.ensures.room (c.loop-index.invariant.room room)).1;
 }
+
+pub returns-clause-room : goal.returns-clause-room
+returns-clause-room c = λ room. (search rules, c.loop-index.invariant.room room)
+
+pub returns-then-not-on-clause-room : goal.returns-then-not-on-clause-room
+returns-then-not-on-clause-room c = λ room. (search rules, (c.in_ok-on.ensures.room (c.loop-index.invariant.room room)).1)
+
+pub returns-in_err-on-clause-room : goal.returns-in_err-on-clause-room
+returns-in_err-on-clause-room c = λ room. no_ok (c.in_err-on.ensures.room (c.loop-index.invariant.room room)).0

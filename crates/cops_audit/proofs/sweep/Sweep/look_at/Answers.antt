@@ -1,4 +1,5 @@
-use Rattle.std.proofs.Common.{sym, arith, refl}
+use Rattle.std.proofs.Common.{sym, arith, refl, rules, map, length}
+use Rattle.cops_audit.proofs.Fitting.{covered, no_ok}
 use Rattle.cops_audit.proofs.Sweeping.{above_few, sweep_on, sweep_grows, sweep_past, none_open, low_range}
 use Rattle.cops_audit.proofs.sweep.Sweep.look_at.Goals as goal
 
@@ -6,11 +7,11 @@ pub learn-requires-clause-seen : goal.learn-requires-clause-seen
 learn-requires-clause-seen c = above_few c.args.table.now c.args.notes.now c.requires.rising c.args.name c.in-Some.note.seen c.in-Some.note.mark (sym c.in-Some.ensures)
 
 pub returns-clause-on : goal.returns-clause-on
-returns-clause-on c = λ _. sweep_on c.args.table.now c.args.notes.now c.requires.rising c.args.firsts.now c.args.floor c.args.self.now c.learn.new.self c.args.name c.args.from c.in-Some.note c.requires.low (sym c.in-Some.ensures) c.in_ok-learn.ensures c.requires.sweeping
+returns-clause-on c = λ _. sweep_on c.args.table.now c.args.notes.now c.requires.rising c.args.firsts.now c.args.floor c.args.self.now c.learn.new.self c.args.name c.args.from c.in-Some.note c.requires.low (sym c.in-Some.ensures) c.in_ok-learn.ensures.learns c.requires.sweeping
 
 pub returns-clause-grows : goal.returns-clause-grows
 returns-clause-grows c = sweep_grows c.args.table.now c.args.notes.now c.requires.rising c.args.firsts.now c.args.floor c.args.self.now c.learn.new.self c.args.name c.in-Some.note (sym c.in-Some.ensures)
-    (c.requires.sweeping.open_counted c.args.name (refl, c.requires.low, omega arith)) c.in_ok-learn.ensures
+    (c.requires.sweeping.open_counted c.args.name (refl, c.requires.low, omega arith)) c.in_ok-learn.ensures.learns
 
 pub returns-then-note-floor-clause-done : goal.returns-then-note-floor-clause-done
 returns-then-note-floor-clause-done c = λ _. none_open c.args.table.now c.args.notes.now c.requires.rising c.args.firsts.now c.args.floor c.args.self.now _
@@ -18,3 +19,9 @@ returns-then-note-floor-clause-done c = λ _. none_open c.args.table.now c.args.
 
 pub returns-in_default-clause-on : goal.returns-in_default-clause-on
 returns-in_default-clause-on c = λ _. sweep_past c.args.table.now c.args.notes.now c.requires.rising c.args.firsts.now c.args.floor c.args.self.now c.args.name c.args.from (sym c.in_default.ensures) c.requires.sweeping
+
+pub returns-clause-room : goal.returns-clause-room
+returns-clause-room c = λ room. (search rules, (c.in_ok-learn.ensures.room (map length c.args.notes.now) (covered c.args.table.now c.args.notes.now c.requires.rising) room).1)
+
+pub returns-in_err-learn-clause-room : goal.returns-in_err-learn-clause-room
+returns-in_err-learn-clause-room c = λ room. no_ok (c.in_err-learn.ensures.room (map length c.args.notes.now) (covered c.args.table.now c.args.notes.now c.requires.rising) room).0

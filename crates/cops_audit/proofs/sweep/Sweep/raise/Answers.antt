@@ -1,12 +1,13 @@
-use Rattle.std.proofs.Common.{◌≡◌, ◌^◌, ◌<◌, ℕ, ◌++◌, ◌∷◌, [], get_or, refl, sym, ◌∙◌, ap, subst, inl, inr, arith}
+use Rattle.std.proofs.Common.{◌≡◌, ◌^◌, ◌<◌, ℕ, ◌++◌, ◌∷◌, [], get_or, refl, sym, ◌∙◌, ap, subst, inl, inr, arith, rules}
 use Rattle.std.proofs.Math.ListN.{length-set}
 use Rattle.cops_audit.specs.declared.sweep.Range.{Range}
 use Rattle.cops_audit.specs.Sweeps.{InSome}
+use Rattle.cops_audit.proofs.Fitting.{room_kept, room_left}
 use Rattle.cops_audit.proofs.Raising.{counted_then, counted_kept, counted_raised, newly_in_range, room_falls, in_some_kept, in_some_last, in_some_cases}
 use Rattle.cops_audit.proofs.sweep.Sweep.raise.Goals as goal
 
-pub returns-in_ok-push : goal.returns-in_ok-push
-returns-in_ok-push c =
+pub returns-in_ok-push-clause-raises : goal.returns-in_ok-push-clause-raises
+returns-in_ok-push-clause-raises c =
     let xs = c.args.self.now.counts in
     let k = c.args.client in
     let to = c.args.to in
@@ -33,3 +34,14 @@ returns-in_ok-push c =
       newest = refl;
       work = omega (arith, room_falls xs k to c.requires (2 ^ 32) less (omega (arith, c.ranges.to)), c.in_ok-push.ensures.len);
     }
+
+pub returns-in_ok-push-clause-room : goal.returns-in_ok-push-clause-room
+returns-in_ok-push-clause-room c = λ lengths fits room. (
+  search rules,
+  room_kept lengths c.args.self.now c.args.client c.args.to c.requires (omega (arith, c.get-from.ensures, c.if-from-to.true)) fits room _ c.set.ensures refl c.in_ok-push.ensures.len c.in_ok-push.ensures.capacity,
+)
+
+pub returns-in_err-push-clause-room : goal.returns-in_err-push-clause-room
+returns-in_err-push-clause-room c = λ lengths fits room.
+    let l = room_left lengths c.args.self.now c.args.client c.args.to c.requires (omega (arith, c.get-from.ensures, c.if-from-to.true)) fits room in
+    absurd (omega (arith, l, c.in_err-push.ensures.full))

@@ -1,0 +1,97 @@
+-- Room for what is still to be looked at.
+use Rattle.std.proofs.Common.{◌≡◌, ◌≢◌, ◌<◌, ◌≤◌, ◌+◌, ℕ, zero, suc, List, [], ◌∷◌, length, get_or, true, false, inl, inr, refl, ap, ◌∙◌, arith, slice_set, slice_index_or, Some, map, Vec, Global, get_or-set_same, get_or-set_other}
+use Rattle.std.specs.Prelude.{sum_by, vec_len, vec_capacity}
+use Rattle.std.proofs.Math.ListN.{length-set}
+use Rattle.std.proofs.lemmas.Bool.{cases_order}
+use Rattle.std.proofs.lemmas.List.Sums.{sum_by-set, sum_by-cons}
+use Rattle.cops_types.specs.declared.op.OpName.{OpName}
+use Rattle.cops_audit.specs.declared.notes.Note.{Note}
+use Rattle.cops_audit.specs.declared.sweep.Range.{Range}
+use Rattle.cops_audit.specs.declared.sweep.Sweep.{Sweep}
+use Rattle.cops_audit.specs.declared.table.VersionedPut.{VersionedPut}
+use Rattle.cops_audit.specs.Notes.{note_at}
+use Rattle.cops_audit.specs.Sweeps.{AreRising, Covers, HasRoom}
+use Rattle.cops_audit.proofs.Marks.{slice_get_inside}
+
+-- what is less in each place is less in all
+sum_less : (xs ys : List ℕ) → length xs ≡ length ys → ((i : ℕ) → get_or xs i 0 ≤ get_or ys i 0) → sum_by (λ n. n) xs ≤ sum_by (λ n. n) ys
+sum_less [] ys len each = omega arith
+sum_less (x ∷ xs) [] len each = absurd (omega (arith, len))
+sum_less (x ∷ xs) (y ∷ ys) len each = omega (arith, each 0, sum_less xs ys (omega (arith, len)) (λ i. each (suc i)), sum_by-cons (λ (n : ℕ). n) x xs, sum_by-cons (λ (n : ℕ). n) y ys)
+
+-- a count that is raised, within the lengths
+module _ (lengths : List ℕ) (old : Sweep) (client to : ℕ) (inside : client < length old.counts) (less : get_or old.counts client 0 < to) (fits : to ≤ get_or lengths client 0) (room : HasRoom lengths old) where
+  still_within : (c : ℕ) → get_or (slice_set old.counts client to) c 0 ≤ get_or lengths c 0
+  still_within c = elim (cases_order c client) [
+    | inl same ↦
+        let a : get_or (slice_set old.counts client to) c 0 ≡ to = ap (λ (k : ℕ). get_or (slice_set old.counts client to) k 0) same ∙ get_or-set_same old.counts client to 0 inside in
+        let b : get_or lengths c 0 ≡ get_or lengths client 0 = ap (λ (k : ℕ). get_or lengths k 0) same in
+        omega (arith, a, b, fits)
+    | inr other ↦
+        let differs : c ≢ client = λ e. elim other [ inl l ↦ omega (arith, l, e) | inr m ↦ omega (arith, m, e) ] in
+        let a = get_or-set_other old.counts client c to 0 differs in
+        let b = room.within c in
+        omega (arith, a, b)
+  ]
+
+  sum_rises : sum_by (λ n. n) old.counts + 1 ≤ sum_by (λ n. n) (slice_set old.counts client to)
+  sum_rises = omega (arith, sum_by-set (λ (n : ℕ). n) old.counts client to 0 inside, less)
+
+  -- there is room for one more range
+  pub room_left : vec_len old.pending < vec_capacity old.pending
+  room_left = omega (arith, room.left, sum_rises, sum_less (slice_set old.counts client to) lengths (omega (arith, length-set old.counts client to, room.width)) still_within)
+
+  -- and then there is room still
+  pub room_kept : (new : Sweep) → new.counts ≡ slice_set old.counts client to → length new.newest ≡ length old.newest → vec_len new.pending ≡ vec_len old.pending + 1 → vec_capacity old.pending ≤ vec_capacity new.pending → HasRoom lengths new
+  room_kept new counts newest len capacity =
+      let sum : sum_by (λ n. n) new.counts ≡ sum_by (λ n. n) (slice_set old.counts client to) = ap (sum_by (λ n. n)) counts in
+      record {
+        width = ap length counts ∙ length-set old.counts client to ∙ room.width;
+        within = λ c. let e : get_or new.counts c 0 ≡ get_or (slice_set old.counts client to) c 0 = ap (λ (l : List ℕ). get_or l c 0) counts in omega (arith, e, still_within c);
+        whole = omega (arith, room.whole, capacity);
+        places = omega (arith, room.places, newest);
+        left = omega (arith, room.left, sum, sum_rises, len, capacity);
+      }
+
+-- the same counts, and the same ranges that are still to be looked at
+pub room_same : (lengths : List ℕ) (old new : Sweep) → new.counts ≡ old.counts → length new.newest ≡ length old.newest → new.pending ≡ old.pending → HasRoom lengths old → HasRoom lengths new
+room_same lengths old new counts newest pending room =
+    let sum : sum_by (λ n. n) new.counts ≡ sum_by (λ n. n) old.counts = ap (sum_by (λ n. n)) counts in
+    let len : vec_len new.pending ≡ vec_len old.pending = ap (λ (v : Vec Range Global). vec_len v) pending in
+    let capacity : vec_capacity new.pending ≡ vec_capacity old.pending = ap (λ (v : Vec Range Global). vec_capacity v) pending in
+    record {
+      width = ap length counts ∙ room.width;
+      within = λ c. let e : get_or new.counts c 0 ≡ get_or old.counts c 0 = ap (λ (l : List ℕ). get_or l c 0) counts in omega (arith, e, room.within c);
+      whole = omega (arith, room.whole, capacity);
+      places = omega (arith, room.places, newest);
+      left = omega (arith, room.left, sum, len, capacity);
+    }
+
+-- a range is taken from those that are still to be looked at
+pub room_popped : (lengths : List ℕ) (old new : Sweep) → new.counts ≡ old.counts → length new.newest ≡ length old.newest → vec_len new.pending ≤ vec_len old.pending → vec_capacity new.pending ≡ vec_capacity old.pending → HasRoom lengths old → HasRoom lengths new
+room_popped lengths old new counts newest len capacity room =
+    let sum : sum_by (λ n. n) new.counts ≡ sum_by (λ n. n) old.counts = ap (sum_by (λ n. n)) counts in
+    record {
+      width = ap length counts ∙ room.width;
+      within = λ c. let e : get_or new.counts c 0 ≡ get_or old.counts c 0 = ap (λ (l : List ℕ). get_or l c 0) counts in omega (arith, e, room.within c);
+      whole = omega (arith, room.whole, capacity);
+      places = omega (arith, room.places, newest);
+      left = omega (arith, room.left, sum, len, capacity);
+    }
+
+-- the lengths of lists
+pub length_at : {A : Type 0} (xs : List (List A)) (i : ℕ) → get_or (map length xs) i 0 ≡ length (get_or xs i [])
+length_at [] i = refl
+length_at (x ∷ xs) zero = refl
+length_at (x ∷ xs) (suc i) = length_at xs i
+
+-- an operation with a note stands in its session
+pub noted_inside : (notes : List (List Note)) (name : OpName) (note : Note) → note_at notes name ≡ Some note → name.index < get_or (map length notes) name.client 0
+noted_inside notes name note at = omega (arith, slice_get_inside (slice_index_or notes name.client []) name.index note at, length_at notes name.client)
+
+pub covered : (table : List VersionedPut) (notes : List (List Note)) → AreRising table notes → Covers (map length notes) table
+covered table notes rising place put version stands = let there = rising.puts place put version stands in noted_inside notes put _ there.1
+
+-- an error is no answer
+pub no_ok : {A : Type 0} → false ≡ true → A
+no_ok e = absurd cc

@@ -1,0 +1,151 @@
+-- Room for a history that grows.
+use Rattle.std.proofs.Common.{◌≡◌, ◌≢◌, ◌<◌, ◌≤◌, ◌+◌, ◌⊎◌, ℕ, zero, suc, List, [], ◌∷◌, ◌++◌, length, length-append, get_or, replicate, Some, None, map, Vec, Global, refl, sym, ◌∙◌, ap, subst, inl, inr, arith, slice_get, slice_index_or, get_or-set_same, get_or-set_other}
+use Rattle.std.specs.Prelude.{Result, Ok, Err, OnErr, sum_by, vec_capacity}
+use Rattle.std.proofs.Math.ListN.{length-set}
+use Rattle.std.proofs.lemmas.Bool.{cases_order}
+use Rattle.std.proofs.lemmas.List.{length-map, length-replicate}
+use Rattle.std.proofs.lemmas.List.Folds.{sum_by-replicate}
+use Rattle.std.proofs.lemmas.List.Sums.{sum_by-cons, sum_by-set}
+use Rattle.cops_types.specs.declared.op.Op.{Op}
+use Rattle.cops_types.specs.declared.op.Op.TheVariants.{Put}
+use Rattle.cops_types.specs.declared.op.OpName.{OpName}
+use Rattle.cops_types.specs.Histories.{Sessions, op_at}
+use Rattle.cops_types.specs.Recorded.{count_of, with_op}
+use Rattle.cops_audit.specs.declared.notes.Note.{Note}
+use Rattle.cops_audit.specs.declared.numbers.Numbers.{Numbers}
+use Rattle.cops_audit.specs.declared.room.Room.{Room}
+use Rattle.cops_audit.specs.declared.sweep.Range.{Range}
+use Rattle.cops_audit.specs.declared.sweep.Sweep.{Sweep}
+use Rattle.cops_audit.specs.Notes.{AreAsLong, LengthensBy}
+use Rattle.cops_audit.specs.Numbers.{AreNumbers, HasNumber, KnowsKeys}
+use Rattle.cops_audit.specs.Rooms.{Fits, HasSpace, IsSameButSpace}
+use Rattle.cops_audit.specs.Sweeps.{HasRoom, IsFresh, IsIdle}
+use Rattle.cops_audit.proofs.Marks.{slice_get_push}
+use Rattle.cops_audit.proofs.Turning.{zero_at}
+
+-- sessions without operations
+pub empty_at : {A : Type 0} (n c : ℕ) → get_or (replicate {A = List A} n []) c [] ≡ []
+empty_at zero c = refl
+empty_at (suc n) zero = refl
+empty_at (suc n) (suc c) = empty_at n c
+
+pub count_empty : (n : ℕ) → count_of (replicate n []) ≡ 0
+count_empty n = omega (arith, sum_by-replicate (length {A = Op}) n [])
+
+pub empty_as_long : (n : ℕ) (notes : List (List Note)) → notes ≡ replicate n [] → AreAsLong (replicate n []) notes
+empty_as_long n notes same = subst (AreAsLong (replicate n [])) (sym same) (record {
+  clients = length-replicate {A = List Note} n [] ∙ sym (length-replicate {A = List Op} n []);
+  each = λ c. ap length (empty_at {A = Note} n c) ∙ sym (ap length (empty_at {A = Op} n c));
+})
+
+pub empty_keys : (n : ℕ) (m : Numbers) → KnowsKeys (replicate n []) m
+empty_keys n m put key version puts =
+    let none : slice_get (get_or (replicate {A = List Op} n []) put.client []) put.index ≡ None = ap (λ (s : List Op). slice_get s put.index) (empty_at n put.client) in
+    let e : None ≡ Some (Put key puts.0 version) = sym none ∙ puts.1 in
+    absurd cc
+
+-- a client's next operation
+module _ (h : Sessions) (client : ℕ) (op : Op) (inside : client < length h) where
+  abbrev own : List Op
+  own = slice_index_or h client []
+
+  pub count_more : count_of (with_op h client op) ≡ count_of h + 1
+  count_more = omega (arith, sum_by-set length h client (own ++ op ∷ []) [] inside, length-append own (op ∷ []))
+
+  pub clients_same : length (with_op h client op) ≡ length h
+  clients_same = length-set h client (own ++ op ∷ [])
+
+  -- what is there then was there before, or is the operation
+  new_or_old : (name : OpName) (o : Op) → op_at (with_op h client op) name ≡ Some o → (op_at h name ≡ Some o) ⊎ (op ≡ o)
+  new_or_old name o at = elim (cases_order name.client client) [
+    | inl same ↦
+        let here : slice_index_or (with_op h client op) name.client [] ≡ own ++ op ∷ [] = ap (λ (k : ℕ). get_or (with_op h client op) k []) same ∙ get_or-set_same h client (own ++ op ∷ []) [] inside in
+        elim (slice_get_push own op o name.index (sym (ap (λ (s : List Op). slice_get s name.index) here) ∙ at)) [
+          | inl old ↦ inl (ap (λ (k : ℕ). slice_get (get_or h k []) name.index) same ∙ old)
+          | inr last ↦ inr last.1
+        ]
+    | inr other ↦
+        let differs : name.client ≢ client = λ e. elim other [ inl l ↦ omega (arith, l, e) | inr m ↦ omega (arith, m, e) ] in
+        inl (sym (ap (λ (s : List Op). slice_get s name.index) (get_or-set_other h client name.client (own ++ op ∷ []) [] differs)) ∙ at)
+  ]
+
+  pub keys_more : (m n : Numbers) → ((key : List ℕ) → HasNumber m key → HasNumber n key) → ((key value : List ℕ) (version : ℕ) → op ≡ Put key value version → HasNumber n key) → KnowsKeys h m → KnowsKeys (with_op h client op) n
+  keys_more m n kept new known put key version puts = elim (new_or_old put (Put key puts.0 version) puts.1) [
+    | inl old ↦ kept key (known put key version (puts.0, old))
+    | inr is ↦ new key puts.0 version is
+  ]
+
+  pub as_long_more : (old new : List (List Note)) → LengthensBy old new client → AreAsLong h old → AreAsLong (with_op h client op) new
+  as_long_more old new more long = record {
+    clients = more.clients ∙ long.clients ∙ sym clients_same;
+    each = λ c. elim (cases_order c client) [
+      | inl same ↦ subst (λ (k : ℕ). length (slice_index_or new k []) ≡ length (slice_index_or (with_op h client op) k [])) (sym same)
+          (omega (arith, more.here, long.each client, ap length (get_or-set_same h client (own ++ op ∷ []) [] inside), length-append own (op ∷ [])))
+      | inr other ↦
+          let differs : c ≢ client = λ e. elim other [ inl l ↦ omega (arith, l, e) | inr m ↦ omega (arith, m, e) ] in
+          ap length (more.others c differs) ∙ long.each c ∙ sym (ap length (get_or-set_other h client c (own ++ op ∷ []) [] differs))
+    ];
+  }
+
+-- the same room with other space
+pub fits_on : (h : Sessions) (old new : Room) (count : ℕ) → count ≡ count_of h → Fits h old → HasSpace count new → IsSameButSpace old new → Fits h new
+fits_on h old new count same fits space but = record {
+  space = subst (λ (n : ℕ). HasSpace n new) same space;
+  notes = subst (AreAsLong h) (sym but.notes) fits.notes;
+  counts = ap length but.counts ∙ fits.counts;
+  empty = but.empty fits.empty;
+  numbers = subst AreNumbers (sym but.numbers) fits.numbers;
+  keys = subst (KnowsKeys h) (sym but.numbers) fits.keys;
+}
+
+-- what holds at an error
+pub at_error : {X E : Type 0} (r : Result X E) (P : Type 0) → P → OnErr r P
+at_error (Ok x) P p = tt
+at_error (Err e) P p = p
+
+-- the space of a room with other notes and numbers
+pub space_of : (count : ℕ) (room : Room) (notes : List (List Note)) (numbers : Numbers) → HasSpace count room → HasSpace count (record room { notes = notes; numbers = numbers })
+space_of count room notes numbers s = record {
+  names = s.names;
+  table = s.table;
+  nexts = s.nexts;
+  firsts = s.firsts;
+  suspects = s.suspects;
+  floors = s.floors;
+  pending = s.pending;
+  newest = s.newest;
+}
+
+-- as many notes as operations
+sum_same : {A B : Type 0} (xs : List (List A)) (ys : List (List B)) → length xs ≡ length ys → ((i : ℕ) → length (get_or xs i []) ≡ length (get_or ys i [])) → sum_by (λ n. n) (map length xs) ≡ sum_by length ys
+sum_same [] [] len each = refl
+sum_same [] (y ∷ ys) len each = absurd (omega (arith, len))
+sum_same (x ∷ xs) [] len each = absurd (omega (arith, len))
+sum_same (x ∷ xs) (y ∷ ys) len each =
+    omega (arith, each 0, sum_same xs ys (omega (arith, len)) (λ i. each (suc i)), sum_by-cons (λ (n : ℕ). n) (length x) (map length xs), sum_by-cons length y ys)
+
+pub count_notes : (h : Sessions) (notes : List (List Note)) → AreAsLong h notes → sum_by (λ n. n) (map length notes) ≡ count_of h
+count_notes h notes long = sum_same notes h long.clients long.each
+
+-- a sweep that knows nothing has room for the history that its room fits
+module _ (h : Sessions) (room : Room) (fits : Fits h room) (sweep : Sweep) (fresh : IsFresh (length room.sweep.counts) (length room.sweep.newest) sweep) (pending : sweep.pending ≡ room.sweep.pending) where
+  pub fresh_room : HasRoom (map length room.notes) sweep
+  fresh_room =
+      let sum = count_notes h room.notes fits.notes in
+      let none : length sweep.pending.items ≡ 0 = ap length fresh.pending in
+      let capacity : vec_capacity sweep.pending ≡ vec_capacity room.sweep.pending = ap (λ (v : Vec Range Global). vec_capacity v) pending in
+      let newest : length sweep.newest ≡ length (replicate {A = ℕ} (length room.sweep.newest) 0) = ap length fresh.newest in
+      record {
+        width = ap length fresh.counts ∙ length-replicate {A = ℕ} (length room.sweep.counts) 0 ∙ fits.counts ∙ sym fits.notes.clients ∙ sym (length-map room.notes length);
+        within = λ c. let e : get_or sweep.counts c 0 ≡ get_or (replicate (length room.sweep.counts) 0) c 0 = ap (λ (l : List ℕ). get_or l c 0) fresh.counts in omega (arith, e, zero_at (length room.sweep.counts) c);
+        whole = omega (arith, sum, capacity, fits.space.pending);
+        places = omega (arith, sum, newest, length-replicate {A = ℕ} (length room.sweep.newest) 0, fits.space.newest);
+        left = omega (arith, sum, capacity, fits.space.pending, none, sweep.pending.ok.0);
+      }
+
+  pub fresh_idle : (puts : ℕ) → puts ≤ count_of h → IsIdle (length h) puts sweep
+  fresh_idle puts few = record {
+    empty = fresh.pending;
+    clients = ap length fresh.counts ∙ length-replicate {A = ℕ} (length room.sweep.counts) 0 ∙ fits.counts;
+    places = let newest : length sweep.newest ≡ length (replicate {A = ℕ} (length room.sweep.newest) 0) = ap length fresh.newest in omega (arith, few, newest, length-replicate {A = ℕ} (length room.sweep.newest) 0, fits.space.newest);
+  }

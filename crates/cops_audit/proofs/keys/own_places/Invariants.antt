@@ -1,8 +1,0 @@
-use Rattle.std.proofs.Common.{◌≡◌, ◌<◌, ℕ, Some, length, slice_get}
-use Rattle.cops_audit.proofs.keys.own_places.Given as goal
-
-abbrev pub invariant-loop-place : goal.invariant-loop-place
-invariant-loop-place l = record {
-  count : length l.places.items ≡ l.place;
-  own : (k : ℕ) → k < l.place → slice_get l.places.items k ≡ Some k;
-}

@@ -1,5 +1,0 @@
-use Rattle.cops_audit.proofs.Passing.{PassedTo}
-use Rattle.cops_audit.proofs.keys.passed_firsts.Given as goal
-
-abbrev pub invariant-loop-place : goal.invariant-loop-place
-invariant-loop-place l = PassedTo l.history.sessions l.table l.nexts l.places.items l.place

@@ -1,0 +1,44 @@
+-- What a look for faults fills, with room for a history.
+use Rattle.std.specs.Prelude.{◌≡◌, ◌≤◌, ℕ, [], length, vec_capacity}
+use Rattle.cops_types.specs.Histories.{Sessions, IsNamed}
+use Rattle.cops_types.specs.Faults.{Lists}
+use Rattle.cops_types.specs.Recorded.{count_of}
+use Rattle.cops_audit.specs.declared.room.Room.{Room}
+use Rattle.cops_audit.specs.Notes.{AreAsLong}
+use Rattle.cops_audit.specs.Numbers.{AreNumbers, KnowsKeys}
+use Rattle.cops_audit.specs.Tables.{IsVersionTable}
+
+-- space for so many operations
+pub record HasSpace (count : ℕ) (room : Room) : Type 0 where
+  pub names : count ≤ vec_capacity room.names
+  pub table : count ≤ vec_capacity room.table
+  pub nexts : count ≤ vec_capacity room.nexts
+  pub firsts : count ≤ vec_capacity room.firsts
+  pub suspects : count ≤ vec_capacity room.suspects
+  pub floors : count ≤ vec_capacity room.floors
+  pub pending : count ≤ vec_capacity room.sweep.pending
+  pub newest : count ≤ length room.sweep.newest
+
+-- all names, and the puts in order of versions, none twice
+pub record IsFilled (h : Sessions) (room : Room) : Type 0 where
+  pub names : Lists (λ n. n) (IsNamed h) room.names.items
+  pub count : length room.names.items ≡ count_of h
+  pub table : IsVersionTable h room.table.items
+  pub few : length room.table.items ≤ count_of h
+
+-- the same notes, numbers and counts, and nothing left to look at
+pub record IsSameButSpace (old new : Room) : Type 0 where
+  pub notes : new.notes ≡ old.notes
+  pub numbers : new.numbers ≡ old.numbers
+  pub counts : new.sweep.counts ≡ old.sweep.counts
+  pub empty : old.sweep.pending.items ≡ [] → new.sweep.pending.items ≡ []
+
+-- space for all operations, a note for each, a count for each client and a number for each key that was put; nothing is left
+-- to look at
+pub record Fits (h : Sessions) (room : Room) : Type 0 where
+  pub space : HasSpace (count_of h) room
+  pub notes : AreAsLong h room.notes
+  pub counts : length room.sweep.counts ≡ length h
+  pub empty : room.sweep.pending.items ≡ []
+  pub numbers : AreNumbers room.numbers
+  pub keys : KnowsKeys h room.numbers
