@@ -1,12 +1,14 @@
 -- What the code of an event does at one node is what the world does.
-use Rattle.std.proofs.Common.{◌≡◌, ℕ, ◌+◌, ◌*◌, ◌<◌, ◌≤◌, ◌⊎◌, inl, inr, List, ◌∷◌, [], Bool, true, false, cond, Some, None, is_some, slice_get, slice_index_or, length, refl, sym, ap, ◌∙◌, arith, subst, nat_lt, lt-ltb}
+use Rattle.std.proofs.Common.{◌≡◌, ℕ, ◌+◌, ◌*◌, ◌<◌, ◌≤◌, ◌⊎◌, inl, inr, List, ◌∷◌, [], Bool, true, false, cond, Some, None, is_some, slice_get, slice_index_or, flat_map, length, refl, sym, ap, ◌∙◌, arith, subst, nat_lt, lt-ltb}
 use Rattle.std.proofs.lemmas.Option.{get_or_from_slice_get}
 use Rattle.std.proofs.lemmas.List.{get_or_past}
 use Rattle.std.proofs.lemmas.Bool.{and_from}
+use Rattle.cops_types.specs.declared.dep.Dep.{Dep}
 use Rattle.cops_types.specs.declared.put_record.PutRecord.{PutRecord}
 use Rattle.cops_types.specs.Histories.{Sessions}
 use Rattle.cops_types.specs.Recorded.{Recorded, count_of}
 use Rattle.cops_types.specs.Version.{version_of}
+use Rattle.cops_store.specs.Store.{has_pair}
 use Rattle.cops_held.specs.Held.{waiting}
 use Rattle.cops_node.specs.declared.event.NodeEvent.TheVariants.{Put as NodePut, Get as NodeGet, Deliver as NodeDeliver, Ask as NodeAsk, Mark as NodeMark, Settle as NodeSettle}
 use Rattle.cops_node.specs.declared.outcome.Outcome.{Outcome}
@@ -14,9 +16,9 @@ use Rattle.cops_node.specs.declared.outcome.Outcome.TheVariants.{PutDone, Got as
 use Rattle.cops_node.specs.Node.{Node, opened, greatest_clock, raised, put_at, dep_at, NodeHappens}
 use Rattle.cops_core.specs.Invariants.{IsReached}
 use Rattle.cops_core.specs.Parts.{MayRecord}
-use Rattle.cops_core.specs.World.{Setting, IsSetting, World, home, primary, node_at, with_node, context_in, sent, place_of, is_answered, knows, has_room, is_dc, refusal, keeps, delivers, Happens, PutBy, GetBy, DeliverTo, AskAt, MarkAt, SettleAt}
+use Rattle.cops_core.specs.World.{Setting, IsSetting, World, home, primary, node_at, with_node, context_in, sent, place_of, is_answered, knows, has_room, is_dc, refusal, keeps, delivers, settled_in, Happens, PutBy, GetBy, DeliverTo, AskAt, MarkAt, SettleAt}
 use Rattle.cops_core.proofs.Nodes.{same_node}
-use Rattle.cops_core.proofs.Simulation.{home_within}
+use Rattle.cops_core.proofs.Simulation.{home_within, settled_here}
 use Rattle.cops_core.proofs.Putting.{fresh}
 use Rattle.cops_core.proofs.Worlds.{Sound, reached_sound}
 use Rattle.cops_core.proofs.Asking.{asks_happens, passed_happens, refused_happens}
@@ -78,6 +80,15 @@ module _ (s : Setting) (ok : IsSetting s) (w : World) (reached : IsReached s w) 
 
   is_node : (dc place : ℕ) (was : Node) → At dc place was → node_at w dc place ≡ was
   is_node dc place was at = get_or_from_slice_get (slice_index_or w.nodes dc []) place was (opened (dc * 64 + place)) at
+
+  -- what a key's node has settled its data centre has, and one that is not there has nothing
+  pub settled_there : (dc place : ℕ) (was : Node) (pair : Dep) → place ≡ primary s pair.key → At dc place was → has_pair was.settled pair ≡ has_pair (settled_in w dc) pair
+  settled_there dc place was pair e at =
+      ap (λ (n : Node). has_pair n.settled pair) (sym (is_node dc place was at)) ∙ ap (λ q. has_pair (node_at w dc q).settled pair) e ∙ settled_here s w sound.placed dc pair
+
+  pub settled_nowhere : (dc : ℕ) (pair : Dep) → s.place.dcs ≤ dc → has_pair (settled_in w dc) pair ≡ false
+  settled_nowhere dc pair le =
+      ap (λ (ns : List Node). has_pair (flat_map (λ (n : Node). n.settled) ns) pair) (get_or_past w.nodes dc [] (let e = sound.placed.dcs in omega arith))
 
   -- a node that stayed is put back
   pub put_back : (dc place : ℕ) (was n : Node) → At dc place was → n ≡ was → with_node w dc place n ≡ w

@@ -29,6 +29,22 @@ view_to s w placed d p h =
 pub view_from : (s : Setting) (w : World) (d : ℕ) (p : PutRecord) → Contains w.issued p → settled_at s w d (put_pair p) ≡ true → Contains ((view w).settled d) p
 view_from s w d p i h = filter_from (λ x. has_pair (settled_in w d) (put_pair x)) w.issued p i (settled_in_from w d (primary s p.key) (put_pair p) h)
 
+-- a data centre has settled a pair exactly where its key's primary there has
+pub settled_here : (s : Setting) (w : World) → Placed s w → (d : ℕ) (pair : Dep) → settled_at s w d pair ≡ has_pair (settled_in w d) pair
+settled_here s w placed d pair = cases_true _ _ (settled_in_from w d (primary s pair.key) pair) back
+  where
+    back : has_pair (settled_in w d) pair ≡ true → settled_at s w d pair ≡ true
+    back h =
+        let at = settled_in_to w d pair h in
+        let item = has_to (node_at w d at.0).settled pair at.1 in
+        let place : at.0 ≡ primary s pair.key = (placed.stored d at.0 item.item item.among).placed ∙ ap (λ (x : Dep). primary s x.key) item.is in
+        subst (λ q. has_pair (node_at w d q).settled pair ≡ true) place at.1
+
+    cases_true : (a b : Bool) → (a ≡ true → b ≡ true) → (b ≡ true → a ≡ true) → a ≡ b
+    cases_true true b f g = sym (f refl)
+    cases_true false true f g = g refl
+    cases_true false false f g = refl
+
 -- the issued put of a settled pair
 pub settled_bears : (s : Setting) (w : World) → Placed s w → (d : ℕ) (pair : Dep) → settled_at s w d pair ≡ true → Bears w.issued pair
 settled_bears s w placed d pair h =

@@ -24,7 +24,7 @@ impl Model for Issued {
 }
 
 impl Issued {
-    ghost use Rattle.std.specs.Prelude.{◌≡◌, ◌++◌, ◌∷◌, [], true, None, OnOk, option_copied};
+    ghost use Rattle.std.specs.Prelude.{◌≡◌, ◌++◌, ◌∷◌, [], true, None, OnOk, length, option_copied, slice_get};
     ghost use Rattle.cops_core.specs.World.{sent};
 
     /// No puts. It takes no memory.
@@ -41,6 +41,23 @@ impl Issued {
         ensures { option_copied result ≡ sent self.now.puts version }
     {
         self.puts.get(&version)
+    }
+
+    /// How many puts there are.
+    pub fn len(&self) -> usize
+        ensures { result ≡ length self.now.puts }
+    {
+        self.puts.len()
+    }
+
+    /// The put at a place in their order.
+    pub fn at(&self, place: usize) -> Option<&PutRecord>
+        ensures { option_copied result ≡ slice_get self.now.puts place }
+    {
+        match self.puts.get_index(place) {
+            Some((_, put)) => Some(put),
+            None => None,
+        }
     }
 
     /// Makes room for one more: the next `push` takes no memory.

@@ -42,8 +42,9 @@ impl Model for State {
 }
 
 impl State {
-    ghost use Rattle.std.specs.Prelude.{◌≡◌, IfOk, OnErr, option_copied};
-    ghost use Rattle.cops_core.specs.World.{Happens, context_in, opening, sent, PutBy, GetBy, DeliverTo, AskAt, MarkAt, SettleAt};
+    ghost use Rattle.std.specs.Prelude.{◌≡◌, IfOk, OnErr, length, option_copied, slice_get};
+    ghost use Rattle.cops_store.specs.Store.{has_pair};
+    ghost use Rattle.cops_core.specs.World.{Happens, context_in, opening, sent, settled_in, PutBy, GetBy, DeliverTo, AskAt, MarkAt, SettleAt};
     ghost use Rattle.cops_core.specs.Invariants.{IsReached};
 
     /// The state in which nothing has happened yet.
@@ -92,6 +93,31 @@ impl State {
         ensures { option_copied result ≡ sent self.now.issued version }
     {
         self.issued.find(version)
+    }
+
+    /// How many puts were issued.
+    pub fn puts(&self) -> usize
+        ensures { result ≡ length self.now.issued }
+    {
+        self.issued.len()
+    }
+
+    /// The put at a place in the order of issue.
+    pub fn put_at(&self, place: usize) -> Option<&PutRecord>
+        ensures { option_copied result ≡ slice_get self.now.issued place }
+    {
+        self.issued.at(place)
+    }
+
+    /// Whether exactly this pair is settled in a data centre, as the key's node there says.
+    pub fn has_settled(&self, setting: &Setting, dc: u8, key: &Key, version: Version) -> bool
+        requires { IsReached setting.now self.now }
+        ensures { result ≡ has_pair (settled_in self.now dc) (record { key = key.now; version = version }) }
+    {
+        if dc >= setting.dcs() {
+            return false;
+        }
+        self.centres.at(dc, setting.primary(key)).has(key, version)
     }
 
     /// A client puts a value at a key, in its own data centre. The put depends on the client's context, which then holds

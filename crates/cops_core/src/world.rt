@@ -6,7 +6,7 @@ use crate::setting::Setting;
 use crate::state::State;
 use cops_node::Outcome;
 use cops_place::Place;
-use cops_types::{Deps, History, Memory, PutRecord, Version};
+use cops_types::{Deps, History, Key, Memory, PutRecord, Version};
 use std::alloc::Global;
 use std::marker::Model;
 
@@ -31,9 +31,10 @@ impl Model for World {
 }
 
 impl World {
-    ghost use Rattle.std.specs.Prelude.{◌≡◌, ◌↔◌, IfOk, OnErr, IsErrOf, option_copied};
+    ghost use Rattle.std.specs.Prelude.{◌≡◌, ◌↔◌, IfOk, OnErr, IsErrOf, length, option_copied, slice_get};
+    ghost use Rattle.cops_store.specs.Store.{has_pair};
     ghost use Rattle.cops_core.specs.Machine.{Step};
-    ghost use Rattle.cops_core.specs.World.{AreClients, Happens, Run, context_in, home, opened_cluster, sent, view};
+    ghost use Rattle.cops_core.specs.World.{AreClients, Happens, Run, context_in, home, opened_cluster, sent, settled_in, view};
     ghost use Rattle.cops_core.specs.Invariants.{HasAcceptedVerdict, Invariants};
 
     /// A world in which nothing has happened, of these data centres and nodes, and with a client at each of these data
@@ -106,6 +107,27 @@ impl World {
         ensures { option_copied result ≡ sent self.now.world.issued version }
     {
         self.state.sent(version)
+    }
+
+    /// How many puts clients have put.
+    pub fn puts(&self) -> usize
+        ensures { result ≡ length self.now.world.issued }
+    {
+        self.state.puts()
+    }
+
+    /// The put at a place in the order in which clients put them.
+    pub fn put_at(&self, place: usize) -> Option<&PutRecord>
+        ensures { option_copied result ≡ slice_get self.now.world.issued place }
+    {
+        self.state.put_at(place)
+    }
+
+    /// Whether exactly this pair is settled in a data centre: in none that is not there.
+    pub fn has_settled(&self, dc: u8, key: &Key, version: Version) -> bool
+        ensures { result ≡ has_pair (settled_in self.now.world dc) (record { key = key.now; version = version }) }
+    {
+        self.state.has_settled(&self.setting, dc, key, version)
     }
 
     /// What the clients saw. Whatever events came, the verdict on it is Accepted.

@@ -1,13 +1,13 @@
 -- A run goes on in one way, so entries that stop somewhere lead nowhere.
-use Rattle.std.proofs.Common.{◌≡◌, ℕ, ◌⊎◌, inl, inr, List, [], ◌∷◌, sym, ap, subst, ◌∙◌}
+use Rattle.std.proofs.Common.{◌≡◌, ℕ, zero, suc, inl, inr, List, [], ◌∷◌, sym, ap, subst, ◌∙◌, arith}
 use Rattle.cops_types.specs.Histories.{Sessions}
 use Rattle.cops_node.specs.declared.outcome.Outcome.{Outcome}
 use Rattle.cops_node.specs.declared.outcome.Outcome.TheVariants.{Refused}
 use Rattle.cops_core.specs.declared.event.Event.{Event}
 use Rattle.cops_core.specs.World.{Setting, World, Happens, opening}
 use Rattle.cops_tie.specs.declared.entry.Entry.{Entry}
-use Rattle.cops_tie.specs.Tie.{Placed, event_of, Continues, Follows, StopsAt, IsTied, IsUntied}
-use Rattle.cops_tie.proofs.Ordering.{Rises, one_order}
+use Rattle.cops_tie.specs.Tie.{Placed, event_of, Continues, Follows, StopsAt, IsTiedTo, IsTied, IsUntied}
+use Rattle.cops_tie.proofs.Ordering.{NeverFalls, Rises, one_order}
 
 -- a refused event changes nothing
 abbrev pub RefusedStays : Type 0
@@ -39,10 +39,25 @@ follows_rises s w (p ∷ ps) end f = (f.0, follows_rises s f.1.0 ps end f.1.1.1)
 
 -- what is untied is not tied
 pub never_tied : (law : RefusedStays) (s : Setting) (books : List (List Entry)) (sessions : Sessions) (t : ℕ) (events : List Event) → IsUntied s books sessions t → IsTied s books sessions events → ⊥
-never_tied law s books sessions t events u tied =
-    let one : u.order ≡ tied.order = one_order _ tied.order u.order tied.all u.all (follows_rises s (opening s) tied.order tied.end tied.follows) u.never_falls in
+never_tied law s books sessions t events u (end, tied) =
+    let one : u.order ≡ tied.order = one_order _ tied.order u.order tied.all u.all (follows_rises s (opening s) tied.order end tied.follows) u.never_falls in
     elim u.at [
-      | inl stops ↦ stops_or_follows law s (opening s) tied.order t tied.end (subst (λ (ps : List Placed). StopsAt s (opening s) ps t) one stops) tied.follows
-      | inr (end, (follows, (differ, _))) ↦
-          differ (ap (λ (w : World). w.sessions) (follows_once law s (opening s) tied.order end tied.end (subst (λ (ps : List Placed). Follows s (opening s) ps end) one follows) tied.follows) ∙ tied.saw)
+      | inl stops ↦ stops_or_follows law s (opening s) tied.order t end (subst (λ (ps : List Placed). StopsAt s (opening s) ps t) one stops) tied.follows
+      | inr (other, (follows, (differ, _))) ↦
+          differ (ap (λ (w : World). w.sessions) (follows_once law s (opening s) tied.order other end (subst (λ (ps : List Placed). Follows s (opening s) ps other) one follows) tied.follows) ∙ tied.saw)
     ]
+
+-- orders in which tickets rise are orders in which they never fall
+rises_never_falls : (ps : List Placed) → Rises ps → NeverFalls ps
+rises_never_falls [] r i j d less inside = absurd (omega (arith, inside, less))
+rises_never_falls (p ∷ ps) r zero zero d less inside = absurd (omega (arith, less))
+rises_never_falls (p ∷ ps) r zero (suc j) d less inside = (let b = r.0 j d (omega (arith, inside)) in omega (arith, b))
+rises_never_falls (p ∷ ps) r (suc i) zero d less inside = absurd (omega (arith, less))
+rises_never_falls (p ∷ ps) r (suc i) (suc j) d less inside = rises_never_falls ps r.1 i j d (omega (arith, less)) (omega (arith, inside))
+
+-- books have one order, and so one end
+pub ends_once : (law : RefusedStays) (s : Setting) (books : List (List Entry)) (sessions : Sessions) (events others : List Event) (end other : World) → IsTiedTo s books sessions events end → IsTiedTo s books sessions others other → end ≡ other
+ends_once law s books sessions events others end other a b =
+    let rises = follows_rises s (opening s) a.order end a.follows in
+    let one : a.order ≡ b.order = one_order _ b.order a.order b.all a.all (follows_rises s (opening s) b.order other b.follows) (rises_never_falls a.order rises) in
+    follows_once law s (opening s) b.order end other (subst (λ (ps : List Placed). Follows s (opening s) ps end) one a.follows) b.follows

@@ -76,14 +76,17 @@ Follows s w (p ∷ ps) end = IsBelow p ps × ((mid : World) × (Continues s w p 
 abbrev pub IsOrder : Setting → List (List Entry) → List Placed → Type 0
 IsOrder s books order = IsPermutation (placed (length s.place.splits + 1) 0 books) order
 
--- The books are one run of the world, with these events, whose clients saw these sessions.
-pub record IsTied (s : Setting) (books : List (List Entry)) (sessions : Sessions) (events : List Event) : Type 0 where
+-- The books are one run of the world up to this end, with these events, whose clients saw these sessions.
+pub record IsTiedTo (s : Setting) (books : List (List Entry)) (sessions : Sessions) (events : List Event) (end : World) : Type 0 where
   pub order : List Placed
-  pub end : World
   pub all : IsOrder s books order
   pub follows : Follows s (opening s) order end
   pub saw : end.sessions ≡ sessions
   pub events_are : events ≡ map event_of order
+
+-- the same, up to some end
+abbrev pub IsTied : Setting → List (List Entry) → Sessions → List Event → Type 0
+IsTied s books sessions events = (end : World) × IsTiedTo s books sessions events end
 
 -- the first entry that does not continue the run has this ticket: the ticket comes again, or the world has no such step
 abbrev pub StopsAt : Setting → World → List Placed → ℕ → Type 0
@@ -97,6 +100,10 @@ abbrev pub ticket_after : List Placed → ℕ
 ticket_after [] = 0
 ticket_after (p ∷ []) = min (ticket p + 1) 18446744073709551615
 ticket_after (p ∷ q ∷ ps) = ticket_after (q ∷ ps)
+
+-- the same up to this end, and this ticket is above the greatest
+abbrev pub IsTiedBefore : Setting → List (List Entry) → Sessions → List Event → World → ℕ → Type 0
+IsTiedBefore s books sessions events end ticket = (tied : IsTiedTo s books sessions events end) × (ticket ≡ ticket_after tied.order)
 
 -- Where the books are no such run: the least ticket whose entry does not continue it, or the one above the greatest where
 -- the sessions alone differ.

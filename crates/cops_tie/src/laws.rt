@@ -1,9 +1,9 @@
-ghost use Rattle.std.specs.Prelude.{ℕ, List};
+ghost use Rattle.std.specs.Prelude.{◌≡◌, ℕ, List};
 ghost use Rattle.cops_types.specs.Histories.{Sessions};
-ghost use Rattle.cops_core.specs.World.{Setting};
+ghost use Rattle.cops_core.specs.World.{Setting, World};
 ghost use Rattle.cops_core.specs.declared.event.Event.{Event};
 ghost use Rattle.cops_tie.specs.declared.entry.Entry.{Entry};
-ghost use Rattle.cops_tie.specs.Tie.{IsTied, IsUntied};
+ghost use Rattle.cops_tie.specs.Tie.{IsTied, IsTiedTo, IsUntied};
 
 use cops_core::every_interleaving_is_accepted;
 
@@ -12,6 +12,14 @@ use cops_core::every_interleaving_is_accepted;
 pub fn untied_is_not_tied()
     ensures { (s : Setting) (books : List (List Entry)) (sessions : Sessions) (ticket : ℕ) (events : List Event) →
         IsUntied s books sessions ticket → IsTied s books sessions events → ⊥ }
+{
+    every_interleaving_is_accepted();
+}
+
+/// A law of the definitions: books are one run of the world with these sessions up to one end alone.
+pub fn tied_books_have_one_end()
+    ensures { (s : Setting) (books : List (List Entry)) (sessions : Sessions) (events others : List Event) (end other : World) →
+        IsTiedTo s books sessions events end → IsTiedTo s books sessions others other → end ≡ other }
 {
     every_interleaving_is_accepted();
 }

@@ -15,6 +15,6 @@ mod tying;
 pub use book::Book;
 pub use entry::Entry;
 pub use fault::TieFault;
-pub use laws::untied_is_not_tied;
+pub use laws::{tied_books_have_one_end, untied_is_not_tied};
 pub use told::{Puts, Told};
-pub use tying::tie;
+pub use tying::{TiedRun, tie, tied_run};

@@ -1,8 +1,9 @@
 //! Whether the entries of all books are one run of the world in which the clients saw what a trace says.
-ghost use Rattle.std.specs.Prelude.{◌≡◌, ◌<◌, ◌≤◌, ◌*◌, ◌+◌, ◌∷◌, ◌↔◌, List, drop, AllPairs, length, map, IfOk, IfErr, IfSome, IfNone, IsTrue, Some};
+ghost use Rattle.std.specs.Prelude.{◌≡◌, ◌<◌, ◌≤◌, ◌*◌, ◌+◌, ◌∷◌, ◌↔◌, List, drop, AllPairs, length, map, IfOk, IfErr, IfSome, IfNone, IsTrue, OnOk, Some};
 ghost use Rattle.cops_core.specs.World.{World as AWorld, context_in, sent};
+ghost use Rattle.cops_core.specs.Invariants.{HasAcceptedVerdict};
 ghost use Rattle.cops_trace.specs.Text.{sessions_of};
-ghost use Rattle.cops_tie.specs.Tie.{Placed, IsBelow, Continues, Follows, IsFrom, IsHomeOf, IsTied, IsUntied, StopsAt, event_at, event_of, place_asked, ticket, ticket_after};
+ghost use Rattle.cops_tie.specs.Tie.{Placed, IsBelow, Continues, Follows, IsFrom, IsHomeOf, IsTied, IsTiedBefore, IsUntied, StopsAt, event_at, event_of, place_asked, ticket, ticket_after};
 ghost use Rattle.cops_tie.specs.Turns.{StandsRight, WhereUntied, setting_of, shown};
 
 use crate::entry::Entry;
@@ -14,6 +15,15 @@ use cops_scenario::Scenario;
 use cops_trace::Trace;
 use cops_types::{Deps, History, Memory, PutRecord};
 use std::alloc::{AllocError, Global};
+
+/// A run of the world that books are: its events, the world in which it ends, and the ticket above the greatest: 0 where
+/// there is no entry, and the greatest `u64` where that is a ticket.
+#[derive(Drop)]
+pub struct TiedRun {
+    pub events: Vec<Event>,
+    pub world: World,
+    pub next: u64,
+}
 
 /// The world's events of a run whose books these are: `Untied` where the entries of all books, in order of their tickets, are
 /// no run of a world of the scenario, or one whose clients saw something else than the trace says. Each entry of a put has
@@ -29,16 +39,41 @@ pub fn tie(
     ensures tied { IfOk result (λ events. IsTied (setting_of scenario.now) (map (λ b. b.items) books.now) (sessions_of trace.now) events.items) }
     ensures untied { IfErr result (WhereUntied (IsUntied (setting_of scenario.now) (map (λ b. b.items) books.now) (sessions_of trace.now))) }
 {
+    match tied_run(alloc, scenario, books, trace) {
+        Ok(run) => {
+            let TiedRun { events, .. } = run;
+            Ok(events)
+        }
+        Err(fault) => Err(fault),
+    }
+}
+
+/// The same, with the world that the run ends in. What the clients of a tied run saw is accepted.
+pub fn tied_run(
+    alloc: Global,
+    scenario: &Scenario,
+    books: &[Vec<Entry>],
+    trace: &Trace,
+) -> Result<TiedRun, TieFault>
+    requires { length books.now ≡ scenario.now.place.dcs * (length scenario.now.place.splits + 1) }
+    ensures setting { IfOk result (λ run. run.world.setting ≡ setting_of scenario.now) }
+    ensures tied { IfOk result (λ run. IsTiedBefore (setting_of scenario.now) (map (λ b. b.items) books.now) (sessions_of trace.now) run.events.items run.world.world run.next) }
+    ensures accepted { OnOk result (HasAcceptedVerdict (sessions_of trace.now)) }
+    ensures untied { IfErr result (WhereUntied (IsUntied (setting_of scenario.now) (map (λ b. b.items) books.now) (sessions_of trace.now))) }
+{
     let place = scenario.place();
     let order = in_order(alloc, place.dcs(), place.nodes(), books)?;
     let mut world = scenario.open_world(alloc)?;
     let events = followed(alloc, scenario, &mut world, &order)?;
+    let next = next_ticket(&order);
     if !is_same(world.history(), trace.history()) {
-        return Err(TieFault::Untied {
-            ticket: next_ticket(&order),
-        });
+        return Err(TieFault::Untied { ticket: next });
     }
-    Ok(events)
+    Ok(TiedRun {
+        events,
+        world,
+        next,
+    })
 }
 
 /// Follows the entries, and gives the world's events.
@@ -50,6 +85,7 @@ fn followed(
 ) -> Result<Vec<Event>, TieFault>
     requires setting { world.old.setting ≡ setting_of scenario.now }
     requires never_falls { AllPairs (λ p q. ticket p ≤ ticket q) (map shown order.now) }
+    ensures setting { world.new.setting ≡ world.old.setting }
     ensures ok { IfOk result (λ events. Follows (setting_of scenario.now) world.old.world (map shown order.now) world.new.world × (events.items ≡ map event_of (map shown order.now))) }
     ensures stops { IfErr result (WhereUntied (StopsAt (setting_of scenario.now) world.old.world (map shown order.now))) }
 {
