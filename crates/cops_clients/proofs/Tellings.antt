@@ -16,6 +16,7 @@ use Rattle.cops_clients.specs.declared.stepping.Seen.{Seen}
 use Rattle.cops_clients.specs.Shares.{Adds, AddsEntry, AddsAtMostOne, is_of_node, is_code_of_node}
 use Rattle.cops_clients.specs.Cluster.{IsStop}
 use Rattle.cops_clients.specs.Replies.{IsReplyOf, IsReplyOfSeen, IsSpent}
+use Rattle.cops_clients.specs.Outcomes.{IsNodeAnswer, IsWant, StopsWith}
 
 true_is_false : {A : Type 0} (b : Bool) → b ≡ true → b ≡ false → A
 true_is_false b e f = absurd (let h : true ≡ false = sym e ∙ f in cc)
@@ -80,3 +81,17 @@ adds_at before after n m e f out p q h = subst (λ (k : ℕ). Adds before after 
 
 pub most_at : (before after : List Made) (n m : ℕ) (e f : NodeEvent) → n ≡ m → e ≡ f → AddsAtMostOne before after n e → AddsAtMostOne before after m f
 most_at before after n m e f p q h = subst (λ (k : ℕ). AddsAtMostOne before after k f) p (subst (λ (x : NodeEvent). AddsAtMostOne before after n x) q h)
+
+want_of : (stop : Stop) (out : Outcome) → StopsWith IsWant stop → IsReplyOf (Err stop) out → IsWant out
+want_of (Refused code) out want told = told ∙ want
+want_of Held out want told = absurd told
+
+-- what is told is some node's answer, or want of memory
+pub told_answers : (event : NodeEvent) (number : ℕ) (answered : Result Seen Stop) (reply : Result Reply Stop) (result : Result Outcome GateHeld)
+    → IfOk answered (λ t. IsNodeAnswer event t.outcome) → IfErr answered (StopsWith IsWant) → IsReplyOfSeen number answered reply → IfOk result (IsReplyOf reply)
+    → IfOk result (λ out. IsNodeAnswer event out ⊎ IsWant out)
+told_answers event number answered reply (Err e) is want same told = tt
+told_answers event number (Ok t) (Ok r) (Ok out) is want same told = inl (subst (λ (o : Outcome). IsNodeAnswer event o) (sym (told ∙ same.0)) is)
+told_answers event number (Ok t) (Err s) (Ok out) is want same told = absurd same
+told_answers event number (Err s) (Ok r) (Ok out) is want same told = absurd same
+told_answers event number (Err s) (Err t) (Ok out) is want same told = inr (want_of s out want (subst (λ (x : Stop). IsReplyOf (Err x) out) same told))

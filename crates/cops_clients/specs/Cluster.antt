@@ -1,5 +1,5 @@
 -- What a contract sees of a cluster, and of the calls of its clients.
-use Rattle.std.specs.Prelude.{◌≡◌, ◌<◌, ◌+◌, ◌⊎◌, ℕ, List, [], ◌∷◌, length, Option, None, Some, Result, Ok, Err, true, false}
+use Rattle.std.specs.Prelude.{◌≡◌, ◌<◌, ◌+◌, ◌⊎◌, ℕ, List, [], ◌∷◌, drop, length, Option, None, Some, Result, Ok, Err, true, false}
 use Rattle.cops_types.specs.declared.dep.Dep.{Dep}
 use Rattle.cops_types.specs.declared.op.Op.{Op}
 use Rattle.cops_types.specs.declared.op.Op.TheVariants.{Put as Wrote, Got as Saw, Missed as SawNone}
@@ -9,6 +9,9 @@ use Rattle.cops_context.specs.Context.{with_pair}
 use Rattle.cops_node.specs.declared.outcome.Outcome.{Outcome}
 use Rattle.cops_node.specs.declared.outcome.Outcome.TheVariants.{PutDone, Got, Missed}
 use Rattle.cops_place.specs.Place.{node_at, primary}
+use Rattle.cops_tie.specs.Book.{puts_in}
+use Rattle.cops_tie.specs.declared.entry.Entry.{Entry}
+use Rattle.cops_tie.specs.declared.told.Puts.{Puts}
 use Rattle.cops_clients.specs.declared.client.Client.{Client}
 use Rattle.cops_clients.specs.declared.cluster.Cluster.{Cluster}
 use Rattle.cops_clients.specs.declared.fault.Stop.{Stop}
@@ -18,6 +21,10 @@ use Rattle.cops_clients.specs.Shares.{is_code_of_node}
 -- there is a node at this place of this data centre
 abbrev pub IsNode : Cluster → ℕ → ℕ → Type 0
 IsNode c dc place = (dc < c.place.dcs) × (place < length c.place.splits + 1)
+
+-- the puts that some book's entries issued from a place on, and how many entries that book has
+abbrev pub IsPutsFrom : ℕ → Puts → Type 0
+IsPutsFrom from p = (entries : List Entry) × (p.puts.items ≡ puts_in (drop from entries)) × (p.entries ≡ length entries)
 
 -- the number of a key's node in a data centre
 abbrev pub node_of : Cluster → ℕ → List ℕ → ℕ

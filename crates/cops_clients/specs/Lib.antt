@@ -6,3 +6,4 @@ pub mod Receiving
 pub mod Close
 pub mod Differing
 pub mod HandedBack
+pub mod Outcomes

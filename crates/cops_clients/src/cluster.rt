@@ -9,6 +9,7 @@ use crate::spot::Spot;
 use cops_context::Context;
 use cops_place::Place;
 use cops_record::Recorder;
+use cops_scenario::Scenario;
 use cops_tie::{Book, Puts};
 use cops_types::{Key, Memory, NodeStatus};
 use std::alloc::{AllocError, Global};
@@ -41,11 +42,12 @@ pub struct Opened {
 }
 
 impl Cluster {
-    ghost use Rattle.std.specs.Prelude.{◌≡◌, ◌<◌, ◌≤◌, ◌+◌, ◌*◌, ◌↔◌, All, length, vec_len, drop, IfOk, IsErrOf, IsSome, IfSome, IfNone};
+    ghost use Rattle.std.specs.Prelude.{◌≡◌, ◌<◌, ◌≤◌, ◌+◌, ◌*◌, ◌↔◌, All, length, vec_len, IfOk, OnErr, IsErrOf, IsSome, IfSome, IfNone};
     ghost use Rattle.cops_core.specs.World.{AreClients};
     ghost use Rattle.cops_place.specs.Place.{primary};
+    ghost use Rattle.cops_scenario.specs.Scenario.{homes_of};
     ghost use Rattle.cops_clients.specs.Opening.{AreClientsAt, AreReceivers};
-    ghost use Rattle.cops_clients.specs.Cluster.{IsNode};
+    ghost use Rattle.cops_clients.specs.Cluster.{IsNode, IsPutsFrom};
 
     /// A cluster of these data centres and nodes, with a client at each of these data centres: `BadClient` where one of those
     /// is not there, or there are more than 65,535 clients.
@@ -77,20 +79,64 @@ impl Cluster {
         })
     }
 
+    /// A cluster of a scenario's data centres and nodes, with its clients.
+    pub fn of_scenario(alloc: Global, scenario: &Scenario) -> Result<Opened, Memory>
+        ensures place { IfOk result (λ o. o.cluster.place ≡ scenario.now.place) }
+        ensures clients { IfOk result (λ o. AreClientsAt (homes_of scenario.now) (length (homes_of scenario.now)) o.clients.items) }
+        ensures shares { IfOk result (λ o. AreReceivers scenario.now.place.dcs o.shares.items) }
+    {
+        let homes = scenario.homes(alloc)?;
+        match Cluster::open(alloc, scenario.place().clone()?, homes) {
+            Ok(opened) => Ok(opened),
+            Err(OpenFault::Memory) => Err(Memory),
+            Err(OpenFault::BadClient) => unreachable!(),
+        }
+    }
+
+    /// How many data centres there are, 1 to 16.
+    pub fn dcs(&self) -> u8
+        ensures value { result ≡ self.now.place.dcs }
+        ensures range { (1 ≤ result) × (result ≤ 16) }
+    {
+        self.place.dcs()
+    }
+
+    /// How many nodes each data centre has, 1 to 64.
+    pub fn nodes(&self) -> u8
+        ensures value { result ≡ length self.now.place.splits + 1 }
+        ensures range { (1 ≤ result) × (result ≤ 64) }
+    {
+        self.place.nodes()
+    }
+
     /// What the node at a place of a data centre tells of itself; `None` where there is no such node.
     pub fn status<R: Wait>(&self, rt: &R, dc: u8, place: u8) -> Option<NodeStatus>
-        ensures { IsSome result ↔ IsNode self.now dc place }
+        ensures there { IsSome result ↔ IsNode self.now dc place }
+        ensures clock { IfSome result (λ status. status.clock ≤ 281474976710655) }
     {
         let spot = self.spot_at(dc, place)?;
         let status = self.lock_of(spot).lock(rt).node().status();
         Some(status)
     }
 
-    /// The puts that were issued at a node, from an entry on.
-    pub(crate) fn puts_from<R: Wait>(&self, rt: &R, spot: Spot, from: usize) -> Result<Puts, Memory>
-        requires { IsNode self.now spot.dc spot.place }
+    /// Copies of the puts that were issued at the node at a place of a data centre, from the entry at a place of its book on, and
+    /// how many entries that has: from there on the next copies are to be made. `None` where there is no such node.
+    pub fn puts_from<R: Wait>(
+        &self,
+        rt: &R,
+        dc: u8,
+        place: u8,
+        from: usize,
+    ) -> Result<Option<Puts>, Memory>
+        ensures node { IfOk result (λ puts. IsSome puts ↔ IsNode self.now dc place) }
+        ensures puts { IfOk result (λ puts. IfSome puts (IsPutsFrom from)) }
+        ensures err { OnErr result (IsNode self.now dc place) }
     {
-        self.lock_of(spot).lock(rt).puts_from(self.alloc, from)
+        let Some(spot) = self.spot_at(dc, place) else {
+            return Ok(None);
+        };
+        let puts = self.lock_of(spot).lock(rt).puts_from(self.alloc, from)?;
+        Ok(Some(puts))
     }
 
     /// The node at a place of a data centre, where it is there.

@@ -20,6 +20,3 @@ pub use cluster::{Cluster, Opened};
 pub use fault::OpenFault;
 pub use receiving::{Asked, RECEIVER, Yes};
 pub use share::{Holder, Made, Share};
-
-#[cfg(test)]
-mod tests;

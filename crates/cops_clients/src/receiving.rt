@@ -54,15 +54,16 @@ impl Yes {
 }
 
 impl Cluster {
-    ghost use Rattle.std.specs.Prelude.{◌≡◌, ◌++◌, [], ◌∷◌, ℕ, true, IfOk, IfErr, OnOk, OnErr};
+    ghost use Rattle.std.specs.Prelude.{◌≡◌, ◌<◌, ◌⊎◌, ◌++◌, [], ◌∷◌, ℕ, true, IfOk, IfErr, OnOk, OnErr};
     ghost use Rattle.cops_core.specs.World.{place_of};
     ghost use Rattle.cops_held.specs.Held.{waiting};
     ghost use Rattle.cops_node.specs.declared.event.NodeEvent.TheVariants.{Ask, Deliver, Mark, Settle};
     ghost use Rattle.cops_node.specs.Node.{dep_at, node_step};
-    ghost use Rattle.cops_place.specs.Place.{node_at};
+    ghost use Rattle.cops_place.specs.Place.{node_at, primary};
     ghost use Rattle.cops_tie.specs.Book.{entry};
     ghost use Rattle.cops_clients.specs.Shares.{Adds, AddsAtMostOne, AddsEntry, is_of_node};
     ghost use Rattle.cops_clients.specs.Cluster.{IsNode, IsStop, MayHoldStep, node_of};
+    ghost use Rattle.cops_clients.specs.Outcomes.{IsAskOutcome, IsNodeAnswer, IsWant};
     ghost use Rattle.cops_clients.specs.Receiving.{Allows, IsAskedOf, outcome_of};
 
     /// A put of another data centre comes to its key's node in a data centre. Refused 10 where there is no such data centre,
@@ -78,6 +79,7 @@ impl Cluster {
         ensures who { share.new.holder ≡ share.old.holder }
         ensures told { IfOk result (λ out. Adds share.old.entries.items share.new.entries.items (node_of self.now dc put.key) (Deliver put) out) }
         ensures most { AddsAtMostOne share.old.entries.items share.new.entries.items (node_of self.now dc put.key) (Deliver put) }
+        ensures node { OnErr result (IsNode self.now dc (primary self.now.place.splits put.key)) }
         ensures held { OnErr result (MayHoldStep (G.may_hold gate.now) (node_of self.now dc put.key) 65535) }
     {
         let Some(spot) = self.spot_of(dc, &put.key) else {
@@ -101,6 +103,8 @@ impl Cluster {
         ensures told { IfOk result (λ asked. Adds share.old.entries.items share.new.entries.items (node_of self.now dc key.now) (Ask key.now version) (outcome_of asked)) }
         ensures most { AddsAtMostOne share.old.entries.items share.new.entries.items (node_of self.now dc key.now) (Ask key.now version) }
         ensures names { IfOk result (IsAskedOf dc key.now version) }
+        ensures outcome { dc < self.now.place.dcs → IfOk result (λ asked. IsAskOutcome (outcome_of asked)) }
+        ensures node { OnErr result (IsNode self.now dc (primary self.now.place.splits key.now)) }
         ensures held { OnErr result (MayHoldStep (G.may_hold gate.now) (node_of self.now dc key.now) 65535) }
     {
         let Some(spot) = self.spot_of(dc, key) else {
@@ -137,6 +141,7 @@ impl Cluster {
         ensures told { IsNode self.now dc (place_of version) → IfOk result (λ out. Adds share.old.entries.items share.new.entries.items (node_at dc (place_of version)) (Mark version dep) out) }
         ensures most { AddsAtMostOne share.old.entries.items share.new.entries.items (node_at dc (place_of version)) (Mark version dep) }
         ensures no_node { (IsNode self.now dc (place_of version) → ⊥) → share.new.entries.items ≡ share.old.entries.items }
+        ensures node { OnErr result (IsNode self.now dc (place_of version)) }
         ensures held { OnErr result (MayHoldStep (G.may_hold gate.now) (node_at dc (place_of version)) 65535) }
     {
         let Some(spot) = self.spot_at(dc, place_in(version)) else {
@@ -160,6 +165,7 @@ impl Cluster {
         ensures told { IsNode self.now dc (place_of version) → IfOk result (λ out. Adds share.old.entries.items share.new.entries.items (node_at dc (place_of version)) (Settle version) out) }
         ensures most { AddsAtMostOne share.old.entries.items share.new.entries.items (node_at dc (place_of version)) (Settle version) }
         ensures no_node { (IsNode self.now dc (place_of version) → ⊥) → share.new.entries.items ≡ share.old.entries.items }
+        ensures node { OnErr result (IsNode self.now dc (place_of version)) }
         ensures held { OnErr result (MayHoldStep (G.may_hold gate.now) (node_at dc (place_of version)) 65535) }
     {
         let Some(spot) = self.spot_at(dc, place_in(version)) else {
@@ -190,6 +196,7 @@ impl Cluster {
         ensures who { share.new.holder ≡ share.old.holder }
         ensures told { IfOk result (λ out. Adds share.old.entries.items share.new.entries.items (node_at spot.dc spot.place) event out) }
         ensures most { AddsAtMostOne share.old.entries.items share.new.entries.items (node_at spot.dc spot.place) event }
+        ensures outcome { IfOk result (λ out. IsNodeAnswer event out ⊎ IsWant out) }
         ensures held { OnErr result (MayHoldStep (G.may_hold gate.now) (node_at spot.dc spot.place) 65535) }
     {
         let answered = self.step(rt, share, gate, RECEIVER, spot, event);

@@ -1,5 +1,5 @@
 //! The codes of a cluster's own refusals. The others are a node's.
-ghost use Rattle.std.specs.Prelude.{◌≡◌, false};
+ghost use Rattle.std.specs.Prelude.{◌≡◌, ◌⊎◌, false};
 ghost use Rattle.cops_clients.specs.Shares.{is_code_of_node};
 
 use cops_node::MEMORY;
@@ -22,7 +22,8 @@ pub const SESSION_FULL: u8 = 11;
 
 /// The code of a refusal by the recorder, which is none that a node gives.
 pub(crate) fn code_of(fault: RecordFault) -> u8
-    ensures { is_code_of_node result ≡ false }
+    ensures not_of_node { is_code_of_node result ≡ false }
+    ensures code { (result ≡ 3) ⊎ (result ≡ 9) ⊎ (result ≡ 11) }
 {
     match fault {
         RecordFault::Memory => MEMORY,

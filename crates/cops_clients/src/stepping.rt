@@ -45,6 +45,7 @@ impl Cluster {
     ghost use Rattle.cops_tie.specs.Book.{entry};
     ghost use Rattle.cops_clients.specs.Shares.{Adds, AddsAtMostOne, AddsEntry, is_of_node};
     ghost use Rattle.cops_clients.specs.Cluster.{IsNode, IsSameClient, IsStop, MayHoldStep, after_get, after_put, get_seen, node_of, put_seen};
+    ghost use Rattle.cops_clients.specs.Outcomes.{IsGetOutcome, IsNodeAnswer, IsPutOutcome, IsWant, StopsWith};
     ghost use Rattle.cops_clients.specs.Replies.{IsSpent};
 
     /// A client puts a value. Refused 3 where the client is of another cluster, 11 where its session is full, 1 where the
@@ -61,6 +62,7 @@ impl Cluster {
         ensures told { IfOk result (λ out. Adds client.old.share.entries.items client.new.share.entries.items (node_of self.now client.old.dc key) (Put client.old.number key value client.old.context.pairs) out) }
         ensures most { AddsAtMostOne client.old.share.entries.items client.new.share.entries.items (node_of self.now client.old.dc key) (Put client.old.number key value client.old.context.pairs) }
         ensures context { IfOk result (λ out. client.new.context.pairs ≡ after_put client.old.context.pairs key out) }
+        ensures outcome { IfOk result IsPutOutcome }
         ensures held { OnErr result (MayHoldStep (G.may_hold gate.now) (node_of self.now client.old.dc key) client.old.number) }
     {
         let number = client.number;
@@ -87,6 +89,7 @@ impl Cluster {
         ensures most { AddsAtMostOne client.old.share.entries.items client.new.share.entries.items (node_of self.now client.old.dc key) (Get client.old.number key) }
         ensures context { IfOk result (λ out. client.new.context.pairs ≡ after_get client.old.context.pairs key out) }
         ensures full { length client.old.context.pairs ≡ 256 → client.new.share.entries.items ≡ client.old.share.entries.items }
+        ensures outcome { IfOk result IsGetOutcome }
         ensures held { OnErr result (MayHoldStep (G.may_hold gate.now) (node_of self.now client.old.dc key) client.old.number) }
     {
         let number = client.number;
@@ -113,6 +116,8 @@ impl Cluster {
         ensures answers { IfOk result (λ a. (is_of_node a.outcome ≡ true) × (a.node ≡ node_of self.now client.old.dc key)) }
         ensures context { IfOk result (λ a. client.new.context.pairs ≡ after_put client.old.context.pairs key a.outcome) }
         ensures seen { IfOk result (λ a. a.op ≡ put_seen key value a.outcome) }
+        ensures outcome { IfOk result (λ a. IsPutOutcome a.outcome) }
+        ensures stops { IfErr result (StopsWith IsPutOutcome) }
         ensures none { OnErr result (client.new.share.entries.items ≡ client.old.share.entries.items) }
         ensures kept { OnErr result (client.new.context.pairs ≡ client.old.context.pairs) }
         ensures stop { IfErr result (IsStop (G.may_hold gate.now) (node_of self.now client.old.dc key) client.old.number) }
@@ -153,6 +158,8 @@ impl Cluster {
         ensures answers { IfOk result (λ a. (is_of_node a.outcome ≡ true) × (a.node ≡ node_of self.now client.old.dc key)) }
         ensures context { IfOk result (λ a. client.new.context.pairs ≡ after_get client.old.context.pairs key a.outcome) }
         ensures seen { IfOk result (λ a. a.op ≡ get_seen key a.outcome) }
+        ensures outcome { IfOk result (λ a. IsGetOutcome a.outcome) }
+        ensures stops { IfErr result (StopsWith IsGetOutcome) }
         ensures full { OnOk result (length client.old.context.pairs ≡ 256 → ⊥) }
         ensures none { OnErr result (client.new.share.entries.items ≡ client.old.share.entries.items) }
         ensures kept { OnErr result (client.new.context.pairs ≡ client.old.context.pairs) }
@@ -219,6 +226,8 @@ impl Cluster {
         ensures who { share.new.holder ≡ share.old.holder }
         ensures told { IfOk result (λ t. AddsEntry share.old.entries.items share.new.entries.items (node_at spot.dc spot.place) event t.outcome) }
         ensures answers { IfOk result (λ t. (t.seen ≡ t.outcome) × (is_of_node t.outcome ≡ true)) }
+        ensures outcome { IfOk result (λ t. IsNodeAnswer event t.outcome) }
+        ensures stops { IfErr result (StopsWith IsWant) }
         ensures none { OnErr result (share.new.entries.items ≡ share.old.entries.items) }
         ensures stop { IfErr result (IsStop (G.may_hold gate.now) (node_at spot.dc spot.place) client) }
     {
@@ -253,6 +262,7 @@ impl Cluster {
         ensures told { IfOk result (λ t. (t.seen ≡ t.outcome) × ((ticket : ℕ) × (t.entry ≡ entry ticket event t.outcome))) }
         ensures answers { IfOk result (λ t. is_of_node t.outcome ≡ true) }
         ensures none { OnErr result (book.new ≡ book.old) }
+        ensures stops { IfErr result (StopsWith IsWant) }
         ensures stop { IfErr result (IsStop (G.may_hold gate.now) (node_at spot.dc spot.place) client) }
     {
         let node = spot.number();

@@ -1,5 +1,5 @@
 use Rattle.cops_place.specs.Place.{node_at}
-use Rattle.cops_clients.proofs.Tellings.{seen_kept, told_adds, most_adds}
+use Rattle.cops_clients.proofs.Tellings.{seen_kept, told_adds, most_adds, told_answers}
 use Rattle.cops_clients.proofs.cluster.Cluster.received.Goals as goal
 
 pub returns-clause-told : goal.returns-clause-told
@@ -20,3 +20,8 @@ returns-clause-most g c =
     let n = node_at c.args.spot.dc c.args.spot.place in
     most_adds b a n c.args.event c.replied.result
     (seen_kept b a n c.args.event (g.G.Gate.may_hold c.args.gate.now) n 65535 c.number.result s.result c.replied.result s.ensures.told s.ensures.answers s.ensures.none s.ensures.stop c.replied.ensures)
+
+pub returns-clause-outcome : goal.returns-clause-outcome
+returns-clause-outcome g c =
+    let s = c.step-answered in
+    told_answers c.args.event c.number.result s.result c.replied.result c.passed.result s.ensures.outcome s.ensures.stops c.replied.ensures c.passed.ensures.told
