@@ -1,0 +1,6 @@
+pub mod Sends
+pub mod Showing
+pub mod Counting
+pub mod Carrying
+pub mod Gained
+pub mod Taken

@@ -1,0 +1,59 @@
+-- Lanes that are kept by how many of the puts they were sent.
+use Rattle.std.proofs.Common.{◌≡◌, ◌↔◌, Bool, IsTrue, ℕ, ◌+◌, ◌-◌, ◌≤◌, List, [], ◌∷◌, ◌++◌, All, length, map, drop, refl, sym, ap, subst, ◌∙◌, arith}
+use Rattle.std.proofs.lemmas.List.{drop-append-le, drop-drop, drop_all, length-drop, length-map, map-append}
+use Rattle.std.proofs.lemmas.List.Elements.{All-cons, All-head, All-tail}
+use Rattle.cops_types.specs.declared.put_record.PutRecord.{PutRecord}
+use Rattle.cops_link.specs.Frame.{spelled}
+use Rattle.cops_replication.specs.declared.outbox.Lane.{Lane}
+use Rattle.cops_replication.specs.Lanes.{ALane, IsWithin, shown, and_due, counted_from, HasSentAll}
+
+abbrev lane_of : Lane → List (List ℕ) → ALane
+lane_of l due = record { link = l.link; due = due }
+
+-- more puts are due on each lane, after all others
+pub shown_more : (puts more : List PutRecord) (ls : List Lane) → All (IsWithin puts) ls → map (shown (puts ++ more)) ls ≡ map (and_due more) (map (shown puts) ls)
+shown_more puts more [] within = refl
+shown_more puts more (l ∷ ls) within =
+    let first : map spelled (drop l.next (puts ++ more)) ≡ map spelled (drop l.next puts) ++ map spelled more =
+    ap (map spelled) (drop-append-le l.next puts more (All-head (IsWithin puts) l ls within)) ∙ map-append spelled (drop l.next puts) more in
+    ap (λ d. lane_of l d ∷ map (shown (puts ++ more)) ls) first
+    ∙ ap (λ r. lane_of l (map spelled (drop l.next puts) ++ map spelled more) ∷ r) (shown_more puts more ls (All-tail (IsWithin puts) l ls within))
+
+-- nothing changes where the first puts, which every lane was sent, are let go
+pub shown_from : (puts : List PutRecord) (first : ℕ) (ls : List Lane) → All (λ (l : Lane). first ≤ l.next) ls → map (shown (drop first puts)) (map (counted_from first) ls) ≡ map (shown puts) ls
+shown_from puts first [] sent = refl
+shown_from puts first (l ∷ ls) sent =
+    let le : first ≤ l.next = All-head (λ (x : Lane). first ≤ x.next) l ls sent in
+    let next : first + (l.next - first) ≡ l.next = omega arith in
+    let same : drop (l.next - first) (drop first puts) ≡ drop l.next puts = drop-drop (l.next - first) first puts ∙ ap (λ n. drop n puts) next in
+    ap (λ ps. lane_of l (map spelled ps) ∷ map (shown (drop first puts)) (map (counted_from first) ls)) same
+    ∙ ap (λ r. shown puts l ∷ r) (shown_from puts first ls (All-tail (λ (x : Lane). first ≤ x.next) l ls sent))
+
+pub within_from : (puts : List PutRecord) (first : ℕ) (ls : List Lane) → All (IsWithin puts) ls → All (IsWithin (drop first puts)) (map (counted_from first) ls)
+within_from puts first [] within = λ k d less. absurd (omega (arith, less))
+within_from puts first (l ∷ ls) within =
+    let le : l.next ≤ length puts = All-head (IsWithin puts) l ls within in
+    let here : l.next - first ≤ length (drop first puts) = omega (arith, le, length-drop first puts) in
+    All-cons (IsWithin (drop first puts)) (counted_from first l) (map (counted_from first) ls) here (within_from puts first ls (All-tail (IsWithin puts) l ls within))
+
+-- nothing is due on any lane where each was sent all puts
+pub due_none : (puts : List PutRecord) (ls : List Lane) → All (λ (l : Lane). length puts ≤ l.next) ls → HasSentAll (map (shown puts) ls)
+due_none puts [] sent = λ k d less. absurd (omega (arith, less))
+due_none puts (l ∷ ls) sent =
+    All-cons (λ (x : ALane). x.due ≡ []) (shown puts l) (map (shown puts) ls)
+    (ap (map spelled) (drop_all l.next puts (All-head (λ (x : Lane). length puts ≤ x.next) l ls sent)))
+    (due_none puts ls (All-tail (λ (x : Lane). length puts ≤ x.next) l ls sent))
+
+-- and no other way
+pub none_due : (puts : List PutRecord) (ls : List Lane) → HasSentAll (map (shown puts) ls) → All (λ (l : Lane). length puts ≤ l.next) ls
+none_due puts [] none = λ k d less. absurd (omega (arith, less))
+none_due puts (l ∷ ls) none =
+    let first : map spelled (drop l.next puts) ≡ [] = All-head (λ (x : ALane). x.due ≡ []) (shown puts l) (map (shown puts) ls) none in
+    let count : length puts ≤ l.next = omega (arith, sym (length-map (drop l.next puts) spelled) ∙ ap length first, length-drop l.next puts) in
+    All-cons (λ (x : Lane). length puts ≤ x.next) l ls count (none_due puts ls (All-tail (λ (x : ALane). x.due ≡ []) (shown puts l) (map (shown puts) ls) none))
+
+-- what was told of how many puts each lane was sent, told of what is due
+pub clear_is : (puts : List PutRecord) (ls same : List Lane) (n : ℕ) (all : List ALane) (b : Bool) → same ≡ ls → n ≡ length puts → map (shown puts) ls ≡ all → IsTrue b ↔ All (λ (l : Lane). n ≤ l.next) same → IsTrue b ↔ HasSentAll all
+clear_is puts ls same n all b is count view told =
+    let each : IsTrue b ↔ All (λ (l : Lane). length puts ≤ l.next) ls = subst (λ m. IsTrue b ↔ All (λ (l : Lane). m ≤ l.next) ls) count (subst (λ xs. IsTrue b ↔ All (λ (l : Lane). n ≤ l.next) xs) is told) in
+    (λ h. subst HasSentAll view (due_none puts ls (each.0 h)), λ h. each.1 (none_due puts ls (subst HasSentAll (sym view) h)))

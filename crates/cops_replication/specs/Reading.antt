@@ -1,0 +1,38 @@
+-- Books that are read one after the other, each from where its last reading ended.
+use Rattle.std.specs.Prelude.{◌≡◌, ◌<◌, ◌==◌, Bool, true, ℕ, List, [], ◌∷◌, ◌++◌, drop, length, replicate, slice_index, slice_set}
+use Rattle.std.specs.List.{list_any}
+use Rattle.cops_types.specs.declared.put_record.PutRecord.{PutRecord}
+use Rattle.cops_tie.specs.Book.{puts_in}
+use Rattle.cops_tie.specs.declared.entry.Entry.{Entry}
+use Rattle.cops_clients.specs.Cluster.{IsNode}
+use Rattle.cops_clients.specs.declared.cluster.Cluster.{Cluster}
+
+-- the node at this place had these entries
+pub record Reading : Type 0 where
+  pub place : ℕ
+  pub entries : List Entry
+
+-- it is a node of this data centre
+abbrev pub IsReadingAt : Cluster → ℕ → Reading → Type 0
+IsReadingAt cluster dc r = IsNode cluster dc r.place × (r.place < 64)
+
+abbrev pub is_at : ℕ → Reading → Bool
+is_at place r = r.place == place
+
+-- each node of the data centre that is at a place below this one was read
+abbrev pub AreReadBelow : Cluster → ℕ → ℕ → List Reading → Type 0
+AreReadBelow cluster dc end readings = (place : ℕ) → place < end → IsNode cluster dc place → list_any (is_at place) readings ≡ true
+
+-- of each node, by its place, how many entries were read: none yet
+abbrev pub unread : List ℕ
+unread = replicate 64 0
+
+-- after these readings: all that there were
+abbrev pub read_after : List ℕ → List Reading → List ℕ
+read_after read [] = read
+read_after read (r ∷ rs) = read_after (slice_set read r.place (length r.entries)) rs
+
+-- the puts that these readings found
+abbrev pub puts_read : List ℕ → List Reading → List PutRecord
+puts_read read [] = []
+puts_read read (r ∷ rs) = puts_in (drop (slice_index read r.place) r.entries) ++ puts_read (slice_set read r.place (length r.entries)) rs

@@ -1,0 +1,35 @@
+-- What a turn that did so much answers, and why turns ended.
+use Rattle.std.specs.Prelude.{◌≡◌, ℕ, ◌<◌, min}
+use Rattle.cops_types.specs.declared.gate.Point.{Point}
+use Rattle.cops_place.specs.Place.{node_at}
+use Rattle.cops_clients.specs.Cluster.{IsNode, MayHoldStep}
+use Rattle.cops_clients.specs.declared.cluster.Cluster.{Cluster}
+use Rattle.cops_replication.specs.declared.turn.Turn.{Turn}
+use Rattle.cops_replication.specs.declared.turn.Turn.TheVariants.{Did, Idle}
+use Rattle.cops_replication.specs.declared.turn.TurnFault.{TurnFault}
+use Rattle.cops_replication.specs.declared.turn.TurnFault.TheVariants.{Memory, Held, TurnLimit}
+
+-- so many, or at least so many where no number of 64 bits tells more
+abbrev pub IsCountOf : ℕ → ℕ → Type 0
+IsCountOf all count = count ≡ min all 18446744073709551615
+
+-- so much was done, or at least so much where no number tells more
+abbrev pub IsTurnOf : ℕ → Turn → Type 0
+IsTurnOf done Idle = done ≡ 0
+IsTurnOf done (Did told) = (0 < done) × (told ≡ min done 4294967295)
+
+-- the gate may hold a step of a receiver at some node of this data centre
+abbrev pub MayHoldReceiver : (Point → Type 0) → Cluster → ℕ → Type 0
+MayHoldReceiver may_hold cluster dc = (place : ℕ) × IsNode cluster dc place × MayHoldStep may_hold (node_at dc place) 65535
+
+-- why a turn ended early
+abbrev pub IsFaultAt : (Point → Type 0) → Cluster → ℕ → TurnFault → Type 0
+IsFaultAt may_hold cluster dc Memory = Unit {0}
+IsFaultAt may_hold cluster dc Held = MayHoldReceiver may_hold cluster dc
+IsFaultAt may_hold cluster dc TurnLimit = ⊥
+
+-- why turns ended before all was done
+abbrev pub IsEndAt : (Point → Type 0) → Cluster → ℕ → TurnFault → Type 0
+IsEndAt may_hold cluster dc Memory = Unit {0}
+IsEndAt may_hold cluster dc Held = MayHoldReceiver may_hold cluster dc
+IsEndAt may_hold cluster dc TurnLimit = Unit {0}

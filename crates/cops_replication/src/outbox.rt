@@ -1,0 +1,182 @@
+//! Puts that are to go out on links.
+ghost use Rattle.std.specs.Prelude.{◌≡◌, ◌≤◌, ◌↔◌, ◌-◌, All, IfOk, IsTrue, drop, map, vec_len};
+ghost use Rattle.cops_replication.specs.Lanes.{EachSends, counted_from, frames, shown, IsWithin};
+ghost use Rattle.cops_replication.specs.Turns.{IsCountOf};
+
+use cops_link::{Frame, LinkIn};
+use cops_types::{Memory, PutRecord};
+use std::alloc::Global;
+use std::marker::Model;
+
+/// A link, and how many of the puts at hand it was sent.
+#[derive(Drop)]
+pub(crate) struct Lane {
+    link: LinkIn,
+    next: usize,
+}
+
+/// Links, and puts in order, of which each link is sent those that it was not sent yet.
+#[derive(Drop)]
+pub(crate) struct Outbox {
+    lanes: Vec<Lane>,
+    puts: Vec<PutRecord>,
+    alloc: Global,
+}
+
+impl Model for Outbox {
+    ghost use Rattle.std.specs.Prelude.{List, length, map};
+    ghost use Rattle.std.specs.List.{All};
+    ghost use Rattle.cops_replication.specs.Lanes.{ALane, shown, IsWithin};
+
+    ghost Value = { List ALane };
+
+    ghost view = { λ o. map (shown o.puts.items) o.lanes.items };
+
+    ghost invariant = { λ o. All (IsWithin o.puts.items) o.lanes.items };
+}
+
+impl Lane {
+    ghost use Rattle.std.specs.Prelude.{◌≡◌, ◌≤◌, ◌+◌, IfOk, length};
+    ghost use Rattle.cops_link.specs.Link.{sent};
+    ghost use Rattle.cops_replication.specs.Lanes.{Sends, shown, IsWithin};
+
+    /// Sends the puts that were not sent yet, until the link is full, and says how many.
+    fn send(&mut self, alloc: Global, puts: &[PutRecord]) -> Result<usize, Memory>
+        requires { IsWithin puts.now self.old }
+        ensures within { IsWithin puts.now self.new }
+        ensures sends { Sends (shown puts.now self.old) (shown puts.now self.new) }
+        ensures count { IfOk result (λ n. length (sent self.new.link) ≡ length (sent self.old.link) + n) }
+    {
+        let before = self.next;
+        while self.next < puts.len() {
+            let frame = Frame::of(alloc, &puts[self.next])?;
+            if self.link.send(frame).is_err() {
+                break;
+            }
+            self.next += 1;
+        }
+        Ok(self.next - before)
+    }
+}
+
+impl Outbox {
+    ghost use Rattle.std.specs.Prelude.{◌≡◌, ◌↔◌, ◌-◌, IfOk, OnOk, OnErr, IsTrue, map};
+    ghost use Rattle.cops_replication.specs.Lanes.{EachSends, HasSentAll, and_due, frames, idle};
+    ghost use Rattle.cops_replication.specs.Turns.{IsCountOf};
+
+    /// These links, with nothing to send. Where memory runs out the links are gone.
+    pub(crate) fn new(alloc: Global, links: Vec<LinkIn>) -> Result<Self, Memory>
+        ensures { IfOk result (λ o. o ≡ map idle links.items) }
+    {
+        let mut lanes = Vec::with_capacity(alloc, links.len())?;
+        for link in links {
+            lanes.push(Lane { link, next: 0 })?;
+        }
+        Ok(Outbox {
+            lanes,
+            puts: Vec::new(alloc),
+            alloc,
+        })
+    }
+
+    /// More puts, which go last. A refusal changes nothing.
+    pub(crate) fn add(&mut self, mut puts: Vec<PutRecord>) -> Result<(), Memory>
+        ensures ok { OnOk result (self.new ≡ map (and_due puts.items) self.old) }
+        ensures err { OnErr result (self.new ≡ self.old) }
+    {
+        self.puts.append(&mut puts)?;
+        Ok(())
+    }
+
+    /// Sends on each link what it was not sent yet, until it is full, and says how many frames in all.
+    pub(crate) fn send(&mut self) -> Result<usize, Memory>
+        ensures sends { EachSends self.old self.new }
+        ensures count { IfOk result (IsCountOf (frames self.new - frames self.old)) }
+    {
+        send_on(&mut self.lanes, self.alloc, &self.puts)
+    }
+
+    /// Lets go of the puts that every link was sent, once they are half of those at hand.
+    pub(crate) fn forget(&mut self)
+        ensures { self.new ≡ self.old }
+    {
+        let sent = sent_on_all(&self.lanes, self.puts.len());
+        if sent < self.puts.len() - sent {
+            return;
+        }
+        let_go(&mut self.puts, sent);
+        count_from(&mut self.lanes, sent);
+    }
+
+    /// Whether each link was sent all.
+    pub(crate) fn is_clear(&self) -> bool
+        ensures { IsTrue result ↔ HasSentAll self.now }
+    {
+        were_sent(&self.lanes, self.puts.len())
+    }
+
+    /// Ends the sending on each link.
+    pub(crate) fn finish(self) {
+        let Outbox {
+            lanes,
+            puts: _,
+            alloc: _,
+        } = self;
+        for lane in lanes {
+            let Lane { link, next: _ } = lane;
+            let _finished = link.finish();
+        }
+    }
+}
+
+/// Sends on each link those of the puts that it was not sent yet, until it is full, and says how many frames in all.
+fn send_on(lanes: &mut [Lane], alloc: Global, puts: &[PutRecord]) -> Result<usize, Memory>
+    requires { All (IsWithin puts.now) lanes.old }
+    ensures within { All (IsWithin puts.now) lanes.new }
+    ensures sends { EachSends (map (shown puts.now) lanes.old) (map (shown puts.now) lanes.new) }
+    ensures count { IfOk result (IsCountOf (frames (map (shown puts.now) lanes.new) - frames (map (shown puts.now) lanes.old))) }
+{
+    let mut sent = 0usize;
+    for k in 0..lanes.len() {
+        let more = lanes[k].send(alloc, puts)?;
+        sent = sent.saturating_add(more);
+    }
+    Ok(sent)
+}
+
+/// How many of so many puts every link was sent.
+fn sent_on_all(lanes: &[Lane], puts: usize) -> usize
+    ensures puts { result ≤ puts }
+    ensures each { All (λ l. result ≤ l.next) lanes.now }
+{
+    let mut least = puts;
+    for lane in lanes {
+        least = least.min(lane.next);
+    }
+    least
+}
+
+/// Lets go of the first so many puts.
+fn let_go(puts: &mut Vec<PutRecord>, count: usize)
+    requires { count ≤ vec_len puts.old }
+    ensures { puts.new.items ≡ drop count puts.old.items }
+{
+    puts.drain(..count);
+}
+
+/// Counts the puts that each link was sent from this one on.
+fn count_from(lanes: &mut [Lane], first: usize)
+    requires { All (λ l. first ≤ l.next) lanes.old }
+    ensures { lanes.new ≡ map (counted_from first) lanes.old }
+{
+    for lane in lanes {
+        lane.next -= first;
+    }
+}
+
+/// Whether each link was sent so many puts.
+fn were_sent(lanes: &[Lane], puts: usize) -> bool
+    ensures { IsTrue result ↔ All (λ l. puts ≤ l.next) lanes.now }
+{
+    lanes.iter().all(|lane| puts <= lane.next)
+}

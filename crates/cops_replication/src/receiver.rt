@@ -1,0 +1,357 @@
+ghost use Rattle.cops_replication.specs.Receiving.{TakesUpTo};
+
+use crate::backlog::{Backlog, Question};
+use crate::turn::{Turn, TurnFault};
+use cops_clients::{Asked, Cluster, Share, Yes};
+use cops_link::LinkOut;
+use cops_node::{MEMORY, Outcome};
+use cops_types::{Gate, Memory, PutRecord, Version};
+use cops_wire::Message;
+use std::alloc::Global;
+use std::sync::Wait;
+
+/// What is known of a put that was taken from a link.
+#[derive(Clone, Copy, PartialEq)]
+enum Stage {
+    /// It is to be delivered.
+    Taken,
+    /// It is to be delivered, and a gate held its delivery, whose answer is not known.
+    Unknown,
+    /// Its node holds it.
+    Held,
+}
+
+/// A put that was taken from a link.
+#[derive(Drop)]
+struct Arrival {
+    put: PutRecord,
+    stage: Stage,
+}
+
+/// What brings the puts of other data centres into one. Of a dependency that was answered Wait it asks again only once it has
+/// settled exactly that pair, so a turn's work is in proportion to what came and to what became ready.
+#[derive(Drop)]
+pub struct Receiver {
+    dc: u8,
+    links: Vec<LinkOut>,
+    share: Share,
+    arrival: Option<Arrival>,
+    backlog: Backlog,
+}
+
+impl Receiver {
+    ghost use Rattle.std.specs.Prelude.{◌≡◌, ◌↔◌, IsTrue, OnOk, OnErr, IfErr, Err};
+    ghost use Rattle.cops_replication.specs.Receiving.{EachTakesUpTo, IsSame, KeepsNothing, ends};
+    ghost use Rattle.cops_replication.specs.Shares.{Gains};
+    ghost use Rattle.cops_replication.specs.Turns.{IsEndAt, IsFaultAt};
+
+    /// The receiver of a data centre, with these links and this share. It takes no memory.
+    pub fn new(alloc: Global, dc: u8, links: Vec<LinkOut>, share: Share) -> Self
+        ensures dc { result.dc ≡ dc }
+        ensures links { ends result ≡ links.items }
+        ensures share { result.share ≡ share }
+    {
+        Receiver {
+            dc,
+            links,
+            share,
+            arrival: None,
+            backlog: Backlog::new(alloc),
+        }
+    }
+
+    /// Takes at most one frame from each link and delivers its put. Then it asks for each dependency that it has not asked for,
+    /// or whose pair was settled since, marks those with a yes, and settles each put whose dependencies are all marked. What
+    /// met want of memory is tried on the next turn.
+    pub fn turn<R: Wait, G: Gate>(
+        &mut self,
+        rt: &R,
+        cluster: &Cluster,
+        gate: &G,
+    ) -> Result<Turn, TurnFault>
+        ensures dc { self.new.dc ≡ self.old.dc }
+        ensures links { EachTakesUpTo 1 (ends self.old) (ends self.new) }
+        ensures share { Gains self.old.share self.new.share }
+        ensures fault { IfErr result (IsFaultAt (G.may_hold gate.now) cluster.now self.old.dc) }
+    {
+        let delivered = self.take_in(rt, cluster, gate)?;
+        let done = self.work(rt, cluster, gate)?;
+        Ok(Turn::of(done.saturating_add(delivered)))
+    }
+
+    /// Makes turns until one is idle with nothing kept back, which is a put that is not settled: `TurnLimit` where that is none
+    /// of so many turns, and what a turn met where one met a fault.
+    pub fn drain<R: Wait, G: Gate>(
+        &mut self,
+        rt: &R,
+        cluster: &Cluster,
+        gate: &G,
+        turns: u32,
+    ) -> Result<(), TurnFault>
+        ensures dc { self.new.dc ≡ self.old.dc }
+        ensures links { EachTakesUpTo turns (ends self.old) (ends self.new) }
+        ensures share { Gains self.old.share self.new.share }
+        ensures fault { IfErr result (IsEndAt (G.may_hold gate.now) cluster.now self.old.dc) }
+        ensures ok { OnOk result (KeepsNothing self.new) }
+    {
+        for _ in 0..turns {
+            let turn = self.turn(rt, cluster, gate)?;
+            if turn == Turn::Idle && self.is_clear() {
+                return Ok(());
+            }
+        }
+        Err(TurnFault::TurnLimit)
+    }
+
+    /// Lends the share.
+    pub fn share(&mut self) -> &mut Share {
+        &mut self.share
+    }
+
+    /// The share, for whom the receiver is no longer of use.
+    pub fn into_share(self) -> Share
+        ensures { result ≡ self.share }
+    {
+        let Receiver { share, .. } = self;
+        share
+    }
+
+    /// Whether nothing is kept back.
+    fn is_clear(&self) -> bool
+        ensures { IsTrue result ↔ KeepsNothing self.now }
+    {
+        self.arrival.is_none() && self.backlog.is_empty()
+    }
+
+    /// Delivers what an earlier turn kept back, and then what comes from each link. It says how many puts were delivered.
+    fn take_in<R: Wait, G: Gate>(
+        &mut self,
+        rt: &R,
+        cluster: &Cluster,
+        gate: &G,
+    ) -> Result<usize, TurnFault>
+        ensures dc { self.new.dc ≡ self.old.dc }
+        ensures links { EachTakesUpTo 1 (ends self.old) (ends self.new) }
+        ensures share { Gains self.old.share self.new.share }
+        ensures fault { IfErr result (IsFaultAt (G.may_hold gate.now) cluster.now self.old.dc) }
+    {
+        let mut delivered = self.arrive(rt, cluster, gate)?;
+        for k in 0..self.links.len() {
+            let Some(arrival) = next_arrival(&mut self.links[k])? else {
+                continue;
+            };
+            self.arrival = Some(arrival);
+            let more = self.arrive(rt, cluster, gate)?;
+            delivered = more.saturating_add(delivered);
+        }
+        Ok(delivered)
+    }
+
+    /// Delivers the put that was taken, if one was, and says how many those are.
+    fn arrive<R: Wait, G: Gate>(
+        &mut self,
+        rt: &R,
+        cluster: &Cluster,
+        gate: &G,
+    ) -> Result<usize, TurnFault>
+        ensures same { IsSame self.old self.new }
+        ensures share { Gains self.old.share self.new.share }
+        ensures fault { IfErr result (IsFaultAt (G.may_hold gate.now) cluster.now self.old.dc) }
+    {
+        let Some(arrival) = &self.arrival else {
+            return Ok(0);
+        };
+        let stage = arrival.stage;
+        if stage == Stage::Held {
+            return self.keep();
+        }
+        let copy = arrival.put.clone()?;
+        let outcome = self.deliver(rt, cluster, gate, copy)?;
+        if is_held(&outcome, stage) {
+            self.set_stage(Stage::Held);
+            return self.keep();
+        }
+        self.arrival = None;
+        Ok(1)
+    }
+
+    /// Delivers a copy of the put that was taken.
+    fn deliver<R: Wait, G: Gate>(
+        &mut self,
+        rt: &R,
+        cluster: &Cluster,
+        gate: &G,
+        copy: PutRecord,
+    ) -> Result<Outcome, TurnFault>
+        ensures same { IsSame self.old self.new }
+        ensures share { Gains self.old.share self.new.share }
+        ensures fault { IfErr result (IsFaultAt (G.may_hold gate.now) cluster.now self.old.dc) }
+    {
+        let Ok(outcome) = cluster.deliver(rt, &mut self.share, gate, self.dc, copy) else {
+            self.set_stage(Stage::Unknown);
+            return Err(TurnFault::Held);
+        };
+        if outcome.is_memory() {
+            return Err(TurnFault::Memory);
+        }
+        Ok(outcome)
+    }
+
+    fn set_stage(&mut self, stage: Stage)
+        ensures same { IsSame self.old self.new }
+        ensures share { self.new.share ≡ self.old.share }
+    {
+        if let Some(arrival) = &mut self.arrival {
+            arrival.stage = stage;
+        }
+    }
+
+    /// The put that was taken waits from now on, and counts as one that was delivered.
+    fn keep(&mut self) -> Result<usize, TurnFault>
+        ensures same { IsSame self.old self.new }
+        ensures share { self.new.share ≡ self.old.share }
+        ensures fault { OnErr result (result ≡ Err TurnFault.Memory) }
+    {
+        if let Some(arrival) = &self.arrival {
+            self.backlog.add(&arrival.put)?;
+        }
+        self.arrival = None;
+        Ok(1)
+    }
+
+    /// Asks, marks and settles until there is nothing to be asked and to be settled, and says how often it marked and settled.
+    fn work<R: Wait, G: Gate>(
+        &mut self,
+        rt: &R,
+        cluster: &Cluster,
+        gate: &G,
+    ) -> Result<usize, TurnFault>
+        ensures same { IsSame self.old self.new }
+        ensures share { Gains self.old.share self.new.share }
+        ensures fault { IfErr result (IsFaultAt (G.may_hold gate.now) cluster.now self.old.dc) }
+    {
+        let mut done = 0;
+        for _ in 0..u64::MAX {
+            let more = if let Some(version) = self.backlog.ready() {
+                self.settle(rt, cluster, gate, version)?
+            } else if self.backlog.question().is_some() {
+                self.ask(rt, cluster, gate)?
+            } else {
+                break;
+            };
+            done = more.saturating_add(done);
+        }
+        Ok(done)
+    }
+
+    /// Asks the next question, and marks where the answer is yes. It says how often it marked.
+    fn ask<R: Wait, G: Gate>(
+        &mut self,
+        rt: &R,
+        cluster: &Cluster,
+        gate: &G,
+    ) -> Result<usize, TurnFault>
+        ensures same { IsSame self.old self.new }
+        ensures share { Gains self.old.share self.new.share }
+        ensures fault { IfErr result (IsFaultAt (G.may_hold gate.now) cluster.now self.old.dc) }
+    {
+        let Some(pair) = self.backlog.pair() else {
+            self.backlog.skip();
+            return Ok(0);
+        };
+        let version = pair.version;
+        let asked = cluster.ask(rt, &mut self.share, gate, self.dc, &pair.key, version)?;
+        match asked {
+            Asked::Yes(yes) => self.mark(rt, cluster, gate, &yes),
+            Asked::Other(Outcome::Refused(MEMORY)) => Err(TurnFault::Memory),
+            Asked::Other(_) => {
+                self.backlog.park()?;
+                Ok(0)
+            }
+        }
+    }
+
+    /// Marks the dependency of the next question, for which this is the answer, and says how often it marked.
+    fn mark<R: Wait, G: Gate>(
+        &mut self,
+        rt: &R,
+        cluster: &Cluster,
+        gate: &G,
+        yes: &Yes,
+    ) -> Result<usize, TurnFault>
+        ensures same { IsSame self.old self.new }
+        ensures share { Gains self.old.share self.new.share }
+        ensures fault { IfErr result (IsFaultAt (G.may_hold gate.now) cluster.now self.old.dc) }
+    {
+        let Some(Question { version, dep }) = self.backlog.question() else {
+            return Ok(0);
+        };
+        let outcome = cluster.mark(rt, &mut self.share, gate, self.dc, version, dep, yes)?;
+        if outcome.is_memory() {
+            return Err(TurnFault::Memory);
+        }
+        self.backlog.mark();
+        Ok(usize::from(matches!(outcome, Outcome::Marked)))
+    }
+
+    /// Settles a put whose dependencies are all marked, and has those asked again that wait for it.
+    fn settle<R: Wait, G: Gate>(
+        &mut self,
+        rt: &R,
+        cluster: &Cluster,
+        gate: &G,
+        version: Version,
+    ) -> Result<usize, TurnFault>
+        ensures same { IsSame self.old self.new }
+        ensures share { Gains self.old.share self.new.share }
+        ensures fault { IfErr result (IsFaultAt (G.may_hold gate.now) cluster.now self.old.dc) }
+    {
+        self.backlog.wake(version)?;
+        let outcome = cluster.settle(rt, &mut self.share, gate, self.dc, version)?;
+        if outcome.is_memory() {
+            return Err(TurnFault::Memory);
+        }
+        self.backlog.settle(version);
+        Ok(usize::from(matches!(outcome, Outcome::Settled)))
+    }
+}
+
+/// Whether this answer to a delivery says that the node holds the put, which was at this stage before.
+fn is_held(outcome: &Outcome, stage: Stage) -> bool {
+    match outcome {
+        Outcome::Held => true,
+        Outcome::Repeat => stage == Stage::Unknown,
+        _ => false,
+    }
+}
+
+/// Takes the next frame, if one is there.
+fn next_arrival(link: &mut LinkOut) -> Result<Option<Arrival>, Memory>
+    ensures { TakesUpTo 1 link.old link.new }
+{
+    match link.take()? {
+        Some(message) => Ok(arrival_of(message)),
+        None => Ok(None),
+    }
+}
+
+/// The put that a message replicates.
+fn arrival_of(message: Message) -> Option<Arrival> {
+    match message {
+        Message::PutAfter {
+            key,
+            value,
+            version,
+            deps,
+        } => Some(Arrival {
+            put: PutRecord {
+                key,
+                value,
+                version,
+                deps,
+            },
+            stage: Stage::Taken,
+        }),
+        _ => None,
+    }
+}

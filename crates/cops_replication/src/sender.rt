@@ -1,0 +1,98 @@
+use crate::outbox::Outbox;
+use crate::turn::{Turn, TurnFault};
+use cops_clients::Cluster;
+use cops_link::LinkIn;
+use cops_types::Memory;
+use std::alloc::Global;
+use std::sync::Wait;
+
+/// The most nodes of a data centre.
+const MAX_NODES: usize = 64;
+
+/// What sends the puts of a data centre to others, each once on each of its links.
+#[derive(Drop)]
+pub struct Sender {
+    dc: u8,
+    /// Of each node, by its place, how many entries of its book were read.
+    read: [usize; MAX_NODES],
+    outbox: Outbox,
+}
+
+impl Sender {
+    ghost use Rattle.std.specs.Prelude.{◌≡◌, ◌-◌, IfOk, OnOk, Err, map};
+    ghost use Rattle.cops_replication.specs.Lanes.{HasSentAll, frames, idle};
+    ghost use Rattle.cops_replication.specs.Reading.{unread};
+    ghost use Rattle.cops_replication.specs.Sending.{Carries, CarriesBelow, lanes};
+    ghost use Rattle.cops_replication.specs.Turns.{IsTurnOf};
+
+    /// The sender of a data centre, with these links, which has read nothing. Where memory runs out the links are gone.
+    pub fn new(alloc: Global, dc: u8, links: Vec<LinkIn>) -> Result<Self, Memory>
+        ensures dc { IfOk result (λ s. s.dc ≡ dc) }
+        ensures unread { IfOk result (λ s. s.read ≡ unread) }
+        ensures links { IfOk result (λ s. lanes s ≡ map idle links.items) }
+    {
+        Ok(Sender {
+            dc,
+            read: [0; MAX_NODES],
+            outbox: Outbox::new(alloc, links)?,
+        })
+    }
+
+    /// Reads the puts that were issued at the nodes of its data centre since it last did, and sends on each link those that it
+    /// was not sent yet, until that is full. What it did not send is kept for the next turn, and want of memory loses nothing.
+    pub fn turn<R: Wait>(&mut self, rt: &R, cluster: &Cluster) -> Result<Turn, Memory>
+        ensures carries { Carries cluster.now self.old self.new }
+        ensures all { OnOk result (CarriesBelow 64 cluster.now self.old self.new) }
+        ensures did { IfOk result (IsTurnOf (frames (lanes self.new) - frames (lanes self.old))) }
+    {
+        let read = self.read(rt, cluster);
+        let sent = self.outbox.send()?;
+        self.outbox.forget();
+        read?;
+        Ok(Turn::of(sent))
+    }
+
+    /// Makes turns until one is idle with nothing kept back: `TurnLimit` where that is none of so many turns, and `Memory` where
+    /// a turn met it.
+    pub fn drain<R: Wait>(&mut self, rt: &R, cluster: &Cluster, turns: u32) -> Result<(), TurnFault>
+        ensures carries { Carries cluster.now self.old self.new }
+        ensures all { OnOk result (CarriesBelow 64 cluster.now self.old self.new) }
+        ensures ok { OnOk result (HasSentAll (lanes self.new)) }
+        ensures not_held { result ≡ Err TurnFault.Held → ⊥ }
+    {
+        for _ in 0..turns {
+            let turn = self.turn(rt, cluster)?;
+            if turn == Turn::Idle && self.outbox.is_clear() {
+                return Ok(());
+            }
+        }
+        Err(TurnFault::TurnLimit)
+    }
+
+    /// Ends the sending on each link.
+    pub fn finish(self) {
+        let Sender {
+            dc: _,
+            read: _,
+            outbox,
+        } = self;
+        outbox.finish();
+    }
+
+    /// Reads the puts that were issued at the nodes since it last did.
+    fn read<R: Wait>(&mut self, rt: &R, cluster: &Cluster) -> Result<(), Memory>
+        ensures carries { Carries cluster.now self.old self.new }
+        ensures all { OnOk result (CarriesBelow 64 cluster.now self.old self.new) }
+        ensures sent { frames (lanes self.new) ≡ frames (lanes self.old) }
+    {
+        for place in 0..MAX_NODES {
+            let from = self.read[place];
+            let Some(more) = cluster.puts_from(rt, self.dc, place as u8, from)? else {
+                return Ok(());
+            };
+            self.outbox.add(more.puts)?;
+            self.read[place] = more.entries;
+        }
+        Ok(())
+    }
+}

@@ -1,0 +1,78 @@
+//! What a turn did, and why turns ended.
+ghost use Rattle.std.specs.Prelude.{◌≡◌};
+ghost use Rattle.cops_replication.specs.declared.turn.TurnFault.TheVariants.{Memory as OutOfMemory, Held as HeldByGate};
+
+use cops_clients::RECEIVER;
+use cops_types::{GateHeld, Memory};
+use std::alloc::{AllocError, AllocFailed};
+use thiserror::Error;
+
+/// What one turn did.
+#[derive(Clone, Copy, Debug, PartialEq, Eq)]
+pub enum Turn {
+    /// So many things, at least one: of a sender the frames that it sent, of a receiver the frames that it delivered, and what
+    /// it marked and settled. More than 4,294,967,295 count as so many.
+    Did(u32),
+    /// Nothing.
+    Idle,
+}
+
+/// Why a turn, or a number of turns, did not end well. The numbers are the faults' codes.
+#[derive(Clone, Copy, Debug, PartialEq, Eq, Error)]
+pub enum TurnFault {
+    #[error("out of memory")]
+    Memory = 0,
+    #[error("the gate held a step")]
+    Held = 1,
+    #[error("something is kept back after the last turn")]
+    TurnLimit = 3,
+}
+
+impl Turn {
+    ghost use Rattle.cops_replication.specs.Turns.{IsTurnOf};
+
+    /// The turn that did so much.
+    pub(crate) fn of(done: usize) -> Turn
+        ensures { IsTurnOf done result }
+    {
+        if done == 0 {
+            return Turn::Idle;
+        }
+        if done > u32::MAX as usize {
+            return Turn::Did(u32::MAX);
+        }
+        Turn::Did(done as u32)
+    }
+}
+
+impl From<Memory> for TurnFault {
+    ghost from_gives = { λ _ e. e ≡ OutOfMemory };
+
+    fn from(_e: Memory) -> TurnFault {
+        TurnFault::Memory
+    }
+}
+
+impl From<GateHeld> for TurnFault {
+    ghost from_gives = { λ _ e. e ≡ HeldByGate };
+
+    fn from(_e: GateHeld) -> TurnFault {
+        TurnFault::Held
+    }
+}
+
+impl From<AllocError> for TurnFault {
+    ghost from_gives = { λ _ e. e ≡ OutOfMemory };
+
+    fn from(_e: AllocError) -> TurnFault {
+        TurnFault::Memory
+    }
+}
+
+impl<T: Drop> From<AllocFailed<T>> for TurnFault {
+    ghost from_gives = { λ _ e. e ≡ OutOfMemory };
+
+    fn from(_e: AllocFailed<T>) -> TurnFault {
+        TurnFault::Memory
+    }
+}
