@@ -1,0 +1,159 @@
+//! Whether clients ended as their sessions and the world at the end of a run say.
+ghost use Rattle.std.specs.Prelude.{◌≡◌, ◌≢◌, ◌≤◌, ◌↔◌, IfOk, IsTrue, length, slice_get, slice_index_or, [], option_copied};
+ghost use Rattle.cops_types.specs.Histories.{Sessions};
+ghost use Rattle.cops_node.specs.declared.outcome.Outcome.TheVariants.{Refused};
+ghost use Rattle.cops_core.specs.World.{happens};
+ghost use Rattle.cops_outcomes.specs.Outcomes.{AreOutcomes, IsFrontOf, IsOutcome, IsSeenAs, IsStop, event_for};
+
+use crate::outcome::ClientOutcome;
+use cops_core::{Event, World, every_interleaving_is_accepted};
+use cops_node::{CLOCK_EXHAUSTED, MEMORY, Outcome};
+use cops_scenario::{ScriptOp, ScriptedClient};
+use cops_types::{History, Memory, Op};
+use std::alloc::AllocError;
+
+/// The code with which the world refuses a get of a client with a full context.
+const CONTEXT_FULL: u8 = 2;
+
+/// Whether there is an outcome for each client, and each is one of its session.
+pub fn are_outcomes(
+    world: &mut World,
+    clients: &[ScriptedClient],
+    history: &History,
+    outcomes: &[ClientOutcome],
+) -> Result<bool, Memory>
+    requires { length clients.now ≤ 65536 }
+    ensures { IfOk result (λ are. IsTrue are ↔ AreOutcomes world.old.setting world.old.world clients.now history.now.sessions outcomes.now) }
+{
+    if outcomes.len() != clients.len() {
+        return Ok(false);
+    }
+    for i in 0..clients.len() {
+        let session = history.session(i as u16);
+        if !is_outcome(world, i as u16, &clients[i].script, session, outcomes[i])? {
+            return Ok(false);
+        }
+    }
+    Ok(true)
+}
+
+/// Whether a client's outcome is one of its session. Where it is, the world is as it was.
+fn is_outcome(
+    world: &mut World,
+    client: u16,
+    script: &[ScriptOp],
+    session: &[Op],
+    outcome: ClientOutcome,
+) -> Result<bool, Memory>
+    ensures is { IfOk result (λ is. IsTrue is ↔ IsOutcome world.old.setting world.old.world client script.now session.now outcome) }
+    ensures stays { IfOk result (λ is. IsTrue is → world.new ≡ world.old) }
+{
+    if !is_front_of(script, session) {
+        return Ok(false);
+    }
+    match outcome {
+        ClientOutcome::Done => Ok(session.len() == script.len()),
+        ClientOutcome::Stopped(code) => is_stop(world, client, script.get(session.len()), code),
+    }
+}
+
+/// Whether the session has one operation for each of a front of the script, each seen so.
+fn is_front_of(script: &[ScriptOp], session: &[Op]) -> bool
+    ensures { IsTrue result ↔ IsFrontOf script.now session.now }
+{
+    if session.len() > script.len() {
+        return false;
+    }
+    for n in 0..session.len() {
+        if !is_seen_as(&script[n], &session[n]) {
+            return false;
+        }
+    }
+    true
+}
+
+/// Whether an operation of a script was seen so.
+fn is_seen_as(op: &ScriptOp, seen: &Op) -> bool
+    ensures { IsTrue result ↔ IsSeenAs op.now seen.now }
+{
+    match (op, seen) {
+        (
+            ScriptOp::Put { key, value },
+            Op::Put {
+                key: k,
+                value: v,
+                ..
+            },
+        ) => k.is(key) && v.is(value),
+        (ScriptOp::Get { key }, Op::Got { key: k, .. }) => k.is(key),
+        (ScriptOp::Get { key }, Op::Missed { key: k }) => k.is(key),
+        _ => false,
+    }
+}
+
+/// Whether a client may have stopped with this code before the operation that is next in its script. Where it may, the world
+/// is as it was.
+fn is_stop(
+    world: &mut World,
+    client: u16,
+    next: Option<&ScriptOp>,
+    code: u8,
+) -> Result<bool, Memory>
+    ensures is { IfOk result (λ is. IsTrue is ↔ IsStop world.old.setting world.old.world client (option_copied next.entry) code) }
+    ensures stays { IfOk result (λ is. IsTrue is → world.new ≡ world.old) }
+{
+    if code == MEMORY {
+        return Ok(true);
+    }
+    if code != CLOCK_EXHAUSTED && code != CONTEXT_FULL {
+        return Ok(false);
+    }
+    match next {
+        Some(op) => is_refused(world, client, op, code),
+        None => Ok(false),
+    }
+}
+
+/// Whether the world refuses a client's operation with this code. Where it does, it is as it was.
+fn is_refused(world: &mut World, client: u16, op: &ScriptOp, code: u8) -> Result<bool, Memory>
+    requires { code ≢ 9 }
+    ensures is { IfOk result (λ is. IsTrue is ↔ ((happens world.old.setting world.old.world (event_for client op.now)).0 ≡ Refused code)) }
+    ensures stays { IfOk result (λ is. IsTrue is → world.new ≡ world.old) }
+{
+    let event = event_for(client, op)?;
+    is_event_refused(world, &event, code)
+}
+
+/// The same of an event.
+fn is_event_refused(world: &mut World, event: &Event, code: u8) -> Result<bool, Memory>
+    requires { code ≢ 9 }
+    ensures is { IfOk result (λ is. IsTrue is ↔ ((happens world.old.setting world.old.world event.now).0 ≡ Refused code)) }
+    ensures stays { IfOk result (λ is. IsTrue is → world.new ≡ world.old) }
+{
+    every_interleaving_is_accepted();
+    let outcome = world.answer(event);
+    if outcome.is_memory() {
+        return Err(Memory);
+    }
+    match &outcome {
+        Outcome::Refused(answered) => Ok(*answered == code),
+        _ => Ok(false),
+    }
+}
+
+/// The world's event that a client's operation is.
+fn event_for(client: u16, op: &ScriptOp) -> Result<Event, AllocError>
+    ensures { IfOk result (λ event. event ≡ event_for client op.now) }
+{
+    Ok(match op {
+        ScriptOp::Put { key, value } => Event::Put {
+            client,
+            key: key.clone()?,
+            value: value.clone()?,
+        },
+        ScriptOp::Get { key } => Event::Get {
+            client,
+            key: key.clone()?,
+        },
+    })
+}

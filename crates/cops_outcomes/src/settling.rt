@@ -1,0 +1,37 @@
+//! Whether the data centres have converged.
+ghost use Rattle.std.specs.Prelude.{◌≡◌, ◌↔◌, IsTrue};
+ghost use Rattle.cops_outcomes.specs.Runs.{IsConverged, IsEverywhere};
+
+use cops_core::World;
+use cops_types::PutRecord;
+
+/// Whether each of so many data centres has settled each issued put.
+pub fn is_converged(world: &World, dcs: u8) -> bool
+    requires { world.now.setting.place.dcs ≡ dcs }
+    ensures { IsTrue result ↔ IsConverged world.now.setting world.now.world }
+{
+    for place in 0..world.puts() {
+        match world.put_at(place) {
+            Some(put) => {
+                if !is_everywhere(world, dcs, put) {
+                    return false;
+                }
+            }
+            None => unreachable!(),
+        }
+    }
+    true
+}
+
+/// Whether each of so many data centres has settled the put.
+fn is_everywhere(world: &World, dcs: u8, put: &PutRecord) -> bool
+    requires { world.now.setting.place.dcs ≡ dcs }
+    ensures { IsTrue result ↔ IsEverywhere world.now.setting world.now.world put.now }
+{
+    for dc in 0..dcs {
+        if !world.has_settled(dc, &put.key, put.version) {
+            return false;
+        }
+    }
+    true
+}

@@ -1,0 +1,101 @@
+//! A scripted client's thread.
+ghost use Rattle.std.specs.Prelude.{◌≡◌, IfOk, OnErr};
+ghost use Rattle.cops_run.specs.Held.{MayHold};
+
+use crate::ends::{End, Returned};
+use crate::stage::Stage;
+use cops_clients::{Client, Cluster};
+use cops_node::{MEMORY, Outcome};
+use cops_outcomes::ClientOutcome;
+use cops_scenario::ScriptOp;
+use cops_types::{Gate, GateHeld};
+use std::sync::Wait;
+
+/// A client, with its script.
+#[derive(Drop)]
+pub(crate) struct Job<'a> {
+    pub(crate) client: Client,
+    pub(crate) script: &'a [ScriptOp],
+}
+
+/// The client's thread: its operations one after the other, up to the first that is refused.
+pub(crate) fn work<R: Wait, G: Gate>(
+    rt: &R,
+    stage: &Stage,
+    gate: &G,
+    mut client: Client,
+    script: &[ScriptOp],
+) -> Returned
+    ensures { result.end ≡ End.Held → MayHold (G.may_hold gate.now) }
+{
+    let end = match follow(rt, stage, gate, &mut client, script) {
+        Ok(end) => end,
+        Err(GateHeld) => {
+            stage.break_off();
+            End::Held
+        }
+    };
+    Returned {
+        share: client.into_share(),
+        end,
+    }
+}
+
+/// The operations of a script, one after the other.
+fn follow<R: Wait, G: Gate>(
+    rt: &R,
+    stage: &Stage,
+    gate: &G,
+    client: &mut Client,
+    script: &[ScriptOp],
+) -> Result<End, GateHeld>
+    ensures ended { IfOk result (λ end. end ≡ End.Held → ⊥) }
+    ensures held { OnErr result (MayHold (G.may_hold gate.now)) }
+{
+    for op in script {
+        if stage.is_broken() {
+            return Ok(End::Broken);
+        }
+        if let Some(code) = refusal(&perform(rt, stage.cluster(), gate, client, op)?) {
+            return Ok(End::Client(ClientOutcome::Stopped(code)));
+        }
+    }
+    Ok(End::Client(ClientOutcome::Done))
+}
+
+/// One operation of a script.
+fn perform<R: Wait, G: Gate>(
+    rt: &R,
+    cluster: &Cluster,
+    gate: &G,
+    client: &mut Client,
+    op: &ScriptOp,
+) -> Result<Outcome, GateHeld>
+    ensures { OnErr result (MayHold (G.may_hold gate.now)) }
+{
+    match op {
+        ScriptOp::Put { key, value } => {
+            let Ok(key) = key.clone() else {
+                return Ok(Outcome::Refused(MEMORY));
+            };
+            let Ok(value) = value.clone() else {
+                return Ok(Outcome::Refused(MEMORY));
+            };
+            cluster.put(rt, client, gate, key, value)
+        }
+        ScriptOp::Get { key } => {
+            let Ok(key) = key.clone() else {
+                return Ok(Outcome::Refused(MEMORY));
+            };
+            cluster.get(rt, client, gate, key)
+        }
+    }
+}
+
+/// The code of a refusal.
+fn refusal(outcome: &Outcome) -> Option<u8> {
+    match outcome {
+        Outcome::Refused(code) => Some(*code),
+        _ => None,
+    }
+}

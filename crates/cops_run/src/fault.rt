@@ -1,0 +1,47 @@
+//! Why there is no run.
+ghost use Rattle.std.specs.Prelude.{◌≡◌};
+ghost use Rattle.cops_run.specs.declared.fault.RunFault.TheVariants.{Memory as OutOfMemory};
+
+use cops_types::Memory;
+use std::alloc::AllocFailed;
+use thiserror::Error;
+
+/// Why there is no run. Where several apply, the order is `NoThread`, `Held`, `TurnLimit`, `Untied`.
+#[derive(Clone, Copy, Debug, PartialEq, Eq, Error)]
+pub enum RunFault {
+    /// Memory was refused.
+    #[error("out of memory")]
+    Memory,
+    /// What the threads left is no run. The ticket is the least one whose entry does not continue the world's run, or whose
+    /// entries in the books are not those that its callers were told; where only the sessions differ from the trace's, a
+    /// client's outcome is not one of its session, or a data centre has not settled a put, the one above the greatest: 0
+    /// where there is no entry, and the greatest `u64` where that is a ticket.
+    #[error("untied at ticket {ticket}")]
+    Untied { ticket: u64 },
+    /// The gate held a step.
+    #[error("held")]
+    Held,
+    /// A sender, once the clients were joined, or a receiver, once the senders were, made the scenario's number of turns and
+    /// still kept something back.
+    #[error("turn limit")]
+    TurnLimit,
+    /// The system refused a thread. Those that were made were ended and joined.
+    #[error("no thread")]
+    NoThread,
+}
+
+impl From<Memory> for RunFault {
+    ghost from_gives = { λ _ e. e ≡ OutOfMemory };
+
+    fn from(_e: Memory) -> RunFault {
+        RunFault::Memory
+    }
+}
+
+impl<T: Drop> From<AllocFailed<T>> for RunFault {
+    ghost from_gives = { λ _ e. e ≡ OutOfMemory };
+
+    fn from(_e: AllocFailed<T>) -> RunFault {
+        RunFault::Memory
+    }
+}

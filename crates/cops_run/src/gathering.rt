@@ -1,0 +1,101 @@
+//! What the threads of a run handed back.
+use crate::ends::{End, HeldBy, Returned};
+use crate::fault::RunFault;
+use cops_clients::Share;
+use cops_outcomes::ClientOutcome;
+use cops_types::Gate;
+use std::alloc::Global;
+use std::thread::{JoinHandle, PromisedHandle, Threads};
+
+/// What the threads handed back: all shares, and the clients' outcomes in their order.
+#[derive(Drop)]
+pub(crate) struct Gathered {
+    pub(crate) shares: Vec<Share>,
+    pub(crate) outcomes: Vec<ClientOutcome>,
+    /// A step was held.
+    held: bool,
+    /// A loop made all its turns.
+    limit: bool,
+    /// Memory was refused for what came back.
+    lost: bool,
+}
+
+impl Gathered {
+    ghost use Rattle.std.specs.Prelude.{◌≡◌, ◌⊎◌, All, IsErrOf, IsTrue};
+    ghost use Rattle.cops_run.specs.Held.{MayHold};
+
+    pub(crate) fn new(alloc: Global) -> Gathered
+        ensures { ¬ IsTrue result.held }
+    {
+        Gathered {
+            shares: Vec::new(alloc),
+            outcomes: Vec::new(alloc),
+            held: false,
+            limit: false,
+            lost: false,
+        }
+    }
+
+    /// Joins clients or receivers.
+    pub(crate) fn join<R: Threads, G: Gate>(
+        &mut self,
+        rt: &R,
+        gate: &G,
+        handles: Vec<PromisedHandle<Returned, HeldBy<G>>>,
+    )
+        requires promised { All (λ (h : _). h.promise.0.value ≡ gate.now) handles.items }
+        requires held { IsTrue self.old.held → MayHold (G.may_hold gate.now) }
+        ensures { IsTrue self.new.held → MayHold (G.may_hold gate.now) }
+    {
+        for handle in handles {
+            self.add(handle.join(rt));
+        }
+    }
+
+    /// What one thread handed back.
+    fn add(&mut self, returned: Returned)
+        ensures { IsTrue self.new.held → IsTrue self.old.held ⊎ (returned.end ≡ End.Held) }
+    {
+        let Returned { share, end } = returned;
+        if self.shares.push(share).is_err() {
+            self.lost = true;
+        }
+        match end {
+            End::Client(outcome) => {
+                if self.outcomes.push(outcome).is_err() {
+                    self.lost = true;
+                }
+            }
+            End::TurnLimit => self.limit = true,
+            End::Held => self.held = true,
+            End::Drained | End::Broken => {}
+        }
+    }
+
+    /// Joins senders, each of which says whether it ended within its turns.
+    pub(crate) fn join_senders<R: Threads>(&mut self, rt: &R, handles: Vec<JoinHandle<bool>>)
+        ensures { self.new.held ≡ self.old.held }
+    {
+        for handle in handles {
+            if !handle.join(rt) {
+                self.limit = true;
+            }
+        }
+    }
+
+    /// All of it, where no step was held, each loop ended within its turns, and memory was there.
+    pub(crate) fn whole(self) -> Result<Gathered, RunFault>
+        ensures { IsErrOf result RunFault.Held → IsTrue self.held }
+    {
+        if self.held {
+            return Err(RunFault::Held);
+        }
+        if self.limit {
+            return Err(RunFault::TurnLimit);
+        }
+        if self.lost {
+            return Err(RunFault::Memory);
+        }
+        Ok(self)
+    }
+}

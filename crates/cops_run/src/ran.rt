@@ -1,0 +1,14 @@
+use cops_core::Event;
+use cops_outcomes::ClientOutcome;
+use cops_tie::Entry;
+use cops_trace::Trace;
+
+/// A run: the entries of the nodes' books, a list for each node in order of node numbers; the world's events that they are; what
+/// the clients saw; and how each client ended.
+#[derive(Drop)]
+pub struct Run {
+    pub entries: Vec<Vec<Entry>>,
+    pub events: Vec<Event>,
+    pub trace: Trace,
+    pub outcomes: Vec<ClientOutcome>,
+}

@@ -1,0 +1,76 @@
+use cops_clients::Cluster;
+use std::sync::atomic::{AtomicBool, Ordering};
+
+/// What the threads of a run share: the cluster, how many turns a loop may make, and what they tell each other.
+#[derive(Drop)]
+pub(crate) struct Stage {
+    cluster: Cluster,
+    turns: u32,
+    broken: AtomicBool,
+    clients_joined: AtomicBool,
+    senders_joined: AtomicBool,
+}
+
+impl Stage {
+    ghost use Rattle.std.specs.Prelude.{◌≡◌};
+
+    /// A stage of this cluster and this number of turns, on which all is to come.
+    pub(crate) fn new(cluster: Cluster, turns: u32) -> Stage
+        ensures { result.cluster ≡ cluster }
+    {
+        Stage {
+            cluster,
+            turns,
+            broken: AtomicBool::new(false),
+            clients_joined: AtomicBool::new(false),
+            senders_joined: AtomicBool::new(false),
+        }
+    }
+
+    pub(crate) fn cluster(&self) -> &Cluster
+        ensures { result.now ≡ self.now.cluster }
+    {
+        &self.cluster
+    }
+
+    pub(crate) fn into_cluster(self) -> Cluster
+        ensures { result ≡ self.cluster }
+    {
+        let Stage { cluster, .. } = self;
+        cluster
+    }
+
+    /// How many turns a loop may make that others no longer bring work to.
+    pub(crate) fn turns(&self) -> u32 {
+        self.turns
+    }
+
+    /// All threads are to end: there is no run.
+    pub(crate) fn break_off(&self) {
+        self.broken.store(true, Ordering::SeqCst);
+    }
+
+    pub(crate) fn is_broken(&self) -> bool {
+        self.broken.load(Ordering::SeqCst)
+    }
+
+    /// The clients' threads were joined.
+    pub(crate) fn join_clients(&self) {
+        self.clients_joined.store(true, Ordering::SeqCst);
+    }
+
+    /// Whether they were, or all are to end.
+    pub(crate) fn are_clients_joined(&self) -> bool {
+        self.is_broken() || self.clients_joined.load(Ordering::SeqCst)
+    }
+
+    /// The senders' threads were joined.
+    pub(crate) fn join_senders(&self) {
+        self.senders_joined.store(true, Ordering::SeqCst);
+    }
+
+    /// Whether they were, or all are to end.
+    pub(crate) fn are_senders_joined(&self) -> bool {
+        self.is_broken() || self.senders_joined.load(Ordering::SeqCst)
+    }
+}

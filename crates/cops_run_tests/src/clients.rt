@@ -1,0 +1,316 @@
+ghost use Rattle.std.specs.Prelude.{◌≡◌, IfOk, length, vec_len};
+
+use cops_clients::*;
+use cops_node::Outcome;
+use cops_place::Place;
+use cops_types::{
+    Deps, Gate, GateHeld, Key, OpenGate, Point, PutRecord, TypeFault, Value, Version,
+};
+use std::alloc::Global;
+use std::sync::Wait;
+use std::sync::atomic::{AtomicBool, Ordering};
+use std::test::Fail;
+use std::thread;
+
+const TURNS: u32 = 10_000_000;
+
+fn key(alloc: Global, byte: u8) -> Result<Key, TypeFault> {
+    Key::new(alloc, &[byte])
+}
+
+fn value(alloc: Global) -> Result<Value, TypeFault> {
+    Value::new(alloc, b"1")
+}
+
+/// A cluster of so many data centres, each with one node or with two whose ranges meet at `m`, and with clients there.
+fn opened(alloc: Global, dcs: u8, is_split: bool, homes: &[u8]) -> Result<Opened, Fail>
+    ensures clients { IfOk result (λ o. vec_len o.clients ≡ length homes.now) }
+    ensures shares { IfOk result (λ o. vec_len o.shares ≡ dcs) }
+{
+    let mut splits = Vec::new(alloc);
+    if is_split {
+        splits.push(key(alloc, b'm')?)?;
+    }
+    let place = Place::new(dcs, splits)?;
+    let opened = Cluster::open(alloc, place, Vec::from_slice(alloc, homes)?)?;
+    if opened.clients.len() != homes.len() {
+        return Err(Fail::new("there is not a client for each home"));
+    }
+    if opened.shares.len() != dcs as usize {
+        return Err(Fail::new("there is not a share for each data centre"));
+    }
+    Ok(opened)
+}
+
+fn put<R: Wait, G: Gate>(
+    rt: &R,
+    alloc: Global,
+    cluster: &Cluster,
+    client: &mut Client,
+    gate: &G,
+    byte: u8,
+) -> Result<Outcome, Fail> {
+    Ok(cluster.put(rt, client, gate, key(alloc, byte)?, value(alloc)?)?)
+}
+
+fn get<R: Wait>(
+    rt: &R,
+    alloc: Global,
+    cluster: &Cluster,
+    client: &mut Client,
+    byte: u8,
+) -> Result<Outcome, Fail> {
+    Ok(cluster.get(rt, client, &OpenGate, key(alloc, byte)?)?)
+}
+
+#[test]
+fn a_client_gets_what_it_put(rt: HostRuntime) -> Result<(), Fail> {
+    let alloc = rt.alloc();
+    let Opened {
+        cluster,
+        mut clients,
+        shares,
+    } = opened(alloc, 1, false, &[0])?;
+    let client = &mut clients[0];
+    let version = Version::new(1, 0)?;
+    assert!(rt; put(&rt, alloc, &cluster, client, &OpenGate, b'x')? == Outcome::PutDone(version));
+    assert!(rt; get(&rt, alloc, &cluster, client, b'x')? == Outcome::Got(value(alloc)?, version));
+    assert!(rt; get(&rt, alloc, &cluster, client, b'y')? == Outcome::Missed);
+    assert_eq!(rt; client.share().entries.len(), 3);
+    assert_eq!(rt; shares.len(), 1);
+    assert!(rt; cluster.status(&rt, 0, 0).is_some());
+    assert!(rt; cluster.status(&rt, 0, 1).is_none());
+    Ok(())
+}
+
+/// Two points of calls, each of which is held until the other was reached.
+#[derive(Drop)]
+struct Meeting {
+    first: Point,
+    second: Point,
+    first_reached: AtomicBool,
+    second_reached: AtomicBool,
+}
+
+impl Meeting {
+    fn new(first: Point, second: Point) -> Meeting {
+        Meeting {
+            first,
+            second,
+            first_reached: AtomicBool::new(false),
+            second_reached: AtomicBool::new(false),
+        }
+    }
+}
+
+/// Waits for the flag, for a number of turns.
+fn waits_for(flag: &AtomicBool) -> Result<(), GateHeld> {
+    for _ in 0..TURNS {
+        if flag.load(Ordering::SeqCst) {
+            return Ok(());
+        }
+        thread::yield_now();
+    }
+    Err(GateHeld)
+}
+
+impl Gate for Meeting {
+    ghost may_hold = { λ _ _. Unit {0} };
+
+    fn pass<R: Wait>(&self, _rt: &R, point: Point) -> Result<(), GateHeld> {
+        if point == self.first {
+            self.first_reached.store(true, Ordering::SeqCst);
+            return waits_for(&self.second_reached);
+        }
+        if point == self.second {
+            self.second_reached.store(true, Ordering::SeqCst);
+            return waits_for(&self.first_reached);
+        }
+        Ok(())
+    }
+}
+
+/// Whether the client's put was done.
+fn puts<R: Wait, G: Gate>(
+    rt: &R,
+    alloc: Global,
+    cluster: &Cluster,
+    client: &mut Client,
+    gate: &G,
+    byte: u8,
+) -> bool {
+    let Ok(key) = key(alloc, byte) else {
+        return false;
+    };
+    let Ok(value) = value(alloc) else {
+        return false;
+    };
+    matches!(
+        cluster.put(rt, client, gate, key, value),
+        Ok(Outcome::PutDone(_))
+    )
+}
+
+#[test]
+fn two_puts_stand_in_their_steps_at_once(rt: HostRuntime) -> Result<(), Fail> {
+    let alloc = rt.alloc();
+    let Opened {
+        cluster,
+        mut clients,
+        ..
+    } = opened(alloc, 1, true, &[0, 0, 0])?;
+    let gate = Meeting::new(
+        Point::InStep { node: 0, client: 1 },
+        Point::InStep { node: 1, client: 2 },
+    );
+    let (one, two) = clients.split_at_mut(2);
+    let (low, high) = thread::join(
+        &rt,
+        || puts(&rt, alloc, &cluster, &mut one[1], &gate, b'a'),
+        || puts(&rt, alloc, &cluster, &mut two[0], &gate, b'z'),
+    );
+    assert!(rt; low && high);
+    Ok(())
+}
+
+/// A gate that holds each step of client 0 under the node's lock.
+struct Holding;
+
+impl Gate for Holding {
+    ghost may_hold = { λ _ _. Unit {0} };
+
+    fn pass<R: Wait>(&self, _rt: &R, point: Point) -> Result<(), GateHeld> {
+        match point {
+            Point::InStep { client: 0, .. } => Err(GateHeld),
+            _ => Ok(()),
+        }
+    }
+}
+
+#[test]
+fn a_held_step_changes_nothing(rt: HostRuntime) -> Result<(), Fail> {
+    let alloc = rt.alloc();
+    let Opened {
+        cluster,
+        mut clients,
+        ..
+    } = opened(alloc, 1, false, &[0, 0])?;
+    let (zero, one) = clients.split_at_mut(1);
+    assert!(rt; !puts(&rt, alloc, &cluster, &mut zero[0], &Holding, b'x'));
+    assert!(rt; puts(&rt, alloc, &cluster, &mut one[0], &Holding, b'x'));
+    assert_eq!(rt; zero[0].share().entries.len(), 0);
+    assert_eq!(rt; one[0].share().entries.len(), 1);
+    Ok(())
+}
+
+/// A put of x=1 at 1.0, without dependencies.
+fn sent(alloc: Global) -> Result<PutRecord, TypeFault> {
+    Ok(PutRecord {
+        key: key(alloc, b'x')?,
+        value: value(alloc)?,
+        version: Version::new(1, 0)?,
+        deps: Deps::new(Vec::new(alloc))?,
+    })
+}
+
+/// Whether exactly x at 1.0 is settled in data centre 1.
+fn is_settled<R: Wait>(
+    rt: &R,
+    alloc: Global,
+    cluster: &Cluster,
+    share: &mut Share,
+) -> Result<bool, Fail> {
+    let version = Version::new(1, 0)?;
+    let asked = cluster.ask(rt, share, &OpenGate, 1, &key(alloc, b'x')?, version)?;
+    Ok(matches!(asked, Asked::Yes(_)))
+}
+
+#[test]
+fn a_put_comes_into_another_data_centre(rt: HostRuntime) -> Result<(), Fail> {
+    let alloc = rt.alloc();
+    let Opened {
+        cluster,
+        mut clients,
+        mut shares,
+    } = opened(alloc, 2, false, &[0, 1])?;
+    let version = Version::new(1, 0)?;
+    let share = &mut shares[1];
+    assert!(rt; puts(&rt, alloc, &cluster, &mut clients[0], &OpenGate, b'x'));
+    assert!(rt; get(&rt, alloc, &cluster, &mut clients[1], b'x')? == Outcome::Missed);
+    assert!(rt; cluster.deliver(&rt, share, &OpenGate, 1, sent(alloc)?)? == Outcome::Held);
+    assert!(rt; cluster.deliver(&rt, share, &OpenGate, 1, sent(alloc)?)? == Outcome::Repeat);
+    assert!(rt; !is_settled(&rt, alloc, &cluster, share)?);
+    assert!(rt; cluster.settle(&rt, share, &OpenGate, 1, version)? == Outcome::Settled);
+    assert!(rt; is_settled(&rt, alloc, &cluster, share)?);
+    assert!(rt; cluster.settle(&rt, share, &OpenGate, 2, version)? == Outcome::Refused(10));
+    assert_eq!(rt; share.entries.len(), 5);
+    Ok(())
+}
+
+/// The shares of the clients, and then of the receivers.
+fn all_shares(
+    alloc: Global,
+    clients: Vec<Client>,
+    receivers: Vec<Share>,
+) -> Result<Vec<Share>, Fail> {
+    let mut shares = Vec::new(alloc);
+    for client in clients {
+        shares.push(client.into_share())?;
+    }
+    for share in receivers {
+        shares.push(share)?;
+    }
+    Ok(shares)
+}
+
+/// How a cluster with one node ends in which client 0 was held, and client 1 put twice: an entry of its share may be lost, or
+/// a whole share.
+fn ended<R: Wait>(
+    rt: &R,
+    alloc: Global,
+    is_entry_lost: bool,
+    is_share_lost: bool,
+) -> Result<Result<Closed, CloseFault>, Fail> {
+    let Opened {
+        cluster,
+        mut clients,
+        shares,
+    } = opened(alloc, 1, false, &[0, 0])?;
+    let _held = puts(rt, alloc, &cluster, &mut clients[0], &Holding, b'x');
+    let _one = puts(rt, alloc, &cluster, &mut clients[1], &Holding, b'x');
+    let _two = puts(rt, alloc, &cluster, &mut clients[1], &Holding, b'y');
+    if is_entry_lost {
+        let _lost = clients[1].share().entries.pop();
+    }
+    let mut shares = all_shares(alloc, clients, shares)?;
+    if is_share_lost {
+        let _lost = shares.pop();
+    }
+    Ok(cluster.close(shares))
+}
+
+#[test]
+fn a_cluster_ends_with_its_entries(rt: HostRuntime) -> Result<(), Fail> {
+    let alloc = rt.alloc();
+    let Ok(closed) = ended(&rt, alloc, false, false)? else {
+        return Err(Fail::new("not closed"));
+    };
+    assert_eq!(rt; closed.books.len(), 1);
+    assert_eq!(rt; closed.books[0].len(), 2);
+    assert_eq!(rt; closed.trace.len(), 2);
+    Ok(())
+}
+
+#[test]
+fn a_share_without_an_entry_is_not_kept(rt: HostRuntime) -> Result<(), Fail> {
+    let ended = ended(&rt, rt.alloc(), true, false)?;
+    assert!(rt; matches!(ended, Err(CloseFault::NotKept { ticket: 1 })));
+    Ok(())
+}
+
+#[test]
+fn a_cluster_without_all_shares_comes_back(rt: HostRuntime) -> Result<(), Fail> {
+    let ended = ended(&rt, rt.alloc(), false, true)?;
+    assert!(rt; matches!(ended, Err(CloseFault::SharesMissing(_, _))));
+    Ok(())
+}
