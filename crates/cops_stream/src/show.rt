@@ -1,6 +1,6 @@
 //! The lines of a trace's frames.
 
-use crate::device::{FAULTY, PIECE, failed, read_all};
+use cops_device::{FAULTY, PIECE, failed, read_all};
 use cops_trace::{fault_line, read_trace, write_text};
 use cops_types::{Counted, Memory};
 use cops_wire::{Feeder, WireFault, body_len, show};

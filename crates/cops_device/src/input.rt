@@ -1,0 +1,28 @@
+ghost use Rattle.std.specs.Prelude.{◌≡◌, IfOk, IfSome};
+ghost use Rattle.cops_types.specs.Counted.{inner};
+
+use cops_types::{Counted, Memory};
+use std::alloc::Global;
+use std::io::Read;
+
+/// How many bytes are read or fed at once.
+pub const PIECE: usize = 4096;
+
+/// All that a reader has left, or `None` where a read failed, which is not tried again.
+pub fn read_all<R: Read>(alloc: Global, reader: &mut Counted<R>) -> Result<Option<Vec<u8>>, Memory>
+    ensures { IfOk result (λ read. IfSome read (λ bytes. IfSome (R.remaining (inner reader.old)) (λ all. bytes.items ≡ all))) }
+{
+    let mut bytes = Vec::new(alloc);
+    let mut piece = [0u8; PIECE];
+    for _ in 0..u64::MAX {
+        let count = match reader.read(&mut piece) {
+            Ok(count) => count,
+            Err(_) => return Ok(None),
+        };
+        if count == 0 {
+            return Ok(Some(bytes));
+        }
+        bytes.extend_from_slice(&piece[..count])?;
+    }
+    Ok(None)
+}
