@@ -26,8 +26,3 @@ pub use listening::listen;
 pub use reply::{Call, Reply};
 pub use serving::{Served, serve_session};
 pub use session::Session;
-
-#[cfg(test)]
-mod loopback;
-#[cfg(test)]
-mod tests;

@@ -1,7 +1,7 @@
 ghost use Rattle.std.specs.Prelude.{◌≡◌, ◌++◌, ◌∷◌, []};
 ghost use Rattle.cops_net.specs.Answers.{IsGetReply};
 
-use super::*;
+use cops_net::*;
 use cops_types::{Counted, FailingReader, FailingWriter, Key, Memory, NodeStatus, Value, Version};
 use cops_wire::WireFault;
 use std::alloc::{AllocError, Global};

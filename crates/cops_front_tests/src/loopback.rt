@@ -1,6 +1,6 @@
 //! Tests with both ends on this machine.
-use crate::tests::{BYE, BYE_OK, HELLO, HELLO_OK, PUT, PUT_DONE, Small, from_hex};
-use crate::{NetFault, listen};
+use crate::net::{BYE, BYE_OK, HELLO, HELLO_OK, PUT, PUT_DONE, Small, from_hex};
+use cops_net::{NetFault, listen};
 use std::alloc::Global;
 use std::io::{Read, Write};
 use std::net::{Ipv4Addr, Net, Shutdown, TcpListener, TcpStream};

@@ -1,0 +1,23 @@
+use Rattle.std.proofs.Common.{◌≡◌, sym, subst, map}
+use Rattle.std.specs.Global.{Vec}
+use Rattle.cops_types.specs.Histories.{Sessions}
+use Rattle.cops_core.specs.Invariants.{HasAcceptedVerdict}
+use Rattle.cops_tie.specs.declared.entry.Entry.{Entry}
+use Rattle.cops_tie.specs.Tie.{IsTied}
+use Rattle.cops_tie.specs.Turns.{setting_of}
+use Rattle.cops_serve.specs.Serving.{IsTiedReport}
+use Rattle.cops_serve.proofs.ending.told.Goals as goal
+
+pub returns : goal.returns
+returns c =
+    let books = map (λ (b : Vec Entry). b.items) c.deref.result.now in
+    record {
+      books = books;
+      sessions = c.history-history.result.now.sessions;
+      events = c.in-Ok._run.events.items;
+      tied = subst (λ (s : Sessions). IsTied (setting_of c.args.scenario.now) books s c.in-Ok._run.events.items) (sym c.history-history.ensures.sessions) (c.in-Ok._run.world.world, c.in-Ok.ensures.tied.0);
+      accepted = subst HasAcceptedVerdict (sym c.history-history.ensures.sessions) c.in-Ok.ensures.accepted;
+      verdict = c.in_ok-verdict.verdict;
+      is_verdict = c.in_ok-verdict.ensures.verdict;
+      is_report = c.in_ok-report.ensures;
+    }

@@ -1,0 +1,2 @@
+pub mod FrontEnd
+pub mod Serving

@@ -1,0 +1,245 @@
+//! Who answers the clients of a cluster.
+ghost use Rattle.std.specs.Option.{ForSome};
+ghost use Rattle.std.specs.Prelude.{◌≡◌, ◌<◌, ◌++◌, ◌∷◌, [], IfSome, IsSome, vec_len, vec_capacity};
+
+use crate::replying::{Replies, check_replies, get_replies, not_yet, put_replies};
+use cops_clients::{Client, Cluster};
+use cops_net::{Call, Reply, Session};
+use cops_node::{MEMORY, Outcome};
+use cops_replication::{Receiver, Sender, Turn};
+use cops_scenario::Scenario;
+use cops_types::{GateHeld, Key, KeyRoom, Memory, NodeStatus, OpenGate, Value, ValueRoom, Version};
+use std::alloc::{AllocError, Global};
+use std::sync::Wait;
+
+/// There is no such client.
+const UNKNOWN_CLIENT: u8 = 3;
+
+/// A client that has greeted, by its number, and its data centre.
+#[derive(Clone, Copy, Debug)]
+pub(crate) struct Greeted {
+    pub(crate) client: u16,
+    pub(crate) dc: u8,
+}
+
+/// Room for the copies that a call makes after its step.
+#[derive(Drop)]
+pub(crate) struct Room {
+    key: KeyRoom,
+    value: ValueRoom,
+}
+
+impl Room {
+    fn new(alloc: Global) -> Result<Room, AllocError> {
+        Ok(Room {
+            key: KeyRoom::new(alloc)?,
+            value: ValueRoom::new(alloc)?,
+        })
+    }
+}
+
+/// A scenario's cluster behind the front door: its clients, one of whom has greeted in a session; the senders and receivers
+/// that replicate what was put, on this thread, after each session; and the calls so far.
+#[derive(Drop)]
+pub struct FrontEnd {
+    pub(crate) scenario: Scenario,
+    pub(crate) cluster: Cluster,
+    pub(crate) clients: Vec<Client>,
+    pub(crate) senders: Vec<Sender>,
+    pub(crate) receivers: Vec<Receiver>,
+    pub(crate) greeted: Option<Greeted>,
+    pub(crate) calls: Vec<Call>,
+    pub(crate) room: Option<Room>,
+    pub(crate) alloc: Global,
+    ghost same_place: { cluster.place ≡ scenario.place },
+    ghost at_home: { ForSome greeted (λ g. g.dc < cluster.place.dcs) },
+}
+
+impl FrontEnd {
+    ghost use Rattle.std.specs.Prelude.{◌≡◌, ◌<◌, ◌++◌, ◌∷◌, [], IfSome, IsSome, vec_len, vec_capacity};
+    ghost use Rattle.cops_clients.specs.Outcomes.{IsGetOutcome, IsPutOutcome};
+    ghost use Rattle.cops_net.specs.Answers.{IsCheckReply};
+    ghost use Rattle.cops_serve.specs.FrontEnd.{IsUnnoted};
+
+    /// Keeps a call with its answer.
+    fn note(&mut self, call: Call)
+        requires { vec_len self.old.calls < vec_capacity self.old.calls }
+        ensures { self.new.calls.items ≡ self.old.calls.items ++ call ∷ [] }
+    {
+        self.calls.push_reserved(call);
+    }
+
+    /// Where a client is that may greet.
+    fn home_of(&self, client: u16) -> Option<Greeted>
+        ensures { IfSome result (λ g. (g.dc < self.now.cluster.place.dcs) × (g.dc < 16)) }
+    {
+        let dc = self.clients.get(usize::from(client))?.dc();
+        if dc < self.cluster.dcs() {
+            Some(Greeted { client, dc })
+        } else {
+            None
+        }
+    }
+
+    /// The client that has greeted puts a value.
+    fn put_outcome<R: Wait>(&mut self, rt: &R, key: &Key, value: &Value) -> Outcome
+        ensures outcome { IsPutOutcome result }
+        ensures same { IsUnnoted self.old self.new }
+    {
+        let Some(greeted) = self.greeted else {
+            return Outcome::Refused(UNKNOWN_CLIENT);
+        };
+        let Some(client) = self.clients.get_mut(usize::from(greeted.client)) else {
+            return Outcome::Refused(UNKNOWN_CLIENT);
+        };
+        let Ok(key) = key.clone() else {
+            return Outcome::Refused(MEMORY);
+        };
+        let Ok(value) = value.clone() else {
+            return Outcome::Refused(MEMORY);
+        };
+        match self.cluster.put(rt, client, &OpenGate, key, value) {
+            Ok(outcome) => outcome,
+            Err(GateHeld) => unreachable!(),
+        }
+    }
+
+    /// The client that has greeted gets the value of a key.
+    fn get_outcome<R: Wait>(&mut self, rt: &R, key: &Key) -> Outcome
+        ensures outcome { IsGetOutcome result }
+        ensures same { IsUnnoted self.old self.new }
+    {
+        let Some(greeted) = self.greeted else {
+            return Outcome::Refused(UNKNOWN_CLIENT);
+        };
+        let Some(client) = self.clients.get_mut(usize::from(greeted.client)) else {
+            return Outcome::Refused(UNKNOWN_CLIENT);
+        };
+        let Ok(key) = key.clone() else {
+            return Outcome::Refused(MEMORY);
+        };
+        match self.cluster.get(rt, client, &OpenGate, key) {
+            Ok(outcome) => outcome,
+            Err(GateHeld) => unreachable!(),
+        }
+    }
+
+    /// Whether a put is there, in the data centre of the client that has greeted.
+    fn checked<R: Wait>(&mut self, rt: &R, key: &Key, version: Version) -> Replies
+        ensures twice { result.told ≡ result.kept }
+        ensures reply { IsCheckReply result.told }
+        ensures same { IsUnnoted self.old self.new }
+    {
+        let Some(greeted) = self.greeted else {
+            return not_yet();
+        };
+        let Some(client) = self.clients.get_mut(usize::from(greeted.client)) else {
+            return not_yet();
+        };
+        let share = client.share();
+        match self
+            .cluster
+            .ask(rt, share, &OpenGate, greeted.dc, key, version)
+        {
+            Ok(asked) => check_replies(&asked),
+            Err(GateHeld) => unreachable!(),
+        }
+    }
+
+    /// One turn of every sender and then of every receiver: whether any of them did something, or could not for want of
+    /// memory.
+    fn round<R: Wait>(&mut self, rt: &R) -> bool
+        ensures { self.new.calls.items ≡ self.old.calls.items }
+    {
+        let mut is_busy = false;
+        for sender in self.senders.iter_mut() {
+            is_busy = is_busy | !matches!(sender.turn(rt, &self.cluster), Ok(Turn::Idle));
+        }
+        for receiver in self.receivers.iter_mut() {
+            let turn = receiver.turn(rt, &self.cluster, &OpenGate);
+            is_busy = is_busy | !matches!(turn, Ok(Turn::Idle));
+        }
+        is_busy
+    }
+}
+
+impl Session for FrontEnd {
+    ghost use Rattle.cops_serve.specs.FrontEnd.{HasRoom};
+
+    ghost calls = { λ f. f.calls.items };
+
+    ghost has_room = { HasRoom };
+
+    fn room(&mut self) -> Result<(), Memory> {
+        if self.room.is_none() {
+            self.room = Some(Room::new(self.alloc)?);
+        }
+        self.calls.reserve(1)?;
+        Ok(())
+    }
+
+    fn hello(&mut self, client: u16) -> Result<(u8, u8), u8> {
+        let Some(greeted) = self.home_of(client) else {
+            let answer = Err(UNKNOWN_CLIENT);
+            self.note(Call::Hello { client, answer });
+            return Err(UNKNOWN_CLIENT);
+        };
+        let nodes = self.cluster.nodes();
+        self.greeted = Some(greeted);
+        let answer = Ok((greeted.dc, nodes));
+        self.note(Call::Hello { client, answer });
+        Ok((greeted.dc, nodes))
+    }
+
+    fn put<R: Wait>(&mut self, rt: &R, key: Key, value: Value) -> Reply {
+        let outcome = self.put_outcome(rt, &key, &value);
+        let replies = put_replies(&outcome);
+        let answer = replies.kept;
+        self.note(Call::Put { key, value, answer });
+        replies.told
+    }
+
+    fn get<R: Wait>(&mut self, rt: &R, key: &Key) -> Reply {
+        let outcome = self.get_outcome(rt, key);
+        let Some(room) = self.room.take() else {
+            unreachable!()
+        };
+        let replies = get_replies(room.value, outcome);
+        self.note(Call::Get {
+            key: room.key.copy(key),
+            answer: replies.kept,
+        });
+        replies.told
+    }
+
+    fn dep_check<R: Wait>(&mut self, rt: &R, key: &Key, version: Version) -> Reply {
+        let replies = self.checked(rt, key, version);
+        let Some(room) = self.room.take() else {
+            unreachable!()
+        };
+        self.note(Call::DepCheck {
+            key: room.key.copy(key),
+            version,
+            answer: replies.kept,
+        });
+        replies.told
+    }
+
+    fn status<R: Wait>(&mut self, rt: &R, place: u8) -> Option<NodeStatus> {
+        let answer = match self.greeted {
+            Some(greeted) => self.cluster.status(rt, greeted.dc, place),
+            None => None,
+        };
+        self.note(Call::Status { place, answer });
+        answer
+    }
+
+    fn after_session<R: Wait>(&mut self, rt: &R) {
+        self.greeted = None;
+        for _ in 0..self.scenario.turns() {
+            if !self.round(rt) {
+                break;
+            }
+        }
+    }
+}

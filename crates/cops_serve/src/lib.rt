@@ -1,0 +1,18 @@
+//! The front door of a scenario's cluster: who answers the clients' messages by calls of the cluster, what is replicated
+//! after each of their sessions, and the report of the end, which is printed only where the nodes' books are one run of
+//! the world with what the clients saw.
+//!
+//! Stands on the cluster, its senders and receivers, the front door's protocol, the tie, the audit and the report. The
+//! program uses that the answers are the cluster's, and that a report is of a tied history.
+#![tactic(auto)]
+
+mod ending;
+mod fault;
+mod front_end;
+mod opening;
+mod replying;
+mod serving;
+
+pub use fault::ServeFault;
+pub use front_end::FrontEnd;
+pub use serving::serve_stream;

@@ -1,0 +1,34 @@
+//! The cluster of a scenario behind the front door.
+use crate::front_end::FrontEnd;
+use cops_clients::{Cluster, Opened};
+use cops_replication::{Replicas, wired};
+use cops_scenario::Scenario;
+use cops_types::Memory;
+use std::alloc::Global;
+
+impl FrontEnd {
+    ghost use Rattle.std.specs.Prelude.{◌≡◌, [], IfOk};
+
+    /// A front end of a scenario's cluster, in which nothing has happened.
+    pub fn open(alloc: Global, scenario: Scenario) -> Result<FrontEnd, Memory>
+        ensures { IfOk result (λ f. (f.scenario ≡ scenario) × (f.calls.items ≡ [])) }
+    {
+        let Opened {
+            cluster,
+            clients,
+            shares,
+        } = Cluster::of_scenario(alloc, &scenario)?;
+        let Replicas { senders, receivers } = wired(alloc, cluster.dcs(), scenario.link(), shares)?;
+        Ok(FrontEnd {
+            scenario,
+            cluster,
+            clients,
+            senders,
+            receivers,
+            greeted: None,
+            calls: Vec::new(alloc),
+            room: None,
+            alloc,
+        })
+    }
+}

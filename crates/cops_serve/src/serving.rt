@@ -1,0 +1,83 @@
+//! The front door of a scenario's cluster, from the scenario's text to the report.
+use crate::fault::ServeFault;
+use crate::front_end::FrontEnd;
+use cops_device::{ACCEPTED, FAULTY, failed, read_all};
+use cops_net::{NetFault, listen};
+use cops_scenario::{Scenario, ScenarioFault};
+use cops_trace::write_text;
+use cops_types::{Counted, Memory};
+use std::alloc::Global;
+use std::io::{Read, Write};
+use std::net::{Net, TcpListener, TcpStream};
+use std::sync::Wait;
+
+/// Reads a scenario, serves so many sessions of clients of its cluster on a port of 127.0.0.1, one after the other, and
+/// prints the report of what the clients saw. The answer is the status: 0 for a report, which is of an accepted history; 2 for a faulty
+/// scenario, which a line on `out` tells; and 4 where a read or a write failed, the port could not be bound, no connection
+/// could be accepted, or the nodes' books are not tied to what was recorded, which a line on `errors` tells.
+pub fn serve_stream<R, I, W, E>(
+    rt: &R,
+    alloc: Global,
+    reader: &mut Counted<I>,
+    port: u16,
+    sessions: u16,
+    out: &mut Counted<W>,
+    errors: &mut Counted<E>,
+) -> Result<u8, Memory>
+where
+    R: Net<Listener = TcpListener, Stream = TcpStream> + Wait,
+    I: Read,
+    W: Write,
+    E: Write,
+{
+    let Some(bytes) = read_all(alloc, reader)? else {
+        return Ok(failed(errors, b"failed: read\n"));
+    };
+    let scenario = match Scenario::from_json(alloc, &bytes) {
+        Ok(scenario) => scenario,
+        Err(ScenarioFault::Memory) => return Err(Memory),
+        Err(fault) => {
+            let line = format!(in alloc; "faulty: {fault}\n")?;
+            return Ok(printed(line.as_bytes(), FAULTY, out, errors));
+        }
+    };
+    match served(rt, alloc, scenario, port, sessions) {
+        Ok(report) => Ok(printed(&report, ACCEPTED, out, errors)),
+        Err(ServeFault::Memory) => Err(Memory),
+        Err(fault) => {
+            let line = format!(in alloc; "failed: {fault}\n")?;
+            Ok(failed(errors, line.as_bytes()))
+        }
+    }
+}
+
+/// Serves the sessions, and gives the report.
+fn served<R: Net<Listener = TcpListener, Stream = TcpStream> + Wait>(
+    rt: &R,
+    alloc: Global,
+    scenario: Scenario,
+    port: u16,
+    sessions: u16,
+) -> Result<Vec<u8>, ServeFault> {
+    let mut front_end = FrontEnd::open(alloc, scenario)?;
+    match listen(rt, alloc, port, &mut front_end, sessions) {
+        Ok(()) => front_end.finish(),
+        Err(NetFault::BindFailed) => Err(ServeFault::BindFailed),
+        Err(NetFault::AcceptFailed) => Err(ServeFault::AcceptFailed),
+        Err(NetFault::Memory) => Err(ServeFault::Memory),
+        Err(_) => unreachable!(),
+    }
+}
+
+/// Prints a text, and gives the status.
+fn printed<W: Write, E: Write>(
+    text: &[u8],
+    status: u8,
+    out: &mut Counted<W>,
+    errors: &mut Counted<E>,
+) -> u8 {
+    match write_text(out, text) {
+        Ok(()) => status,
+        Err(_) => failed(errors, b"failed: write\n"),
+    }
+}
