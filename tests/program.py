@@ -7,13 +7,16 @@ import json
 import os
 import random
 import resource
+import socket
 import subprocess
 import sys
 import tempfile
+import time
 
 ROOT = os.path.dirname(os.path.dirname(os.path.abspath(__file__)))
 sys.dont_write_bytecode = True
 sys.path[:0] = [os.path.join(ROOT, "examples"), os.path.join(ROOT, "bench")]
+from client import message, talk  # noqa: E402
 from events import scenario  # noqa: E402
 from write_trace import trace  # noqa: E402
 
@@ -201,6 +204,55 @@ def scenarios():
             check(f"trace of {name}, by file", file.read(), recorded)
 
 
+def mixed(seed, operations=40, data_centres=3, clients=6):
+    """Scripts of puts and gets of a few keys, over two nodes in each data centre. Gives the scenario and the number of puts."""
+    pick = random.Random(seed)
+
+    def operation(n):
+        key = f"k{pick.randrange(5)}"
+        return {"put": [key, str(n)]} if pick.random() < 0.5 else {"get": key}
+
+    scripts = [[operation(n) for n in range(operations)] for _ in range(clients)]
+    members = [{"at": n % data_centres, "script": script} for n, script in enumerate(scripts)]
+    text = json.dumps({"data_centres": data_centres, "splits": ["k2"], "link": 1 + seed % 16, "clients": members})
+    return text.encode(), sum("put" in one for script in scripts for one in script)
+
+
+def mixed_scripts():
+    """Scripted clients on threads: what they saw is accepted, however the threads took turns."""
+    report = b"accepted: 4 operations, 2 puts\n"
+    answer, recorded = ran(example("two_clients.json"))
+    check("run of two_clients", answer, (0, b"client 0 done\nclient 1 done\n" + report, b""))
+    check("audit of two_clients", cops("audit", "-", stdin=recorded), (0, report, b""))
+    lines = cops("show", "-", stdin=recorded)[1].decode().split("\n")
+    for client, key in ((0, "a"), (1, "b")):
+        own = [line.split(" version=")[1] for line in lines if f" client={client} index=" in line and f" key={key} value=1 version=" in line]
+        check(f"client {client} got its own put", (len(own), len(set(own))), (2, 1))
+    for seed in range(200):
+        run_of_mixed(seed)
+    loads = [subprocess.Popen([sys.executable, "-c", "while True: pass"]) for _ in range(os.cpu_count() or 2)]
+    for seed in range(200, 210):
+        run_of_mixed(seed)
+    for load in loads:
+        load.kill()
+        load.wait()
+    empty = json.dumps({"data_centres": 2, "clients": [{"at": 1}]}).encode()
+    check("a client without a script", ran(empty)[0], (0, b"client 0 done\naccepted: 0 operations, 0 puts\n", b""))
+    full = [{"at": 0, "script": [{"put": [f"k{n}", "1"]} for n in range(257)]}]
+    reads = [{"put": ["a", ""]}] + [{"get": f"k{n}"} for n in range(257)]
+    both = json.dumps({"data_centres": 1, "clients": [{"at": 0, "script": full[0]["script"] + reads}]}).encode()
+    check("a full context stops a client", ran(both)[0], (0, b"client 0 stopped 2\naccepted: 513 operations, 258 puts\n", b""))
+
+
+def run_of_mixed(seed):
+    text, puts = mixed(seed)
+    (status, out, err), recorded = ran(text)
+    report = f"accepted: 240 operations, {puts} puts\n".encode()
+    wanted = b"".join(f"client {n} done\n".encode() for n in range(6)) + report
+    check(f"mixed scripts {seed}", (status, out, err), (0, wanted, b""))
+    check(f"their trace {seed}", cops("audit", "-", stdin=recorded), (0, report, b""))
+
+
 def events(*given, data_centres=1, clients=({"at": 0},), **more):
     return json.dumps({"data_centres": data_centres, "clients": list(clients), "events": list(given), **more}).encode()
 
@@ -275,7 +327,7 @@ def faulty_scenarios():
         {"put": [0, "x", "v" * 4097]}, {"stop": []}, {}, [], {"get": [0, "x"], "put": [0, "x", "1"]},
     ):
         field(f"event {str(event)[:40]}", "events", events=[event])
-    for value in ("missing", None, {}, [{"get": [0, "x"]}] * 100_001):
+    for value in (None, {}, [{"get": [0, "x"]}] * 100_001):
         field(f"events {str(value)[:40]}", "events", events=value)
     field("a script beside events", "events", clients=[{"at": 0, "script": []}])
     field("the first of two", "splits", splits=0, link=0)
@@ -289,6 +341,45 @@ def faulty_scenarios():
         check(f"a number of {digits} digits", ran(text), ((2, b"faulty: scenario " + words + b"\n", b""), b""))
     check("unknown members", ran(events({"get": [0, "x"]}, colour="blue", clients=({"at": 0, "name": "a"},)))[0], (0, b"0 missed\naccepted: 1 operations, 0 puts\n", b""))
     check("of a member that stands twice, the last", ran(b'{"data_centres":0,"data_centres":1,"clients":[],"events":[]}')[0], (0, b"accepted: 0 operations, 0 puts\n", b""))
+
+
+def scripted(*scripts, data_centres=1, **more):
+    """A scenario whose clients have these scripts, each in the next data centre."""
+    clients = [{"at": n % data_centres, "script": script} for n, script in enumerate(scripts)]
+    return json.dumps({"data_centres": data_centres, "clients": clients, **more}).encode()
+
+
+def random_script(pick, operations, keys):
+    return [{"put": [pick.choice(keys), "1"]} if pick.random() < 0.5 else {"get": pick.choice(keys)} for _ in range(operations)]
+
+
+def scripts():
+    """Scripts of clients, each on a thread of its own: whatever the threads do, each client is done and all is accepted."""
+
+    def run(name, text, clients, operations, puts):
+        report = f"accepted: {operations} operations, {puts} puts\n"
+        lines = "".join(f"client {n} done\n" for n in range(clients)) + report
+        answer, recorded = ran(text)
+        check(f"scripts, {name}", answer, (0, lines.encode(), b""))
+        check(f"audit of scripts, {name}", cops("audit", "-", stdin=recorded), (0, report.encode(), b""))
+
+    own = [[{"put": [key, "1"]}, {"get": key}] for key in ("a", "b")]
+    run("two clients get what they put", scripted(*own, data_centres=2), 2, 4, 2)
+    run("no clients", scripted(), 0, 0, 0)
+    run("clients without scripts", json.dumps({"data_centres": 16, "clients": [{"at": 15}, {"at": 0}]}).encode(), 2, 0, 0)
+    run("a long script", scripted([{"put": [f"k{n % 7}", "1"]} for n in range(10_000)], data_centres=2), 1, 10_000, 10_000)
+    for seed in range(10):
+        pick = random.Random(seed)
+        made = [random_script(pick, 60, [f"{letter}{n}" for letter in "agmt" for n in range(3)]) for _ in range(9)]
+        puts = sum("put" in operation for script in made for operation in script)
+        text = scripted(*made, data_centres=3, splits=["g", "p"], link=1 + seed)
+        run(f"nine clients {seed}", text, 9, 540, puts)
+    (status, out, err), recorded = ran(scripted(*own, data_centres=2, turns=0))
+    check("a faulty scenario with scripts", (status, out, err, recorded), (2, b"faulty: scenario field turns\n", b"", b""))
+    with tempfile.NamedTemporaryFile(suffix=".json") as file:
+        file.write(scripted(*own, data_centres=2))
+        file.flush()
+        check("a script's trace to a full device", cops("run", file.name, "/dev/full"), (4, b"", b"failed: write\n"))
 
 
 def random_events(seed, count, data_centres=3, clients=6):
@@ -337,12 +428,138 @@ def many_workers():
         check(f"usage of {given}", (status, out, err != b""), (2, b"", True))
 
 
+def free_port():
+    with socket.socket() as listener:
+        listener.bind(("127.0.0.1", 0))
+        return listener.getsockname()[1]
+
+
+class Server:
+    """A `cops serve` of so many sessions. Each session is a call, which waits for the port at first."""
+
+    def __init__(self, text, sessions):
+        self.port = free_port()
+        command = [os.path.join(ROOT, "cops"), "serve", str(self.port), "-", "--sessions", str(sessions)]
+        self.process = subprocess.Popen(command, stdin=subprocess.PIPE, stdout=subprocess.PIPE, stderr=subprocess.PIPE)
+        self.process.stdin.write(text)
+        self.process.stdin.close()
+
+    def connect(self):
+        for _ in range(2000):
+            try:
+                return socket.create_connection(("127.0.0.1", self.port))
+            except ConnectionRefusedError:
+                if self.process.poll() is not None:
+                    break
+                time.sleep(0.01)
+        raise ConnectionRefusedError(self.process.stderr.read())
+
+    def lines(self, *given):
+        """The replies to a client that sends these lines and goes."""
+        return list(talk(self.port, given, connect=self.connect))
+
+    def bytes(self, given, rest=b"", reads=True):
+        """All that comes back for these bytes, which end the client's side; or it goes without a look."""
+        with self.connect() as connection:
+            try:
+                connection.sendall(given)
+                for at in range(len(rest)):
+                    connection.sendall(rest[at : at + 1])
+                connection.shutdown(socket.SHUT_WR)
+                got = b""
+                while reads:
+                    piece = connection.recv(4096)
+                    if not piece:
+                        break
+                    got += piece
+                return got
+            except OSError:
+                return b"reset"
+
+    def ended(self):
+        out, err = self.process.stdout.read(), self.process.stderr.read()
+        return self.process.wait(), out, err
+
+
+def one_client(**more):
+    return json.dumps({"data_centres": 1, "clients": [{"at": 0}], **more}).encode()
+
+
+def served():
+    """Sessions of the front door, one after the other, and the report of the end."""
+    hello, bye = "000000050100010000", "000000010f"
+    server = Server(one_client(), 2)
+    given = bytes.fromhex(hello + "0000000a03000000010178000131" + bye)
+    wanted = bytes.fromhex("00000003020001" + "0000000d05000000010000000000010000" + "0000000110")
+    check("a session by hand", server.bytes(given), wanted)
+    got = server.lines("hello 0", "get x", "status 0", "status 1", "check x 1.0", "check x 2.0", "bye")
+    lines = ["hello from data centre 0, 1 nodes", "got 1 1.0", "clock 1, keys 1, settled 1, held 0", "refused 19", "yes", "wait", "bye"]
+    check("the session after it", got, lines)
+    check("the report of both", server.ended(), (0, b"accepted: 2 operations, 1 puts\n", b""))
+
+    server = Server(example("two_clients.json"), 2)
+    check("the first session of the example", server.lines("hello 0", "put x 1", "get x", "bye"), ["hello from data centre 0, 1 nodes", "done 1.0", "got 1 1.0", "bye"])
+    lines = ["hello from data centre 1, 1 nodes", "got 1 1.0", "clock 1, keys 1, settled 1, held 0", "bye"]
+    check("its second session", server.lines("hello 1", "get x", "status 0", "bye"), lines)
+    check("its report", server.ended(), (0, b"accepted: 3 operations, 1 puts\n", b""))
+
+    two = {"data_centres": 2, "splits": ["m"], "clients": [{"at": 0}, {"at": 1}, {"at": 1}]}
+    server = Server(json.dumps(two).encode(), 5)
+    check("a put", server.lines("hello 0", "put x 1", "put a 2", "bye"), ["hello from data centre 0, 2 nodes", "done 1.1", "done 2.0", "bye"])
+    check("a get elsewhere", server.lines("hello 1", "get a", "put z 3", "bye"), ["hello from data centre 1, 2 nodes", "got 2 2.0", "done 3.65", "bye"])
+    check("the first client again", server.lines("hello 0", "check z 3.65", "get z", "bye"), ["hello from data centre 0, 2 nodes", "yes", "got 3 3.65", "bye"])
+    check("another client", server.lines("hello 2", "get x", "get y", "bye"), ["hello from data centre 1, 2 nodes", "got 1 1.1", "missed", "bye"])
+    check("no such client", server.lines("hello 3", "hello 2", "put x 4", "bye"), ["refused 3", "hello from data centre 1, 2 nodes", "done 4.65", "bye"])
+    check("their report", server.ended(), (0, b"accepted: 8 operations, 4 puts\n", b""))
+
+
+def strange_peers():
+    """Whatever a peer sends, its session alone ends, and the next is served."""
+    hello, bye = message(["hello", "0"], 0), message(["bye"], 0)
+    put = message(["put", "x", "1"], 7)
+    welcome, refused = bytes.fromhex("00000003020001"), "000000060800000007"
+    peers = [
+        ("nothing", b"", b"", b""),
+        ("garbage", bytes(range(256)) * 20, b"", b""),
+        ("half a frame", hello[:5], b"", b""),
+        ("half a frame after a greeting", hello + put[:-1], b"", welcome),
+        ("a put before a greeting", put + bye, b"", bytes.fromhex(refused + "10" + "0000000110")),
+        ("two greetings", hello + hello + bye, b"", welcome + bytes.fromhex("00000006080000000012" + "0000000110")),
+        ("another profile", bytes.fromhex("000000050100020000") + bye, b"", bytes.fromhex("00000006080000000011" + "0000000110")),
+        ("a reply", bytes.fromhex("000000050b00000007") + bye, b"", bytes.fromhex(refused + "12" + "0000000110")),
+        ("messages behind the goodbye", hello + bye + put, b"", None),
+        ("the longest frame by single bytes", hello, bytes.fromhex("00008000") + bytes([3]) + bytes(32_767), welcome),
+        ("an announced length alone", hello + bytes.fromhex("00008000"), b"", welcome),
+        ("a length that is too long", hello + bytes.fromhex("00008001"), b"", welcome),
+    ]
+    server = Server(one_client(), len(peers) + 2)
+    for name, given, rest, wanted in peers:
+        got = server.bytes(given, rest)
+        check(f"peer: {name}", wanted is None or got in (wanted, b"reset"), True)
+    server.bytes(hello + put * 5000, reads=False)
+    got = server.lines("hello 0", "put y 2", "get y", "bye")
+    check("a peer after all of them", (got[0], got[2].split()[:2], got[3]), ("hello from data centre 0, 1 nodes", ["got", "2"], "bye"))
+    status, out, err = server.ended()
+    check("the report after strange peers", (status, out.startswith(b"accepted: "), err), (0, True, b""))
+
+    port = free_port()
+    with socket.socket() as taken:
+        taken.bind(("127.0.0.1", port))
+        taken.listen()
+        check("a port in use", cops("serve", str(port), "-", stdin=one_client()), (4, b"", b"failed: bind\n"))
+    check("serve of a faulty scenario", cops("serve", str(port), "-", stdin=b"{}"), (2, b"faulty: scenario field data_centres\n", b""))
+    check("serve of no file", cops("serve", str(port), "/nothing/there"), (4, b"", b"failed: open\n"))
+    for given in (["0", "a"], ["65536", "a"], ["x", "a"], ["1"], ["1", "a", "--sessions", "0"], ["1", "a", "--sessions", "65536"]):
+        status, out, err = cops("serve", *given)
+        check(f"usage of serve {given}", (status, out, err != b""), (2, b"", True))
+
+
 def words():
     path = os.path.join(ROOT, "examples", "empty.trace")
     for given in (["audit"], ["audit", b"\xff"], [b"\xff"], ["nothing"], ["audit", path, "more"], ["audit", "--nothing", path], ["show"], ["run", "a"], ["judge", "a", "b"]):
         status, out, err = cops(*given)
         check(f"usage of {given}", (status, out, err != b""), (2, b"", True))
-    for given in (["--help"], ["audit", "--help"], ["show", "--help"], ["run", "--help"], ["help"]):
+    for given in (["--help"], ["audit", "--help"], ["show", "--help"], ["run", "--help"], ["serve", "--help"], ["help"]):
         status, out, err = cops(*given)
         check(f"help of {given}", (status, b"Usage: cops" in out, err), (0, True, b""))
 
@@ -398,7 +615,8 @@ def little_memory():
 
 
 for tests in (
-    examples, long_chain, faults, shown, scenarios, refusals, faulty_scenarios, random_scenarios, many_workers, words, devices, generated, little_memory,
+    examples, long_chain, faults, shown, scenarios, refusals, faulty_scenarios, scripts, mixed_scripts, random_scenarios, many_workers, served,
+    strange_peers, words, devices, generated, little_memory,
 ):
     tests()
 print(f"{passed} passed, {failed} failed")

@@ -7,11 +7,14 @@ ghost use Rattle.cops_stream.specs.Audit.{SpellsConvergent};
 ghost use Rattle.cops.specs.Status.{status_of};
 
 use cops_line::{Job, LineFault, line};
-use cops_stream::{Answer, StreamFault, audit_stream, run_stream, show_stream};
+use cops_run_stream::run_stream;
+use cops_serve::serve_stream;
+use cops_stream::{Answer, StreamFault, audit_stream, show_stream};
 use cops_types::{Counted, Memory, OpenGate};
 use std::alloc::AllocError;
 use std::fs::File;
 use std::io::{ErrorKind, Read, Write};
+use std::net::{Net, TcpListener, TcpStream};
 use std::process::ExitCode;
 use std::rt::{Env, Files};
 use std::sync::Wait;
@@ -85,7 +88,7 @@ where
 /// Runs the scenario that the input holds, and writes its trace to the file of that name.
 fn run_scenario<R, I, E>(rt: &R, input: I, trace: &str, errors: E) -> u8
 where
-    R: Files + Print + Eprint + AllocGlobal,
+    R: Files + Print + Eprint + AllocGlobal + Threads + Wait + Sync,
     I: Read + Drop,
     E: Write + Drop,
 {
@@ -96,7 +99,39 @@ where
     let mut trace = Counted::new(file);
     let mut out = Counted::new(io::writer(rt));
     let mut errors = Counted::new(errors);
-    match run_stream(rt.alloc(), &mut reader, &mut trace, &mut out, &mut errors) {
+    match run_stream(
+        rt,
+        rt.alloc(),
+        &mut reader,
+        &mut trace,
+        &mut out,
+        &mut errors,
+        &OpenGate,
+    ) {
+        Ok(status) => status,
+        Err(Memory) => failed(rt, "memory", NO_MEMORY),
+    }
+}
+
+/// Serves so many sessions of clients of the cluster of the scenario that the input holds.
+fn serve<R, I, E>(rt: &R, input: I, port: u16, sessions: u16, errors: E) -> u8
+where
+    R: Net<Listener = TcpListener, Stream = TcpStream> + Print + Eprint + AllocGlobal + Wait,
+    I: Read + Drop,
+    E: Write + Drop,
+{
+    let mut reader = Counted::new(input);
+    let mut out = Counted::new(io::writer(rt));
+    let mut errors = Counted::new(errors);
+    match serve_stream(
+        rt,
+        rt.alloc(),
+        &mut reader,
+        port,
+        sessions,
+        &mut out,
+        &mut errors,
+    ) {
         Ok(status) => status,
         Err(Memory) => failed(rt, "memory", NO_MEMORY),
     }
@@ -105,6 +140,7 @@ where
 fn command<R, I, E>(rt: &R, job: Job<'_>, input: I, errors: E) -> u8
 where
     R: Files + Print + Eprint + AllocGlobal + Threads + Wait + Sync,
+    R: Net<Listener = TcpListener, Stream = TcpStream>,
     I: Read + Drop,
     E: Write + Drop,
 {
@@ -112,6 +148,7 @@ where
         Job::Audit { workers, .. } => audit(rt, input, workers),
         Job::Show { .. } => show(rt, input, errors),
         Job::Run { trace, .. } => run_scenario(rt, input, trace, errors),
+        Job::Serve { port, sessions, .. } => serve(rt, input, port, sessions, errors),
     }
 }
 
@@ -119,11 +156,16 @@ where
 fn perform<R, E>(rt: &R, job: Job<'_>, errors: E) -> u8
 where
     R: Files + Input + Print + Eprint + AllocGlobal + Threads + Wait + Sync,
+    R: Net<Listener = TcpListener, Stream = TcpStream>,
     E: Write + Drop,
 {
     let (Job::Audit { trace: input, .. }
     | Job::Show { trace: input }
     | Job::Run {
+        scenario: input,
+        ..
+    }
+    | Job::Serve {
         scenario: input,
         ..
     }) = job;
@@ -140,6 +182,7 @@ where
 fn run<R, E>(rt: &R, arguments: &[String], errors: E) -> Result<u8, AllocError>
 where
     R: Files + Input + Print + Eprint + AllocGlobal + Threads + Wait + Sync,
+    R: Net<Listener = TcpListener, Stream = TcpStream>,
     E: Write + Drop,
 {
     let words: Vec<&str> = arguments

@@ -18,6 +18,19 @@ workers_option = record (new_rule (codes "workers")) {
   parser = Some (parser.Signed (pos 1) (pos 64));
 }
 
+-- `PORT`, which has to be there, and is a number from 1 to 65,535
+abbrev pub port_argument : Rule
+port_argument = record (positional (codes "port")) { parser = Some (parser.Signed (pos 1) (pos 65535)) }
+
+-- `--sessions N`, which may be left out and takes a number from 1 to 65,535
+abbrev pub sessions_option : Rule
+sessions_option = record (new_rule (codes "sessions")) {
+  long = Some (codes "sessions");
+  action = Some Set;
+  value_names = 1;
+  parser = Some (parser.Signed (pos 1) (pos 65535));
+}
+
 -- `audit TRACE`, with `--workers N` or without it
 abbrev pub audit_app : App
 audit_app = with_rule (with_rule (new_app (codes "audit")) (positional (codes "trace"))) workers_option
@@ -30,6 +43,10 @@ show_app = with_rule (new_app (codes "show")) (positional (codes "trace"))
 abbrev pub run_app : App
 run_app = with_rule (with_rule (new_app (codes "run")) (positional (codes "scenario"))) (positional (codes "trace"))
 
+-- `serve PORT SCENARIO`, with `--sessions N` or without it
+abbrev pub serve_app : App
+serve_app = with_rule (with_rule (with_rule (new_app (codes "serve")) port_argument) (positional (codes "scenario"))) sessions_option
+
 -- the words of a subcommand alone
 abbrev pub cops_top : App
 cops_top = record {
@@ -39,4 +56,4 @@ cops_top = record {
 
 -- one of the subcommands
 unfoldable pub cops_app : App
-cops_app = with_subcommand (with_subcommand (with_subcommand cops_top audit_app.top) show_app.top) run_app.top
+cops_app = with_subcommand (with_subcommand (with_subcommand (with_subcommand cops_top audit_app.top) show_app.top) run_app.top) serve_app.top

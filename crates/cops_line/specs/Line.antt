@@ -5,22 +5,33 @@ use Rattle.clap.specs.Words.{Row, Text, first_of, subcommand_of, fault_of, IsAmo
 use Rattle.clap.specs.declared.error.kind.ErrorKind.{ErrorKind}
 use Rattle.clap.specs.declared.error.kind.ErrorKind.TheVariants.{DisplayHelp, OutOfMemory}
 use Rattle.cops_line.specs.declared.job.Job.{Job}
-use Rattle.cops_line.specs.declared.job.Job.TheVariants.{Audit, Show, Run}
+use Rattle.cops_line.specs.declared.job.Job.TheVariants.{Audit, Show, Run, Serve}
 use Rattle.cops_line.specs.declared.fault.LineFault.{LineFault}
 use Rattle.cops_line.specs.declared.fault.LineFault.TheVariants.{Memory, Usage, Help}
 use Rattle.cops_line.specs.Commands.{cops_app}
 
--- the number of workers that a value tells, in digits after a plus or without it: 1 where there is no value
-abbrev pub AreWorkers : Option Text → ℕ → Type 0
-AreWorkers None n = n ≡ 1
-AreWorkers (Some text) n =
-    IsNumeral 10 (without_leading_plus text) × (n ≡ digits_value 10 (without_leading_plus text)) × (1 ≤ n) × (n ≤ 64)
+-- the number from 1 to some other that a text tells, in digits after a plus or without it
+abbrev pub IsNumber : ℕ → Text → ℕ → Type 0
+IsNumber most text n =
+    IsNumeral 10 (without_leading_plus text) × (n ≡ digits_value 10 (without_leading_plus text)) × (1 ≤ n) × (n ≤ most)
+
+-- the number that a value tells: 1 where there is no value
+abbrev pub IsNumberOr1 : ℕ → Option Text → ℕ → Type 0
+IsNumberOr1 most None n = n ≡ 1
+IsNumberOr1 most (Some text) n = IsNumber most text n
+
+-- the port that a value tells
+abbrev pub IsPort : Option Text → ℕ → Type 0
+IsPort None n = ⊥
+IsPort (Some text) n = IsNumber 65535 text n
 
 -- the job of a subcommand with these values
 abbrev pub IsJobOf : Text → List Row → Job → Type 0
-IsJobOf name rows (Audit trace workers) = (name ≡ codes "audit") × (first_of (codes "trace") rows ≡ Some trace.now) × AreWorkers (first_of (codes "workers") rows) workers
+IsJobOf name rows (Audit trace workers) = (name ≡ codes "audit") × (first_of (codes "trace") rows ≡ Some trace.now) × IsNumberOr1 64 (first_of (codes "workers") rows) workers
 IsJobOf name rows (Show trace) = (name ≡ codes "show") × (first_of (codes "trace") rows ≡ Some trace.now)
 IsJobOf name rows (Run scenario trace) = (name ≡ codes "run") × (first_of (codes "scenario") rows ≡ Some scenario.now) × (first_of (codes "trace") rows ≡ Some trace.now)
+IsJobOf name rows (Serve port scenario sessions) =
+    (name ≡ codes "serve") × IsPort (first_of (codes "port") rows) port × (first_of (codes "scenario") rows ≡ Some scenario.now) × IsNumberOr1 65535 (first_of (codes "sessions") rows) sessions
 
 -- no job has this subcommand and these values
 abbrev pub HasNoJob : Text → List Row → Type 0
@@ -39,6 +50,7 @@ abbrev pub IsDefault : Job → Type 0
 IsDefault (Audit trace workers) = (trace.now ≡ codes "-") × (workers ≡ 1)
 IsDefault (Show trace) = ⊥
 IsDefault (Run scenario trace) = ⊥
+IsDefault (Serve port scenario sessions) = ⊥
 
 -- the program's command takes the words, and they name a subcommand with the job's values
 abbrev pub IsRead : List Text → Job → Type 0

@@ -1,7 +1,7 @@
 ghost use Rattle.std.specs.Prelude.{◌≡◌, IfOk, codes, false};
 ghost use Rattle.clap.specs.Words.{app_of, rule_of};
 ghost use Rattle.clap.specs.declared.builder.command.Command.TheViews.{out-Command as fields_of};
-ghost use Rattle.cops_line.specs.Commands.{positional, workers_option, cops_top, cops_app, audit_app, show_app, run_app};
+ghost use Rattle.cops_line.specs.Commands.{positional, port_argument, sessions_option, workers_option, cops_top, cops_app, audit_app, show_app, run_app, serve_app};
 
 use clap::{Arg, ArgAction, Command, value_parser};
 use std::alloc::{AllocError, Global};
@@ -15,7 +15,8 @@ A COPS cluster in one process, and an auditor of the histories that clients reco
 A trace is a file that records what each client of a store put and got. The auditor accepts it
 where the history in it is causally convergent, and else names the operations at fault.
 With no words at all, cops judges the trace on standard input. A scenario is a file that says
-what a cluster is made of and what happens in it; cops runs it and records a trace.
+what a cluster is made of and what happens in it; cops runs it and records a trace, or serves
+the clients of such a cluster.
 
 The exit status is 0 where the trace is accepted or the command did its work, 1 where the trace
 is refused, 2 where the input or the words are faulty, 3 where memory ran out, and 4 where a
@@ -40,6 +41,17 @@ Runs the cluster that a scenario describes, and records what its clients saw.
 Prints a line for each event with its outcome, and then the report of the recorded history. The
 trace file is written anew. A scenario that is mistaken is answered with one line, `faulty: ..`,
 that names the field.";
+
+const SERVE_LONG_ABOUT: &str = "\
+Serves clients of the cluster that a scenario describes, on a port of 127.0.0.1.
+
+Takes one connection after the other. A client greets with its number in the scenario, and then
+puts and gets in its data centre. What was put is replicated to the other data centres once a
+session has ended. After the last session the report of what all clients saw is printed.";
+
+const PORT_HELP: &str = "The port to listen on, 1 to 65535";
+
+const SESSIONS_HELP: &str = "How many sessions are served, 1 to 65535, and 1 where it is not given";
 
 const TRACE_HELP: &str = "The trace file, or `-` for standard input";
 
@@ -74,6 +86,27 @@ fn workers_arg<'a>(alloc: Global) -> Arg<'a>
         .help(WORKERS_HELP)
 }
 
+/// The port, which has to be there.
+fn port_arg<'a>(alloc: Global) -> Arg<'a>
+    ensures rule { rule_of result ≡ port_argument }
+    ensures local { result.global ≡ false }
+{
+    file_arg(alloc, "port", "PORT", PORT_HELP).value_parser(value_parser!(u16).range(1..=65535))
+}
+
+/// The option that names the number of sessions.
+fn sessions_arg<'a>(alloc: Global) -> Arg<'a>
+    ensures rule { rule_of result ≡ sessions_option }
+    ensures local { result.global ≡ false }
+{
+    Arg::new(alloc, "sessions")
+        .long("sessions")
+        .action(ArgAction::Set)
+        .value_name("N")
+        .value_parser(value_parser!(u16).range(1..=65535))
+        .help(SESSIONS_HELP)
+}
+
 fn audit_command<'a>(alloc: Global) -> Result<Command<'a>, AllocError>
     ensures app { IfOk result (λ c. app_of c ≡ audit_app) }
     ensures local { IfOk result (λ c. (fields_of c).has_globals ≡ false) }
@@ -106,6 +139,18 @@ fn run_command<'a>(alloc: Global) -> Result<Command<'a>, AllocError>
         .arg(file_arg(alloc, "trace", "TRACE", NEW_TRACE_HELP))
 }
 
+fn serve_command<'a>(alloc: Global) -> Result<Command<'a>, AllocError>
+    ensures app { IfOk result (λ c. app_of c ≡ serve_app) }
+    ensures local { IfOk result (λ c. (fields_of c).has_globals ≡ false) }
+{
+    Command::new(alloc, "serve")
+        .about("Serves clients of a scenario's cluster on a port of this machine")
+        .long_about(SERVE_LONG_ABOUT)
+        .arg(port_arg(alloc))?
+        .arg(file_arg(alloc, "scenario", "SCENARIO", SCENARIO_HELP))?
+        .arg(sessions_arg(alloc))
+}
+
 fn top_command<'a>(alloc: Global) -> Result<Command<'a>, AllocError>
     ensures app { IfOk result (λ c. app_of c ≡ cops_top) }
     ensures local { IfOk result (λ c. (fields_of c).has_globals ≡ false) }
@@ -125,8 +170,10 @@ pub fn cops_command<'a>(alloc: Global) -> Result<Command<'a>, AllocError>
     let audit = audit_command(alloc)?;
     let show = show_command(alloc)?;
     let run = run_command(alloc)?;
+    let serve = serve_command(alloc)?;
     top_command(alloc)?
         .subcommand(audit)?
         .subcommand(show)?
-        .subcommand(run)
+        .subcommand(run)?
+        .subcommand(serve)
 }

@@ -1,6 +1,6 @@
 ghost use Rattle.std.specs.Prelude.{◌≡◌, ℕ, IfSome, IfNone, Some, codes, option_map};
 ghost use Rattle.clap.specs.Words.{first_of, found_of, rows_of, subcommand_rows_of};
-ghost use Rattle.cops_line.specs.Line.{AreWorkers, IsJobOf, HasNoJob, IsJobIn, HasNoJobIn};
+ghost use Rattle.cops_line.specs.Line.{IsNumber, IsNumberOr1, IsPort, IsJobOf, HasNoJob, IsJobIn, HasNoJobIn};
 
 use clap::ArgMatches;
 
@@ -8,11 +8,26 @@ use clap::ArgMatches;
 #[derive(Clone, Copy, Debug, PartialEq, Eq)]
 pub enum Job<'a> {
     /// Judge a trace by so many workers, 1 to 64, and print the verdict. `-` is standard input.
-    Audit { trace: &'a str, workers: u8 },
+    Audit {
+        trace: &'a str,
+        workers: u8,
+    },
     /// Print a trace, a line for each frame. `-` is standard input.
-    Show { trace: &'a str },
+    Show {
+        trace: &'a str,
+    },
     /// Run a scenario, print what came of it, and write the trace of it to a file. `-` as the scenario is standard input.
-    Run { scenario: &'a str, trace: &'a str },
+    Run {
+        scenario: &'a str,
+        trace: &'a str,
+    },
+    /// Serve so many sessions, 1 to 65,535, of a scenario's cluster on a port of 127.0.0.1, and print the report. `-` is standard
+    /// input.
+    Serve {
+        port: u16,
+        scenario: &'a str,
+        sessions: u16,
+    },
 }
 
 /// The first value of an argument.
@@ -24,8 +39,8 @@ fn value<'a>(matches: &ArgMatches<'a>, id: &str) -> Option<&'a str>
 
 /// The number of workers that a text tells, from 1 to 64.
 fn workers_in(text: &str) -> Option<u8>
-    ensures some { IfSome result (AreWorkers (Some text.now)) }
-    ensures none { IfNone result ((n : ℕ) → ¬ AreWorkers (Some text.now) n) }
+    ensures some { IfSome result (IsNumber 64 text.now) }
+    ensures none { IfNone result ((n : ℕ) → ¬ IsNumber 64 text.now n) }
 {
     let Ok(workers) = text.parse::<u8>() else {
         return None;
@@ -41,11 +56,47 @@ fn workers_in(text: &str) -> Option<u8>
 
 /// The number of workers: 1 where it is not given.
 fn workers(matches: &ArgMatches<'_>) -> Option<u8>
-    ensures some { IfSome result (AreWorkers (first_of (codes "workers") (rows_of (found_of matches.now)))) }
-    ensures none { IfNone result ((n : ℕ) → ¬ AreWorkers (first_of (codes "workers") (rows_of (found_of matches.now))) n) }
+    ensures some { IfSome result (IsNumberOr1 64 (first_of (codes "workers") (rows_of (found_of matches.now)))) }
+    ensures none { IfNone result ((n : ℕ) → ¬ IsNumberOr1 64 (first_of (codes "workers") (rows_of (found_of matches.now))) n) }
 {
     match value(matches, "workers") {
         Some(text) => workers_in(text),
+        None => Some(1),
+    }
+}
+
+/// The number that a text tells, from 1 to 65,535.
+fn number_in(text: &str) -> Option<u16>
+    ensures some { IfSome result (IsNumber 65535 text.now) }
+    ensures none { IfNone result ((n : ℕ) → ¬ IsNumber 65535 text.now n) }
+{
+    let Ok(number) = text.parse::<u16>() else {
+        return None;
+    };
+    if number == 0 {
+        return None;
+    }
+    Some(number)
+}
+
+/// The port.
+fn port(matches: &ArgMatches<'_>) -> Option<u16>
+    ensures some { IfSome result (IsPort (first_of (codes "port") (rows_of (found_of matches.now)))) }
+    ensures none { IfNone result ((n : ℕ) → ¬ IsPort (first_of (codes "port") (rows_of (found_of matches.now))) n) }
+{
+    match value(matches, "port") {
+        Some(text) => number_in(text),
+        None => None,
+    }
+}
+
+/// The number of sessions: 1 where it is not given.
+fn sessions(matches: &ArgMatches<'_>) -> Option<u16>
+    ensures some { IfSome result (IsNumberOr1 65535 (first_of (codes "sessions") (rows_of (found_of matches.now)))) }
+    ensures none { IfNone result ((n : ℕ) → ¬ IsNumberOr1 65535 (first_of (codes "sessions") (rows_of (found_of matches.now))) n) }
+{
+    match value(matches, "sessions") {
+        Some(text) => number_in(text),
         None => Some(1),
     }
 }
@@ -76,6 +127,20 @@ fn run_job<'a>(matches: &ArgMatches<'a>) -> Option<Job<'a>>
     Some(Job::Run { scenario, trace })
 }
 
+fn serve_job<'a>(matches: &ArgMatches<'a>) -> Option<Job<'a>>
+    ensures some { IfSome result (IsJobOf (codes "serve") (rows_of (found_of matches.now))) }
+    ensures none { IfNone result (HasNoJob (codes "serve") (rows_of (found_of matches.now))) }
+{
+    let port = port(matches)?;
+    let scenario = value(matches, "scenario")?;
+    let sessions = sessions(matches)?;
+    Some(Job::Serve {
+        port,
+        scenario,
+        sessions,
+    })
+}
+
 fn job_of<'a>(name: &str, matches: &ArgMatches<'a>) -> Option<Job<'a>>
     ensures some { IfSome result (IsJobOf name.now (rows_of (found_of matches.now))) }
     ensures none { IfNone result (HasNoJob name.now (rows_of (found_of matches.now))) }
@@ -84,6 +149,7 @@ fn job_of<'a>(name: &str, matches: &ArgMatches<'a>) -> Option<Job<'a>>
         "audit" => audit_job(matches),
         "show" => show_job(matches),
         "run" => run_job(matches),
+        "serve" => serve_job(matches),
         _ => None,
     }
 }

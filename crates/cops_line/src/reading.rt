@@ -25,7 +25,7 @@ fn as_fault(alloc: Global, error: Error) -> LineFault
 }
 
 /// The job that the words ask for: `audit TRACE`, with `--workers N` or without it, which is as 1, `show TRACE`,
-/// `run SCENARIO TRACE`, or none, which is as `audit -`. `words` are those after the program's name. `Usage` where they are no job, and `Help` where they ask for help, by `--help`, `-h` or `help`,
+/// `run SCENARIO TRACE`, `serve PORT SCENARIO`, with `--sessions N` or without it, which is as 1, or none, which is as `audit -`. `words` are those after the program's name. `Usage` where they are no job, and `Help` where they ask for help, by `--help`, `-h` or `help`,
 /// each with `clap`'s text; `Memory` where a growth was refused. No words that tell a job are answered with `Usage` or
 /// `Help`, and words that only ask for help are not answered with `Usage`.
 pub fn line<'a>(alloc: Global, words: &'a [&'a str]) -> Result<Job<'a>, LineFault>
