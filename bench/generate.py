@@ -1,12 +1,13 @@
 #!/usr/bin/env python3
 """Writes a large trace of a store with four data centres, each of which sees the puts of the others a while later.
 
-usage: generate.py OPERATIONS CLIENTS KEYS VALUE_BYTES [VIOLATION] > TRACE
+usage: generate.py OPERATIONS CLIENTS KEYS VALUE_BYTES [VIOLATION | lagging] > TRACE
 
 Every put takes the next place of one log, and its version's clock is that place. A data centre sees its own puts at once,
 and the others' up to some place of the log. A get returns the newest put on its key that the client's data centre sees, so
 the trace is causally convergent. VIOLATION is one of doubled, no_source, not_above and stale: one fault of that class stands
-near the end.
+near the end. Where it is lagging no fault is there, but each data centre is 100,000 puts behind the others, so that most gets might be
+stale and have to be looked into.
 """
 import random
 import struct
@@ -14,6 +15,8 @@ import sys
 
 DATA_CENTRES = 4
 LAG = 64
+
+FAR_BEHIND = 100_000
 
 
 def frame(kind, fields):
@@ -98,7 +101,8 @@ def violate(kind, store, writer):
 def generate(out, operations, clients, keys, size, violation=None, seed=1):
     choose = random.Random(seed)
     store, writer = Store(keys), Writer(out, clients, size)
-    at = operations - max(1, operations // 100) if violation else None
+    behind = FAR_BEHIND if violation == "lagging" else 0
+    at = operations - max(1, operations // 100) if violation and not behind else None
     while writer.records < operations:
         if at is not None and writer.records >= at:
             violate(violation, store, writer)
@@ -109,7 +113,7 @@ def generate(out, operations, clients, keys, size, violation=None, seed=1):
         if choose.random() < 0.5:
             writer.put(client, key, store.put(centre, client, key))
         else:
-            store.catch_up(centre, len(store.log) - choose.randrange(LAG))
+            store.catch_up(centre, max(0, len(store.log) - behind - choose.randrange(LAG)))
             writer.get(client, key, store.view[centre].get(key))
     writer.end()
 

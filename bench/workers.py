@@ -1,6 +1,6 @@
 #!/usr/bin/env python3
-"""Times `cops audit` with one, two and four workers, on accepted traces with values of 8 and of 1,024 bytes and on one with a stale
-get, and prints the times of more workers beside that of one.
+"""Times `cops audit` with one, two and four workers, on accepted traces with values of 8 and of 1,024 bytes, on one with a stale
+get, and on one whose data centres lag far behind, and prints the times of more workers beside that of one.
 
 usage: workers.py [--quick]     --quick has 100,000 operations in place of 1,000,000
 
@@ -51,6 +51,7 @@ def main():
     row(operations, 8)
     row(operations, 1024)
     row(operations, 8, "stale")
+    row(operations, 8, "lagging")
 
 
 if __name__ == "__main__":
