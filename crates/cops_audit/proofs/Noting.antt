@@ -142,11 +142,11 @@ module _ {A : Type 0} (f : A → List Note) (h : Sessions) (table : List Version
     ];
   }
 
-  pub whole_set : (count : ℕ) → AreLongEnough h count k (map f xs) → (length (slice_index_or h k []) ≤ count → length (slice_index_or h k []) ≤ length (f x)) → AreLongEnough h count (k + 1) (map f (slice_set xs k x))
-  whole_set count whole here = λ c less le. elim (eq-or-lt_of_le (let l : c ≤ k = omega (arith, less) in l)) [
+  pub whole_set : AreLongEnough h k (map f xs) → length (slice_index_or h k []) ≤ length (f x) → AreLongEnough h (k + 1) (map f (slice_set xs k x))
+  whole_set whole here = λ c less. elim (eq-or-lt_of_le (let l : c ≤ k = omega (arith, less) in l)) [
     | inl same ↦ subst (λ (n : ℕ). length (slice_index_or h n []) ≤ length (get_or (map f (slice_set xs k x)) n [])) (sym same)
-        (subst (λ (s : List Note). length (slice_index_or h k []) ≤ length s) (sym (set_here f [] xs k x inside)) (here (subst (λ (n : ℕ). length (slice_index_or h n []) ≤ count) same le)))
-    | inr before ↦ subst (λ (s : List Note). length (slice_index_or h c []) ≤ length s) (sym (set_other f [] xs k c x (λ e. omega (arith, before, e)))) (whole c before le)
+        (subst (λ (s : List Note). length (slice_index_or h k []) ≤ length s) (sym (set_here f [] xs k x inside)) here)
+    | inr before ↦ subst (λ (s : List Note). length (slice_index_or h c []) ≤ length s) (sym (set_other f [] xs k c x (λ e. omega (arith, before, e)))) (whole c before)
   ]
 
 -- where no session has notes, the fronts are empty
@@ -165,13 +165,12 @@ fronts_of_none {A = A} f h table xs len none = record {
         at (y ∷ ys) (suc k) l e = at ys k (omega (arith, l)) e
 
 -- fronts that are long enough are the notes on all
-pub noted_whole : (h : Sessions) (table : List VersionedPut) (notes : List (List Note)) (count : ℕ) → AreFrontsNoted h table notes → AreLongEnough h count (length h) notes
-    → ((c : ℕ) → length (slice_index_or h c []) ≤ count) → IsNoted h table notes
-noted_whole h table notes count fronts whole each = record {
+pub noted_whole : (h : Sessions) (table : List VersionedPut) (notes : List (List Note)) → AreFrontsNoted h table notes → AreLongEnough h (length h) notes → IsNoted h table notes
+noted_whole h table notes fronts whole = record {
   clients = fronts.clients;
   sessions = λ c less.
       let front = fronts.sessions c less in
-      record { whole = omega (arith, front.within, whole c less (each c)); seen = front.seen; marks = front.marks };
+      record { whole = omega (arith, front.within, whole c less); seen = front.seen; marks = front.marks };
 }
 
 -- one more note in a session

@@ -55,9 +55,9 @@ pub record AreFrontsNoted (h : Sessions) (table : List VersionedPut) (notes : Li
   pub clients : length notes ≡ length h
   pub sessions : (client : ℕ) → client < length h → IsFrontNoted h table client (slice_index_or notes client [])
 
--- the notes on the sessions below a client are whole where the sessions are not longer than so many operations
-abbrev pub AreLongEnough : Sessions → ℕ → ℕ → List (List Note) → Type 0
-AreLongEnough h count below notes = (client : ℕ) → client < below → length (slice_index_or h client []) ≤ count → length (slice_index_or h client []) ≤ length (slice_index_or notes client [])
+-- the notes on the sessions below a client are whole
+abbrev pub AreLongEnough : Sessions → ℕ → List (List Note) → Type 0
+AreLongEnough h below notes = (client : ℕ) → client < below → length (slice_index_or h client []) ≤ length (slice_index_or notes client [])
 
 -- the note on an operation
 abbrev pub note_at : List (List Note) → OpName → Option Note

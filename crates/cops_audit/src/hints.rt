@@ -9,39 +9,6 @@ use std::alloc::{AllocError, Global};
 /// A hint that says nothing: no place of a table.
 const NONE: u32 = u32::MAX;
 
-/// A get's name with the version of what it returned.
-#[derive(Clone, Copy, Debug, PartialEq, Eq)]
-struct VersionedGet {
-    version: Version,
-    name: OpName,
-}
-
-/// The gets that returned something, in order of versions.
-fn gets_by_version(alloc: Global, history: &History) -> Result<Vec<VersionedGet>, AllocError> {
-    let mut gets = Vec::new(alloc);
-    for client in 0..history.clients() {
-        let client = client as u16;
-        let session = history.session(client);
-        for index in 0..session.len() {
-            if let Op::Got { version, .. } = &session[index] {
-                let version = *version;
-                let index = index as u32;
-                let name = OpName { client, index };
-                gets.push(VersionedGet { version, name })?;
-            }
-        }
-    }
-    gets.sort_unstable_by_key(|get| get.version.as_u64());
-    Ok(gets)
-}
-
-/// Where the version of each put and get may stand in a table of puts in order of versions, by client and index. These
-/// are but hints: each is looked up in the table, and a version that does not stand there is searched for.
-#[derive(Drop)]
-pub struct Hints {
-    sessions: Vec<Vec<u32>>,
-}
-
 /// Whether a put of this version stands at a place.
 fn stands_at(table: &[VersionedPut], place: u32, version: Version) -> bool
     ensures inside { IsTrue result → place < length table.now }
@@ -53,55 +20,89 @@ fn stands_at(table: &[VersionedPut], place: u32, version: Version) -> bool
     }
 }
 
-impl Hints {
-    /// Hints that say nothing.
-    fn empty(alloc: Global, history: &History) -> Result<Self, AllocError> {
-        let mut sessions = Vec::new(alloc);
-        for client in 0..history.clients() {
-            let session = vec![in alloc; NONE; history.session(client as u16).len()]?;
-            sessions.push(session)?;
-        }
-        Ok(Hints { sessions })
+/// The version of what an operation put or got.
+fn version_of(history: &History, name: OpName) -> Option<Version> {
+    match history.op(name) {
+        Some(Op::Put { version, .. }) => Some(*version),
+        Some(Op::Got { version, .. }) => Some(*version),
+        _ => None,
     }
+}
 
-    /// The hints for a history and its table: the puts' own places, and of each get the first place of its version.
-    pub fn new(alloc: Global, history: &History, table: &[VersionedPut]) -> Result<Self, AllocError>
+/// Where the versions of puts may stand in a table of puts in order of versions. The versions are cut into stretches of one
+/// width, about as many as there are puts, and of each it is known where its puts begin. These are but hints: each is
+/// looked up in the table, and a version that does not stand there is searched for.
+#[derive(Drop)]
+pub struct Hints {
+    lowest: u64,
+    shift: u32,
+    starts: Vec<u32>,
+}
+
+impl Hints {
+    /// The hints for a table.
+    pub fn new(alloc: Global, table: &[VersionedPut]) -> Result<Self, AllocError>
         requires { length table.now ≤ 16000000 }
     {
-        let mut hints = Hints::empty(alloc, history)?;
+        let mut hints = Hints {
+            lowest: 0,
+            shift: 0,
+            starts: Vec::new(alloc),
+        };
+        if let (Some(first), Some(last)) = (table.first(), table.last()) {
+            hints.lowest = first.version.as_u64();
+            hints.shift = shift_for(hints.offset(last.version), table.len() as u64);
+        }
         for place in 0..table.len() {
-            hints.write(table[place].name, place as u32);
-        }
-        let gets = gets_by_version(alloc, history)?;
-        let mut place = 0;
-        for get in &gets {
-            while place < table.len() && table[place].version.as_u64() < get.version.as_u64() {
-                place += 1;
+            let stretch = hints.stretch(table[place].version);
+            if hints.starts.len() <= stretch {
+                hints
+                    .starts
+                    .resize(stretch.saturating_add(1), place as u32)?;
             }
-            hints.write(get.name, place as u32);
         }
+        hints.starts.push(table.len() as u32)?;
         Ok(hints)
     }
 
-    fn write(&mut self, name: OpName, place: u32) {
-        let Some(session) = self.sessions.get_mut(name.client as usize) else {
-            return;
-        };
-        if let Some(hint) = session.get_mut(name.index as usize) {
-            *hint = place;
-        }
+    /// How far above the lowest version this one is.
+    fn offset(&self, version: Version) -> u64 {
+        version.as_u64().wrapping_sub(self.lowest)
     }
 
-    /// The hint for an operation.
-    pub fn get(&self, name: OpName) -> u32 {
-        let Some(session) = self.sessions.get(name.client as usize) else {
+    /// Which stretch a version is in.
+    fn stretch(&self, version: Version) -> usize {
+        self.offset(version).wrapping_shr(self.shift) as usize
+    }
+
+    /// The hint for the version of an operation.
+    pub fn get(&self, history: &History, table: &[VersionedPut], name: OpName) -> u32 {
+        let Some(version) = version_of(history, name) else {
             return NONE;
         };
-        match session.get(name.index as usize) {
-            Some(hint) => *hint,
-            None => NONE,
-        }
+        let stretch = self.stretch(version);
+        let Some(start) = self.starts.get(stretch) else {
+            return NONE;
+        };
+        let Some(end) = self.starts.get(stretch.saturating_add(1)) else {
+            return NONE;
+        };
+        first_within(table, *start, *end, version)
     }
+}
+
+/// How many low bits of the versions count for nothing, where the highest is so far above the lowest of so many.
+fn shift_for(span: u64, count: u64) -> u32 {
+    count.leading_zeros().saturating_sub(span.leading_zeros())
+}
+
+/// The first place between two places whose put has this version or a later one.
+fn first_within(table: &[VersionedPut], start: u32, end: u32, version: Version) -> u32 {
+    let to = (end as usize).min(table.len());
+    let from = (start as usize).min(to);
+    let version = version.as_u64();
+    let before = table[from..to].partition_point(|put| put.version.as_u64() < version);
+    from.saturating_add(before).min(NONE as usize) as u32
 }
 
 /// The place of a put that bears a version, which may stand at a hint.
@@ -122,11 +123,10 @@ const WIDTHS: [usize; 3] = [16, 256, 4096];
 
 /// A hint for the version of an operation, by the puts that stand near a place.
 pub fn hint_near(history: &History, table: &[VersionedPut], name: OpName, place: u32) -> u32 {
-    let version = match history.op(name) {
-        Some(Op::Put { version, .. }) => version.as_u64(),
-        Some(Op::Got { version, .. }) => version.as_u64(),
-        _ => return NONE,
+    let Some(version) = version_of(history, name) else {
+        return NONE;
     };
+    let version = version.as_u64();
     for width in WIDTHS {
         let from = (place as usize).saturating_sub(width).min(table.len());
         let to = (place as usize).saturating_add(width).min(table.len());

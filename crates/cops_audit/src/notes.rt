@@ -10,7 +10,7 @@ ghost use Rattle.cops_audit.specs.declared.table.VersionedPut.{VersionedPut};
 use crate::hints::{Hints, hint_near, hinted_place};
 use crate::ops::is_source;
 use crate::table::{VersionedPut, first_from};
-use cops_types::{History, MAX_CLIENT_OPS, Op, OpName};
+use cops_types::{History, Op, OpName};
 use std::alloc::{AllocError, Global};
 use std::marker::Model;
 
@@ -34,9 +34,9 @@ pub struct Note {
     pub mark: u32,
 }
 
-/// How many operations of a session are noted in a row, before it is another session's turn: operations that are near in
-/// time look up what lies near together.
-const STRETCH: usize = 4;
+/// How many places the sessions' marks rise in a turn, in which each session is noted on: operations that are near in time
+/// look up what lies near together.
+const STEP: usize = 4096;
 
 /// What an operation did.
 fn see(history: &History, table: &[VersionedPut], hint: u32, name: OpName) -> Seen
@@ -96,26 +96,31 @@ fn last_mark(notes: &[Note]) -> u32
     notes[notes.len() - 1].mark
 }
 
-/// Notes the next operations of a session, up to so many of its first ones.
+/// Notes the next operations of a session, until its mark is above a place.
 fn note_on(
     notes: &mut Vec<Note>,
     history: &History,
     table: &[VersionedPut],
     hints: &Hints,
     client: u16,
-    count: usize,
+    place: usize,
 ) -> Result<(), AllocError>
     requires table { IsVersionTable history.now.sessions table.now }
     requires front { IsFrontNoted history.now.sessions table.now client notes.old.items }
     ensures front { OnOk result (IsFrontNoted history.now.sessions table.now client notes.new.items) }
-    ensures whole { OnOk result (length (slice_index_or history.now.sessions client []) ≤ count → length (slice_index_or history.now.sessions client []) ≤ vec_len notes.new) }
+    ensures whole { OnOk result (length table.now ≤ place → length (slice_index_or history.now.sessions client []) ≤ vec_len notes.new) }
 {
-    let end = history.session(client).len().min(count);
     let mut mark = last_mark(notes.as_slice());
-    for index in notes.len()..end {
-        let index = index as u32;
-        let hint = hints.get(OpName { client, index });
-        let seen = see(history, table, hint, OpName { client, index });
+    for index in notes.len()..history.session(client).len() {
+        if mark as usize > place {
+            return Ok(());
+        }
+        let name = OpName {
+            client,
+            index: index as u32,
+        };
+        let hint = hints.get(history, table, name);
+        let seen = see(history, table, hint, name);
         let above = seen.above();
         if mark < above {
             mark = above;
@@ -125,22 +130,22 @@ fn note_on(
     Ok(())
 }
 
-/// Notes the next operations of each session, up to so many of its first ones.
+/// Notes the next operations of each session, until its mark is above a place.
 fn note_all(
     sessions: &mut Vec<Vec<Note>>,
     history: &History,
     table: &[VersionedPut],
     hints: &Hints,
-    count: usize,
+    place: usize,
 ) -> Result<(), AllocError>
     requires table { IsVersionTable history.now.sessions table.now }
     requires fronts { AreFrontsNoted history.now.sessions table.now (map (λ s. s.items) sessions.old.items) }
     ensures fronts { OnOk result (AreFrontsNoted history.now.sessions table.now (map (λ s. s.items) sessions.new.items)) }
-    ensures whole { OnOk result (AreLongEnough history.now.sessions count (length history.now.sessions) (map (λ s. s.items) sessions.new.items)) }
+    ensures whole { OnOk result (length table.now ≤ place → AreLongEnough history.now.sessions (length history.now.sessions) (map (λ s. s.items) sessions.new.items)) }
 {
     for client in 0..history.clients() {
         let notes = &mut sessions[client];
-        note_on(notes, history, table, hints, client as u16, count)?;
+        note_on(notes, history, table, hints, client as u16, place)?;
     }
     Ok(())
 }
@@ -211,13 +216,13 @@ impl Notes {
         requires { IsVersionTable history.now.sessions table.now }
         ensures { IfOk result (λ notes. IsNoted history.now.sessions table.now notes) }
     {
-        let hints = Hints::new(alloc, history, table)?;
+        let hints = Hints::new(alloc, table)?;
         let mut sessions = no_notes(alloc, history)?;
-        let turns = history.len() / (STRETCH * history.clients().max(1));
-        for turn in 0..turns {
-            note_all(&mut sessions, history, table, &hints, STRETCH * turn)?;
+        let step = STEP.max(4 * history.clients());
+        for turn in 0..table.len() / step {
+            note_all(&mut sessions, history, table, &hints, step * turn)?;
         }
-        note_all(&mut sessions, history, table, &hints, MAX_CLIENT_OPS)?;
+        note_all(&mut sessions, history, table, &hints, table.len())?;
         Ok(Notes { sessions })
     }
 

@@ -26,5 +26,5 @@ loop-client-preserved c =
     let inside : k < length xs = omega (arith, less, c.loop-client.invariant.fronts.clients, length-map xs (λ (s : Vec Note Global). s.items)) in
     record {
       fronts = fronts_set (λ (s : Vec Note Global). s.items) h c.args.table.now xs k x inside c.loop-client.invariant.fronts c.in_ok-note_on.ensures.front;
-      whole = whole_set (λ (s : Vec Note Global). s.items) h c.args.table.now xs k x inside c.args.count c.loop-client.invariant.whole (λ le. let l = c.in_ok-note_on.ensures.whole le in omega (arith, l, x.ok.0));
+      whole = λ le. whole_set (λ (s : Vec Note Global). s.items) h c.args.table.now xs k x inside (c.loop-client.invariant.whole le) (let l = c.in_ok-note_on.ensures.whole le in omega (arith, l, x.ok.0));
     }
