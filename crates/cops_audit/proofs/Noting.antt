@@ -11,7 +11,7 @@ use Rattle.cops_audit.specs.declared.notes.Note.{Note}
 use Rattle.cops_audit.specs.declared.notes.Seen.{Seen}
 use Rattle.cops_audit.specs.declared.notes.Seen.TheVariants.{Put, Got, Missed, Sourceless}
 use Rattle.cops_audit.specs.Tables.{IsVersionTable}
-use Rattle.cops_audit.specs.Notes.{above, AreAsLong, AreFrontsNoted, AreLongEnough, AreMarks, IsFrontNoted, IsMark, IsNoted, IsSeen, IsSessionNoted, LengthensBy, note_at}
+use Rattle.cops_audit.specs.Notes.{above, AreAsLong, AreFrontsNoted, AreLongEnough, AreMarks, AreNoted, IsFrontNoted, IsMark, IsNoted, IsSeen, IsSessionNoted, LengthensBy, note_at}
 use Rattle.cops_audit.proofs.Listing.{named_client, named_index, slice_get_there}
 use Rattle.cops_audit.proofs.Places.{inside_table}
 use Rattle.cops_audit.proofs.Unique.{stands}
@@ -131,29 +131,31 @@ set_other f d (y ∷ ys) (suc k) zero x differs = refl
 set_other f d (y ∷ ys) (suc k) (suc c) x differs = set_other f d ys k c x (λ e. differs (ap suc e))
 
 module _ {A : Type 0} (f : A → List Note) (h : Sessions) (table : List VersionedPut) (xs : List A) (k : ℕ) (x : A) (inside : k < length xs) where
-  pub fronts_set : AreFrontsNoted h table (map f xs) → IsFrontNoted h table k (f x) → AreFrontsNoted h table (map f (slice_set xs k x))
-  fronts_set fronts front = record {
+  pub fronts_set : (first : ℕ) → AreFrontsNoted h table first (map f xs) → IsFrontNoted h table (first + k) (f x) → AreFrontsNoted h table first (map f (slice_set xs k x))
+  fronts_set first fronts front = record {
     clients = omega (arith, length-map (slice_set xs k x) f, length-set xs k x, length-map xs f, fronts.clients);
     sessions = λ c less. elim (cases_order c k) [
-      | inl same ↦ subst (λ (n : ℕ). IsFrontNoted h table n (get_or (map f (slice_set xs k x)) n [])) (sym same) (subst (IsFrontNoted h table k) (sym (set_here f [] xs k x inside)) front)
+      | inl same ↦ subst (λ (n : ℕ). IsFrontNoted h table (first + n) (get_or (map f (slice_set xs k x)) n [])) (sym same) (subst (IsFrontNoted h table (first + k)) (sym (set_here f [] xs k x inside)) front)
       | inr other ↦
           let differs : c ≢ k = λ e. elim other [ inl l ↦ omega (arith, l, e) | inr m ↦ omega (arith, m, e) ] in
-          subst (IsFrontNoted h table c) (sym (set_other f [] xs k c x differs)) (fronts.sessions c less)
+          subst (IsFrontNoted h table (first + c)) (sym (set_other f [] xs k c x differs))
+          (fronts.sessions c (omega (arith, less, length-map (slice_set xs k x) f, length-set xs k x, length-map xs f)))
     ];
   }
 
-  pub whole_set : AreLongEnough h k (map f xs) → length (slice_index_or h k []) ≤ length (f x) → AreLongEnough h (k + 1) (map f (slice_set xs k x))
-  whole_set whole here = λ c less. elim (eq-or-lt_of_le (let l : c ≤ k = omega (arith, less) in l)) [
-    | inl same ↦ subst (λ (n : ℕ). length (slice_index_or h n []) ≤ length (get_or (map f (slice_set xs k x)) n [])) (sym same)
-        (subst (λ (s : List Note). length (slice_index_or h k []) ≤ length s) (sym (set_here f [] xs k x inside)) here)
-    | inr before ↦ subst (λ (s : List Note). length (slice_index_or h c []) ≤ length s) (sym (set_other f [] xs k c x (λ e. omega (arith, before, e)))) (whole c before)
+  pub whole_set : (first : ℕ) → AreLongEnough h first k (map f xs) → length (slice_index_or h (first + k) []) ≤ length (f x) → AreLongEnough h first (k + 1) (map f (slice_set xs k x))
+  whole_set first whole here = λ c less. elim (eq-or-lt_of_le (let l : c ≤ k = omega (arith, less) in l)) [
+    | inl same ↦ subst (λ (n : ℕ). length (slice_index_or h (first + n) []) ≤ length (get_or (map f (slice_set xs k x)) n [])) (sym same)
+        (subst (λ (s : List Note). length (slice_index_or h (first + k) []) ≤ length s) (sym (set_here f [] xs k x inside)) here)
+    | inr before ↦ subst (λ (s : List Note). length (slice_index_or h (first + c) []) ≤ length s) (sym (set_other f [] xs k c x (λ e. omega (arith, before, e)))) (whole c before)
   ]
 
 -- where no session has notes, the fronts are empty
-pub fronts_of_none : {A : Type 0} (f : A → List Note) (h : Sessions) (table : List VersionedPut) (xs : List A) → length xs ≡ length h → ((k : ℕ) (d : A) → k < length xs → f (get_or xs k d) ≡ []) → AreFrontsNoted h table (map f xs)
-fronts_of_none {A = A} f h table xs len none = record {
+pub fronts_of_none : {A : Type 0} (f : A → List Note) (h : Sessions) (table : List VersionedPut) (first : ℕ) (xs : List A) → first + length xs ≤ length h → ((k : ℕ) (d : A) → k < length xs → f (get_or xs k d) ≡ [])
+    → AreFrontsNoted h table first (map f xs)
+fronts_of_none {A = A} f h table first xs len none = record {
   clients = omega (arith, length-map xs f, len);
-  sessions = λ c less. front_of_none h table c (get_or (map f xs) c []) (each c (omega (arith, less, len)));
+  sessions = λ k less. front_of_none h table (first + k) (get_or (map f xs) k []) (each k (omega (arith, less, length-map xs f)));
 }
   where
     each : (c : ℕ) → c < length xs → get_or (map f xs) c [] ≡ []
@@ -164,14 +166,53 @@ fronts_of_none {A = A} f h table xs len none = record {
         at (y ∷ ys) zero l e = e y
         at (y ∷ ys) (suc k) l e = at ys k (omega (arith, l)) e
 
--- fronts that are long enough are the notes on all
-pub noted_whole : (h : Sessions) (table : List VersionedPut) (notes : List (List Note)) → AreFrontsNoted h table notes → AreLongEnough h (length h) notes → IsNoted h table notes
-noted_whole h table notes fronts whole = record {
-  clients = fronts.clients;
-  sessions = λ c less.
-      let front = fronts.sessions c less in
-      record { whole = omega (arith, front.within, whole c less); seen = front.seen; marks = front.marks };
+-- fronts that are long enough are the notes on their sessions
+pub noted_whole : {A : Type 0} (h : Sessions) (table : List VersionedPut) (first end : ℕ) (f : A → List Note) (xs : List A) → first + length xs ≡ end → AreFrontsNoted h table first (map f xs) → AreLongEnough h first (length xs) (map f xs)
+    → AreNoted h table first end (map f xs)
+noted_whole h table first end f xs count fronts whole = record {
+  clients = omega (arith, count, length-map xs f);
+  sessions = λ k less.
+      let front = fronts.sessions k less in
+      record { whole = omega (arith, front.within, whole k (omega (arith, less, length-map xs f))); seen = front.seen; marks = front.marks };
 }
+
+-- the notes on the sessions of all clients
+pub noted_all : (h : Sessions) (table : List VersionedPut) (first end : ℕ) (notes : List (List Note)) → first ≡ 0 → end ≡ length h → AreNoted h table first end notes → IsNoted h table notes
+noted_all h table first end notes from to n = record {
+  clients = omega (arith, n.clients, from, to);
+  sessions = λ client less. subst (λ (c : ℕ). IsSessionNoted h table c (slice_index_or notes client [])) (let e : first + client ≡ client = omega (arith, from) in e) (n.sessions client (omega (arith, less, n.clients, from, to)));
+}
+
+get_low : {A : Type 0} (xs ys : List A) (k : ℕ) (d : A) → k < length xs → get_or (xs ++ ys) k d ≡ get_or xs k d
+get_low [] ys k d inside = absurd (omega (arith, inside))
+get_low (x ∷ xs) ys zero d inside = refl
+get_low (x ∷ xs) ys (suc k) d inside = get_low xs ys k d (omega (arith, inside))
+
+get_high : {A : Type 0} (xs ys : List A) (k n : ℕ) (d : A) → n ≡ length xs + k → get_or (xs ++ ys) n d ≡ get_or ys k d
+get_high [] ys k n d e = ap (λ (m : ℕ). get_or ys m d) (let s : n ≡ k = omega (arith, e) in s)
+get_high (x ∷ xs) ys k zero d e = absurd (omega (arith, e))
+get_high (x ∷ xs) ys k (suc n) d e = get_high xs ys k n d (omega (arith, e))
+
+-- the notes on the clients below one, and those on the others
+pub noted_joined : (h : Sessions) (table : List VersionedPut) (mid : ℕ) (low high : List (List Note)) → AreNoted h table 0 mid low → AreNoted h table mid (length h) high → IsNoted h table (low ++ high)
+noted_joined h table mid low high a b = record {
+  clients = omega (arith, length-append low high, a.clients, b.clients);
+  sessions = λ c less. elim (cases_order c mid) [
+    | inl same ↦ above c less (omega (arith, same))
+    | inr (inl l) ↦ subst (IsSessionNoted h table c) (sym (get_low low high c [] (omega (arith, l, a.clients)))) (below c (omega (arith, l, a.clients)))
+    | inr (inr m) ↦ above c less (omega (arith, m))
+  ];
+}
+  where
+    below : (c : ℕ) → c < length low → IsSessionNoted h table c (get_or low c [])
+    below c less = subst (λ (n : ℕ). IsSessionNoted h table n (get_or low c [])) (let e : 0 + c ≡ c = omega arith in e) (a.sessions c less)
+
+    above : (c : ℕ) → c < length h → mid ≤ c → IsSessionNoted h table c (get_or (low ++ high) c [])
+    above c less le =
+        let k = c - mid in
+        let client : mid + k ≡ c = omega (arith, le) in
+        subst (IsSessionNoted h table c) (sym (get_high low high k c [] (omega (arith, le, a.clients))))
+        (subst (λ (n : ℕ). IsSessionNoted h table n (get_or high k [])) client (b.sessions k (omega (arith, less, le, b.clients))))
 
 -- one more note in a session
 pub lengthened : {A : Type 0} (f : A → List Note) (xs : List A) (k : ℕ) (old new : A) (note : Note) → k < length xs → old ≡ get_or xs k old → f new ≡ f old ++ note ∷ [] → LengthensBy (map f xs) (map f (slice_set xs k new)) k

@@ -50,14 +50,19 @@ pub record IsFrontNoted (h : Sessions) (table : List VersionedPut) (client : ℕ
   pub seen : (i : ℕ) (note : Note) → slice_get session i ≡ Some note → IsSeen h table (record { client = client; index = i }) note.seen
   pub marks : (i : ℕ) (note : Note) → slice_get session i ≡ Some note → IsMark session (i + 1) note.mark
 
--- the notes on the first operations of each session
-pub record AreFrontsNoted (h : Sessions) (table : List VersionedPut) (notes : List (List Note)) : Type 0 where
-  pub clients : length notes ≡ length h
-  pub sessions : (client : ℕ) → client < length h → IsFrontNoted h table client (slice_index_or notes client [])
+-- the notes on the first operations of the sessions of some clients, from one on
+pub record AreFrontsNoted (h : Sessions) (table : List VersionedPut) (first : ℕ) (notes : List (List Note)) : Type 0 where
+  pub clients : first + length notes ≤ length h
+  pub sessions : (k : ℕ) → k < length notes → IsFrontNoted h table (first + k) (slice_index_or notes k [])
 
--- the notes on the sessions below a client are whole
-abbrev pub AreLongEnough : Sessions → ℕ → List (List Note) → Type 0
-AreLongEnough h below notes = (client : ℕ) → client < below → length (slice_index_or h client []) ≤ length (slice_index_or notes client [])
+-- of the notes on the sessions of some clients, from one on, the first so many are whole
+abbrev pub AreLongEnough : Sessions → ℕ → ℕ → List (List Note) → Type 0
+AreLongEnough h first count notes = (k : ℕ) → k < count → length (slice_index_or h (first + k) []) ≤ length (slice_index_or notes k [])
+
+-- the notes on the sessions of the clients from one up to another
+pub record AreNoted (h : Sessions) (table : List VersionedPut) (first end : ℕ) (notes : List (List Note)) : Type 0 where
+  pub clients : first + length notes ≡ end
+  pub sessions : (k : ℕ) → k < length notes → IsSessionNoted h table (first + k) (slice_index_or notes k [])
 
 -- the note on an operation
 abbrev pub note_at : List (List Note) → OpName → Option Note

@@ -30,6 +30,7 @@ mod turns;
 mod verdict;
 mod window;
 
+pub use hints::Hints;
 pub use judging::judge;
 pub use keys::{Keys, link, passed_firsts};
 pub use laws::{

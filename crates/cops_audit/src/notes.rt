@@ -130,32 +130,42 @@ fn note_on(
     Ok(())
 }
 
-/// Notes the next operations of each session, until its mark is above a place.
+/// Notes the next operations of the sessions of some clients, from one on, until each session's mark is above a place.
 fn note_all(
     sessions: &mut Vec<Vec<Note>>,
     history: &History,
     table: &[VersionedPut],
     hints: &Hints,
+    first: usize,
     place: usize,
 ) -> Result<(), AllocError>
     requires table { IsVersionTable history.now.sessions table.now }
-    requires fronts { AreFrontsNoted history.now.sessions table.now (map (λ s. s.items) sessions.old.items) }
-    ensures fronts { OnOk result (AreFrontsNoted history.now.sessions table.now (map (λ s. s.items) sessions.new.items)) }
-    ensures whole { OnOk result (length table.now ≤ place → AreLongEnough history.now.sessions (length history.now.sessions) (map (λ s. s.items) sessions.new.items)) }
+    requires few { first + length sessions.old.items ≤ 65535 }
+    requires fronts { AreFrontsNoted history.now.sessions table.now first (map (λ s. s.items) sessions.old.items) }
+    ensures count { length sessions.new.items ≡ length sessions.old.items }
+    ensures fronts { OnOk result (AreFrontsNoted history.now.sessions table.now first (map (λ s. s.items) sessions.new.items)) }
+    ensures whole { OnOk result (length table.now ≤ place → AreLongEnough history.now.sessions first (length sessions.new.items) (map (λ s. s.items) sessions.new.items)) }
 {
-    for client in 0..history.clients() {
-        let notes = &mut sessions[client];
+    for k in 0..sessions.len() {
+        let notes = &mut sessions[k];
+        let client = first + k;
         note_on(notes, history, table, hints, client as u16, place)?;
     }
     Ok(())
 }
 
-/// No notes yet, with room for those on each session.
-fn no_notes(alloc: Global, history: &History) -> Result<Vec<Vec<Note>>, AllocError>
-    ensures { IfOk result (λ v. (length v.items ≡ length history.now.sessions) × All (λ s. s.items ≡ []) v.items) }
+/// No notes yet on the sessions of the clients from one up to another, with room for them.
+fn no_notes(
+    alloc: Global,
+    history: &History,
+    first: usize,
+    end: usize,
+) -> Result<Vec<Vec<Note>>, AllocError>
+    requires { end ≤ 65535 }
+    ensures { IfOk result (λ v. (first ≤ end → first + length v.items ≡ end) × All (λ s. s.items ≡ []) v.items) }
 {
     let mut sessions = Vec::new(alloc);
-    for client in 0..history.clients() {
+    for client in first..end {
         let notes = Vec::with_capacity(alloc, history.session(client as u16).len())?;
         sessions.push(notes)?;
     }
@@ -206,9 +216,9 @@ impl Model for Notes {
 }
 
 impl Notes {
-    ghost use Rattle.std.specs.Prelude.{◌≡◌, ◌<◌, IfOk, OnOk, OnErr, length, replicate, slice_index_or, []};
+    ghost use Rattle.std.specs.Prelude.{◌≡◌, ◌<◌, ◌≤◌, ℕ, IfOk, OnOk, OnErr, length, replicate, slice_index_or, []};
     ghost use Rattle.std.specs.Option.{option_copied};
-    ghost use Rattle.cops_audit.specs.Notes.{note_at, AreAsLong, IsNoted, LengthensBy};
+    ghost use Rattle.cops_audit.specs.Notes.{note_at, AreAsLong, AreNoted, IsNoted, LengthensBy};
     ghost use Rattle.cops_audit.specs.Tables.{IsVersionTable};
 
     /// The notes on all operations.
@@ -217,12 +227,52 @@ impl Notes {
         ensures { IfOk result (λ notes. IsNoted history.now.sessions table.now notes) }
     {
         let hints = Hints::new(alloc, table)?;
-        let mut sessions = no_notes(alloc, history)?;
-        let step = STEP.max(4 * history.clients());
+        let notes = Notes::on_clients(alloc, history, table, &hints, 0, history.clients())?;
+        Ok(notes)
+    }
+
+    /// The notes on the operations of the clients from one up to another.
+    pub fn on_clients(
+        alloc: Global,
+        history: &History,
+        table: &[VersionedPut],
+        hints: &Hints,
+        first: usize,
+        end: usize,
+    ) -> Result<Self, AllocError>
+        requires table { IsVersionTable history.now.sessions table.now }
+        requires first { first ≤ end }
+        requires end { end ≤ length history.now.sessions }
+        ensures some { IfOk result (AreNoted history.now.sessions table.now first end) }
+        ensures all { IfOk result (λ notes. first ≡ 0 → end ≡ length history.now.sessions → IsNoted history.now.sessions table.now notes) }
+    {
+        let end = end.min(history.clients());
+        let mut sessions = no_notes(alloc, history, first, end)?;
+        let step = STEP.max(4 * sessions.len());
         for turn in 0..table.len() / step {
-            note_all(&mut sessions, history, table, &hints, step * turn)?;
+            note_all(&mut sessions, history, table, hints, first, step * turn)?;
         }
-        note_all(&mut sessions, history, table, &hints, table.len())?;
+        note_all(&mut sessions, history, table, hints, first, table.len())?;
+        Ok(Notes { sessions })
+    }
+
+    /// The notes on all operations, of those on the clients below one and those on the others.
+    pub fn joined(
+        history: &History,
+        table: &[VersionedPut],
+        low: Notes,
+        high: Notes,
+    ) -> Result<Self, AllocError>
+        requires { (mid : ℕ) × AreNoted history.now.sessions table.now 0 mid low × AreNoted history.now.sessions table.now mid (length history.now.sessions) high }
+        ensures { IfOk result (λ notes. IsNoted history.now.sessions table.now notes) }
+    {
+        let _history = history;
+        let _table = table;
+        let Notes { mut sessions } = low;
+        let Notes {
+            sessions: mut later,
+        } = high;
+        sessions.append(&mut later)?;
         Ok(Notes { sessions })
     }
 

@@ -81,7 +81,7 @@ fn judge_in_pieces<R: Threads + Wait + Sync, G: Gate>(
             pieces.as_mut_slice(),
         );
     }
-    let tables = Tables::new(alloc, history, names, table)?;
+    let tables = Tables::new(rt, alloc, history, names, table, workers)?;
     judge_gets(rt, alloc, &tables, gate, pieces.as_mut_slice())
 }
 

@@ -1,9 +1,10 @@
-use Rattle.std.proofs.Common.{◌≤◌, length, map}
+use Rattle.std.proofs.Common.{◌≡◌, ◌≤◌, length, map}
 use Rattle.cops_audit.specs.Notes.{AreFrontsNoted, AreLongEnough}
 use Rattle.cops_audit.proofs.notes.note_all.Given as goal
 
-abbrev pub invariant-loop-client : goal.invariant-loop-client
-invariant-loop-client l = record {
-  fronts : AreFrontsNoted l.history.sessions l.table (map (λ s. s.items) l.sessions.items);
-  whole : length l.table ≤ l.place → AreLongEnough l.history.sessions l.client (map (λ s. s.items) l.sessions.items);
+abbrev pub invariant-loop-k : goal.invariant-loop-k
+invariant-loop-k l = record {
+  count : length l.sessions.items ≡ length l.fn.sessions.items;
+  fronts : AreFrontsNoted l.history.sessions l.table l.first (map (λ s. s.items) l.sessions.items);
+  whole : length l.table ≤ l.place → AreLongEnough l.history.sessions l.first l.k (map (λ s. s.items) l.sessions.items);
 }
