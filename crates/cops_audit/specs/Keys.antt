@@ -1,5 +1,5 @@
 -- The puts on each key, by their places in the table of puts in order of versions.
-use Rattle.std.specs.Prelude.{◌≡◌, ◌<◌, ◌≤◌, ℕ, List, length, slice_get, Option, Some, None, nat_eq}
+use Rattle.std.specs.Prelude.{◌≡◌, ◌<◌, ◌≤◌, ◌+◌, ℕ, List, length, slice_get, Option, Some, None, nat_eq}
 use Rattle.std.specs.Borrow.{Bor}
 use Rattle.std.specs.Cmp.Lexicographic.{pointwise}
 use Rattle.std.specs.HashMap.{HashMap, get}
@@ -40,3 +40,7 @@ pub record AreNexts (h : Sessions) (table : List VersionedPut) (nexts : List (Op
 pub record AreFirsts (h : Sessions) (table : List VersionedPut) (firsts : List ℕ) : Type 0 where
   pub whole : length firsts ≡ length table
   pub each : (place first : ℕ) (key : List ℕ) → slice_get firsts place ≡ Some first → OnKey h table place key → IsFirstOn h table key first
+
+-- the keys of puts in a row, the last of which stands just before this place
+abbrev pub AreAhead : Sessions → List VersionedPut → ℕ → List (Bor (List ℕ)) → Type 0
+AreAhead h table end keys = (from : ℕ) × (from + length keys ≡ end) × ((j : ℕ) (key : Bor (List ℕ)) → slice_get keys j ≡ Some key → OnKey h table (from + j) key.now)

@@ -1,6 +1,6 @@
-ghost use Rattle.std.specs.Prelude.{◌≡◌, ◌<◌, ◌≤◌, ℕ, IfOk, IsOk, OnOk, length, slice_get, vec_capacity, Some};
+ghost use Rattle.std.specs.Prelude.{◌≡◌, ◌<◌, ◌≤◌, ◌+◌, ℕ, IfOk, IsOk, OnOk, length, slice_get, vec_capacity, Some};
 ghost use Rattle.cops_types.specs.Histories.{PutsKey, Puts};
-ghost use Rattle.cops_audit.specs.Keys.{AreFirsts, AreNexts, KnowsFirsts};
+ghost use Rattle.cops_audit.specs.Keys.{AreAhead, AreFirsts, AreNexts, KnowsFirsts, OnKey};
 ghost use Rattle.cops_audit.specs.Tables.{IsVersionTable};
 
 use crate::table::VersionedPut;
@@ -26,6 +26,52 @@ pub struct Keys<'a> {
     pub firsts: HashMap<&'a [u8], u32>,
 }
 
+/// How many keys are read in a row: those of puts that stand side by side lie far apart, and are then fetched side by side.
+const ROW: usize = 32;
+
+/// Reads the keys of the puts just before a place, where none are ahead.
+fn read_ahead<'a>(
+    ahead: &mut Vec<&'a [u8]>,
+    history: &'a History,
+    table: &[VersionedPut],
+    end: usize,
+) -> Result<(), AllocError>
+    requires table { IsVersionTable history.now.sessions table.now }
+    requires inside { (0 < end) × (end ≤ length table.now) }
+    requires ahead { AreAhead history.now.sessions table.now end ahead.old.items }
+    ensures ahead { OnOk result (AreAhead history.now.sessions table.now end ahead.new.items) }
+    ensures some { OnOk result (0 < length ahead.new.items) }
+{
+    if !ahead.is_empty() {
+        return Ok(());
+    }
+    for place in end.saturating_sub(ROW)..end {
+        let put = &table[place];
+        ahead.push(put_key(history, put.name).as_bytes())?;
+    }
+    Ok(())
+}
+
+/// The key of the put at a place, which is the last one ahead.
+fn next_key<'a>(
+    ahead: &mut Vec<&'a [u8]>,
+    history: &'a History,
+    table: &[VersionedPut],
+    place: usize,
+) -> Result<&'a [u8], AllocError>
+    requires table { IsVersionTable history.now.sessions table.now }
+    requires inside { place < length table.now }
+    requires ahead { AreAhead history.now.sessions table.now (place + 1) ahead.old.items }
+    ensures key { IfOk result (λ key. OnKey history.now.sessions table.now place key.now) }
+    ensures ahead { OnOk result (AreAhead history.now.sessions table.now place ahead.new.items) }
+{
+    read_ahead(ahead, history, table, place + 1)?;
+    match ahead.pop() {
+        Some(key) => Ok(key),
+        None => unreachable!(),
+    }
+}
+
 /// Links each put to the next one on its key, and each key to the first put on it.
 pub fn link<'a>(
     alloc: Global,
@@ -38,9 +84,9 @@ pub fn link<'a>(
 {
     let mut nexts = vec![in alloc; None; table.len()]?;
     let mut firsts = HashMap::new(alloc);
+    let mut ahead = Vec::with_capacity(alloc, ROW)?;
     for place in (0..table.len()).rev() {
-        let put = &table[place];
-        let key = put_key(history, put.name).as_bytes();
+        let key = next_key(&mut ahead, history, table, place)?;
         let next = firsts.insert(key, place as u32)?;
         nexts[place] = next;
     }

@@ -71,7 +71,7 @@ pub fn puts_by_version(
     requires few { length names.now ≤ 16000000 }
     ensures { IfOk result (λ v. IsPutTable history.now.sessions v.items) }
 {
-    let mut puts = Vec::new(alloc);
+    let mut puts = Vec::with_capacity(alloc, names.len())?;
     set_puts(&mut puts, history, names)?;
     Ok(puts)
 }

@@ -5,8 +5,8 @@ use Rattle.std.specs.HashMap as hash
 use Rattle.std.specs.Map.{lookup}
 use Rattle.std.proofs.lemmas.Bool.{cases_Bool}
 use Rattle.std.proofs.lemmas.Slice.Eq.{bytes_eq-Decides}
-use Rattle.cops_audit.specs.Keys.{IsFirstFrom, IsNext, OnKey}
-use Rattle.cops_audit.proofs.Linking.{next_is, on_key, first_here, first_kept, none_past_end, written}
+use Rattle.cops_audit.specs.Keys.{AreAhead, IsFirstFrom, IsNext, OnKey}
+use Rattle.cops_audit.proofs.Linking.{next_is, first_here, first_kept, none_past_end, written}
 use Rattle.cops_audit.proofs.Marks.{slice_get_inside}
 use Rattle.cops_audit.proofs.keys.link.Goals as goal
 
@@ -14,15 +14,14 @@ pub loop-place-init : goal.loop-place-init
 loop-place-init c = record {
   whole = omega (arith, c.in_ok-nexts.ensures.len);
   nexts = λ t next le at. let l = slice_get_inside c.in_ok-nexts.nexts.items t next at in absurd (omega (arith, l, le, c.in_ok-nexts.ensures.len));
+  ahead = (length c.args.table.now, omega (arith, ap length c.in_ok-ahead.ensures.items), λ j key at. let l = slice_get_inside c.in_ok-ahead.ahead.items j key at in absurd (omega (arith, l, ap length c.in_ok-ahead.ensures.items)));
   firsts = λ q.
       let got : hash.get (λ x y. pointwise nat_eq x.now y.now) c.new-firsts.result q ≡ None = ap (lookup (λ (k : Bor (List ℕ)). pointwise nat_eq q.now k.now)) c.new-firsts.ensures.empty in
       subst (IsFirstFrom c.args.history.now.sessions c.args.table.now (length c.args.table.now) q.now) (sym got) (none_past_end c.args.history.now.sessions c.args.table.now q.now);
 }
 
-pub put_key-requires : goal.put_key-requires
-put_key-requires c =
-    let put = (c.requires.table.members c.index-table-place.result).0 (c.loop-place.place - 1, omega arith, sym c.index-table-place.is) in
-    (c.index-table-place.result.version, put)
+pub next_key-requires-clause-ahead : goal.next_key-requires-clause-ahead
+next_key-requires-clause-ahead c = subst (λ (n : ℕ). AreAhead c.args.history.now.sessions c.args.table.now n c.loop-place.ahead.items) (omega arith) c.loop-place.invariant.ahead
 
 pub loop-place-preserved : goal.loop-place-preserved
 loop-place-preserved c =
@@ -30,10 +29,8 @@ loop-place-preserved c =
     let table = c.args.table.now in
     let k = c.loop-place.place - 1 in
     let e : c.loop-place.place ≡ k + 1 = omega arith in
-    let put = c.index-table-place.result in
-    let key = c.as_bytes-key.result in
-    let here : OnKey h table k key.now = subst (OnKey h table k) (sym c.as_bytes-key.ensures.bytes)
-    (on_key h table c.requires k put c.put_key.result.now c.put_key.ensures.0 (omega arith) c.index-table-place.is c.put_key.ensures.1) in
+    let key = c.in_ok-key.key in
+    let here : OnKey h table k key.now = c.in_ok-key.ensures.key in
     let found : c.in_ok-next.next ≡ hash.get (λ x y. pointwise nat_eq x.now y.now) c.loop-place.firsts key = c.in_ok-next.ensures.old in
     record {
       whole = omega (arith, length-set c.loop-place.nexts.items k c.in_ok-next.next, c.loop-place.invariant.whole);
@@ -42,6 +39,7 @@ loop-place-preserved c =
             (subst (IsFirstFrom h table c.loop-place.place key.now) (sym found) (c.loop-place.invariant.firsts key))))
         | inr w ↦ c.loop-place.invariant.nexts t next (omega (arith, le, w.0, e)) w.1
       ];
+      ahead = c.in_ok-key.ensures.ahead;
       firsts = λ q. elim (cases_Bool (pointwise nat_eq key.now q.now)) [
         | inl same ↦
             let e' : key.now ≡ q.now = (bytes_eq-Decides key.now q.now).0 same in
