@@ -1,5 +1,7 @@
-ghost use Rattle.std.specs.Prelude.{◌≡◌, IfOk, IfSome};
-ghost use Rattle.cops_types.specs.Counted.{inner};
+ghost use Rattle.std.specs.Prelude.{◌≡◌, ◌⊎◌, None, Ok, IfOk, IfSome, OnSome};
+ghost use Rattle.std.specs.Io.KnownBytes.{IsAtEnd};
+ghost use Rattle.cops_types.specs.Failures.{Failed};
+ghost use Rattle.cops_types.specs.Counted.{failures, inner};
 
 use cops_types::{Counted, Memory};
 use std::alloc::Global;
@@ -10,11 +12,14 @@ pub const PIECE: usize = 4096;
 
 /// All that a reader has left, or `None` where a read failed, which is not tried again.
 pub fn read_all<R: Read>(alloc: Global, reader: &mut Counted<R>) -> Result<Option<Vec<u8>>, Memory>
-    ensures { IfOk result (λ read. IfSome read (λ bytes. IfSome (R.remaining (inner reader.old)) (λ all. bytes.items ≡ all))) }
+    ensures all { IfOk result (λ read. IfSome read (λ bytes. IfSome (R.remaining (inner reader.old)) (λ all. bytes.items ≡ all))) }
+    ensures end { IfOk result (λ read. OnSome read (IsAtEnd (R.remaining (inner reader.new)))) }
+    ensures failed { result ≡ Ok None → Failed (failures reader.old) (failures reader.new) }
+    ensures heard { (result ≡ Ok None) ⊎ (failures reader.new ≡ failures reader.old) }
 {
     let mut bytes = Vec::new(alloc);
     let mut piece = [0u8; PIECE];
-    for _ in 0..u64::MAX {
+    loop {
         let count = match reader.read(&mut piece) {
             Ok(count) => count,
             Err(_) => return Ok(None),
@@ -24,5 +29,4 @@ pub fn read_all<R: Read>(alloc: Global, reader: &mut Counted<R>) -> Result<Optio
         }
         bytes.extend_from_slice(&piece[..count])?;
     }
-    Ok(None)
 }

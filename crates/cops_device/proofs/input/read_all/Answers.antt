@@ -22,15 +22,17 @@ all_read (Some u) None c xs p q r = absurd p
 all_read (Some u) (Some v) None xs p q r = absurd q
 all_read (Some u) (Some v) (Some w) xs p q r = sym (p ∙ ap (λ (t : List ℕ). xs ++ t) (q ∙ r) ∙ append-nil xs)
 
-pub loop-init : goal.loop-init
-loop-init g c = subst (λ (xs : List ℕ). Consumes (g.R.Read.remaining (inner c.args.reader.now)) (g.R.Read.remaining (inner c.args.reader.now)) xs) (sym c.new-bytes.ensures.items) (consumed_none _)
+pub loop-count-init : goal.loop-count-init
+loop-count-init g c = (subst (λ (xs : List ℕ). Consumes (g.R.Read.remaining (inner c.args.reader.now)) (g.R.Read.remaining (inner c.args.reader.now)) xs) (sym c.new-bytes.ensures.items) (consumed_none _), refl)
 
-pub loop-preserved : goal.loop-preserved
-loop-preserved g c =
-    subst (λ (xs : List ℕ). Consumes (g.R.Read.remaining (inner c.args.reader.now)) (g.R.Read.remaining (inner c.read.new.self)) xs) (sym c.in_ok-extend_from_slice.ensures.items)
-    (consumed _ (g.R.Read.remaining (inner c.loop.reader)) _ _ _ c.loop.invariant c.in-Ok.ensures.bytes.0)
+pub loop-count-preserved : goal.loop-count-preserved
+loop-count-preserved g c = (
+  subst (λ (xs : List ℕ). Consumes (g.R.Read.remaining (inner c.args.reader.now)) (g.R.Read.remaining (inner c.read.new.self)) xs) (sym c.in_ok-extend_from_slice.ensures.items)
+      (consumed _ (g.R.Read.remaining (inner c.loop-count.reader)) _ _ _ c.loop-count.invariant.0 c.in-Ok.ensures.bytes.0),
+  c.in-Ok.ensures.count ∙ c.loop-count.invariant.1,
+)
 
-pub returns-then-count-eq0 : goal.returns-then-count-eq0
-returns-then-count-eq0 g c =
+pub returns-then-count-eq0-clause-all : goal.returns-then-count-eq0-clause-all
+returns-then-count-eq0-clause-all g c =
     let read = c.in-Ok.ensures.bytes in
-    all_read _ _ _ _ c.loop.invariant (rw c.if-count-eq0.true at read.0) (read.1 c.if-count-eq0.true (omega arith))
+    all_read _ _ _ _ c.loop-count.invariant.0 (rw c.if-count-eq0.true at read.0) (read.1 c.if-count-eq0.true (omega arith))
