@@ -1,0 +1,24 @@
+-- What showing a trace writes, from what was read.
+use Rattle.std.proofs.Common.{◌≡◌, ℕ, List, [], ◌++◌, Option, Some, None, refl, sym, ap, subst, ◌∙◌, append_assoc}
+use Rattle.std.specs.Prelude.{IfSome}
+use Rattle.std.proofs.lemmas.List.{append-nil}
+use Rattle.std.specs.Io.KnownBytes.{Appends}
+use Rattle.cops_trace.specs.declared.fault.TraceFault.{TraceFault}
+use Rattle.cops_stream.specs.Show.{HasFirst, Shows, status_of, last_line}
+
+pub appends_none : (a : Option (List ℕ)) → Appends a a []
+appends_none None = tt
+appends_none (Some u) = sym (append-nil u)
+
+pub appends_both : (a b c : Option (List ℕ)) (xs ys : List ℕ) → Appends a b xs → Appends b c ys → Appends a c (xs ++ ys)
+appends_both None b c xs ys p q = tt
+appends_both (Some u) None c xs ys p q = absurd p
+appends_both (Some u) (Some v) None xs ys p q = absurd q
+appends_both (Some u) (Some v) (Some w) xs ys p q = q ∙ ap (λ (t : List ℕ). t ++ ys) p ∙ append_assoc u xs ys
+
+-- the lines, and then the last one
+pub shows_all : (a : Option (List ℕ)) (bytes : List ℕ) (fault : Option TraceFault) (old mid new : Option (List ℕ)) → IfSome a (λ all. bytes ≡ all) → HasFirst bytes fault
+    → ((lines : List ℕ) × Appends old mid lines) → Appends mid new (last_line fault) → IfSome a (λ all. Shows all (status_of fault) old new)
+shows_all None bytes fault old mid new same first lines last = tt
+shows_all (Some u) bytes fault old mid new same first lines last =
+    (fault, lines.0, subst (λ (t : List ℕ). HasFirst t fault) same first, refl, appends_both old mid new _ _ lines.1 last)
