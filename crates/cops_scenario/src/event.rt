@@ -1,5 +1,7 @@
 //! Events, and the operations of a script: objects of one member, which names what happens.
-ghost use Rattle.std.specs.Prelude.{◌≤◌, length, IfOk};
+ghost use Rattle.std.specs.Prelude.{◌≡◌, ◌≤◌, length, map, IfOk};
+ghost use Rattle.serde_json.specs.View.{view};
+ghost use Rattle.cops_scenario.specs.File.{event_json, op_json, list_json};
 
 use crate::field::{Unread, client, dc, key, list, number, only_member, value, version};
 use crate::scenario::ScriptOp;
@@ -9,7 +11,8 @@ use std::alloc::Global;
 
 /// The events of a list of at most so many.
 pub(crate) fn events(alloc: Global, json: &Json, most: usize) -> Result<Vec<Event>, Unread>
-    ensures { IfOk result (λ events. length events.items ≤ most) }
+    ensures few { IfOk result (λ events. length events.items ≤ most) }
+    ensures json { IfOk result (λ events. view json.now ≡ list_json (map event_json events.items)) }
 {
     let mut events = Vec::new(alloc);
     for item in list(json, most)? {
@@ -20,7 +23,8 @@ pub(crate) fn events(alloc: Global, json: &Json, most: usize) -> Result<Vec<Even
 
 /// The operations of a script of at most so many.
 pub(crate) fn script(alloc: Global, json: &Json, most: usize) -> Result<Vec<ScriptOp>, Unread>
-    ensures { IfOk result (λ script. length script.items ≤ most) }
+    ensures few { IfOk result (λ script. length script.items ≤ most) }
+    ensures json { IfOk result (λ script. view json.now ≡ list_json (map op_json script.items)) }
 {
     let mut script = Vec::new(alloc);
     for item in list(json, most)? {
@@ -29,7 +33,10 @@ pub(crate) fn script(alloc: Global, json: &Json, most: usize) -> Result<Vec<Scri
     Ok(script)
 }
 
-fn script_op(alloc: Global, json: &Json) -> Result<ScriptOp, Unread> {
+/// An operation of a script.
+fn script_op(alloc: Global, json: &Json) -> Result<ScriptOp, Unread>
+    ensures { IfOk result (λ op. view json.now ≡ op_json op) }
+{
     match only_member(json)? {
         ("put", of) => match list(of, 2)? {
             [k, v] => Ok(ScriptOp::Put {
@@ -45,7 +52,10 @@ fn script_op(alloc: Global, json: &Json) -> Result<ScriptOp, Unread> {
     }
 }
 
-fn event(alloc: Global, json: &Json) -> Result<Event, Unread> {
+/// An event.
+fn event(alloc: Global, json: &Json) -> Result<Event, Unread>
+    ensures { IfOk result (λ event. view json.now ≡ event_json event) }
+{
     let (name, of) = only_member(json)?;
     match (name, list(of, 3)?) {
         ("put", [c, k, v]) => Ok(Event::Put {

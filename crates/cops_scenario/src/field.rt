@@ -1,7 +1,9 @@
 //! What stands in a scenario's fields: numbers, keys, values and versions, and lists of known length.
-ghost use Rattle.std.specs.Prelude.{◌≡◌, ◌≤◌, length, Some, IfOk, option_and_then};
+ghost use Rattle.std.specs.Prelude.{◌≡◌, ◌≤◌, length, map, decimal, Some, IfOk, option_and_then};
 ghost use Rattle.serde_json.specs.Find.{as_number, as_u64};
 ghost use Rattle.serde_json.specs.View.{view};
+ghost use Rattle.cops_types.specs.Texts.{version_text};
+ghost use Rattle.cops_scenario.specs.File.{number_json, text_json, list_json, one_json};
 
 use crate::fault::{Field, ScenarioFault};
 use cops_types::{Key, Memory, TypeFault, Value, Version};
@@ -60,6 +62,7 @@ impl<T: Drop> From<AllocFailed<T>> for Unread {
 pub(crate) fn number(json: &Json, least: u64, most: u64) -> Result<u64, Unread>
     ensures value { IfOk result (λ n. Some n ≡ option_and_then as_u64 (as_number (view json.now))) }
     ensures range { IfOk result (λ n. (least ≤ n) × (n ≤ most)) }
+    ensures json { IfOk result (λ n. view json.now ≡ number_json n) }
 {
     match json.as_u64() {
         Some(n) if least <= n && n <= most => Ok(n),
@@ -69,7 +72,8 @@ pub(crate) fn number(json: &Json, least: u64, most: u64) -> Result<u64, Unread>
 
 /// A list of at most so many.
 pub(crate) fn list(json: &Json, most: usize) -> Result<&[Json], Unread>
-    ensures { IfOk result (λ items. length items.now ≤ most) }
+    ensures few { IfOk result (λ items. length items.now ≤ most) }
+    ensures json { IfOk result (λ items. view json.now ≡ list_json (map view items.now)) }
 {
     match json.as_array() {
         Some(items) if items.len() <= most => Ok(items.as_slice()),
@@ -78,7 +82,9 @@ pub(crate) fn list(json: &Json, most: usize) -> Result<&[Json], Unread>
 }
 
 /// The name and the value of an object's only member.
-pub(crate) fn only_member(json: &Json) -> Result<(&str, &Json), Unread> {
+pub(crate) fn only_member(json: &Json) -> Result<(&str, &Json), Unread>
+    ensures { IfOk result (λ m. view json.now ≡ one_json m.0.now (view m.1.now)) }
+{
     let members = json.as_object().ok_or(Unread::Form)?;
     if members.len() != 1 {
         return Err(Unread::Form);
@@ -88,19 +94,25 @@ pub(crate) fn only_member(json: &Json) -> Result<(&str, &Json), Unread> {
 }
 
 /// A text as a key, 1 to 64 bytes.
-pub(crate) fn key(alloc: Global, json: &Json) -> Result<Key, Unread> {
+pub(crate) fn key(alloc: Global, json: &Json) -> Result<Key, Unread>
+    ensures { IfOk result (λ bytes. view json.now ≡ text_json bytes) }
+{
     let text = json.as_str().ok_or(Unread::Form)?;
     Ok(Key::new(alloc, text.as_bytes())?)
 }
 
 /// A text as a value, at most 4,096 bytes.
-pub(crate) fn value(alloc: Global, json: &Json) -> Result<Value, Unread> {
+pub(crate) fn value(alloc: Global, json: &Json) -> Result<Value, Unread>
+    ensures { IfOk result (λ bytes. view json.now ≡ text_json bytes) }
+{
     let text = json.as_str().ok_or(Unread::Form)?;
     Ok(Value::new(alloc, text.as_bytes())?)
 }
 
 /// A text as a version: a clock, a dot and a node, each decimal without leading zeros.
-pub(crate) fn version(json: &Json) -> Result<Version, Unread> {
+pub(crate) fn version(json: &Json) -> Result<Version, Unread>
+    ensures { IfOk result (λ version. view json.now ≡ text_json (version_text version)) }
+{
     let text = json.as_str().ok_or(Unread::Form)?;
     let (clock, node) = text.split_once('.').ok_or(Unread::Form)?;
     let node = u16::try_from(decimal(node)?).or(Err(Unread::Form))?;
@@ -108,21 +120,32 @@ pub(crate) fn version(json: &Json) -> Result<Version, Unread> {
 }
 
 /// A number of digits alone, without leading zeros.
-fn decimal(text: &str) -> Result<u64, Unread> {
+fn decimal(text: &str) -> Result<u64, Unread>
+    ensures { IfOk result (λ n. text.now ≡ decimal n) }
+{
     let digits = text.as_bytes();
-    let leads_with_zero = digits.len() > 1 && digits[0] == b'0';
-    if leads_with_zero || !digits.iter().all(|digit| digit.is_ascii_digit()) {
+    if digits.is_empty() || digits[0] == b'+' {
         return Err(Unread::Form);
     }
-    text.parse::<u64>().or(Err(Unread::Form))
+    if digits[0] == b'0' && digits.len() > 1 {
+        return Err(Unread::Form);
+    }
+    match text.parse::<u64>() {
+        Ok(n) => Ok(n),
+        Err(_) => Err(Unread::Form),
+    }
 }
 
 /// A client's number.
-pub(crate) fn client(json: &Json) -> Result<u16, Unread> {
+pub(crate) fn client(json: &Json) -> Result<u16, Unread>
+    ensures { IfOk result (λ n. view json.now ≡ number_json n) }
+{
     Ok(number(json, 0, 65_535)? as u16)
 }
 
 /// A data centre's number, of one that is there or not.
-pub(crate) fn dc(json: &Json) -> Result<u8, Unread> {
+pub(crate) fn dc(json: &Json) -> Result<u8, Unread>
+    ensures { IfOk result (λ n. view json.now ≡ number_json n) }
+{
     Ok(number(json, 0, 255)? as u8)
 }

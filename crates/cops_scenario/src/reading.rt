@@ -1,8 +1,10 @@
 //! A scenario from its JSON text.
-ghost use Rattle.std.specs.Prelude.{◌≡◌, ◌≢◌, ◌≤◌, ◌<◌, [], length, All, Err, IfOk, unwrap_or};
+ghost use Rattle.std.specs.Prelude.{◌≡◌, ◌≢◌, ◌≤◌, ◌<◌, List, [], length, map, All, Err, IfOk, unwrap_or, option_map};
 ghost use Rattle.std.specs.Bool.{OnFalse};
+ghost use Rattle.serde_json.specs.Data.{Data};
 ghost use Rattle.serde_json.specs.View.{view};
-ghost use Rattle.cops_scenario.specs.Scenario.{HasNumbersOf, IsClientOf, number_at};
+ghost use Rattle.cops_scenario.specs.File.{text_json, list_json, IsListOrMissing, TellsClient, TellClients, TellsScenario};
+ghost use Rattle.cops_scenario.specs.Scenario.{IsClientOf, number_at};
 
 use crate::event::{events, script};
 use crate::fault::{Field, ScenarioFault};
@@ -18,13 +20,13 @@ impl Scenario {
     ghost use Rattle.std.specs.Prelude.{◌≡◌, Some, None, Ok, Err, IfOk, IfErr, IsUtf8};
     ghost use Rattle.serde_json.specs.Data.{Data};
     ghost use Rattle.serde_json.specs.Read.{read};
-    ghost use Rattle.cops_scenario.specs.Scenario.{HasNumbersOf};
+    ghost use Rattle.cops_scenario.specs.File.{TellsScenario};
 
     /// The scenario of a JSON text, as docs/FORMATS.md has it: `NotJson` where the bytes are no JSON text, else
     /// `BadField` with the first field, in the order of `Field`, that is missing and has no default or is not of its
     /// form.
     pub fn from_json(alloc: Global, bytes: &[u8]) -> Result<Scenario, ScenarioFault>
-        ensures ok { IfOk result (λ scenario. (d : Data) × IsUtf8 bytes.now × (read bytes.now ≡ Some d) × HasNumbersOf d scenario) }
+        ensures ok { IfOk result (λ scenario. (d : Data) × IsUtf8 bytes.now × (read bytes.now ≡ Some d) × TellsScenario d scenario) }
         ensures not_json { result ≡ Err ScenarioFault.NotJson → IsUtf8 bytes.now → read bytes.now ≡ None }
         ensures bad_field { (field : Field) → result ≡ Err (ScenarioFault.BadField field) → (d : Data) × IsUtf8 bytes.now × (read bytes.now ≡ Some d) }
     {
@@ -38,7 +40,7 @@ impl Scenario {
 
 /// The scenario of a JSON value.
 fn scenario(alloc: Global, root: &Json) -> Result<Scenario, ScenarioFault>
-    ensures numbers { IfOk result (HasNumbersOf (view root.now)) }
+    ensures told { IfOk result (TellsScenario (view root.now)) }
     ensures json { result ≢ Err ScenarioFault.NotJson }
 {
     if !root.is_object() {
@@ -88,7 +90,8 @@ fn number_of(
 
 /// So many data centres, and the split keys of a list, none where it is missing.
 fn place(alloc: Global, dcs: u8, splits: Option<&Json>) -> Result<Place, Unread>
-    ensures { IfOk result (λ place. place.dcs ≡ dcs) }
+    ensures dcs { IfOk result (λ place. place.dcs ≡ dcs) }
+    ensures splits { IfOk result (λ place. IsListOrMissing (map text_json place.splits) (option_map (λ v. view v.now) splits.entry)) }
 {
     let mut keys = Vec::new(alloc);
     if let Some(json) = splits {
@@ -103,6 +106,7 @@ fn place(alloc: Global, dcs: u8, splits: Option<&Json>) -> Result<Place, Unread>
 fn clients(alloc: Global, dcs: u8, json: &Json) -> Result<Vec<ScriptedClient>, Unread>
     ensures few { IfOk result (λ clients. length clients.items ≤ 64) }
     ensures each { IfOk result (λ clients. All (IsClientOf dcs) clients.items) }
+    ensures told { IfOk result (λ clients. (ds : List Data) × (view json.now ≡ list_json ds) × TellClients ds clients.items) }
 {
     let mut clients = Vec::new(alloc);
     for item in list(json, MAX_CLIENTS)? {
@@ -113,7 +117,8 @@ fn clients(alloc: Global, dcs: u8, json: &Json) -> Result<Vec<ScriptedClient>, U
 
 /// A client: an object with its data centre, and its script, empty where that is missing.
 fn client(alloc: Global, dcs: u8, json: &Json) -> Result<ScriptedClient, Unread>
-    ensures { IfOk result (IsClientOf dcs) }
+    ensures limits { IfOk result (IsClientOf dcs) }
+    ensures told { IfOk result (TellsClient (view json.now)) }
 {
     let at = dc(json.get("at").ok_or(Unread::Form)?)?;
     if at >= dcs {

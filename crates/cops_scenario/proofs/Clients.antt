@@ -1,0 +1,24 @@
+-- Clients of a list, one after the other.
+use Rattle.std.proofs.Common.{◌≡◌, ◌<◌, ℕ, ◌+◌, List, [], ◌∷◌, ◌++◌, map, take, length, get_or, sym, ap, subst, ◌∙◌}
+use Rattle.std.proofs.Common.{add-one}
+use Rattle.std.proofs.Math.Seq.{take-suc}
+use Rattle.std.proofs.lemmas.List.{map_push}
+use Rattle.serde_json.specs.Data.{Data}
+use Rattle.serde_json.specs.View.{view}
+use Rattle.serde_json.specs.declared.value.Value.{Value}
+use Rattle.cops_scenario.specs.declared.scenario.ScriptedClient.{ScriptedClient}
+use Rattle.cops_scenario.specs.File.{TellsClient, TellClients}
+
+tell_one_more : (ds : List Data) (cs : List ScriptedClient) (d : Data) (c : ScriptedClient) → TellClients ds cs → TellsClient d c → TellClients (ds ++ d ∷ []) (cs ++ c ∷ [])
+tell_one_more [] [] d c told one = (one, tt)
+tell_one_more [] (x ∷ cs) d c told one = absurd told
+tell_one_more (e ∷ ds) [] d c told one = absurd told
+tell_one_more (e ∷ ds) (x ∷ cs) d c told one = (told.0, tell_one_more ds cs d c told.1 one)
+
+-- the clients of the first items, and then that of the next
+pub tell_next : (items : List Value) (i : ℕ) (cs : List ScriptedClient) (item : Value) (c : ScriptedClient) → TellClients (map view (take i items)) cs → i < length items → item ≡ get_or items i item → TellsClient (view item) c
+    → TellClients (map view (take (i + 1) items)) (cs ++ c ∷ [])
+tell_next items i cs item c told within is one =
+    let next : take (i + 1) items ≡ take i items ++ item ∷ [] = ap (λ n. take n items) (add-one i) ∙ take-suc items i item within ∙ ap (λ v. take i items ++ v ∷ []) (sym is) in
+    let views : map view (take (i + 1) items) ≡ map view (take i items) ++ view item ∷ [] = ap (map view) next ∙ map_push view (take i items) item in
+    subst (λ ds. TellClients ds (cs ++ c ∷ [])) (sym views) (tell_one_more _ cs (view item) c told one)
