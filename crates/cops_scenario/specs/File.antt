@@ -1,12 +1,13 @@
 -- The JSON that stands in a file for each part of a scenario.
-use Rattle.std.specs.Prelude.{◌≡◌, ℕ, List, [], ◌∷◌, map, codes, Option, None, Some}
+use Rattle.std.specs.Prelude.{◌≡◌, ◌≢◌, ◌≤◌, ℕ, List, [], ◌∷◌, map, codes, Option, None, Some}
 use Rattle.serde_json.specs.Data.{Data, unsigned, number, string, array, object, member, no_members}
 use Rattle.serde_json.specs.View.{items_of}
-use Rattle.serde_json.specs.Find.{get}
+use Rattle.serde_json.specs.Find.{get, as_object}
 use Rattle.cops_types.specs.Texts.{version_text}
 use Rattle.cops_core.specs.declared.event.Event.{Event}
 use Rattle.cops_core.specs.declared.event.Event.TheVariants.{Put, Get, Deliver, Ask, Mark, Settle}
-use Rattle.cops_scenario.specs.declared.fault.Field.TheVariants.{Splits, Clients, Events}
+use Rattle.cops_scenario.specs.declared.fault.Field.{Field}
+use Rattle.cops_scenario.specs.declared.fault.Field.TheVariants.{Root, DataCentres, Splits, Link, Turns, Clients, Events}
 use Rattle.cops_scenario.specs.declared.scenario.ScriptOp.{ScriptOp}
 use Rattle.cops_scenario.specs.declared.scenario.ScriptOp.TheVariants as script
 use Rattle.cops_scenario.specs.declared.scenario.ScriptedClient.{ScriptedClient}
@@ -66,3 +67,17 @@ pub record TellsScenario (root : Data) (s : AScenario) : Type 0 where
   pub splits : IsListOrMissing (map text_json s.place.splits) (get (name_of Splits) root)
   pub clients : (ds : List Data) × (get (name_of Clients) root ≡ Some (list_json ds)) × TellClients ds s.clients
   pub events : TellsEvents (get (name_of Events) root) s.events
+
+-- no whole number from the least to the most
+abbrev pub IsNoNumber : ℕ → ℕ → Option Data → Type 0
+IsNoNumber least most d = (n : ℕ) → least ≤ n → n ≤ most → d ≢ Some (number_json n)
+
+-- what is wrong with a file's field where it is named: of lists only that they are there, and of the clients that some are
+abbrev pub IsWrong : Data → Field → Type 0
+IsWrong root Root = as_object root ≡ None
+IsWrong root DataCentres = IsNoNumber 1 16 (get (name_of DataCentres) root)
+IsWrong root Splits = get (name_of Splits) root ≢ None
+IsWrong root Link = (get (name_of Link) root ≢ None) × IsNoNumber 1 1024 (get (name_of Link) root)
+IsWrong root Turns = (get (name_of Turns) root ≢ None) × IsNoNumber 1 1000000000 (get (name_of Turns) root)
+IsWrong root Clients = get (name_of Clients) root ≢ Some (list_json [])
+IsWrong root Events = get (name_of Events) root ≢ None

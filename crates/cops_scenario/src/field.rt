@@ -1,9 +1,10 @@
 //! What stands in a scenario's fields: numbers, keys, values and versions, and lists of known length.
-ghost use Rattle.std.specs.Prelude.{◌≡◌, ◌≤◌, length, map, decimal, Some, IfOk, option_and_then};
+ghost use Rattle.std.specs.Prelude.{◌≡◌, ◌≢◌, ◌≤◌, [], length, map, decimal, Some, Err, IfOk, OnErr, option_and_then};
 ghost use Rattle.serde_json.specs.Find.{as_number, as_u64};
 ghost use Rattle.serde_json.specs.View.{view};
 ghost use Rattle.cops_types.specs.Texts.{version_text};
-ghost use Rattle.cops_scenario.specs.File.{number_json, text_json, list_json, one_json};
+ghost use Rattle.cops_scenario.specs.declared.field.Unread.TheVariants.{Memory as OutOfMemory};
+ghost use Rattle.cops_scenario.specs.File.{number_json, text_json, list_json, one_json, IsNoNumber};
 
 use crate::fault::{Field, ScenarioFault};
 use cops_types::{Key, Memory, TypeFault, Value, Version};
@@ -18,11 +19,13 @@ pub(crate) enum Unread {
 }
 
 impl Unread {
-    ghost use Rattle.std.specs.Prelude.{◌≢◌};
+    ghost use Rattle.std.specs.Prelude.{◌≡◌, ◌≢◌};
 
     /// The fault of the field that it stands in.
     pub(crate) fn of(self, field: Field) -> ScenarioFault
-        ensures { result ≢ ScenarioFault.NotJson }
+        ensures memory { self ≡ Unread.Memory → result ≡ ScenarioFault.Memory }
+        ensures form { self ≡ Unread.Form → result ≡ ScenarioFault.BadField field }
+        ensures json { result ≢ ScenarioFault.NotJson }
     {
         match self {
             Unread::Memory => ScenarioFault::Memory,
@@ -32,6 +35,11 @@ impl Unread {
 }
 
 impl From<TypeFault> for Unread {
+    ghost use Rattle.std.specs.Prelude.{◌≡◌, ◌↔◌};
+    ghost use Rattle.cops_types.specs.declared.fault.TypeFault.TheVariants.{Memory as TypeMemory};
+
+    ghost from_gives = { λ fault e. (e ≡ OutOfMemory) ↔ (fault ≡ TypeMemory) };
+
     fn from(e: TypeFault) -> Unread {
         match e {
             TypeFault::Memory => Unread::Memory,
@@ -41,18 +49,24 @@ impl From<TypeFault> for Unread {
 }
 
 impl From<Memory> for Unread {
+    ghost from_gives = { λ _ e. e ≡ OutOfMemory };
+
     fn from(_e: Memory) -> Unread {
         Unread::Memory
     }
 }
 
 impl From<AllocError> for Unread {
+    ghost from_gives = { λ _ e. e ≡ OutOfMemory };
+
     fn from(_e: AllocError) -> Unread {
         Unread::Memory
     }
 }
 
 impl<T: Drop> From<AllocFailed<T>> for Unread {
+    ghost from_gives = { λ _ e. e ≡ OutOfMemory };
+
     fn from(_e: AllocFailed<T>) -> Unread {
         Unread::Memory
     }
@@ -63,6 +77,8 @@ pub(crate) fn number(json: &Json, least: u64, most: u64) -> Result<u64, Unread>
     ensures value { IfOk result (λ n. Some n ≡ option_and_then as_u64 (as_number (view json.now))) }
     ensures range { IfOk result (λ n. (least ≤ n) × (n ≤ most)) }
     ensures json { IfOk result (λ n. view json.now ≡ number_json n) }
+    ensures form { OnErr result (result ≡ Err Unread.Form) }
+    ensures none { OnErr result (IsNoNumber least most (Some (view json.now))) }
 {
     match json.as_u64() {
         Some(n) if least <= n && n <= most => Ok(n),
@@ -74,11 +90,13 @@ pub(crate) fn number(json: &Json, least: u64, most: u64) -> Result<u64, Unread>
 pub(crate) fn list(json: &Json, most: usize) -> Result<&[Json], Unread>
     ensures few { IfOk result (λ items. length items.now ≤ most) }
     ensures json { IfOk result (λ items. view json.now ≡ list_json (map view items.now)) }
+    ensures none { OnErr result (view json.now ≢ list_json []) }
 {
-    match json.as_array() {
-        Some(items) if items.len() <= most => Ok(items.as_slice()),
-        _ => Err(Unread::Form),
+    let items = json.as_array().ok_or(Unread::Form)?;
+    if items.len() > most {
+        return Err(Unread::Form);
     }
+    Ok(items.as_slice())
 }
 
 /// The name and the value of an object's only member.

@@ -1,10 +1,12 @@
 //! A scenario from its JSON text.
-ghost use Rattle.std.specs.Prelude.{◌≡◌, ◌≢◌, ◌≤◌, ◌<◌, List, [], length, map, All, Err, IfOk, unwrap_or, option_map};
+ghost use Rattle.std.specs.Prelude.{◌≡◌, ◌≢◌, ◌≤◌, ◌<◌, List, [], ℕ, length, map, All, None, Some, Err, IfOk, OnErr, IsSome, unwrap_or, option_map};
 ghost use Rattle.std.specs.Bool.{OnFalse};
 ghost use Rattle.serde_json.specs.Data.{Data};
 ghost use Rattle.serde_json.specs.View.{view};
-ghost use Rattle.cops_scenario.specs.File.{text_json, list_json, IsListOrMissing, TellsClient, TellClients, TellsScenario};
-ghost use Rattle.cops_scenario.specs.Scenario.{IsClientOf, number_at};
+ghost use Rattle.cops_scenario.specs.File.{text_json, list_json, IsListOrMissing, TellsClient, TellClients, TellsScenario, IsNoNumber, IsWrong};
+ghost use Rattle.cops_scenario.specs.declared.fault.Field.{Field as AField};
+ghost use Rattle.serde_json.specs.Find.{get};
+ghost use Rattle.cops_scenario.specs.Scenario.{IsClientOf, name_of, number_at};
 
 use crate::event::{events, script};
 use crate::fault::{Field, ScenarioFault};
@@ -12,7 +14,7 @@ use crate::field::{Unread, dc, key, list, number};
 use crate::scenario::{
     MAX_CLIENTS, MAX_EVENTS, MAX_LINK, MAX_SCRIPT, MAX_TURNS, Scenario, ScriptedClient,
 };
-use cops_place::{MAX_DCS, MAX_SPLITS, Place};
+use cops_place::{MAX_DCS, MAX_SPLITS, Place, PlaceFault};
 use serde_json::Value as Json;
 use std::alloc::Global;
 
@@ -20,7 +22,7 @@ impl Scenario {
     ghost use Rattle.std.specs.Prelude.{◌≡◌, Some, None, Ok, Err, IfOk, IfErr, IsUtf8};
     ghost use Rattle.serde_json.specs.Data.{Data};
     ghost use Rattle.serde_json.specs.Read.{read};
-    ghost use Rattle.cops_scenario.specs.File.{TellsScenario};
+    ghost use Rattle.cops_scenario.specs.File.{TellsScenario, IsWrong};
 
     /// The scenario of a JSON text, as docs/FORMATS.md has it: `NotJson` where the bytes are no JSON text, else
     /// `BadField` with the first field, in the order of `Field`, that is missing and has no default or is not of its
@@ -28,7 +30,7 @@ impl Scenario {
     pub fn from_json(alloc: Global, bytes: &[u8]) -> Result<Scenario, ScenarioFault>
         ensures ok { IfOk result (λ scenario. (d : Data) × IsUtf8 bytes.now × (read bytes.now ≡ Some d) × TellsScenario d scenario) }
         ensures not_json { result ≡ Err ScenarioFault.NotJson → IsUtf8 bytes.now → read bytes.now ≡ None }
-        ensures bad_field { (field : Field) → result ≡ Err (ScenarioFault.BadField field) → (d : Data) × IsUtf8 bytes.now × (read bytes.now ≡ Some d) }
+        ensures bad_field { (field : Field) → result ≡ Err (ScenarioFault.BadField field) → (d : Data) × IsUtf8 bytes.now × (read bytes.now ≡ Some d) × IsWrong d field }
     {
         match Json::from_slice(alloc, bytes) {
             Ok(root) => scenario(alloc, &root),
@@ -41,6 +43,7 @@ impl Scenario {
 /// The scenario of a JSON value.
 fn scenario(alloc: Global, root: &Json) -> Result<Scenario, ScenarioFault>
     ensures told { IfOk result (TellsScenario (view root.now)) }
+    ensures wrong { (field : AField) → result ≡ Err (ScenarioFault.BadField field) → IsWrong (view root.now) field }
     ensures json { result ≢ Err ScenarioFault.NotJson }
 {
     if !root.is_object() {
@@ -79,7 +82,9 @@ fn number_of(
 ) -> Result<u64, ScenarioFault>
     ensures value { IfOk result (λ n. n ≡ number_at (view root.now) field (unwrap_or missing 0)) }
     ensures range { IfOk result (λ n. (least ≤ n) × (n ≤ most)) }
-    ensures json { result ≢ Err ScenarioFault.NotJson }
+    ensures wrong { OnErr result (result ≡ Err (ScenarioFault.BadField field)) }
+    ensures none { OnErr result (IsNoNumber least most (get (name_of field) (view root.now))) }
+    ensures there { OnErr result ((n : ℕ) → missing ≡ Some n → least ≤ n → n ≤ most → get (name_of field) (view root.now) ≢ None) }
 {
     match (root.get(field.name()), missing) {
         (Some(json), _) => number(json, least, most).map_err(|unread| unread.of(field)),
@@ -90,22 +95,38 @@ fn number_of(
 
 /// So many data centres, and the split keys of a list, none where it is missing.
 fn place(alloc: Global, dcs: u8, splits: Option<&Json>) -> Result<Place, Unread>
+    requires { (1 ≤ dcs) × (dcs ≤ 16) }
     ensures dcs { IfOk result (λ place. place.dcs ≡ dcs) }
+    ensures there { result ≡ Err Unread.Form → IsSome splits.entry }
     ensures splits { IfOk result (λ place. IsListOrMissing (map text_json place.splits) (option_map (λ v. view v.now) splits.entry)) }
 {
+    let Some(json) = splits else {
+        return Ok(whole_place(alloc, dcs));
+    };
     let mut keys = Vec::new(alloc);
-    if let Some(json) = splits {
-        for item in list(json, MAX_SPLITS)? {
-            keys.push(key(alloc, item)?)?;
-        }
+    for item in list(json, MAX_SPLITS)? {
+        keys.push(key(alloc, item)?)?;
     }
     Place::new(dcs, keys).or(Err(Unread::Form))
+}
+
+/// So many data centres with no split keys.
+fn whole_place(alloc: Global, dcs: u8) -> Place
+    requires { (1 ≤ dcs) × (dcs ≤ 16) }
+    ensures { result ≡ record { dcs = dcs; splits = [] } }
+{
+    match Place::new(dcs, Vec::new(alloc)) {
+        Ok(place) => place,
+        Err(PlaceFault::BadCount) => unreachable!(),
+        Err(PlaceFault::SplitsNotAscending) => unreachable!(),
+    }
 }
 
 /// The clients of a list.
 fn clients(alloc: Global, dcs: u8, json: &Json) -> Result<Vec<ScriptedClient>, Unread>
     ensures few { IfOk result (λ clients. length clients.items ≤ 64) }
     ensures each { IfOk result (λ clients. All (IsClientOf dcs) clients.items) }
+    ensures some { result ≡ Err Unread.Form → view json.now ≢ list_json [] }
     ensures told { IfOk result (λ clients. (ds : List Data) × (view json.now ≡ list_json ds) × TellClients ds clients.items) }
 {
     let mut clients = Vec::new(alloc);
