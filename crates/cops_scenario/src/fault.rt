@@ -40,6 +40,11 @@ impl Field {
 }
 
 impl fmt::Display for Field {
+    ghost use Rattle.std.specs.Prelude.{Some};
+    ghost use Rattle.cops_scenario.specs.Scenario.{name_of};
+
+    ghost output = { λ f. Some (name_of f) };
+
     fn fmt<W: fmt::Write>(&self, f: &mut fmt::Formatter<W>) -> fmt::Result {
         f.write_str(self.name())
     }
