@@ -1,6 +1,7 @@
 -- The JSON that stands in a file for each part of a scenario.
-use Rattle.std.specs.Prelude.{◌≡◌, ◌≢◌, ◌≤◌, ℕ, List, [], ◌∷◌, map, codes, Option, None, Some}
+use Rattle.std.specs.Prelude.{◌≡◌, ◌≢◌, ◌≤◌, ℕ, List, [], ◌∷◌, map, codes, Option, None, Some, IsUtf8}
 use Rattle.serde_json.specs.Data.{Data, unsigned, number, string, array, object, member, no_members}
+use Rattle.serde_json.specs.Read.{read}
 use Rattle.serde_json.specs.View.{items_of}
 use Rattle.serde_json.specs.Find.{get, as_object}
 use Rattle.cops_types.specs.Texts.{version_text}
@@ -81,3 +82,15 @@ IsWrong root Link = (get (name_of Link) root ≢ None) × IsNoNumber 1 1024 (get
 IsWrong root Turns = (get (name_of Turns) root ≢ None) × IsNoNumber 1 1000000000 (get (name_of Turns) root)
 IsWrong root Clients = get (name_of Clients) root ≢ Some (list_json [])
 IsWrong root Events = get (name_of Events) root ≢ None
+
+-- the bytes are a JSON text that tells the scenario
+abbrev pub IsTextOf : List ℕ → AScenario → Type 0
+IsTextOf bytes s = (root : Data) × IsUtf8 bytes × (read bytes ≡ Some root) × TellsScenario root s
+
+-- they are no JSON text
+abbrev pub IsNoText : List ℕ → Type 0
+IsNoText bytes = IsUtf8 bytes → read bytes ≡ None
+
+-- they are one in which the field is wrong
+abbrev pub IsWrongText : List ℕ → Field → Type 0
+IsWrongText bytes field = (root : Data) × IsUtf8 bytes × (read bytes ≡ Some root) × IsWrong root field

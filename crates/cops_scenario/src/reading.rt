@@ -19,18 +19,16 @@ use serde_json::Value as Json;
 use std::alloc::Global;
 
 impl Scenario {
-    ghost use Rattle.std.specs.Prelude.{◌≡◌, Some, None, Ok, Err, IfOk, IfErr, IsUtf8};
-    ghost use Rattle.serde_json.specs.Data.{Data};
-    ghost use Rattle.serde_json.specs.Read.{read};
-    ghost use Rattle.cops_scenario.specs.File.{TellsScenario, IsWrong};
+    ghost use Rattle.std.specs.Prelude.{◌≡◌, Err, IfOk};
+    ghost use Rattle.cops_scenario.specs.File.{IsTextOf, IsNoText, IsWrongText};
 
     /// The scenario of a JSON text, as docs/FORMATS.md has it: `NotJson` where the bytes are no JSON text, else
     /// `BadField` with the first field, in the order of `Field`, that is missing and has no default or is not of its
     /// form.
     pub fn from_json(alloc: Global, bytes: &[u8]) -> Result<Scenario, ScenarioFault>
-        ensures ok { IfOk result (λ scenario. (d : Data) × IsUtf8 bytes.now × (read bytes.now ≡ Some d) × TellsScenario d scenario) }
-        ensures not_json { result ≡ Err ScenarioFault.NotJson → IsUtf8 bytes.now → read bytes.now ≡ None }
-        ensures bad_field { (field : Field) → result ≡ Err (ScenarioFault.BadField field) → (d : Data) × IsUtf8 bytes.now × (read bytes.now ≡ Some d) × IsWrong d field }
+        ensures ok { IfOk result (IsTextOf bytes.now) }
+        ensures not_json { result ≡ Err ScenarioFault.NotJson → IsNoText bytes.now }
+        ensures bad_field { (field : AField) → result ≡ Err (ScenarioFault.BadField field) → IsWrongText bytes.now field }
     {
         match Json::from_slice(alloc, bytes) {
             Ok(root) => scenario(alloc, &root),
