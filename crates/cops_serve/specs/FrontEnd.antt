@@ -1,5 +1,5 @@
 -- What a call of the front end leaves as it was.
-use Rattle.std.specs.Prelude.{◌≡◌, ◌<◌, ℕ, Option, Some, None, vec_len, vec_capacity, IsSome}
+use Rattle.std.specs.Prelude.{◌≡◌, ◌<◌, vec_len, vec_capacity, IsSome}
 use Rattle.cops_serve.specs.declared.front_end.FrontEnd.{FrontEnd}
 
 -- there is room for a call, and for the copies that it keeps

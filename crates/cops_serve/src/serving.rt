@@ -1,4 +1,10 @@
 //! The front door of a scenario's cluster, from the scenario's text to the report.
+ghost use Rattle.std.specs.Prelude.{◌≡◌, ◌⊎◌, Ok, IfOk, IfSome};
+ghost use Rattle.std.specs.Io.KnownBytes.{Appends};
+ghost use Rattle.cops_types.specs.Counted.{failures, inner};
+ghost use Rattle.cops_core.specs.World.{Setting};
+ghost use Rattle.cops_serve.specs.Serving.{IsTiedReport, EndsAs};
+
 use crate::fault::ServeFault;
 use crate::front_end::FrontEnd;
 use cops_device::{ACCEPTED, FAULTY, failed, read_all};
@@ -29,6 +35,10 @@ where
     I: Read,
     W: Write,
     E: Write,
+    // The status is that of the reader's bytes and of the text that was printed, unless something failed.
+    ensures ended { IfOk result (λ status. (status ≡ 4) ⊎ IfSome (I.remaining (inner reader.old)) (λ bytes.
+        EndsAs bytes status (W.contents (inner out.old)) (W.contents (inner out.new)))) }
+    ensures heard { (result ≡ Ok 4) ⊎ ((failures reader.new ≡ failures reader.old) × (failures out.new ≡ failures out.old)) }
 {
     let Some(bytes) = read_all(alloc, reader)? else {
         return Ok(failed(errors, b"failed: read\n"));
@@ -36,9 +46,11 @@ where
     let scenario = match Scenario::from_json(alloc, &bytes) {
         Ok(scenario) => scenario,
         Err(ScenarioFault::Memory) => return Err(Memory),
-        Err(fault) => {
-            let line = format!(in alloc; "faulty: {fault}\n")?;
-            return Ok(printed(line.as_bytes(), FAULTY, out, errors));
+        Err(ScenarioFault::NotJson) => {
+            return Ok(faulty(alloc, ScenarioFault::NotJson, out, errors)?);
+        }
+        Err(ScenarioFault::BadField(field)) => {
+            return Ok(faulty(alloc, ScenarioFault::BadField(field), out, errors)?);
         }
     };
     match served(rt, alloc, scenario, port, sessions) {
@@ -58,7 +70,9 @@ fn served<R: Net<Listener = TcpListener, Stream = TcpStream> + Wait>(
     scenario: Scenario,
     port: u16,
     sessions: u16,
-) -> Result<Vec<u8>, ServeFault> {
+) -> Result<Vec<u8>, ServeFault>
+    ensures { IfOk result (λ told. (s : Setting) × IsTiedReport s told.items) }
+{
     let mut front_end = FrontEnd::open(alloc, scenario)?;
     match listen(rt, alloc, port, &mut front_end, sessions) {
         Ok(()) => front_end.finish(),
@@ -69,13 +83,31 @@ fn served<R: Net<Listener = TcpListener, Stream = TcpStream> + Wait>(
     }
 }
 
+/// Prints the line of a faulty scenario, and gives the status.
+fn faulty<W: Write, E: Write>(
+    alloc: Global,
+    fault: ScenarioFault,
+    out: &mut Counted<W>,
+    errors: &mut Counted<E>,
+) -> Result<u8, Memory>
+    ensures status { IfOk result (λ status. (status ≡ 2) ⊎ (status ≡ 4)) }
+    ensures heard { (result ≡ Ok 4) ⊎ (failures out.new ≡ failures out.old) }
+{
+    let line = format!(in alloc; "faulty: {fault}\n")?;
+    Ok(printed(line.as_bytes(), FAULTY, out, errors))
+}
+
 /// Prints a text, and gives the status.
 fn printed<W: Write, E: Write>(
     text: &[u8],
     status: u8,
     out: &mut Counted<W>,
     errors: &mut Counted<E>,
-) -> u8 {
+) -> u8
+    ensures status { (result ≡ status) ⊎ (result ≡ 4) }
+    ensures whole { (result ≡ 4) ⊎ Appends (W.contents (inner out.old)) (W.contents (inner out.new)) text.now }
+    ensures heard { (result ≡ 4) ⊎ (failures out.new ≡ failures out.old) }
+{
     match write_text(out, text) {
         Ok(()) => status,
         Err(_) => failed(errors, b"failed: write\n"),

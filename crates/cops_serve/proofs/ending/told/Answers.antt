@@ -1,11 +1,10 @@
-use Rattle.std.proofs.Common.{◌≡◌, sym, subst, map}
+use Rattle.std.proofs.Common.{sym, subst, map}
 use Rattle.std.specs.Global.{Vec}
 use Rattle.cops_types.specs.Histories.{Sessions}
 use Rattle.cops_core.specs.Invariants.{HasAcceptedVerdict}
 use Rattle.cops_tie.specs.declared.entry.Entry.{Entry}
 use Rattle.cops_tie.specs.Tie.{IsTied}
 use Rattle.cops_tie.specs.Turns.{setting_of}
-use Rattle.cops_serve.specs.Serving.{IsTiedReport}
 use Rattle.cops_serve.proofs.ending.told.Goals as goal
 
 pub returns : goal.returns
