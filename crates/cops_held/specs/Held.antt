@@ -70,3 +70,8 @@ marking (Some w) dep = if nat_lt dep (length w.put.deps) then Ok tt else Err NoS
 abbrev pub taking : Option Waiting → Result PutRecord HeldFault
 taking None = Err NotHeld
 taking (Some w) = if all_marked w then Ok w.put else Err DepsOpen
+
+-- whether the put that waits, if there is one, may be taken
+abbrev pub readiness : Option Waiting → Result Unit HeldFault
+readiness None = Err NotHeld
+readiness (Some w) = if all_marked w then Ok tt else Err DepsOpen

@@ -30,7 +30,7 @@ impl Model for Held {
 impl Held {
     ghost use Rattle.std.specs.Prelude.{◌≡◌, length, [], true, None, is_some, IsOk, IfOk, IfSome, OnOk, OnErr, option_copied};
     ghost use Rattle.std.specs.Option.{option_map};
-    ghost use Rattle.cops_held.specs.Held.{holding, with_put, waiting, with_waiting, open_deps, marking, with_mark, taking, without};
+    ghost use Rattle.cops_held.specs.Held.{holding, with_put, waiting, with_waiting, open_deps, marking, with_mark, readiness, taking, without};
 
     /// A table with no put. It takes no memory.
     pub fn new(alloc: Global) -> Self
@@ -96,6 +96,18 @@ impl Held {
             return Err(HeldFault::NotHeld);
         };
         held.mark(dep)
+    }
+
+    /// Whether `take_ready` gives the put at a version: `NotHeld` where no such put waits, else `DepsOpen` where not all its
+    /// dependencies are marked.
+    pub fn ready(&self, version: Version) -> Result<(), HeldFault>
+        ensures { result ≡ readiness (waiting self.now version) }
+    {
+        match self.find(version) {
+            Some(held) if held.is_ready() => Ok(()),
+            Some(_) => Err(HeldFault::DepsOpen),
+            None => Err(HeldFault::NotHeld),
+        }
     }
 
     /// Gives the put at a version, which waits no longer: `NotHeld` where no such put waits, else `DepsOpen` where not

@@ -36,7 +36,9 @@ impl Node {
     ghost use Rattle.cops_store.specs.Store.{Stored, has_pair, shown, shown_keys};
     ghost use Rattle.cops_held.specs.Held.{waiting};
     ghost use Rattle.cops_node.specs.declared.event.NodeEvent.TheVariants.{Put, Get, Deliver, Ask, Mark, Settle};
-    ghost use Rattle.cops_node.specs.Node.{NodeHappens, node_step, opened, settled_at, dep_at};
+    ghost use Rattle.cops_node.specs.declared.outcome.Outcome.TheVariants.{Refused as RefusedWith};
+    ghost use Rattle.cops_node.specs.Outcomes.{TakesMemory};
+    ghost use Rattle.cops_node.specs.Node.{NodeHappens, answer, node_step, opened, settled_at, dep_at};
 
     /// A node that has met no event. It takes no memory.
     pub fn open(alloc: Global, node: u16) -> Self
@@ -62,7 +64,8 @@ impl Node {
     /// A client's put, whose context is `deps`: it is settled at once, at a version above those of its dependencies.
     /// Refused 1 where the clock can rise no further, and 9 for want of memory.
     pub fn put(&mut self, client: u16, key: Key, value: Value, deps: Deps) -> Outcome
-        ensures { NodeHappens self.old (Put client key value deps) result self.new }
+        ensures happens { NodeHappens self.old (Put client key value deps) result self.new }
+        ensures memory { result ≡ RefusedWith 9 → TakesMemory (node_step self.old (Put client key value deps)).0 }
     {
         let clock = raised_clock(self.clock.clock(), deps.as_slice());
         let answer = match Version::new(clock + 1, self.number) {
@@ -88,14 +91,16 @@ impl Node {
 
     /// A client's get: what the key shows. Refused 9 for want of memory.
     pub fn get(&mut self, client: u16, key: &Key) -> Outcome
-        ensures { NodeHappens self.old (Get client key.now) result self.new }
+        ensures happens { NodeHappens self.old (Get client key.now) result self.new }
+        ensures memory { result ≡ RefusedWith 9 → TakesMemory (node_step self.old (Get client key.now)).0 }
     {
         events!(row Get self.copy_of_shown(key))
     }
 
     /// A copy of what the key shows.
     fn copy_of_shown(&self, key: &Key) -> Result<Option<(Value, Version)>, Memory>
-        ensures { IfOk result (λ copy. option_map (λ r. record { key = key.now; value = r.0; version = r.1 }) copy ≡ shown self.now.settled key.now) }
+        ensures ok { IfOk result (λ copy. option_map (λ r. record { key = key.now; value = r.0; version = r.1 }) copy ≡ shown self.now.settled key.now) }
+        ensures err { OnErr result (TakesMemory (answer (shown self.now.settled key.now))) }
     {
         match self.shown(key) {
             Some((value, version)) => Ok(Some((value.clone()?, version))),
@@ -106,7 +111,8 @@ impl Node {
     /// A put of another data centre comes. It waits from now on, or nothing changes where it does already or is settled.
     /// Refused 9 for want of memory.
     pub fn deliver(&mut self, put: PutRecord) -> Outcome
-        ensures { NodeHappens self.old (Deliver put) result self.new }
+        ensures happens { NodeHappens self.old (Deliver put) result self.new }
+        ensures memory { result ≡ RefusedWith 9 → TakesMemory (node_step self.old (Deliver put)).0 }
     {
         if self.store.has(&put.key, put.version) {
             return Outcome::Repeat;
@@ -134,10 +140,14 @@ impl Node {
     /// A waiting put is settled, and the clock rises to its. Refused 5 where no put waits at the version, 8 where not all
     /// its dependencies are marked, and 9 for want of memory.
     pub fn settle(&mut self, version: Version) -> Outcome
-        ensures { NodeHappens self.old (Settle version) result self.new }
+        ensures happens { NodeHappens self.old (Settle version) result self.new }
+        ensures memory { result ≡ RefusedWith 9 → TakesMemory (node_step self.old (Settle version)).0 }
     {
         if self.store.reserve().is_err() {
-            return Outcome::Refused(MEMORY);
+            return match self.held.ready(version) {
+                Ok(()) => Outcome::Refused(MEMORY),
+                Err(fault) => events!(row Settle Err(fault)),
+            };
         }
         let put = match self.held.take_ready(version) {
             Ok(put) => put,

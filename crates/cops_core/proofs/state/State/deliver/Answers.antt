@@ -28,6 +28,6 @@ returns c =
     let put = c.in-Some.put.now in
     let found : Some put ≡ sent w.issued c.args.version = sym (ap option_copied c.in-Some.is) ∙ c.find.ensures in
     let happens : NodeHappens c.node-node.result.now (Deliver put) c.deliver.result c.deliver.new.self =
-    subst (λ (p : PutRecord). NodeHappens c.node-node.result.now (Deliver p) c.deliver.result c.deliver.new.self) c.in-Ok.ensures c.deliver.ensures in
+    subst (λ (p : PutRecord). NodeHappens c.node-node.result.now (Deliver p) c.deliver.result c.deliver.new.self) c.in-Ok.ensures c.deliver.ensures.happens in
     subst (λ x. Happens s x (DeliverTo c.args.dc c.args.version) c.deliver.result (with_node w c.args.dc c.primary-place.result c.deliver.new.self)) c.self.view_is
     (comes s c.dcs.ensures.setting w (subst (IsReached s) (sym c.self.view_is) c.requires) c.args.dc c.args.version c.primary-place.result c.deliver.result put c.node-node.result.now c.deliver.new.self lt found c.primary-place.ensures.count c.node-node.ensures.value happens)

@@ -31,4 +31,4 @@ returns c =
     let lt : c.args.dc < s.place.dcs = omega (arith, c.if-dc-dcs.false, c.dcs.ensures.count) in
     let w = the_view c.self.inside in
     subst (λ x. Happens s x (SettleAt c.args.dc c.args.version) c.settle.result (with_node w c.args.dc c.place_of-place.result c.settle.new.self)) c.self.view_is
-    (settles s c.dcs.ensures.setting w (subst (IsReached s) (sym c.self.view_is) c.requires) c.args.dc c.args.version c.place_of-place.result c.settle.result c.node-node.result.now c.settle.new.self lt c.place_of-place.ensures.value c.node-node.ensures.value c.settle.ensures)
+    (settles s c.dcs.ensures.setting w (subst (IsReached s) (sym c.self.view_is) c.requires) c.args.dc c.args.version c.place_of-place.result c.settle.result c.node-node.result.now c.settle.new.self lt c.place_of-place.ensures.value c.node-node.ensures.value c.settle.ensures.happens)

@@ -86,7 +86,7 @@ returns-in_err-clone-in-Got-clause-err c =
     } in x in
     let back : made c.reserve.new.self.pairs c.admit.new.history.sessions ≡ c.args.self.now =
     (λ i. made (c.reserve.ensures.same i) (c.in_default.ensures.same i))
-    ∙ put_back s ok w r dc place was c.get.new.self c.node-node.ensures.value (got_stays was client c.args.key.now (Answered c.in-Got.value c.in-Got.version) c.get.new.self c.in-Got.ensures)
+    ∙ put_back s ok w r dc place was c.get.new.self c.node-node.ensures.value (got_stays was client c.args.key.now (Answered c.in-Got.value c.in-Got.version) c.get.new.self c.in-Got.ensures.happens)
     ∙ c.self.view_is in
     at_error c.from_residual-in_err-clone-in-Got.result _ back
 
@@ -126,7 +126,7 @@ returns-in_ok-clone-in-Got-clause-ok c =
     let sessions = recorded ∙ (λ i. with_op (c.in_default.ensures.same i) client (Got (c.in_ok-op_key.ensures.cases i) (c.in_ok-clone-in-Got.ensures.cases i) version)) in
     let new = made c.add.new.self.pairs c.record.new.history.sessions in
     subst (λ x. Happens s x (GetBy client c.args.key.now) (Answered value version) new) c.self.view_is
-    (gets_at s ok w r client c.args.key.now dc place (Answered value version) was c.get.new.self new a.0 a.1 a.2 few c.home.ensures c.primary-place.ensures.count c.node-node.ensures.value c.in-Got.ensures
+    (gets_at s ok w r client c.args.key.now dc place (Answered value version) was c.get.new.self new a.0 a.1 a.2 few c.home.ensures c.primary-place.ensures.count c.node-node.ensures.value c.in-Got.ensures.happens
     (λ i. made (contexts i) (sessions i)))
 
 pub returns-in-Missed-clause-ok : goal.returns-in-Missed-clause-ok
@@ -153,7 +153,7 @@ returns-in-Missed-clause-ok c =
     let sessions = recorded ∙ (λ i. with_op (c.in_default.ensures.same i) client (Missed (c.in_ok-op_key.ensures.cases i))) in
     let new = made c.reserve.new.self.pairs c.record-in-Missed.new.history.sessions in
     subst (λ x. Happens s x (GetBy client c.args.key.now) Nothing new) c.self.view_is
-    (gets_at s ok w r client c.args.key.now dc place Nothing was c.get.new.self new a.0 a.1 a.2 few c.home.ensures c.primary-place.ensures.count c.node-node.ensures.value c.in-Missed.ensures
+    (gets_at s ok w r client c.args.key.now dc place Nothing was c.get.new.self new a.0 a.1 a.2 few c.home.ensures c.primary-place.ensures.count c.node-node.ensures.value c.in-Missed.ensures.happens
     (λ i. made (contexts i) (sessions i)))
 
 pub returns-in_default-get : goal.returns-in_default-get
@@ -179,7 +179,7 @@ returns-in_default-get c =
     let same : new ≡ with_node w dc place c.get.new.self = λ i. made (c.reserve.ensures.same i) (c.in_default.ensures.same i) in
     record {
       ok = subst (λ x. Happens s x (GetBy client c.args.key.now) c.get.result new) c.self.view_is
-          (gets_at s ok w r client c.args.key.now dc place c.get.result was c.get.new.self new a.0 a.1 a.2 few c.home.ensures c.primary-place.ensures.count c.node-node.ensures.value c.get.ensures
+          (gets_at s ok w r client c.args.key.now dc place c.get.result was c.get.new.self new a.0 a.1 a.2 few c.home.ensures c.primary-place.ensures.count c.node-node.ensures.value c.get.ensures.happens
           (same ∙ sym (keeps_no_get w dc place client c.args.key.now c.get.result c.get.new.self c.in_default-get.not-Got c.in_default-get.not-Missed)));
       err = tt;
     }

@@ -78,7 +78,7 @@ push-requires-clause-new c =
     let place = c.primary-place.result in
     let was = c.node-node.result.now in
     let happens : NodeHappens was (NodePut client c.args.key.now c.args.value.now (context_in w client)) (PutDone c.in-PutDone.version) c.put.new.self =
-    subst (λ (d : Draft). NodeHappens was (NodePut client d.key d.value d.deps) (PutDone c.in-PutDone.version) c.put.new.self) c.in_ok-own.ensures c.in-PutDone.ensures in
+    subst (λ (d : Draft). NodeHappens was (NodePut client d.key d.value d.deps) (PutDone c.in-PutDone.version) c.put.new.self) c.in_ok-own.ensures c.in-PutDone.ensures.happens in
     ap (λ puts. sent puts c.in-PutDone.version) c.reserve.ensures.same
     ∙ new_version s ok w r client c.args.key.now c.args.value.now dc place c.in-PutDone.version was c.put.new.self a.0 a.1 a.2 c.home.ensures c.primary-place.ensures.count c.node-node.ensures.value happens
 
@@ -104,7 +104,7 @@ returns-in-PutDone-clause-ok c =
     let place = c.primary-place.result in
     let was = c.node-node.result.now in
     let happens : NodeHappens was (NodePut client c.args.key.now c.args.value.now (context_in w client)) (PutDone c.in-PutDone.version) c.put.new.self =
-    subst (λ (d : Draft). NodeHappens was (NodePut client d.key d.value d.deps) (PutDone c.in-PutDone.version) c.put.new.self) c.in_ok-own.ensures c.in-PutDone.ensures in
+    subst (λ (d : Draft). NodeHappens was (NodePut client d.key d.value d.deps) (PutDone c.in-PutDone.version) c.put.new.self) c.in_ok-own.ensures c.in-PutDone.ensures.happens in
     let made = λ (issued : List PutRecord) (contexts : List (List Dep)) (sessions : Sessions). let x : World = record {
       nodes = slice_set w.nodes dc (slice_set (slice_index_or w.nodes dc []) place c.put.new.self);
       issued = issued;
@@ -142,7 +142,7 @@ returns-in_default-put c =
       sessions = sessions;
     } in x in
     let happens : NodeHappens was (NodePut client c.args.key.now c.args.value.now (context_in w client)) c.put.result c.put.new.self =
-    subst (λ (d : Draft). NodeHappens was (NodePut client d.key d.value d.deps) c.put.result c.put.new.self) c.in_ok-own.ensures c.put.ensures in
+    subst (λ (d : Draft). NodeHappens was (NodePut client d.key d.value d.deps) c.put.result c.put.new.self) c.in_ok-own.ensures c.put.ensures.happens in
     let new = made c.reserve.new.self.puts w.contexts c.admit.new.history.sessions in
     let same : new ≡ with_node w dc place c.put.new.self = λ i. made (c.reserve.ensures.same i) w.contexts (c.in_default.ensures.same i) in
     record {
