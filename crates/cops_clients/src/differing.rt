@@ -32,8 +32,8 @@ pub(crate) fn difference(
 {
     let mut kept = kept_in(alloc, places, books)?;
     let mut heard = told_in(alloc, shares)?;
-    kept.sort_unstable_by_key(|noted| noted.entry.ticket);
-    heard.sort_unstable_by_key(|noted| noted.entry.ticket);
+    kept.sort_by_key(|noted| noted.entry.ticket)?;
+    heard.sort_by_key(|noted| noted.entry.ticket)?;
     Ok(first_difference(&kept, &mut heard))
 }
 

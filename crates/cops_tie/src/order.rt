@@ -28,7 +28,7 @@ pub fn in_order<'a>(
     ensures never_falls { IfOk result (λ order. AllPairs (λ p q. ticket p ≤ ticket q) (map shown order.items)) }
 {
     let mut order = turns(alloc, dcs, nodes, books)?;
-    order.sort_unstable_by_key(|turn| turn.entry.ticket);
+    order.sort_by_key(|turn| turn.entry.ticket)?;
     Ok(order)
 }
 
