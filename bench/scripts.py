@@ -1,20 +1,28 @@
 #!/usr/bin/env python3
-"""Times runs of scripted clients on threads, until all is settled everywhere and the run is tied, beside a world on one thread.
+"""Times runs of scripted clients on threads, until all is settled everywhere and the run is tied, beside a world on one thread that is
+given the very events of that run.
 
 usage: scripts.py [--quick]     --quick has scripts of 1,000 operations
 
-Each client has a script of 10,000 puts and gets of 100 keys. Times are of wall time, the best of five runs, without the time to read the
-scenario. The world is given 100,000 events, so the last column is the rate of the run in operations by that of the world in events.
+Each client has a script of 10,000 puts and gets of 100 keys. Times are of wall time, the median of five runs, without the time to read
+the scenario. The world's time is that of ten worlds one after the other, divided by ten. An operation makes several events: a put is
+delivered to each other data centre, asked about, marked and settled there. The last columns are the run's rate by the world's, both in
+operations, and how many cores the run kept busy.
 """
 import json
 import os
 import random
+import resource
+import statistics
 import subprocess
 import sys
 import tempfile
+import time
 
-from building import build, seconds
-from events import lines
+from building import build
+
+RUNS = 5
+WORLDS = 10
 
 
 def scripts(clients, data_centres, operations):
@@ -28,29 +36,50 @@ def scripts(clients, data_centres, operations):
     return json.dumps({"data_centres": data_centres, "splits": ["k5"], "clients": members})
 
 
-def net(program, command, path):
-    return max(1e-9, seconds(program, command, path, "run") - seconds(program, command, path, "read"))
+def took(program, path, worlds):
+    """Wall seconds, processor seconds and what was printed."""
+    before = resource.getrusage(resource.RUSAGE_CHILDREN)
+    begun = time.monotonic()
+    told = subprocess.run([program, "scripts", path, worlds], check=True, stdout=subprocess.PIPE).stdout
+    wall = time.monotonic() - begun
+    after = resource.getrusage(resource.RUSAGE_CHILDREN)
+    return wall, after.ru_utime + after.ru_stime - before.ru_utime - before.ru_stime, told
+
+
+def median(program, path, worlds):
+    """Medians of wall and processor seconds."""
+    times = [took(program, path, worlds)[:2] for _ in range(RUNS)]
+    return [statistics.median(column) for column in zip(*times)]
+
+
+def row(program, path, clients, data_centres):
+    made, events, asks, turns = map(int, took(program, path, "0")[2].split())
+    read, _ = median(program, path, "read")
+    wall, busy = median(program, path, "0")
+    worlds, _ = median(program, path, str(WORLDS))
+    run, world = max(1e-9, wall - read), max(1e-9, (worlds - wall) / WORLDS)
+    print(
+        f"| {clients} | {data_centres} | {made / run:,.0f} | {events / made:.1f} | {asks / made:.2f} | {turns / made:.2f} "
+        f"| {made / world:,.0f} | {events / world:,.0f} | {world / run:.2f} | {(busy - read) / run:.1f} |",
+        flush=True,
+    )
 
 
 def main():
     operations = 1_000 if "--quick" in sys.argv else 10_000
-    print("| clients | data centres | operations/s | asks an operation | rate / the world's |")
-    print("|---|---|---|---|---|")
+    program = build()
+    print(
+        "| clients | data centres | operations/s | events an operation | asks an operation | turns an operation "
+        "| the world's operations/s | its events/s | run / world | cores |"
+    )
+    print("|---|---|---|---|---|---|---|---|---|---|")
     with tempfile.TemporaryDirectory() as folder:
-        program = build()
-        path = os.path.join(folder, "events.txt")
-        with open(path, "w") as file:
-            file.write(lines(100_000))
-        world = 100_000 / net(program, "world", path)
+        path = os.path.join(folder, "scripts.json")
         for clients in (1, 2, 6, 12):
             for data_centres in (1, 2, 3):
-                path = os.path.join(folder, "scripts.json")
                 with open(path, "w") as file:
                     file.write(scripts(clients, data_centres, operations))
-                told = subprocess.run([program, "scripts", path, "run"], check=True, stdout=subprocess.PIPE).stdout
-                made, _, asks = map(int, told.split())
-                rate = made / net(program, "scripts", path)
-                print(f"| {clients} | {data_centres} | {rate:,.0f} | {asks / made:.2f} | {rate / world:.2f} |", flush=True)
+                row(program, path, clients, data_centres)
 
 
 if __name__ == "__main__":

@@ -6,6 +6,7 @@ Prints a line for each test that fails, and at the end `N passed, M failed`.
 import json
 import os
 import random
+import re
 import resource
 import socket
 import subprocess
@@ -614,9 +615,19 @@ def little_memory():
     check("the most memory is enough", answers[-1], enough)
 
 
+def definition_files():
+    """The page of proofs names files of definitions that are there, each with its number of lines."""
+    with open(os.path.join(ROOT, "docs", "PROOFS.md"), encoding="utf-8") as page:
+        rows = re.findall(r"^\| `([\w/]+\.antt)` \| (\d+) \|", page.read(), re.MULTILINE)
+    check("the page of proofs names files", len(rows) > 20, True)
+    for name, lines in rows:
+        with open(os.path.join(ROOT, "crates", name), encoding="utf-8") as file:
+            check(f"the lines of {name}", sum(1 for _ in file), int(lines))
+
+
 for tests in (
     examples, long_chain, faults, shown, scenarios, refusals, faulty_scenarios, scripts, mixed_scripts, random_scenarios, many_workers, served,
-    strange_peers, words, devices, generated, little_memory,
+    strange_peers, words, devices, generated, little_memory, definition_files,
 ):
     tests()
 print(f"{passed} passed, {failed} failed")

@@ -1,5 +1,5 @@
 //! What the benchmarks of a node, of a world, of the tie, of the auditor that is fed and of scripted clients run, for the scripts in
-//! `bench/`: `node PAIRS TURNS AMONG`, `world FILE MODE`, `tie FILE MODE`, `online TRACE MODE`, or `scripts FILE MODE`. With no words it does nothing.
+//! `bench/`: `node PAIRS TURNS AMONG`, `world FILE MODE`, `tie FILE MODE`, `online TRACE MODE`, or `scripts FILE WORLDS`. With no words it does nothing.
 #![tactic(auto)]
 
 mod node;
@@ -23,7 +23,7 @@ fn main(rt: HostRuntime) -> Result<(), Error> {
         ),
         [what, path, mode] if what.as_str() == "world" => world::happen(&rt, path, mode),
         [what, path, mode] if what.as_str() == "tie" => tie::tie_up(&rt, path, mode),
-        [what, path, mode] if what.as_str() == "scripts" => scripts::run_scripts(&rt, path, mode),
+        [what, path, worlds] if what.as_str() == "scripts" => scripts::run_scripts(&rt, path, worlds),
         [what, path, mode] if what.as_str() == "online" => online::say(&rt, path, mode),
         _ => Ok(()),
     }

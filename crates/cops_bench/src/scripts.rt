@@ -2,38 +2,51 @@
 
 use anyhow::{Error, bail};
 use cops_core::Event;
-use cops_run::run;
+use cops_run::{CountedRun, run_counted};
 use cops_scenario::Scenario;
 use cops_types::{Counted, OpenGate};
+use std::alloc::Global;
 use std::fs::File;
 use std::io::Read;
 use std::rt::Files;
 use std::sync::Wait;
 use std::thread::Threads;
 
-/// Reads a scenario, runs its scripts where the mode is `run`, and prints how many operations were recorded, and how many events and
-/// how many asks among them there were.
-pub fn run_scripts<R>(rt: &R, path: &str, mode: &str) -> Result<(), Error>
+/// The scenario that these bytes hold.
+fn scenario_of(alloc: Global, bytes: &[u8]) -> Result<Scenario, Error> {
+    match Scenario::from_json(alloc, bytes) {
+        Ok(scenario) => Ok(scenario),
+        Err(_) => bail!("the scenario is faulty"),
+    }
+}
+
+/// Reads a scenario. Where a number of worlds is given, its scripts are run, the run's events happen in so many worlds, one after the
+/// other, and it prints how many operations were recorded, how many events and how many asks among them there were, and how many turns
+/// the senders and receivers made.
+pub fn run_scripts<R>(rt: &R, path: &str, worlds: &str) -> Result<(), Error>
 where
     R: Files + AllocGlobal + Threads + Wait + Sync + Print,
 {
     let alloc = rt.alloc();
     let mut bytes = Vec::new(alloc);
     Counted::new(File::open(rt, path)?).read_to_end(&mut bytes)?;
-    let Ok(scenario) = Scenario::from_json(alloc, &bytes) else {
-        bail!("the scenario is faulty");
-    };
-    if mode != "run" {
+    let scenario = scenario_of(alloc, &bytes)?;
+    let again = scenario_of(alloc, &bytes)?;
+    let Ok(worlds) = worlds.parse::<u32>() else {
         return Ok(());
-    }
-    let Ok(ran) = run(rt, alloc, scenario, &OpenGate) else {
+    };
+    let Ok(counted) = run_counted(rt, alloc, scenario, &OpenGate) else {
         bail!("the run failed");
     };
-    let asks = ran
+    let CountedRun { run, turns } = counted;
+    for _ in 0..worlds {
+        let _outcomes = again.open_world(alloc)?.run(&run.events)?;
+    }
+    let asks = run
         .events
         .iter()
         .filter(|event| matches!(event, Event::Ask { .. }))
         .count();
-    println!(rt; "{} {} {asks}", ran.trace.history().len(), ran.events.len())?;
+    println!(rt; "{} {} {asks} {turns}", run.trace.history().len(), run.events.len())?;
     Ok(())
 }

@@ -8,7 +8,7 @@ use crate::driving::drive;
 use crate::fault::RunFault;
 use crate::gathering::Gathered;
 use crate::opening::jobs;
-use crate::ran::Run;
+use crate::ran::{CountedRun, Run};
 use crate::stage::Stage;
 use cops_clients::{CloseFault, Closed, Cluster, Opened, Share};
 use cops_outcomes::{CheckFault, checked};
@@ -35,6 +35,26 @@ pub fn run<R: Threads + Wait + Sync, G: Gate>(
     ensures accepted { IfOk result (λ r. HasAcceptedVerdict (sessions_of r.trace)) }
     ensures held { IsErrOf result RunFault.Held → MayHold (G.may_hold gate.now) }
 {
+    match run_counted(rt, alloc, scenario, gate) {
+        Ok(counted) => {
+            let CountedRun { run, turns: _ } = counted;
+            Ok(run)
+        }
+        Err(fault) => Err(fault),
+    }
+}
+
+/// The same, with the number of turns that senders and receivers made, which says how much of their work was in vain.
+pub fn run_counted<R: Threads + Wait + Sync, G: Gate>(
+    rt: &R,
+    alloc: Global,
+    scenario: Scenario,
+    gate: &G,
+) -> Result<CountedRun, RunFault>
+    ensures ok { IfOk result (λ c. IsRun scenario (map (λ b. b.items) c.run.entries.items) (sessions_of c.run.trace) c.run.events.items c.run.outcomes.items) }
+    ensures accepted { IfOk result (λ c. HasAcceptedVerdict (sessions_of c.run.trace)) }
+    ensures held { IsErrOf result RunFault.Held → MayHold (G.may_hold gate.now) }
+{
     let Opened {
         cluster,
         clients,
@@ -43,8 +63,13 @@ pub fn run<R: Threads + Wait + Sync, G: Gate>(
     let jobs = jobs(alloc, &scenario, clients)?;
     let replicas = wired(alloc, scenario.place().dcs(), scenario.link(), shares)?;
     let stage = Stage::new(cluster, scenario.turns());
-    match drive(rt, alloc, &stage, gate, jobs, replicas) {
-        Ok(gathered) => tied(alloc, &scenario, stage.into_cluster(), gathered),
+    let gathered = match drive(rt, alloc, &stage, gate, jobs, replicas) {
+        Ok(gathered) => gathered,
+        Err(fault) => return Err(fault),
+    };
+    let turns = stage.turns_made();
+    match tied(alloc, &scenario, stage.into_cluster(), gathered) {
+        Ok(run) => Ok(CountedRun { run, turns }),
         Err(fault) => Err(fault),
     }
 }

@@ -1,11 +1,12 @@
 use cops_clients::Cluster;
-use std::sync::atomic::{AtomicBool, Ordering};
+use std::sync::atomic::{AtomicBool, AtomicU64, Ordering};
 
 /// What the threads of a run share: the cluster, how many turns a loop may make, and what they tell each other.
 #[derive(Drop)]
 pub(crate) struct Stage {
     cluster: Cluster,
     turns: u32,
+    turns_made: AtomicU64,
     broken: AtomicBool,
     clients_joined: AtomicBool,
     senders_joined: AtomicBool,
@@ -21,6 +22,7 @@ impl Stage {
         Stage {
             cluster,
             turns,
+            turns_made: AtomicU64::new(0),
             broken: AtomicBool::new(false),
             clients_joined: AtomicBool::new(false),
             senders_joined: AtomicBool::new(false),
@@ -43,6 +45,16 @@ impl Stage {
     /// How many turns a loop may make that others no longer bring work to.
     pub(crate) fn turns(&self) -> u32 {
         self.turns
+    }
+
+    /// A sender or a receiver makes a turn.
+    pub(crate) fn count_turn(&self) {
+        self.turns_made.fetch_add(1, Ordering::Relaxed);
+    }
+
+    /// How many turns senders and receivers made so far.
+    pub(crate) fn turns_made(&self) -> u64 {
+        self.turns_made.load(Ordering::Relaxed)
     }
 
     /// All threads are to end: there is no run.

@@ -4,7 +4,7 @@ use cops_clients::*;
 use cops_node::Outcome;
 use cops_place::Place;
 use cops_types::{
-    Deps, Gate, GateHeld, Key, OpenGate, Point, PutRecord, TypeFault, Value, Version,
+    Dep, Deps, Gate, GateHeld, Key, OpenGate, Point, PutRecord, TypeFault, Value, Version,
 };
 use std::alloc::Global;
 use std::sync::Wait;
@@ -203,14 +203,19 @@ fn a_held_step_changes_nothing(rt: HostRuntime) -> Result<(), Fail> {
     Ok(())
 }
 
+/// A put of 1 at a key and a version, with these dependencies.
+fn put_of(alloc: Global, byte: u8, clock: u64, deps: Vec<Dep>) -> Result<PutRecord, TypeFault> {
+    Ok(PutRecord {
+        key: key(alloc, byte)?,
+        value: value(alloc)?,
+        version: Version::new(clock, 0)?,
+        deps: Deps::new(deps)?,
+    })
+}
+
 /// A put of x=1 at 1.0, without dependencies.
 fn sent(alloc: Global) -> Result<PutRecord, TypeFault> {
-    Ok(PutRecord {
-        key: key(alloc, b'x')?,
-        value: value(alloc)?,
-        version: Version::new(1, 0)?,
-        deps: Deps::new(Vec::new(alloc))?,
-    })
+    put_of(alloc, b'x', 1, Vec::new(alloc))
 }
 
 /// Whether exactly x at 1.0 is settled in data centre 1.
@@ -244,6 +249,50 @@ fn a_put_comes_into_another_data_centre(rt: HostRuntime) -> Result<(), Fail> {
     assert!(rt; is_settled(&rt, alloc, &cluster, share)?);
     assert!(rt; cluster.settle(&rt, share, &OpenGate, 2, version)? == Outcome::Refused(10));
     assert_eq!(rt; share.entries.len(), 5);
+    Ok(())
+}
+
+/// A put comes into data centre 1 and is settled, and the node says so.
+fn settled<R: Wait>(
+    rt: &R,
+    alloc: Global,
+    cluster: &Cluster,
+    share: &mut Share,
+    put: PutRecord,
+) -> Result<Yes, Fail> {
+    let (key, version) = (put.key.clone()?, put.version);
+    let _held = cluster.deliver(rt, share, &OpenGate, 1, put)?;
+    let _settled = cluster.settle(rt, share, &OpenGate, 1, version)?;
+    match cluster.ask(rt, share, &OpenGate, 1, &key, version)? {
+        Asked::Yes(yes) => Ok(yes),
+        Asked::Other(_) => Err(Fail::new("it is not settled")),
+    }
+}
+
+#[test]
+fn a_yes_for_another_pair_marks_nothing(rt: HostRuntime) -> Result<(), Fail> {
+    let alloc = rt.alloc();
+    let Opened {
+        cluster,
+        mut shares,
+        ..
+    } = opened(alloc, 2, false, &[])?;
+    let share = &mut shares[1];
+    let right = settled(&rt, alloc, &cluster, share, sent(alloc)?)?;
+    let other = settled(&rt, alloc, &cluster, share, put_of(alloc, b'z', 3, Vec::new(alloc))?)?;
+    let mut deps = Vec::new(alloc);
+    deps.push(Dep {
+        key: key(alloc, b'x')?,
+        version: Version::new(1, 0)?,
+    })?;
+    let put = put_of(alloc, b'y', 2, deps)?;
+    let version = put.version;
+    assert!(rt; cluster.deliver(&rt, share, &OpenGate, 1, put)? == Outcome::Held);
+    let marked = cluster.mark(&rt, share, &OpenGate, 1, version, 0, &other)?;
+    assert!(rt; marked == Outcome::Refused(7));
+    let marked = cluster.mark(&rt, share, &OpenGate, 1, version, 0, &right)?;
+    assert!(rt; marked == Outcome::Marked);
+    assert!(rt; cluster.settle(&rt, share, &OpenGate, 1, version)? == Outcome::Settled);
     Ok(())
 }
 

@@ -3,7 +3,7 @@
 //! the world with what the clients saw.
 //!
 //! Stands on the cluster, its senders and receivers, the front door's protocol, the tie, the audit and the report. The
-//! program uses that the answers are the cluster's, and that a report is of a tied history.
+//! program uses that a report is printed only of a tied history, which is accepted.
 #![tactic(auto)]
 
 mod ending;
