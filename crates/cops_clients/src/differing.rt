@@ -11,11 +11,28 @@ use crate::share::Share;
 use cops_tie::{Book, Entry};
 use std::alloc::{AllocError, Global};
 
-/// An entry, with the number of its node.
+/// An entry, with the number of its node, and its ticket, by which it is sorted without a look at it.
 #[derive(Clone, Copy)]
 pub struct Noted<'a> {
+    pub ticket: u64,
     pub entry: &'a Entry,
     pub node: u16,
+}
+
+impl<'a> Noted<'a> {
+    ghost use Rattle.std.specs.Prelude.{◌≡◌};
+    ghost use Rattle.cops_clients.specs.Shares.{made};
+    ghost use Rattle.cops_clients.specs.Differing.{shown};
+
+    fn new(entry: &'a Entry, node: u16) -> Self
+        ensures { shown result ≡ made node entry.now }
+    {
+        Noted {
+            ticket: entry.ticket,
+            entry,
+            node,
+        }
+    }
 }
 
 /// The least ticket whose entries in the books are not those in the shares; `None` where the entries are the same, each as
@@ -32,8 +49,8 @@ pub(crate) fn difference(
 {
     let mut kept = kept_in(alloc, places, books)?;
     let mut heard = told_in(alloc, shares)?;
-    kept.sort_by_key(|noted| noted.entry.ticket)?;
-    heard.sort_by_key(|noted| noted.entry.ticket)?;
+    kept.sort_by_key(|noted| noted.ticket)?;
+    heard.sort_by_key(|noted| noted.ticket)?;
     Ok(first_difference(&kept, &mut heard))
 }
 
@@ -80,7 +97,7 @@ fn add_entries<'a>(
     ensures { OnOk result (map shown all.new.items ≡ map shown all.old.items ++ map (made node) entries.now) }
 {
     for entry in entries {
-        all.push(Noted { entry, node })?;
+        all.push(Noted::new(entry, node))?;
     }
     Ok(())
 }
@@ -101,10 +118,7 @@ fn add_share<'a>(all: &mut Vec<Noted<'a>>, share: &'a Share) -> Result<(), Alloc
     ensures { OnOk result (map shown all.new.items ≡ map shown all.old.items ++ share.now.entries.items) }
 {
     for made in &share.entries {
-        all.push(Noted {
-            entry: &made.entry,
-            node: made.node,
-        })?;
+        all.push(Noted::new(&made.entry, made.node))?;
     }
     Ok(())
 }

@@ -14,6 +14,10 @@ setting_of s = record { place = s.place; homes = homes_of s }
 abbrev pub shown : Turn → Placed
 shown t = record { dc = t.dc; place = t.place; entry = t.entry.now }
 
+-- the ticket beside an entry is the entry's
+abbrev pub HasItsTicket : Turn → Type 0
+HasItsTicket t = t.ticket ≡ t.entry.now.ticket
+
 -- an answer Untied has such a ticket
 abbrev pub WhereUntied : (ℕ → Type 0) → TieFault → Type 0
 WhereUntied P Memory = Unit {0}

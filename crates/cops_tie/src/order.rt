@@ -1,17 +1,18 @@
 //! The entries of all books, in order of their tickets.
-ghost use Rattle.std.specs.Prelude.{◌≡◌, ◌<◌, ◌≤◌, ◌+◌, ◌*◌, ◌++◌, length, map, AllPairs, IfOk, OnOk};
+ghost use Rattle.std.specs.Prelude.{◌≡◌, ◌<◌, ◌≤◌, ◌+◌, ◌*◌, ◌++◌, length, map, All, AllPairs, IfOk, OnOk};
 ghost use Rattle.std.specs.List.Sorted.{IsPermutation};
 ghost use Rattle.cops_tie.specs.Tie.{placed, ticket};
-ghost use Rattle.cops_tie.specs.Turns.{shown};
+ghost use Rattle.cops_tie.specs.Turns.{HasItsTicket, shown};
 
 use crate::entry::Entry;
 use std::alloc::{AllocError, Global};
 
-/// An entry, in the book of the node at a place of a data centre.
+/// An entry, in the book of the node at a place of a data centre, with its ticket, by which it is sorted without a look at it.
 #[derive(Clone, Copy)]
 pub struct Turn<'a> {
     pub dc: u8,
     pub place: u8,
+    pub ticket: u64,
     pub entry: &'a Entry,
 }
 
@@ -28,7 +29,7 @@ pub fn in_order<'a>(
     ensures never_falls { IfOk result (λ order. AllPairs (λ p q. ticket p ≤ ticket q) (map shown order.items)) }
 {
     let mut order = turns(alloc, dcs, nodes, books)?;
-    order.sort_by_key(|turn| turn.entry.ticket)?;
+    order.sort_by_key(|turn| turn.ticket)?;
     Ok(order)
 }
 
@@ -41,7 +42,8 @@ fn turns<'a>(
 ) -> Result<Vec<Turn<'a>>, AllocError>
     requires nodes { 0 < nodes }
     requires books { length books.now ≡ dcs * nodes }
-    ensures { IfOk result (λ turns. map shown turns.items ≡ placed nodes 0 (map (λ b. b.items) books.now)) }
+    ensures entries { IfOk result (λ turns. map shown turns.items ≡ placed nodes 0 (map (λ b. b.items) books.now)) }
+    ensures tickets { IfOk result (λ turns. All HasItsTicket turns.items) }
 {
     let mut turns = Vec::new(alloc);
     for n in 0..books.len() {
@@ -59,10 +61,16 @@ fn add_book<'a>(
     place: u8,
     book: &'a [Entry],
 ) -> Result<(), AllocError>
-    ensures { OnOk result (map shown turns.new.items ≡ map shown turns.old.items ++ map (λ e. record { dc = dc; place = place; entry = e }) book.now) }
+    ensures entries { OnOk result (map shown turns.new.items ≡ map shown turns.old.items ++ map (λ e. record { dc = dc; place = place; entry = e }) book.now) }
+    ensures tickets { OnOk result (All HasItsTicket turns.old.items → All HasItsTicket turns.new.items) }
 {
     for entry in book {
-        turns.push(Turn { dc, place, entry })?;
+        turns.push(Turn {
+            dc,
+            place,
+            ticket: entry.ticket,
+            entry,
+        })?;
     }
     Ok(())
 }

@@ -19,4 +19,5 @@ loop-n-preserved c =
     let place : 0 + length before ≡ n = omega (arith, length-map {A = Vec Entry Global} {B = List Entry}, length-take {A = Vec Entry Global}, c.loop-n-test.true) in
     let all : placed c.args.nodes 0 (map items_of (take (n + 1) books)) ≡ placed c.args.nodes 0 before ++ at_node c.args.nodes n b.items =
     ap (placed c.args.nodes 0) more ∙ placed_more c.args.nodes 0 before b.items ∙ ap (λ m. placed c.args.nodes 0 before ++ at_node c.args.nodes m b.items) place in
-    c.in_ok-add_book.ensures ∙ ap₂ (λ (l : List Placed) (k : List Entry). l ++ at_node c.args.nodes n k) c.loop-n.invariant c.deref.ensures.value ∙ sym all
+    let entries = c.in_ok-add_book.ensures.entries ∙ ap₂ (λ (l : List Placed) (k : List Entry). l ++ at_node c.args.nodes n k) c.loop-n.invariant.0 c.deref.ensures.value ∙ sym all in
+    (entries, c.in_ok-add_book.ensures.tickets c.loop-n.invariant.1)
