@@ -9,6 +9,16 @@ use cops_types::Gate;
 use std::sync::Wait;
 use std::thread;
 
+/// How often an idle loop lets other threads run before its next turn, which takes locks.
+const RESTS: u32 = 32;
+
+/// Lets other threads run.
+fn rest() {
+    for _ in 0..RESTS {
+        thread::yield_now();
+    }
+}
+
 /// A sender's thread: it turns until the clients are joined, and then for at most so many turns as the stage says, until nothing
 /// is kept back. It says whether that was reached, or it was told to end.
 pub(crate) fn send<R: Wait>(rt: &R, stage: &Stage, mut sender: Sender) -> bool {
@@ -18,7 +28,7 @@ pub(crate) fn send<R: Wait>(rt: &R, stage: &Stage, mut sender: Sender) -> bool {
         }
         stage.count_turn();
         if !matches!(sender.turn(rt, stage.cluster()), Ok(Turn::Did(_))) {
-            thread::yield_now();
+            rest();
         }
     }
     let drained = drain(rt, stage, &mut sender);
@@ -33,7 +43,7 @@ fn drain<R: Wait>(rt: &R, stage: &Stage, sender: &mut Sender) -> bool {
         if stage.is_broken() || sender.drain(rt, stage.cluster(), 1).is_ok() {
             return true;
         }
-        thread::yield_now();
+        rest();
     }
     false
 }
