@@ -615,6 +615,22 @@ def little_memory():
     check("the most memory is enough", answers[-1], enough)
 
 
+def no_thread():
+    """A run for which the system makes too few threads says so, once those that were made have ended."""
+    clients = [{"at": 0, "script": [{"get": "a"}]} for _ in range(64)]
+    soft, hard = resource.getrlimit(resource.RLIMIT_STACK)
+    if hard != resource.RLIM_INFINITY and hard < 8 << 20:
+        return
+    with tempfile.TemporaryDirectory() as folder:
+        path = os.path.join(folder, "scenario.json")
+        with open(path, "w") as file:
+            json.dump({"data_centres": 1, "clients": clients}, file)
+        resource.setrlimit(resource.RLIMIT_STACK, (8 << 20, hard))
+        got = cops("run", path, os.path.join(folder, "run.trace"), limit=256 << 20)
+        resource.setrlimit(resource.RLIMIT_STACK, (soft, hard))
+    check("a run with more threads than the memory's limit lets be", got, (4, b"", b"failed: no thread\n"))
+
+
 def definition_files():
     """The page of proofs names files of definitions that are there, each with its number of lines."""
     with open(os.path.join(ROOT, "docs", "PROOFS.md"), encoding="utf-8") as page:
@@ -627,7 +643,7 @@ def definition_files():
 
 for tests in (
     examples, long_chain, faults, shown, scenarios, refusals, faulty_scenarios, scripts, mixed_scripts, random_scenarios, many_workers, served,
-    strange_peers, words, devices, generated, little_memory, definition_files,
+    strange_peers, words, devices, generated, little_memory, no_thread, definition_files,
 ):
     tests()
 print(f"{passed} passed, {failed} failed")

@@ -23,7 +23,9 @@ fn main(rt: HostRuntime) -> Result<(), Error> {
         ),
         [what, path, mode] if what.as_str() == "world" => world::happen(&rt, path, mode),
         [what, path, mode] if what.as_str() == "tie" => tie::tie_up(&rt, path, mode),
-        [what, path, worlds] if what.as_str() == "scripts" => scripts::run_scripts(&rt, path, worlds),
+        [what, path, worlds] if what.as_str() == "scripts" => scripts::run_scripts(
+            &rt, path, worlds,
+        ),
         [what, path, mode] if what.as_str() == "online" => online::say(&rt, path, mode),
         _ => Ok(()),
     }

@@ -47,6 +47,10 @@ where
         .iter()
         .filter(|event| matches!(event, Event::Ask { .. }))
         .count();
-    println!(rt; "{} {} {asks} {turns}", run.trace.history().len(), run.events.len())?;
+    println!(rt;
+        "{} {} {asks} {turns}",
+        run.trace.history().len(),
+        run.events.len()
+    )?;
     Ok(())
 }

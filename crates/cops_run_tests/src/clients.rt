@@ -279,7 +279,13 @@ fn a_yes_for_another_pair_marks_nothing(rt: HostRuntime) -> Result<(), Fail> {
     } = opened(alloc, 2, false, &[])?;
     let share = &mut shares[1];
     let right = settled(&rt, alloc, &cluster, share, sent(alloc)?)?;
-    let other = settled(&rt, alloc, &cluster, share, put_of(alloc, b'z', 3, Vec::new(alloc))?)?;
+    let other = settled(
+        &rt,
+        alloc,
+        &cluster,
+        share,
+        put_of(alloc, b'z', 3, Vec::new(alloc))?,
+    )?;
     let mut deps = Vec::new(alloc);
     deps.push(Dep {
         key: key(alloc, b'x')?,
