@@ -1,6 +1,6 @@
 -- The answer on any bytes, and that there is no other.
-use Rattle.std.proofs.Common.{◌≡◌, ◌≢◌, ℕ, suc, ◌+◌, ◌-◌, ◌<◌, ◌≤◌, Bool, true, false, cond, ltb, eqb, ◌||◌, List, [], ◌∷◌, ◌++◌, length, get_or, take, drop, Option, Some, None, Result, Ok, Err, refl, sym, ap, subst, ◌∙◌, append_assoc, arith, inl, inr}
-use Rattle.std.specs.Prelude.{unwrap_or, MatchOption, IsSome}
+use Rattle.std.proofs.Common.{◌≡◌, ◌≢◌, ℕ, suc, ◌+◌, ◌-◌, ◌<◌, ◌≤◌, Bool, true, false, cond, ltb, eqb, ◌||◌, List, [], ◌∷◌, ◌++◌, length, take, drop, Option, Some, None, Result, Ok, Err, refl, sym, ap, subst, ◌∙◌, append_assoc, arith, inl, inr}
+use Rattle.std.specs.Prelude.{unwrap_or, MatchOption, IsSome, IsTrue}
 use Rattle.std.specs.Int.{w32, from_be_bytes}
 use Rattle.std.proofs.lemmas.Bool.{ltb-false, ltb-true, le-ltb, lt-ltb, eqb-true, eqb-false, eq-eqb, ne_eqb, or_cases, or_parts, or_from, or_left, or_right, cond_both}
 use Rattle.std.proofs.lemmas.List.{take_at, drop_at, take-append-drop, length-append, length-take, length-drop, append-nil, append_cancel_left, take-append-le}
@@ -9,10 +9,10 @@ use Rattle.cops_wire.specs.declared.fault.WireFault.TheVariants.{Memory, Short, 
 use Rattle.cops_wire.specs.declared.reading.ReadFault.TheVariants as faults
 use Rattle.cops_wire.specs.Field.{IsBytes, Field, Content, u32, spelled_number, spelled_all, AllLegal}
 use Rattle.cops_wire.specs.Grammar.{Grammar, Parts, fields_of, body, spelling, IsMessage, IsGrammar}
-use Rattle.cops_wire.specs.Answer.{length_at, IsShort, HasBadLength, BeginsWithFrame, BeginsWithKnown, NoneBegins, HasBadField, HasTrailingBytes, HasMessage, IsAnswer, IsFromFields}
-use Rattle.cops_wire.specs.Reading.{field_at, fields_at, known_fields_at, contents_at, whole, body_at, frame_at}
+use Rattle.cops_wire.specs.Answer.{length_at, IsShort, HasBadLength, BeginsWithFrame, BeginsWithKnown, BeginsWithTaking, NoneBegins, HasBadField, HasTrailingBytes, HasMessage, IsAnswer, IsFromFields}
+use Rattle.cops_wire.specs.Reading.{field_at, fields_at, known_fields_at, contents_at, whole, body_at, frame_at, comes_to_memory, body_takes}
 use Rattle.cops_wire.proofs.Fields.{IsBytes-take, IsBytes-drop, IsBytes-left, IsBytes-right, wide, field_takes, field_again}
-use Rattle.cops_wire.proofs.Rows.{Read, never_unknown, row_fits, length-spelled_all, fields_take, fields_again, fields_stop, fields_stop_again}
+use Rattle.cops_wire.proofs.Rows.{Read, never_unknown, row_fits, length-spelled_all, fields_take, fields_again, fields_stop, fields_stop_again, ComesTo, fields_come}
 
 abbrev Answer : Type 0
 Answer = Result (Parts × ℕ) WireFault
@@ -105,17 +105,47 @@ frame_parts bytes fits four long =
 not_zero : (n : ℕ) → eqb n 0 ≡ false → 0 < n
 not_zero n e = let ne : n ≡ 0 → ⊥ = eqb-false n 0 e in omega arith
 
-known_front : (g : Grammar) (bytes text rest : List ℕ) → bytes ≡ (spelled_number u32 (length text) ++ text) ++ rest → 0 < length text → length text ≤ g.longest → IsSome (fields_of g (get_or text 0 0))
-    → BeginsWithKnown g bytes
-known_front g bytes [] rest front some below known = absurd (omega arith)
-known_front g bytes (kind ∷ fields) rest front some below known = record { kind = kind; fields = fields; frame = record { rest = rest; front = front; fits = below }; known = known }
+known_come : (o : Option (List Field)) (fields : List ℕ) → IsBytes fields → IsTrue (comes_to_memory (unwrap_or o []) fields) → (fs : List Field) × (o ≡ Some fs) × ComesTo fs fields
+known_come None fields fits h = absurd cc
+known_come (Some fs) fields fits h = (fs, refl, fields_come fs fields fits h)
 
--- a frame whose first byte is a kind of the grammar
-pub known_frame : (g : Grammar) (bytes : List ℕ) → IsBytes bytes → 4 ≤ length bytes → 0 < length_at bytes → length_at bytes ≤ g.longest → 4 + length_at bytes ≤ length bytes
-    → IsSome (fields_of g (get_or (take (length_at bytes) (drop 4 bytes)) 0 0)) → BeginsWithKnown g bytes
-known_frame g bytes fits four some below long known =
+taking_front : (g : Grammar) (bytes text rest : List ℕ) → IsBytes text → bytes ≡ (spelled_number u32 (length text) ++ text) ++ rest → length text ≤ g.longest → IsTrue (body_takes g text)
+    → BeginsWithTaking g bytes
+taking_front g bytes [] rest fits front below h = absurd cc
+taking_front g bytes (kind ∷ fields) rest fits front below h =
+    let k = known_come (fields_of g kind) fields (IsBytes-right (kind ∷ []) fields fits) h in
+    let s = k.2 in
+    record {
+      kind = kind;
+      fields = fields;
+      frame = record { rest = rest; front = front; fits = below };
+      before = s.before;
+      field = s.field;
+      after = s.after;
+      known = k.1 ∙ ap (λ (t : List Field). Some t) s.types;
+      takes = s.takes;
+      contents = s.contents;
+      legal = s.legal;
+      rest = s.rest;
+      split = s.split;
+      part = s.part;
+      part_legal = s.part_legal;
+      more = s.more;
+      begins = s.begins;
+    }
+
+-- a frame in which reading comes to a field that takes memory
+pub taking_frame : (g : Grammar) (bytes : List ℕ) → IsBytes bytes → 4 ≤ length bytes → length_at bytes ≤ g.longest → 4 + length_at bytes ≤ length bytes
+    → IsTrue (body_takes g (take (length_at bytes) (drop 4 bytes))) → BeginsWithTaking g bytes
+taking_frame g bytes fits four below long h =
     let parts = frame_parts bytes fits four long in
-    known_front g bytes (take (length_at bytes) (drop 4 bytes)) (drop (length_at bytes) (drop 4 bytes)) parts.1 (omega (arith, parts.0)) (omega (arith, parts.0)) known
+    taking_front g bytes (take (length_at bytes) (drop 4 bytes)) (drop (length_at bytes) (drop 4 bytes)) (IsBytes-take (length_at bytes) (drop 4 bytes) (IsBytes-drop 4 bytes fits)) parts.1 (omega (arith, parts.0)) h
+
+-- a kind with such a field is a kind of the grammar
+pub taking_known : (g : Grammar) (bytes : List ℕ) → BeginsWithTaking g bytes → BeginsWithKnown g bytes
+taking_known g bytes t =
+    let some : (o : Option (List Field)) (fs : List Field) → o ≡ Some fs → IsSome o = λ o fs e. subst (λ (p : Option (List Field)). IsSome p) (sym e) cc in
+    record { kind = t.kind; fields = t.fields; frame = t.frame; known = some (fields_of g t.kind) (t.before ++ t.field ∷ t.after) t.known }
 
 pub frame_answers : (g : Grammar) (bytes : List ℕ) → IsBytes bytes → IsAnswer g bytes (frame_at g bytes)
 unfolding frame_at

@@ -8,3 +8,4 @@ pub mod Messages
 pub mod Codec
 pub mod Stopping
 pub mod Taking
+pub mod InARow

@@ -1,8 +1,8 @@
 -- Fields in a row: they are read as they are spelled, up to the first that does not stand there.
 use Rattle.std.proofs.Common.{◌≡◌, ℕ, ◌+◌, ◌*◌, ◌≤◌, Bool, true, false, cond, leb, eqb, List, [], ◌∷◌, ◌++◌, length, Option, Some, None, Result, Ok, Err, ◌⊎◌, refl, sym, ap, subst, ◌∙◌, append_assoc, arith, inl, inr}
-use Rattle.std.specs.Prelude.{IsTrue}
+use Rattle.std.specs.Prelude.{IsTrue, is_some}
 use Rattle.std.specs.List.{flat_map, AllByRecursion}
-use Rattle.std.proofs.lemmas.Bool.{leb-true, and_parts}
+use Rattle.std.proofs.lemmas.Bool.{leb-true, and_parts, or_cases}
 use Rattle.std.proofs.lemmas.List.{length-append}
 use Rattle.std.proofs.lemmas.List.Concat.{flat_map-cons}
 use Rattle.std.proofs.Math.Nat.{mul-le-mul_right}
@@ -11,8 +11,8 @@ use Rattle.cops_types.specs.Dep.{IsDep}
 use Rattle.cops_wire.specs.Grammar.{most_len, most_len_all, all_fit, row_of}
 use Rattle.cops_wire.specs.declared.reading.ReadFault.{ReadFault}
 use Rattle.cops_wire.specs.declared.reading.ReadFault.TheVariants.{BadField, UnknownKind}
-use Rattle.cops_wire.specs.Field.{IsBytes, u8, u16, u64, Field, number, number_in, string, version, pairs, Content, of_number, of_bytes, of_pairs, spelled_number, spelled_string, spelled_pair, spelled, spelled_all, IsLegal, AllLegal}
-use Rattle.cops_wire.specs.Reading.{put_first, field_at, then_read, fields_at}
+use Rattle.cops_wire.specs.Field.{IsBytes, u8, u16, u64, Field, number, number_in, string, version, pairs, Content, of_number, of_bytes, of_pairs, spelled_number, spelled_string, spelled_pair, spelled, spelled_all, IsLegal, AllLegal, takes_memory, first_part}
+use Rattle.cops_wire.specs.Reading.{put_first, field_at, then_read, fields_at, then_comes, takes_at, comes_to_memory}
 use Rattle.cops_wire.proofs.Fields.{wide, Takes, Takes-then, field_takes, field_again}
 
 abbrev pub Row : Type 0
@@ -119,6 +119,74 @@ fields_stop_again (f ∷ fs) field after (c ∷ cs) rest h none =
     ap (λ (r : Option (Content × List ℕ)). then_read (length (spelled_all (f ∷ fs) (c ∷ cs) ++ rest)) r (fields_at (fs ++ field ∷ after))) first
     ∙ ap (put_first c) (fields_stop_again fs field after cs rest h.1 none)
 fields_stop_again _ field after _ rest h none = absurd h
+
+-- the field that takes memory, which reading comes to
+pub record ComesTo (fs : List Field) (bytes : List ℕ) : Type 0 where
+  pub before : List Field
+  pub field : Field
+  pub after : List Field
+  pub types : fs ≡ before ++ field ∷ after
+  pub takes : IsTrue (takes_memory field)
+  pub contents : List Content
+  pub legal : AllLegal before contents
+  pub rest : List ℕ
+  pub split : bytes ≡ spelled_all before contents ++ rest
+  pub part : Content
+  pub part_legal : IsLegal (first_part field) part
+  pub more : List ℕ
+  pub begins : rest ≡ spelled (first_part field) part ++ more
+
+some_is : {A : Type 0} (o : Option A) → is_some o ≡ true → (x : A) × (o ≡ Some x)
+some_is None e = absurd cc
+some_is (Some x) e = (x, refl)
+
+comes_behind : (r : Option (Content × List ℕ)) (comes : List ℕ → Bool) → IsTrue (then_comes r comes) → (y : Content × List ℕ) × (r ≡ Some y) × IsTrue (comes y.1)
+comes_behind None comes h = absurd cc
+comes_behind (Some y) comes h = (y, refl, h)
+
+pub fields_come : (fs : List Field) (bytes : List ℕ) → IsBytes bytes → IsTrue (comes_to_memory fs bytes) → ComesTo fs bytes
+fields_come [] bytes fits h = absurd cc
+fields_come (f ∷ fs) bytes fits h =
+    elim (or_cases (takes_at f bytes) (then_comes (field_at f bytes) (comes_to_memory fs)) h) [
+      | inl t ↦
+          let both = and_parts (takes_memory f) (is_some (field_at (first_part f) bytes)) t in
+          let x = some_is (field_at (first_part f) bytes) both.1 in
+          let first = field_takes (first_part f) bytes x.0 fits x.1 in
+          record {
+            before = [];
+            field = f;
+            after = fs;
+            types = refl;
+            takes = both.0;
+            contents = [];
+            legal = tt;
+            rest = bytes;
+            split = refl;
+            part = x.0.0;
+            part_legal = first.1;
+            more = x.0.1;
+            begins = first.0.parts;
+          }
+      | inr t ↦
+          let a = comes_behind (field_at f bytes) (comes_to_memory fs) t in
+          let first = field_takes f bytes a.0 fits a.1 in
+          let s = fields_come fs a.0.1 first.0.rest_fits a.2 in
+          record {
+            before = f ∷ s.before;
+            field = s.field;
+            after = s.after;
+            types = ap (λ (t : List Field). f ∷ t) s.types;
+            takes = s.takes;
+            contents = a.0.0 ∷ s.contents;
+            legal = (first.1, s.legal);
+            rest = s.rest;
+            split = first.0.parts ∙ ap (λ (t : List ℕ). spelled f a.0.0 ++ t) s.split ∙ sym (append_assoc (spelled f a.0.0) (spelled_all s.before s.contents) s.rest);
+            part = s.part;
+            part_legal = s.part_legal;
+            more = s.more;
+            begins = s.begins;
+          }
+    ]
 
 -- ---- no legal field is longer than the most
 

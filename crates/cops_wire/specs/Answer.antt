@@ -7,12 +7,12 @@
 --    first byte, counted from the frame's first byte;
 -- 6. bytes of the body are left after the last field: TrailingBytes.
 -- Else it is the message, and how many bytes its frame has. What follows the frame is not looked at.
-use Rattle.std.specs.Prelude.{◌≡◌, ◌≢◌, ℕ, ◌+◌, ◌<◌, ◌≤◌, ◌⊎◌, List, [], ◌∷◌, ◌++◌, length, take, Some, None, IsSome, Result, Ok, Err}
+use Rattle.std.specs.Prelude.{◌≡◌, ◌≢◌, ℕ, ◌+◌, ◌<◌, ◌≤◌, ◌⊎◌, List, [], ◌∷◌, ◌++◌, length, take, Some, None, IsSome, IsTrue, Result, Ok, Err}
 use Rattle.std.specs.Int.{w32, from_be_bytes}
 use Rattle.cops_wire.specs.declared.fault.WireFault.{WireFault}
 use Rattle.cops_wire.specs.declared.fault.WireFault.TheVariants.{Memory, Short, BadLength, UnknownKind, BadField, TrailingBytes}
 use Rattle.cops_wire.specs.declared.decoding.Decoded.{Decoded}
-use Rattle.cops_wire.specs.Field.{u32, Field, Content, spelled_number, spelled, spelled_all, IsLegal, AllLegal}
+use Rattle.cops_wire.specs.Field.{u32, Field, Content, spelled_number, spelled, spelled_all, IsLegal, AllLegal, takes_memory, first_part}
 use Rattle.cops_wire.specs.Grammar.{Grammar, Parts, fields_of, spelling, IsMessage}
 use Rattle.cops_wire.specs.Message.{parts}
 
@@ -47,6 +47,26 @@ pub record BeginsWithKnown (g : Grammar) (bytes : List ℕ) : Type 0 where
   pub fields : List ℕ
   pub frame : BeginsWithFrame g bytes kind fields
   pub known : IsSome (fields_of g kind)
+
+-- A whole frame of a kind of the grammar stands at the front, and in it legal fields up to a field that takes memory: a
+-- key or a value that is legal too, or dependencies whose count is.
+pub record BeginsWithTaking (g : Grammar) (bytes : List ℕ) : Type 0 where
+  pub kind : ℕ
+  pub fields : List ℕ
+  pub frame : BeginsWithFrame g bytes kind fields
+  pub before : List Field
+  pub field : Field
+  pub after : List Field
+  pub known : fields_of g kind ≡ Some (before ++ field ∷ after)
+  pub takes : IsTrue (takes_memory field)
+  pub contents : List Content
+  pub legal : AllLegal before contents
+  pub rest : List ℕ
+  pub split : fields ≡ spelled_all before contents ++ rest
+  pub part : Content
+  pub part_legal : IsLegal (first_part field) part
+  pub more : List ℕ
+  pub begins : rest ≡ spelled (first_part field) part ++ more
 
 -- no legal field of this type stands at the front: each runs past the end, or differs
 abbrev pub NoneBegins : Field → List ℕ → Type 0

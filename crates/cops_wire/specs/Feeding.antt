@@ -6,7 +6,7 @@ use Rattle.cops_wire.specs.declared.fault.WireFault.TheVariants.{Memory, Short, 
 use Rattle.cops_wire.specs.declared.message.Message.{Message}
 use Rattle.cops_wire.specs.Grammar.{grammar, spelling, IsMessage}
 use Rattle.cops_wire.specs.Message.{parts}
-use Rattle.cops_wire.specs.Answer.{IsAnswer, IsShort, BeginsWithKnown}
+use Rattle.cops_wire.specs.Answer.{IsAnswer, IsShort, BeginsWithTaking}
 
 -- what a feeder holds: the bytes that came and are not read, and the fault that it met, if it met one
 pub record Fed : Type 0 where
@@ -28,9 +28,10 @@ IsStoppedBy rest None = Unit {0}
 IsStoppedBy rest (Some fault) = IsStopped rest fault
 
 -- A message's spelling is taken off the front of the rest, or nothing while the front is no whole frame. A fault
--- is that of the front, and is kept. But for a message the rest stays. Where memory runs out, all stays.
+-- is that of the front, and is kept. But for a message the rest stays. Memory runs out
+-- only at a field that takes it, and then all stays.
 abbrev pub IsNext : Fed → Result (Option Message) WireFault → Fed → Type 0
 IsNext old (Ok (Some m)) new = IsMessage (grammar One) (parts m) × (old.rest ≡ spelling (grammar One) (parts m) ++ new.rest) × (new.fault ≡ None)
 IsNext old (Ok None) new = IsShort (grammar One) old.rest × (new ≡ old)
-IsNext old (Err Memory) new = BeginsWithKnown (grammar One) old.rest × (new ≡ old)
+IsNext old (Err Memory) new = BeginsWithTaking (grammar One) old.rest × (new ≡ old)
 IsNext old (Err fault) new = IsStopped old.rest fault × (new ≡ record { rest = old.rest; fault = Some fault })

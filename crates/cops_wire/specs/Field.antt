@@ -1,5 +1,5 @@
 -- The types of fields: how each is spelled, and what is legal there.
-use Rattle.std.specs.Prelude.{ℕ, ◌<◌, ◌≤◌, ◌^◌, ◌*◌, List, [], ◌∷◌, ◌++◌, length, slice_index}
+use Rattle.std.specs.Prelude.{ℕ, ◌<◌, ◌≤◌, ◌^◌, ◌*◌, Bool, true, false, List, [], ◌∷◌, ◌++◌, length, slice_index}
 use Rattle.std.specs.List.{flat_map}
 use Rattle.std.specs.Int.{Width, w8, w16, w32, w64, byte_len, to_be_bytes}
 use Rattle.cops_types.specs.declared.dep.Dep.{Dep}
@@ -43,6 +43,17 @@ pub data Content : Type 0 where
 -- a key: 1 to 64 bytes
 abbrev pub key : Field
 key = string u8 1 64
+
+-- a field that takes memory where it is read: bytes behind their length (a key, a value), or pairs (dependencies)
+abbrev pub takes_memory : Field → Bool
+takes_memory (string s least greatest) = true
+takes_memory (pairs most) = true
+takes_memory _ = false
+
+-- what is read of a field before it takes memory: of pairs their count, and of any other the whole field
+abbrev pub first_part : Field → Field
+first_part (pairs most) = number_in u16 0 most
+first_part field = field
 
 -- big-endian; opened only where the bytes of a number matter
 unfoldable pub spelled_number : Size → ℕ → List ℕ

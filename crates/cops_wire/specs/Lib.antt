@@ -5,3 +5,5 @@ pub mod Answer
 pub mod Reading
 pub mod Written
 pub mod Feeding
+pub mod Shown
+pub mod Lines

@@ -1,5 +1,5 @@
 -- Reading from left to right, as a function: the answer that bytes have, computed.
-use Rattle.std.specs.Prelude.{◌≡◌, ℕ, ◌+◌, ◌-◌, zero, suc, Bool, true, ◌&&◌, ◌||◌, not, nat_lt, nat_le, ◌==◌, if◌then◌else◌, List, [], ◌∷◌, length, take, drop, Option, Some, None, IsSome, Result, Ok, Err, ◌/◌, ◌%◌}
+use Rattle.std.specs.Prelude.{◌≡◌, ℕ, ◌+◌, ◌-◌, zero, suc, Bool, true, false, ◌&&◌, ◌||◌, not, nat_lt, nat_le, ◌==◌, if◌then◌else◌, List, [], ◌∷◌, length, take, drop, Option, Some, None, unwrap_or, is_some, IsTrue, Result, Ok, Err, ◌/◌, ◌%◌}
 use Rattle.std.specs.List.{list_any}
 use Rattle.std.specs.Int.{w32, byte_len, from_be_bytes}
 use Rattle.cops_types.specs.declared.dep.Dep.{Dep}
@@ -8,7 +8,7 @@ use Rattle.cops_wire.specs.declared.fault.WireFault.{WireFault}
 use Rattle.cops_wire.specs.declared.fault.WireFault.TheVariants.{Memory, Short, BadLength, UnknownKind, BadField, TrailingBytes}
 use Rattle.cops_wire.specs.declared.reading.ReadFault.{ReadFault}
 use Rattle.cops_wire.specs.declared.reading.ReadFault.TheVariants as faults
-use Rattle.cops_wire.specs.Field.{Size, u8, u16, u64, width, Field, Content, number, number_in, string, version, pairs, of_number, of_bytes, of_pairs}
+use Rattle.cops_wire.specs.Field.{Size, u8, u16, u64, width, Field, Content, number, number_in, string, version, pairs, takes_memory, first_part, of_number, of_bytes, of_pairs}
 use Rattle.cops_wire.specs.declared.message.Message.{Message}
 use Rattle.cops_wire.specs.Message.{contents_of}
 use Rattle.cops_wire.specs.Grammar.{Grammar, Parts, fields_of}
@@ -115,15 +115,43 @@ frame_at g bytes =
     else if nat_lt (length bytes) (4 + len) then Err Short
     else body_at g (take len (drop 4 bytes))
 
--- What a reader of one field returned is what reading gives, unless memory ran out.
-abbrev pub FailsAt : List ℕ → {A : Type 0} → ReadFault → Option A → Type 0
-FailsAt bytes faults.Memory read = Unit {0}
-FailsAt bytes faults.UnknownKind read = ⊥
-FailsAt bytes (faults.BadField left) read = (read ≡ None) × (left ≡ length bytes)
+-- whether a field takes memory here: what is read of it first is right
+abbrev pub takes_at : Field → List ℕ → Bool
+takes_at field bytes = takes_memory field && is_some (field_at (first_part field) bytes)
 
-abbrev pub GivesField : {X A : Type 0} → (X → A) → List ℕ → Result X ReadFault → Option A → Type 0
-GivesField view bytes (Ok x) read = read ≡ Some (view x)
-GivesField view bytes (Err e) read = FailsAt bytes e read
+-- Whether reading from left to right comes to a field that takes memory: each field before it is read.
+abbrev pub then_comes : Option (Content × List ℕ) → (List ℕ → Bool) → Bool
+then_comes None comes = false
+then_comes (Some x) comes = comes x.1
+
+abbrev pub comes_to_memory : List Field → List ℕ → Bool
+comes_to_memory [] bytes = false
+comes_to_memory (f ∷ fs) bytes = takes_at f bytes || then_comes (field_at f bytes) (comes_to_memory fs)
+
+-- the same of the fields of a kind, if the grammar has it
+abbrev pub kind_takes : Grammar → ℕ → List ℕ → Bool
+kind_takes g kind bytes = comes_to_memory (unwrap_or (fields_of g kind) []) bytes
+
+-- the same of a whole body
+abbrev pub body_takes : Grammar → List ℕ → Bool
+body_takes g [] = false
+body_takes g (kind ∷ fields) = kind_takes g kind fields
+
+-- What a reader of a number returned is what reading gives: it takes no memory.
+abbrev pub GivesNumber : {X A : Type 0} → (X → A) → List ℕ → Result X ReadFault → Option A → Type 0
+GivesNumber view bytes (Ok x) read = read ≡ Some (view x)
+GivesNumber view bytes (Err e) read = (read ≡ None) × (e ≡ faults.BadField (length bytes))
+
+-- What a reader of a field returned is what reading gives, unless memory ran out, which it does only where the field
+-- takes it.
+abbrev pub FailsAt : Field → List ℕ → {A : Type 0} → ReadFault → Option A → Type 0
+FailsAt field bytes faults.Memory read = IsTrue (takes_at field bytes)
+FailsAt field bytes faults.UnknownKind read = ⊥
+FailsAt field bytes (faults.BadField left) read = (read ≡ None) × (left ≡ length bytes)
+
+abbrev pub GivesField : {X A : Type 0} → (X → A) → Field → List ℕ → Result X ReadFault → Option A → Type 0
+GivesField view field bytes (Ok x) read = read ≡ Some (view x)
+GivesField view field bytes (Err e) read = FailsAt field bytes e read
 
 -- The same where it does not matter at which part reading stopped.
 abbrev pub FailsPart : {A : Type 0} → ReadFault → Option A → Type 0
@@ -135,10 +163,10 @@ abbrev pub GivesPart : {X A : Type 0} → (X → A) → Result X ReadFault → O
 GivesPart view (Ok x) read = read ≡ Some (view x)
 GivesPart view (Err e) read = FailsPart e read
 
--- What a reader of a message returned is what reading the fields of the kind gives. Memory runs out only at a kind
--- of the grammar.
+-- What a reader of a message returned is what reading the fields of the kind gives. Memory runs out only where
+-- reading comes to a field that takes memory.
 abbrev pub Fails : Grammar → ℕ → List ℕ → ReadFault → Type 0
-Fails g kind bytes faults.Memory = IsSome (fields_of g kind)
+Fails g kind bytes faults.Memory = IsTrue (kind_takes g kind bytes)
 Fails g kind bytes faults.UnknownKind = contents_at g kind bytes ≡ Err faults.UnknownKind
 Fails g kind bytes (faults.BadField left) = contents_at g kind bytes ≡ Err (faults.BadField left)
 

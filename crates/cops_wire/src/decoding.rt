@@ -1,10 +1,10 @@
 //! The message at the front of some bytes.
-ghost use Rattle.std.specs.Prelude.{◌≡◌, ◌<◌, ◌≤◌, ◌+◌, ℕ, length, Result, IfOk, IfErr, IsSome, slice_index};
+ghost use Rattle.std.specs.Prelude.{◌≡◌, ◌<◌, ◌≤◌, ◌+◌, ℕ, length, Result, IfOk, IfErr, IsTrue};
 ghost use Rattle.cops_types.specs.Format.{longest_body};
 ghost use Rattle.cops_wire.specs.declared.fault.WireFault.{WireFault};
-ghost use Rattle.cops_wire.specs.Grammar.{grammar, fields_of, Parts};
-ghost use Rattle.cops_wire.specs.Answer.{IsAnswer, Answers, BeginsWithKnown, IsPlacedWithin};
-ghost use Rattle.cops_wire.specs.Reading.{body_at, frame_at};
+ghost use Rattle.cops_wire.specs.Grammar.{grammar, Parts};
+ghost use Rattle.cops_wire.specs.Answer.{IsAnswer, Answers, BeginsWithTaking, IsPlacedWithin};
+ghost use Rattle.cops_wire.specs.Reading.{body_at, body_takes, frame_at};
 
 use crate::fault::WireFault;
 use crate::message::Message;
@@ -19,12 +19,13 @@ pub struct Decoded {
     pub used: usize,
 }
 
-/// The message of format 1 at the front: `decode_in` at `Format::One`.
+/// The message of format 1 at the front: `decode_in` at `Format::One`. As there, memory runs out only at a field that
+/// takes it.
 pub fn decode(alloc: Global, bytes: &[u8]) -> Result<Decoded, WireFault>
     ensures answer { Answers result (IsAnswer (grammar Format.One) bytes.now) }
     ensures only { (a : Result (Parts × ℕ) WireFault) → IsAnswer (grammar Format.One) bytes.now a → Answers result (λ b. b ≡ a) }
     ensures reading { Answers result (λ a. a ≡ frame_at (grammar Format.One) bytes.now) }
-    ensures memory { result ≡ Err WireFault.Memory → BeginsWithKnown (grammar Format.One) bytes.now }
+    ensures memory { result ≡ Err WireFault.Memory → BeginsWithTaking (grammar Format.One) bytes.now }
     ensures used { IfOk result (λ decoded. (4 < decoded.used) × (decoded.used ≤ length bytes.now) × (decoded.used ≤ 4 + 32768)) }
     ensures offset { IfErr result (IsPlacedWithin 32768) }
 {
@@ -34,7 +35,8 @@ pub fn decode(alloc: Global, bytes: &[u8]) -> Result<Decoded, WireFault>
 /// The message of a format at the front of some bytes, and how many bytes its frame takes. What follows its frame is not
 /// looked at. It looks in this order: fewer than 4 bytes are `Short`; a length of 0 or above the format's most is
 /// `BadLength`; a frame that is not whole is `Short`; then `UnknownKind`; then `BadField`, at the first field from the
-/// left that runs past the body's end or is not legal; then `TrailingBytes`.
+/// left that runs past the body's end or is not legal; then `TrailingBytes`. `Memory` is answered only where it comes to
+/// a legal key or value, or to dependencies whose count is legal: of no other field, and of no kind without one.
 pub fn decode_in(format: Format, alloc: Global, bytes: &[u8]) -> Result<Decoded, WireFault>
     // What is answered is so by that order, unless memory runs out.
     ensures answer { Answers result (IsAnswer (grammar format) bytes.now) }
@@ -45,8 +47,9 @@ pub fn decode_in(format: Format, alloc: Global, bytes: &[u8]) -> Result<Decoded,
     // The same, computed.
     ensures reading { Answers result (λ a. a ≡ frame_at (grammar format) bytes.now) }
 
-    // Only fields take memory: it runs out only in a whole frame of a known kind.
-    ensures memory { result ≡ Err WireFault.Memory → BeginsWithKnown (grammar format) bytes.now }
+    // Memory runs out only in a whole frame of a known kind, at a legal key or value or at dependencies whose count is
+    // legal, and only if the fields before are legal too.
+    ensures memory { result ≡ Err WireFault.Memory → BeginsWithTaking (grammar format) bytes.now }
 
     // A frame lies within the bytes, and a bad field's place within its frame.
     ensures used { IfOk result (λ decoded. (4 < decoded.used) × (decoded.used ≤ length bytes.now) × (decoded.used ≤ 4 + longest_body format)) }
@@ -59,7 +62,7 @@ pub fn decode_in(format: Format, alloc: Global, bytes: &[u8]) -> Result<Decoded,
 #[tactic(auto, unfolding(crate::specs::Reading::frame_at))]
 fn frame(format: Format, alloc: Global, bytes: &[u8]) -> Result<Decoded, WireFault>
     ensures reading { Answers result (λ a. a ≡ frame_at (grammar format) bytes.now) }
-    ensures memory { result ≡ Err WireFault.Memory → BeginsWithKnown (grammar format) bytes.now }
+    ensures memory { result ≡ Err WireFault.Memory → BeginsWithTaking (grammar format) bytes.now }
     ensures used { IfOk result (λ decoded. (4 < decoded.used) × (decoded.used ≤ length bytes.now) × (decoded.used ≤ 4 + longest_body format)) }
     ensures offset { IfErr result (IsPlacedWithin (longest_body format)) }
 {
@@ -83,7 +86,7 @@ fn body(format: Format, alloc: Global, text: &[u8]) -> Result<Decoded, WireFault
     requires some { 0 < length text.now }
     requires fits { length text.now ≤ longest_body format }
     ensures reading { Answers result (λ a. a ≡ body_at (grammar format) text.now) }
-    ensures memory { result ≡ Err WireFault.Memory → IsSome (fields_of (grammar format) (slice_index text.now 0)) }
+    ensures memory { result ≡ Err WireFault.Memory → IsTrue (body_takes (grammar format) text.now) }
     ensures used { IfOk result (λ decoded. decoded.used ≡ 4 + length text.now) }
     ensures offset { IfErr result (IsPlacedWithin (length text.now)) }
 {

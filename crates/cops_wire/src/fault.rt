@@ -4,7 +4,7 @@ use thiserror::Error;
 /// looks.
 #[derive(Clone, Copy, Debug, PartialEq, Eq, Error)]
 pub enum WireFault {
-    /// Memory ran out. What was read stays to be read again.
+    /// Memory ran out, at a legal key or value or at dependencies. What was read stays to be read again.
     #[error("out of memory")]
     Memory,
     /// The frame is not whole: fewer than 4 bytes, or fewer than its length says.

@@ -59,7 +59,8 @@ impl Feeder {
     }
 
     /// The message at the front of the rest, which is taken off, or nothing while the front is no whole frame. A fault
-    /// but `Memory` is answered again by every later call, and takes no memory.
+    /// but `Memory` is answered again by every later call, and takes no memory. `Memory` is answered only where reading
+    /// comes to a legal key or value, or to dependencies whose count is legal.
     pub fn next(&mut self) -> Result<Option<Message>, WireFault>
         ensures next { IsNext self.old result self.new }
         ensures again { IfSome self.old.fault (λ fault. result ≡ Err fault) }

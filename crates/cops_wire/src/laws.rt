@@ -7,7 +7,7 @@ ghost use Rattle.cops_wire.specs.declared.message.Message.{Message};
 ghost use Rattle.cops_wire.specs.Field.{IsBytes};
 ghost use Rattle.cops_wire.specs.Grammar.{grammar, Parts, spelling, IsMessage};
 ghost use Rattle.cops_wire.specs.Message.{parts};
-ghost use Rattle.cops_wire.specs.Answer.{IsAnswer, IsShort, BeginsWithKnown, IsFromFields};
+ghost use Rattle.cops_wire.specs.Answer.{IsAnswer, IsShort, BeginsWithKnown, BeginsWithTaking, IsFromFields};
 ghost use Rattle.cops_wire.specs.Reading.{frame_at};
 
 /// No spelling of a message begins another, and each is the spelling of one message.
@@ -63,7 +63,12 @@ pub fn front_is_short()
         → spelling (grammar format) (parts m) ≡ x ++ y → y ≢ [] → IsShort (grammar format) x }
 {}
 
-/// Where memory may run out, in a whole frame of a known kind, the answer is a message, a bad field or trailing bytes.
+/// Where memory may run out, at a field that takes it, a whole frame of a known kind stands at the front.
+pub fn taking_is_known()
+    ensures { (format : Format) (bytes : List ℕ) → BeginsWithTaking (grammar format) bytes → BeginsWithKnown (grammar format) bytes }
+{}
+
+/// In a whole frame of a known kind the answer is a message, a bad field or trailing bytes.
 pub fn known_is_from_fields()
     ensures { (format : Format) (bytes : List ℕ) → IsBytes bytes → BeginsWithKnown (grammar format) bytes
         → (a : Result (Parts × ℕ) WireFault) → IsAnswer (grammar format) bytes a → IsFromFields a }

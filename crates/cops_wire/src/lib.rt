@@ -4,13 +4,14 @@
 //! of that kind in order. `specs/Grammar.antt` has the table of kinds and fields as a function of the format, and
 //! `specs/Answer.antt` what any bytes are answered: a message, or the first of the faults in a fixed order. `encode`
 //! writes the one spelling of a message, `decode` answers by those definitions and nothing else, and `Feeder` does so
-//! for a stream that comes in pieces. `laws` says what follows from the definitions alone: no spelling begins another,
-//! bytes have one answer, and an answer stays whatever follows.
+//! for a stream that comes in pieces. `show` writes a message as the text that `specs/Shown.antt` gives it. `laws` says
+//! what follows from the definitions alone: no spelling begins another, bytes have one answer, and an answer stays
+//! whatever follows.
 //!
 //! Stands on `cops_types` (keys, values, versions, dependencies, formats and their limits). The layers above use
 //! `Message` and the calls here, the definitions of `specs/`, and for their proofs the lemmas of `proofs/Codec.antt`.
 //! A new kind is a row of the table in `src/table.rt`, a row of the grammar, and a row of each function in
-//! `specs/Message.antt` and `proofs/Messages.antt`; a new format is a row of each limit.
+//! `specs/Message.antt`, `specs/Shown.antt` and `proofs/Messages.antt`; a new format is a row of each limit.
 #![tactic(auto)]
 
 mod decoding;
@@ -33,7 +34,7 @@ pub use fault::WireFault;
 pub use feeder::Feeder;
 pub use laws::{
     answer_is_read, answer_splits, answer_stays, front_is_short, known_is_from_fields, one_answer,
-    one_spelling, parts_tell_messages, spelling_is_answered, spelling_is_bounded,
+    one_spelling, parts_tell_messages, spelling_is_answered, spelling_is_bounded, taking_is_known,
 };
 pub use legality::{legal, legal_in};
 pub use message::Message;

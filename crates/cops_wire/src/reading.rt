@@ -1,10 +1,10 @@
 //! The fields of a message, from the front of what is left of its body.
 ghost use Rattle.std.specs.Prelude.{◌≡◌, ◌<◌, ◌≤◌, length, take, drop, IfOk};
-ghost use Rattle.cops_wire.specs.Field.{u8, u16, u32, u64};
+ghost use Rattle.cops_wire.specs.Field.{u8, u16, u32, u64, key};
 ghost use Rattle.cops_types.specs.Format.{most_value, most_deps};
-ghost use Rattle.cops_wire.specs.Grammar.{grammar};
+ghost use Rattle.cops_wire.specs.Grammar.{grammar, value, deps};
 ghost use Rattle.cops_wire.specs.Message.{kind_of};
-ghost use Rattle.cops_wire.specs.Reading.{GivesField, GivesContents, number_at, number_in_at, string_at, version_at, pair_at, pairs_at, deps_at, GivesPart};
+ghost use Rattle.cops_wire.specs.Reading.{GivesField, GivesNumber, GivesContents, number_at, number_in_at, string_at, version_at, pair_at, pairs_at, deps_at, GivesPart};
 
 use crate::message::Message;
 use crate::table::kinds;
@@ -98,7 +98,7 @@ impl<'a> Rest<'a> {
     #[tactic(auto, unfolding(crate::specs::Reading::number_at))]
     pub(crate) fn u8(&mut self) -> Result<u8, ReadFault>
         ensures format { self.new.format ≡ self.old.format }
-        ensures field { GivesField (λ n. (n, self.new.bytes.now)) self.old.bytes.now result (number_at u8 self.old.bytes.now) }
+        ensures field { GivesNumber (λ n. (n, self.new.bytes.now)) self.old.bytes.now result (number_at u8 self.old.bytes.now) }
     {
         if self.bytes.is_empty() {
             return Err(self.bad());
@@ -110,7 +110,7 @@ impl<'a> Rest<'a> {
     #[tactic(auto, unfolding(crate::specs::Reading::number_at))]
     pub(crate) fn u16(&mut self) -> Result<u16, ReadFault>
         ensures format { self.new.format ≡ self.old.format }
-        ensures field { GivesField (λ n. (n, self.new.bytes.now)) self.old.bytes.now result (number_at u16 self.old.bytes.now) }
+        ensures field { GivesNumber (λ n. (n, self.new.bytes.now)) self.old.bytes.now result (number_at u16 self.old.bytes.now) }
     {
         if self.bytes.len() < 2 {
             return Err(self.bad());
@@ -122,7 +122,7 @@ impl<'a> Rest<'a> {
     #[tactic(auto, unfolding(crate::specs::Reading::number_at))]
     pub(crate) fn u32(&mut self) -> Result<u32, ReadFault>
         ensures format { self.new.format ≡ self.old.format }
-        ensures field { GivesField (λ n. (n, self.new.bytes.now)) self.old.bytes.now result (number_at u32 self.old.bytes.now) }
+        ensures field { GivesNumber (λ n. (n, self.new.bytes.now)) self.old.bytes.now result (number_at u32 self.old.bytes.now) }
     {
         if self.bytes.len() < 4 {
             return Err(self.bad());
@@ -134,7 +134,7 @@ impl<'a> Rest<'a> {
     #[tactic(auto, unfolding(crate::specs::Reading::number_at))]
     fn u64(&mut self) -> Result<u64, ReadFault>
         ensures format { self.new.format ≡ self.old.format }
-        ensures field { GivesField (λ n. (n, self.new.bytes.now)) self.old.bytes.now result (number_at u64 self.old.bytes.now) }
+        ensures field { GivesNumber (λ n. (n, self.new.bytes.now)) self.old.bytes.now result (number_at u64 self.old.bytes.now) }
     {
         if self.bytes.len() < 8 {
             return Err(self.bad());
@@ -148,7 +148,7 @@ impl<'a> Rest<'a> {
     #[tactic(auto, unfolding(crate::specs::Reading::number_in_at))]
     fn u8_in(&mut self, least: u8, greatest: u8) -> Result<u8, ReadFault>
         ensures format { self.new.format ≡ self.old.format }
-        ensures field { GivesField (λ n. (n, self.new.bytes.now)) self.old.bytes.now result (number_in_at u8 least greatest self.old.bytes.now) }
+        ensures field { GivesNumber (λ n. (n, self.new.bytes.now)) self.old.bytes.now result (number_in_at u8 least greatest self.old.bytes.now) }
     {
         let bad = self.bad();
         let number = self.u8()?;
@@ -161,7 +161,7 @@ impl<'a> Rest<'a> {
     #[tactic(auto, unfolding(crate::specs::Reading::number_in_at))]
     fn u64_in(&mut self, least: u64, greatest: u64) -> Result<u64, ReadFault>
         ensures format { self.new.format ≡ self.old.format }
-        ensures field { GivesField (λ n. (n, self.new.bytes.now)) self.old.bytes.now result (number_in_at u64 least greatest self.old.bytes.now) }
+        ensures field { GivesNumber (λ n. (n, self.new.bytes.now)) self.old.bytes.now result (number_in_at u64 least greatest self.old.bytes.now) }
     {
         let bad = self.bad();
         let number = self.u64()?;
@@ -174,7 +174,7 @@ impl<'a> Rest<'a> {
     #[tactic(auto, unfolding(crate::specs::Reading::string_at, crate::specs::Reading::number_in_at))]
     fn key(&mut self) -> Result<Key, ReadFault>
         ensures format { self.new.format ≡ self.old.format }
-        ensures field { GivesField (λ k. (k, self.new.bytes.now)) self.old.bytes.now result (string_at u8 1 64 self.old.bytes.now) }
+        ensures field { GivesField (λ k. (k, self.new.bytes.now)) key self.old.bytes.now result (string_at u8 1 64 self.old.bytes.now) }
     {
         let bad = self.bad();
         let len = self.u8()? as usize;
@@ -191,7 +191,7 @@ impl<'a> Rest<'a> {
     #[tactic(auto, unfolding(crate::specs::Reading::string_at, crate::specs::Reading::number_in_at))]
     fn value(&mut self) -> Result<Value, ReadFault>
         ensures format { self.new.format ≡ self.old.format }
-        ensures field { GivesField (λ v. (v, self.new.bytes.now)) self.old.bytes.now result (string_at u16 0 (most_value self.old.format) self.old.bytes.now) }
+        ensures field { GivesField (λ v. (v, self.new.bytes.now)) (value self.old.format) self.old.bytes.now result (string_at u16 0 (most_value self.old.format) self.old.bytes.now) }
     {
         let bad = self.bad();
         let len = self.u16()? as usize;
@@ -208,7 +208,7 @@ impl<'a> Rest<'a> {
     #[tactic(auto, unfolding(crate::specs::Reading::version_at))]
     pub(crate) fn version(&mut self) -> Result<Version, ReadFault>
         ensures format { self.new.format ≡ self.old.format }
-        ensures field { GivesField (λ v. (v, self.new.bytes.now)) self.old.bytes.now result (version_at self.old.bytes.now) }
+        ensures field { GivesNumber (λ v. (v, self.new.bytes.now)) self.old.bytes.now result (version_at self.old.bytes.now) }
     {
         let bad = self.bad();
         let number = self.u64()?;
@@ -245,7 +245,7 @@ impl<'a> Rest<'a> {
     #[tactic(auto, unfolding(crate::specs::Reading::deps_at, crate::specs::Reading::number_in_at))]
     fn deps(&mut self) -> Result<Deps, ReadFault>
         ensures format { self.new.format ≡ self.old.format }
-        ensures field { GivesField (λ d. (d, self.new.bytes.now)) self.old.bytes.now result (deps_at (most_deps self.old.format) self.old.bytes.now) }
+        ensures field { GivesField (λ d. (d, self.new.bytes.now)) (deps self.old.format) self.old.bytes.now result (deps_at (most_deps self.old.format) self.old.bytes.now) }
     {
         let bad = self.bad();
         let most = self.format.most_deps();

@@ -1,18 +1,28 @@
 //! A message as a line of text.
-ghost use Rattle.std.specs.Prelude.{◌≡◌, take, vec_len, OnOk, OnErr};
+ghost use Rattle.std.specs.Prelude.{◌≡◌, ◌++◌, OnOk, OnErr, IfOk, string_bytes, codes};
+ghost use Rattle.std.specs.List.{join_by};
+ghost use Rattle.cops_wire.specs.Shown.{shown, is_plain, byte_text, bytes_text, pair_text, deps_text};
+ghost use Rattle.cops_wire.specs.Lines.{field_text, named_text, fields_text};
 
 use crate::field::{FieldRef, as_written};
 use crate::message::Message;
 use crate::table::kinds;
-use cops_types::{Deps, Memory};
+use cops_types::{Dep, Deps, Memory};
 use std::alloc::{AllocError, Global};
+
+/// A field behind its name.
+#[derive(Clone, Copy)]
+struct Named<'a> {
+    name: &'a str,
+    field: FieldRef<'a>,
+}
 
 /// Appends a line without its end: the kind's name, then for each field a space, the field's name, `=` and its text.
 /// Numbers are decimal, versions are `clock.node`, and dependencies are `[key@version,key@version]`. In keys and values
 /// the bytes of ASCII letters, digits, `-`, `.` and `_` stand as they are, and any other byte is `%` and two lower case
-/// hexadecimal digits. Where memory runs out, nothing is appended.
+/// hexadecimal digits (`shown` in `specs/Shown.antt`). Where memory runs out, nothing is appended.
 pub fn show(alloc: Global, message: &Message, out: &mut Vec<u8>) -> Result<(), Memory>
-    ensures ok { OnOk result (take (vec_len out.old) out.new.items ≡ out.old.items) }
+    ensures ok { OnOk result (out.new.items ≡ out.old.items ++ shown message.now) }
     ensures err { OnErr result (out.new.items ≡ out.old.items) }
 {
     let line = line_of(alloc, message)?;
@@ -20,32 +30,43 @@ pub fn show(alloc: Global, message: &Message, out: &mut Vec<u8>) -> Result<(), M
     Ok(())
 }
 
-fn line_of(alloc: Global, message: &Message) -> Result<String, AllocError> {
+/// That line.
+fn line_of(alloc: Global, message: &Message) -> Result<String, AllocError>
+    ensures { IfOk result (λ text. string_bytes text ≡ shown message.now) }
+{
     macro_rules! text {
         ($alloc:ident, $message:ident; $($group:ident { $($number:literal => $name:ident { $($field:ident: $type:ident($($arg:literal),*)),* }),* })*) => {
             match $message {
-                $($(Message::$name { $($field),* } => line($alloc, stringify!($name), &[$(stringify!($field)),*], &[$(as_written!($type $field)),*]),)*)*
+                $($(Message::$name { $($field),* } => line($alloc, stringify!($name), &[$(Named { name: stringify!($field), field: as_written!($type $field) }),*]),)*)*
             }
         };
     }
     kinds!(text alloc, message)
 }
 
-fn line(
-    alloc: Global,
-    kind: &str,
-    names: &[&str],
-    fields: &[FieldRef<'_>],
-) -> Result<String, AllocError> {
+/// A kind's name, and then the fields.
+fn line(alloc: Global, kind: &str, fields: &[Named<'_>]) -> Result<String, AllocError>
+    ensures { IfOk result (λ text. string_bytes text ≡ kind.now ++ fields_text fields.now) }
+{
     let mut line = String::from_str(alloc, kind)?;
-    for (name, field) in names.iter().zip(fields) {
-        write!(line, " {name}=")?;
-        push_field(&mut line, field)?;
+    for named in fields {
+        push_named(&mut line, named)?;
     }
     Ok(line)
 }
 
-fn push_field(line: &mut String, field: &FieldRef<'_>) -> Result<(), AllocError> {
+/// A field behind a space, its name and `=`.
+fn push_named(line: &mut String, named: &Named<'_>) -> Result<(), AllocError>
+    ensures { OnOk result (string_bytes line.new ≡ string_bytes line.old ++ named_text named.now) }
+{
+    let name = named.name;
+    write!(line, " {name}=")?;
+    push_field(line, &named.field)
+}
+
+fn push_field(line: &mut String, field: &FieldRef<'_>) -> Result<(), AllocError>
+    ensures { OnOk result (string_bytes line.new ≡ string_bytes line.old ++ field_text field.now) }
+{
     match field {
         FieldRef::U8(n) => write!(line, "{n}"),
         FieldRef::U16(n) => write!(line, "{n}"),
@@ -58,26 +79,61 @@ fn push_field(line: &mut String, field: &FieldRef<'_>) -> Result<(), AllocError>
     }
 }
 
-fn push_bytes(line: &mut String, bytes: &[u8]) -> Result<(), AllocError> {
+/// Whether a byte of a key or a value stands as it is.
+fn is_plain(byte: u8) -> bool
+    ensures { result ≡ is_plain byte }
+{
+    byte.is_ascii_alphanumeric() || matches!(byte, b'-' | b'.' | b'_')
+}
+
+#[tactic(auto, using(std::proofs::lemmas::Fmt::hex_byte))]
+fn push_byte(line: &mut String, byte: u8) -> Result<(), AllocError>
+    ensures { OnOk result (string_bytes line.new ≡ string_bytes line.old ++ byte_text byte) }
+{
+    if is_plain(byte) {
+        line.push(char::from(byte))
+    } else {
+        write!(line, "%{byte:02x}")
+    }
+}
+
+fn push_bytes(line: &mut String, bytes: &[u8]) -> Result<(), AllocError>
+    ensures { OnOk result (string_bytes line.new ≡ string_bytes line.old ++ bytes_text bytes.now) }
+{
     for &byte in bytes {
-        if byte.is_ascii_alphanumeric() || matches!(byte, b'-' | b'.' | b'_') {
-            line.push(char::from(byte))?;
-        } else {
-            write!(line, "%{byte:02x}")?;
-        }
+        push_byte(line, byte)?;
     }
     Ok(())
 }
 
-fn push_deps(line: &mut String, deps: &Deps) -> Result<(), AllocError> {
-    line.push('[')?;
-    for (i, dep) in deps.as_slice().iter().enumerate() {
-        if i > 0 {
-            line.push(',')?;
-        }
-        push_bytes(line, dep.key.as_bytes())?;
-        let version = dep.version;
-        write!(line, "@{version}")?;
+/// A key and its version.
+fn push_pair(line: &mut String, dep: &Dep) -> Result<(), AllocError>
+    ensures { OnOk result (string_bytes line.new ≡ string_bytes line.old ++ pair_text dep.now) }
+{
+    push_bytes(line, dep.key.as_bytes())?;
+    let version = dep.version;
+    write!(line, "@{version}")
+}
+
+/// Pairs with a comma between each two.
+fn push_pairs(line: &mut String, pairs: &[Dep]) -> Result<(), AllocError>
+    ensures { OnOk result (string_bytes line.new ≡ string_bytes line.old ++ join_by pair_text (codes ",") pairs.now) }
+{
+    let Some((first, others)) = pairs.split_first() else {
+        return Ok(());
+    };
+    push_pair(line, first)?;
+    for dep in others {
+        line.push(',')?;
+        push_pair(line, dep)?;
     }
+    Ok(())
+}
+
+fn push_deps(line: &mut String, deps: &Deps) -> Result<(), AllocError>
+    ensures { OnOk result (string_bytes line.new ≡ string_bytes line.old ++ deps_text deps.now) }
+{
+    line.push('[')?;
+    push_pairs(line, deps.as_slice())?;
     line.push(']')
 }

@@ -1,10 +1,11 @@
-use Rattle.std.proofs.Common.{◌≡◌, ℕ, ◌+◌, ◌≤◌, List, length, take, drop, get_or, ap, subst, ◌∙◌, arith}
-use Rattle.std.specs.Prelude.{IsSome}
+use Rattle.std.proofs.Common.{◌≡◌, ℕ, ◌+◌, ◌≤◌, List, length, take, drop, ap, subst, ◌∙◌, arith}
+use Rattle.std.specs.Prelude.{IsTrue}
 use Rattle.std.specs.Int.{w32, from_be_bytes}
 use Rattle.std.proofs.lemmas.List.{length-drop}
-use Rattle.cops_wire.specs.Grammar.{grammar, fields_of}
+use Rattle.cops_wire.specs.Grammar.{grammar}
 use Rattle.cops_wire.specs.Answer.{length_at}
-use Rattle.cops_wire.proofs.Frames.{known_frame}
+use Rattle.cops_wire.specs.Reading.{body_takes}
+use Rattle.cops_wire.proofs.Frames.{taking_frame}
 use Rattle.cops_wire.proofs.decoding.frame.Goals as goal
 
 pub returns-clause-memory : goal.returns-clause-memory
@@ -17,4 +18,4 @@ returns-clause-memory c = λ e.
     ∙ ap (λ (n : ℕ). take n rest) len
     ∙ ap (take (length_at bytes)) c.split_at.ensures.back in
     let long : 4 + length_at bytes ≤ length bytes = omega (arith, ap length c.split_at.ensures.back, length-drop 4 bytes, len) in
-    known_frame (grammar c.args.format) bytes (λ i. omega (arith, c.type_inv.bytes i)) (omega arith) (omega (arith, len)) (omega (arith, len)) long (subst (λ (t : List ℕ). IsSome (fields_of (grammar c.args.format) (get_or t 0 0))) text (c.body.ensures.memory e))
+    taking_frame (grammar c.args.format) bytes (λ i. omega (arith, c.type_inv.bytes i)) (omega arith) (omega (arith, len)) long (subst (λ (t : List ℕ). IsTrue (body_takes (grammar c.args.format) t)) text (c.body.ensures.memory e))

@@ -4,7 +4,7 @@ use Rattle.cops_wire.specs.declared.fault.WireFault.{WireFault}
 use Rattle.cops_wire.specs.declared.fault.WireFault.TheVariants.{Memory}
 use Rattle.cops_wire.specs.Grammar.{grammar}
 use Rattle.cops_wire.specs.Message.{parts}
-use Rattle.cops_wire.specs.Answer.{Answers, IsAnswer, BeginsWithKnown}
+use Rattle.cops_wire.specs.Answer.{Answers, IsAnswer, BeginsWithTaking}
 use Rattle.cops_wire.specs.Feeding.{Fed, IsStopped, IsStoppedBy, IsNext}
 use Rattle.cops_wire.proofs.Stopping.{stopped, next_stopped, waits}
 use Rattle.cops_wire.proofs.Taking.{unread, taken}
@@ -36,8 +36,8 @@ pub returns-in-Memory-clause-waits : goal.returns-in-Memory-clause-waits
 returns-in-Memory-clause-waits c =
     let inside = c.self.inside in
     let rest = unread inside.bytes.items c.deref.result.now c.args.self.now.rest inside.start c.deref.ensures.value (ap (λ (v : Fed). v.rest) c.self.view_is) in
-    let known : BeginsWithKnown (grammar One) c.args.self.now.rest = subst (BeginsWithKnown (grammar One)) rest (c.in-Err.ensures.memory (ap (λ (f : WireFault). Err f) c.in-Memory.is)) in
-    waits c.args.self.now (Err Memory) c.args.self.now (known, refl)
+    let taking : BeginsWithTaking (grammar One) c.args.self.now.rest = subst (BeginsWithTaking (grammar One)) rest (c.in-Err.ensures.memory (ap (λ (f : WireFault). Err f) c.in-Memory.is)) in
+    waits c.args.self.now (Err Memory) c.args.self.now (taking, refl)
 
 pub returns-in_default-fault-clause-next : goal.returns-in_default-fault-clause-next
 returns-in_default-fault-clause-next c =
