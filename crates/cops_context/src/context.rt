@@ -24,7 +24,7 @@ impl Model for Context {
 }
 
 impl Context {
-    ghost use Rattle.std.specs.Prelude.{◌≡◌, ◌↔◌, ◌≤◌, length, List, [], ◌∷◌, true, false, nat_lt, IsTrue, IsOk, IfOk, IfErr, OnOk, OnErr, IsErrOf};
+    ghost use Rattle.std.specs.Prelude.{◌≡◌, ◌≢◌, ◌↔◌, ◌≤◌, length, List, [], ◌∷◌, true, false, nat_lt, IsTrue, IsOk, IfOk, IfErr, OnOk, OnErr, IsErrOf};
     ghost use Rattle.cops_context.specs.Context.{IsContext, has_pair, with_pair};
 
     /// An empty context. It takes no memory.
@@ -72,9 +72,11 @@ impl Context {
         self.pairs.contains(pair) || beside
     }
 
-    /// Copies of the pairs, in order of arrival: the nearest dependencies of the client's next put.
+    /// Copies of the pairs, in order of arrival: the nearest dependencies of the client's next put. Where there is no
+    /// pair it takes no memory.
     pub fn deps(&self) -> Result<Deps, Memory>
-        ensures { IfOk result (λ deps. deps ≡ self.now.pairs) }
+        ensures ok { IfOk result (λ deps. deps ≡ self.now.pairs) }
+        ensures err { OnErr result (self.now.pairs ≢ []) }
     {
         let copies = self.copies()?;
         Ok(Deps::new(copies).unwrap())
@@ -83,6 +85,7 @@ impl Context {
     /// Copies of the pairs, in order of arrival.
     fn copies(&self) -> Result<Vec<Dep>, AllocError>
         ensures pairs { IfOk result (λ copies. copies.items ≡ self.now.pairs) }
+        ensures err { OnErr result (self.now.pairs ≢ []) }
         ensures context { IsContext self.now.pairs }
     {
         let mut copies = Vec::new(*self.pairs.allocator());

@@ -74,9 +74,10 @@ impl Held {
     }
 
     /// The dependencies of the put at a version that are not marked yet, by their indexes, ascending. None where no such
-    /// put waits.
+    /// put waits, and that takes no memory.
     pub fn open_deps(&self, version: Version) -> Result<Vec<u16>, Memory>
-        ensures { IfOk result (λ deps. deps.items ≡ open_deps (waiting self.now version)) }
+        ensures ok { IfOk result (λ deps. deps.items ≡ open_deps (waiting self.now version)) }
+        ensures err { OnErr result (is_some (waiting self.now version) ≡ true) }
     {
         match self.find(version) {
             Some(held) => Ok(held.open_deps(self.alloc)?),

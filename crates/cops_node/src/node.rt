@@ -160,7 +160,8 @@ impl Node {
 
     /// Takes one event, as its own call does.
     pub fn step(&mut self, event: NodeEvent) -> Outcome
-        ensures { NodeHappens self.old event result self.new }
+        ensures happens { NodeHappens self.old event result self.new }
+        ensures memory { result ≡ RefusedWith 9 → TakesMemory (node_step self.old event).0 }
     {
         macro_rules! dispatch {
             ($node:ident, $event:ident; $($name:ident $fields:tt => $call:ident $arguments:tt $outcomes:tt)*) => {
