@@ -16,4 +16,5 @@ pub mod Asking
 pub mod Versions
 pub mod Pairs
 pub mod Events
+pub mod Memory
 pub mod Running

@@ -1,5 +1,5 @@
 -- The cluster: its nodes, what was issued and answered, and what each client saw.
-use Rattle.std.specs.Prelude.{◌≡◌, ℕ, zero, suc, ◌+◌, ◌*◌, ◌%◌, ◌<◌, ◌≤◌, ◌⊎◌, List, [], ◌∷◌, ◌++◌, Bool, true, if◌then◌else◌, ◌==◌, ◌&&◌, nat_lt, length, filter, find, replicate, flat_map, slice_set, slice_index_or, All, Option, Some, None, is_some}
+use Rattle.std.specs.Prelude.{◌≡◌, ℕ, zero, suc, ◌+◌, ◌*◌, ◌%◌, ◌<◌, ◌≤◌, ◌⊎◌, List, [], ◌∷◌, ◌++◌, Bool, true, false, if◌then◌else◌, ◌==◌, ◌&&◌, nat_lt, length, filter, find, replicate, flat_map, slice_set, slice_index_or, All, Option, Some, None, is_some}
 use Rattle.std.specs.List.{list_any}
 use Rattle.cops_types.specs.declared.dep.Dep.{Dep}
 use Rattle.cops_types.specs.declared.put_record.PutRecord.{PutRecord}
@@ -183,6 +183,17 @@ unless w None next = next
 -- what is answered where memory is there, and the world afterwards
 abbrev pub happens : Setting → World → Event → Outcome × World
 happens s w event = unless w (refusal (checks s w event)) (done s w event)
+
+-- a refusal that comes after memory is taken: of a put whose clock is exhausted, and of a mark that no Yes allows
+abbrev pub is_late : Event → ℕ → Bool
+is_late (PutBy client key value) code = code == 1
+is_late (MarkAt dc version dep) code = code == 7
+is_late event code = false
+
+-- an answer for which the world takes memory: each but the refusals that come before
+abbrev pub TakesMemory : Event → Outcome → Type 0
+TakesMemory event (Refused code) = is_late event code ≡ true
+TakesMemory event outcome = Unit {0}
 
 -- an event is answered so, or refused for want of memory
 abbrev pub Happens : Setting → World → Event → Outcome → World → Type 0

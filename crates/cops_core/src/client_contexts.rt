@@ -21,7 +21,7 @@ impl Model for ClientContexts {
 }
 
 impl ClientContexts {
-    ghost use Rattle.std.specs.Prelude.{◌≡◌, ◌<◌, [], ◌∷◌, IfOk, OnOk, length, nat_lt, replicate, slice_index_or, slice_set};
+    ghost use Rattle.std.specs.Prelude.{◌≡◌, ◌≢◌, ◌<◌, [], ◌∷◌, IfOk, OnOk, OnErr, length, nat_lt, replicate, slice_index_or, slice_set};
     ghost use Rattle.cops_context.specs.Context.{with_pair};
     ghost use Rattle.cops_core.specs.Parts.{HasPlace};
 
@@ -43,10 +43,11 @@ impl ClientContexts {
         self.contexts.len()
     }
 
-    /// Copies of a client's pairs.
+    /// Copies of a client's pairs. Where there are none it takes no memory.
     pub fn deps(&self, client: u16) -> Result<Deps, Memory>
         requires { client < length self.now.pairs }
-        ensures { IfOk result (λ deps. deps ≡ slice_index_or self.now.pairs client []) }
+        ensures ok { IfOk result (λ deps. deps ≡ slice_index_or self.now.pairs client []) }
+        ensures err { OnErr result (slice_index_or self.now.pairs client [] ≢ []) }
     {
         let context = &self.contexts[client as usize];
         context.deps()

@@ -1,5 +1,5 @@
 //! What the world keeps of its clients' operations: copies, and a place in the history.
-ghost use Rattle.std.specs.Prelude.{◌≡◌, ◌<◌, ◌⊎◌, ◌∷◌, [], Some, nat_lt, ◌&&◌, length, slice_index_or, IfOk, IfErr, OnOk};
+ghost use Rattle.std.specs.Prelude.{◌≡◌, ◌<◌, ◌⊎◌, ◌∷◌, [], None, Some, nat_lt, ◌&&◌, length, slice_index_or, IfOk, IfErr, OnOk};
 ghost use Rattle.cops_types.specs.Recorded.{count_of, with_op};
 ghost use Rattle.cops_core.specs.Parts.{MayRecord};
 ghost use Rattle.cops_core.specs.World.{refusal};
@@ -10,11 +10,13 @@ use cops_node::MEMORY;
 use cops_types::{Dep, Deps, History, Key, Memory, Op, PutRecord, TypeFault, Value};
 use std::alloc::{AllocError, Global};
 
-/// Whether a client may have one more operation, else the code of the refusal. What was recorded stays.
+/// Whether a client may have one more operation, else the code of the refusal. What was recorded stays. Want of memory is
+/// answered only where nothing else refuses.
 pub fn admit(history: &mut History, client: u16) -> Result<(), u8>
     ensures same { history.new.sessions ≡ history.old.sessions }
     ensures ok { OnOk result (MayRecord history.new client) }
     ensures err { IfErr result (λ code. (code ≡ 9) ⊎ (refusal ((nat_lt client (length history.old.sessions), 3) ∷ (nat_lt (length (slice_index_or history.old.sessions client [])) 1000000 && nat_lt (count_of history.old.sessions) 16000000, 11) ∷ []) ≡ Some code)) }
+    ensures memory { IfErr result (λ code. code ≡ 9 → refusal ((nat_lt client (length history.old.sessions), 3) ∷ (nat_lt (length (slice_index_or history.old.sessions client [])) 1000000 && nat_lt (count_of history.old.sessions) 16000000, 11) ∷ []) ≡ None) }
 {
     match history.reserve(client) {
         Ok(()) => Ok(()),

@@ -1,4 +1,4 @@
-ghost use Rattle.std.specs.Prelude.{◌≡◌, ◌<◌, IfOk, option_copied};
+ghost use Rattle.std.specs.Prelude.{◌≡◌, ◌<◌, true, is_some, IfOk, OnErr, option_copied};
 ghost use Rattle.cops_core.specs.World.{place_of, is_answered};
 
 use crate::answers::Answers;
@@ -42,9 +42,10 @@ impl Model for State {
 }
 
 impl State {
-    ghost use Rattle.std.specs.Prelude.{◌≡◌, IfOk, OnErr, length, option_copied, slice_get};
+    ghost use Rattle.std.specs.Prelude.{◌≡◌, ◌≢◌, [], IfOk, OnErr, length, option_copied, slice_get};
+    ghost use Rattle.cops_node.specs.declared.outcome.Outcome.TheVariants.{Refused as RefusedWith};
     ghost use Rattle.cops_store.specs.Store.{has_pair};
-    ghost use Rattle.cops_core.specs.World.{Happens, context_in, opening, sent, settled_in, PutBy, GetBy, DeliverTo, AskAt, MarkAt, SettleAt};
+    ghost use Rattle.cops_core.specs.World.{Happens, TakesMemory, context_in, happens, opening, sent, settled_in, PutBy, GetBy, DeliverTo, AskAt, MarkAt, SettleAt};
     ghost use Rattle.cops_core.specs.Invariants.{IsReached};
 
     /// The state in which nothing has happened yet.
@@ -62,10 +63,11 @@ impl State {
         })
     }
 
-    /// Answers an event.
+    /// Answers an event. Want of memory stands only in place of an answer that takes memory.
     pub fn step(&mut self, setting: &Setting, event: &Event) -> Outcome
         requires { IsReached setting.now self.old }
-        ensures { Happens setting.now self.old event.now result self.new }
+        ensures happens { Happens setting.now self.old event.now result self.new }
+        ensures memory { result ≡ RefusedWith 9 → TakesMemory event.now (happens setting.now self.old event.now).0 }
     {
         events!(answer self, setting, event)
     }
@@ -77,9 +79,10 @@ impl State {
         &self.history
     }
 
-    /// Copies of a client's context: none for a client that is not there.
+    /// Copies of a client's context: none for a client that is not there. Where there are none it takes no memory.
     pub fn deps(&self, client: u16) -> Result<Deps, Memory>
-        ensures { IfOk result (λ deps. deps ≡ context_in self.now client) }
+        ensures ok { IfOk result (λ deps. deps ≡ context_in self.now client) }
+        ensures err { OnErr result (context_in self.now client ≢ []) }
     {
         if (client as usize) < self.contexts.len() {
             self.contexts.deps(client)
@@ -124,7 +127,8 @@ impl State {
     /// the new pair alone.
     fn put(&mut self, setting: &Setting, client: u16, key: &Key, value: &Value) -> Outcome
         requires { IsReached setting.now self.old }
-        ensures { Happens setting.now self.old (PutBy client key.now value.now) result self.new }
+        ensures happens { Happens setting.now self.old (PutBy client key.now value.now) result self.new }
+        ensures memory { result ≡ RefusedWith 9 → TakesMemory (PutBy client key.now value.now) (happens setting.now self.old (PutBy client key.now value.now)).0 }
     {
         match self.try_put(setting, client, key, value) {
             Ok(outcome) => outcome,
@@ -143,6 +147,8 @@ impl State {
         requires { IsReached setting.now self.old }
         ensures ok { IfOk result (λ outcome. Happens setting.now self.old (PutBy client key.now value.now) outcome self.new) }
         ensures err { OnErr result (self.new ≡ self.old) }
+        ensures memory { IfOk result (λ outcome. outcome ≡ RefusedWith 9 → TakesMemory (PutBy client key.now value.now) (happens setting.now self.old (PutBy client key.now value.now)).0) }
+        ensures takes { OnErr result (TakesMemory (PutBy client key.now value.now) (happens setting.now self.old (PutBy client key.now value.now)).0) }
     {
         let place = setting.primary(key);
         if let Err(code) = admit(&mut self.history, client) {
@@ -181,7 +187,8 @@ impl State {
     /// A client gets a key, from its own data centre. The pair that it met joins the client's context.
     fn get(&mut self, setting: &Setting, client: u16, key: &Key) -> Outcome
         requires { IsReached setting.now self.old }
-        ensures { Happens setting.now self.old (GetBy client key.now) result self.new }
+        ensures happens { Happens setting.now self.old (GetBy client key.now) result self.new }
+        ensures memory { result ≡ RefusedWith 9 → TakesMemory (GetBy client key.now) (happens setting.now self.old (GetBy client key.now)).0 }
     {
         match self.try_get(setting, client, key) {
             Ok(outcome) => outcome,
@@ -194,9 +201,14 @@ impl State {
         requires { IsReached setting.now self.old }
         ensures ok { IfOk result (λ outcome. Happens setting.now self.old (GetBy client key.now) outcome self.new) }
         ensures err { OnErr result (self.new ≡ self.old) }
+        ensures memory { IfOk result (λ outcome. outcome ≡ RefusedWith 9 → TakesMemory (GetBy client key.now) (happens setting.now self.old (GetBy client key.now)).0) }
+        ensures takes { OnErr result (TakesMemory (GetBy client key.now) (happens setting.now self.old (GetBy client key.now)).0) }
     {
         let place = setting.primary(key);
         if let Err(code) = admit(&mut self.history, client) {
+            if code == MEMORY && !self.contexts.has_room(client) {
+                return Ok(Outcome::Refused(CONTEXT_FULL));
+            }
             return Ok(Outcome::Refused(code));
         }
         if !self.contexts.has_room(client) {
@@ -235,7 +247,8 @@ impl State {
     /// The put of that version comes to a data centre.
     fn deliver(&mut self, setting: &Setting, dc: u8, version: Version) -> Outcome
         requires { IsReached setting.now self.old }
-        ensures { Happens setting.now self.old (DeliverTo dc version) result self.new }
+        ensures happens { Happens setting.now self.old (DeliverTo dc version) result self.new }
+        ensures memory { result ≡ RefusedWith 9 → TakesMemory (DeliverTo dc version) (happens setting.now self.old (DeliverTo dc version)).0 }
     {
         if dc >= setting.dcs() {
             return Outcome::Refused(UNKNOWN_DC);
@@ -254,7 +267,8 @@ impl State {
     /// A data centre's node is asked whether exactly this pair is settled there. An answer Yes is kept.
     fn ask(&mut self, setting: &Setting, dc: u8, key: &Key, version: Version) -> Outcome
         requires { IsReached setting.now self.old }
-        ensures { Happens setting.now self.old (AskAt dc key.now version) result self.new }
+        ensures happens { Happens setting.now self.old (AskAt dc key.now version) result self.new }
+        ensures memory { result ≡ RefusedWith 9 → TakesMemory (AskAt dc key.now version) (happens setting.now self.old (AskAt dc key.now version)).0 }
     {
         if dc >= setting.dcs() {
             return Outcome::Refused(UNKNOWN_DC);
@@ -282,7 +296,8 @@ impl State {
     /// The held put of that version gets a mark for a dependency that was answered Yes.
     fn mark(&mut self, setting: &Setting, dc: u8, version: Version, dep: u16) -> Outcome
         requires { IsReached setting.now self.old }
-        ensures { Happens setting.now self.old (MarkAt dc version dep) result self.new }
+        ensures happens { Happens setting.now self.old (MarkAt dc version dep) result self.new }
+        ensures memory { result ≡ RefusedWith 9 → TakesMemory (MarkAt dc version dep) (happens setting.now self.old (MarkAt dc version dep)).0 }
     {
         let place = place_of(version);
         if dc >= setting.dcs() {
@@ -305,7 +320,8 @@ impl State {
     /// The held put of that version is settled, where all its dependencies are marked.
     fn settle(&mut self, setting: &Setting, dc: u8, version: Version) -> Outcome
         requires { IsReached setting.now self.old }
-        ensures { Happens setting.now self.old (SettleAt dc version) result self.new }
+        ensures happens { Happens setting.now self.old (SettleAt dc version) result self.new }
+        ensures memory { result ≡ RefusedWith 9 → TakesMemory (SettleAt dc version) (happens setting.now self.old (SettleAt dc version)).0 }
     {
         let place = place_of(version);
         if dc >= setting.dcs() {
@@ -327,9 +343,10 @@ fn place_of(version: Version) -> u8
     (version.node() % 64) as u8
 }
 
-/// Whether there is no dependency, or the data centre has answered Yes for it.
+/// Whether there is no dependency, or the data centre has answered Yes for it. It takes memory for a dependency alone.
 fn is_answered(said: &Answers, dc: u8, pair: Option<&Dep>) -> Result<bool, Memory>
-    ensures { IfOk result (λ answered. answered ≡ is_answered said.now.said dc (option_copied pair.entry)) }
+    ensures ok { IfOk result (λ answered. answered ≡ is_answered said.now.said dc (option_copied pair.entry)) }
+    ensures err { OnErr result (is_some (option_copied pair.entry) ≡ true) }
 {
     match pair {
         Some(pair) => Ok(said.contains(&Said {

@@ -31,10 +31,11 @@ impl Model for World {
 }
 
 impl World {
-    ghost use Rattle.std.specs.Prelude.{◌≡◌, ◌↔◌, IfOk, OnErr, IsErrOf, length, option_copied, slice_get};
+    ghost use Rattle.std.specs.Prelude.{◌≡◌, ◌≢◌, ◌↔◌, [], IfOk, OnErr, IsErrOf, length, option_copied, slice_get};
     ghost use Rattle.cops_store.specs.Store.{has_pair};
+    ghost use Rattle.cops_node.specs.declared.outcome.Outcome.TheVariants.{Refused as RefusedWith};
     ghost use Rattle.cops_core.specs.Machine.{Step};
-    ghost use Rattle.cops_core.specs.World.{AreClients, Happens, Run, context_in, home, opened_cluster, sent, settled_in, view};
+    ghost use Rattle.cops_core.specs.World.{AreClients, Happens, Run, TakesMemory, context_in, happens, home, opened_cluster, sent, settled_in, view};
     ghost use Rattle.cops_core.specs.Invariants.{HasAcceptedVerdict, Invariants};
 
     /// A world in which nothing has happened, of these data centres and nodes, and with a client at each of these data
@@ -63,10 +64,12 @@ impl World {
     /// | Mark | Marked | 10 unknown data centre, 5 not held, 6 no such dependency, 7 no answer Yes |
     /// | Settle | Settled | 10 unknown data centre, 5 not held, 8 open dependencies |
     ///
-    /// Each is refused 9 where memory was refused. A refused event changes nothing.
+    /// Each is refused 9 where memory was refused: only in place of an outcome that is no refusal, or of a put's refusal 1
+    /// or a mark's refusal 7, since the other refusals take no memory. A refused event changes nothing.
     pub fn apply(&mut self, event: Event) -> Outcome
         ensures setting { self.new.setting ≡ self.old.setting }
         ensures event { Happens self.old.setting self.old.world event result self.new.world }
+        ensures memory { result ≡ RefusedWith 9 → TakesMemory event (happens self.old.setting self.old.world event).0 }
         ensures step { Step (home self.old.setting) (view self.old.world) (view self.new.world) }
     {
         self.answer(&event)
@@ -76,6 +79,7 @@ impl World {
     pub fn answer(&mut self, event: &Event) -> Outcome
         ensures setting { self.new.setting ≡ self.old.setting }
         ensures event { Happens self.old.setting self.old.world event.now result self.new.world }
+        ensures memory { result ≡ RefusedWith 9 → TakesMemory event.now (happens self.old.setting self.old.world event.now).0 }
         ensures step { Step (home self.old.setting) (view self.old.world) (view self.new.world) }
     {
         self.state.step(&self.setting, event)
@@ -95,9 +99,10 @@ impl World {
     }
 
     /// Copies of the pairs that a client's next put will depend on, in the order in which it met them: none for a client
-    /// that is not there.
+    /// that is not there. Where there are none it takes no memory.
     pub fn deps(&self, client: u16) -> Result<Deps, Memory>
-        ensures { IfOk result (λ deps. deps ≡ context_in self.now.world client) }
+        ensures ok { IfOk result (λ deps. deps ≡ context_in self.now.world client) }
+        ensures err { OnErr result (context_in self.now.world client ≢ []) }
     {
         self.state.deps(client)
     }

@@ -18,8 +18,8 @@ node-node-requires-clause-place c =
     let lt : c.args.dc < s.place.dcs = omega (arith, c.if-dc-dcs.false, c.dcs.ensures.count) in
     place_there s c.dcs.ensures.setting (the_view c.self.inside) (subst (IsReached s) (sym c.self.view_is) c.requires) c.args.dc c.primary.result lt c.primary.ensures.range
 
-pub returns-in-Yes : goal.returns-in-Yes
-returns-in-Yes c =
+pub returns-in-Yes-clause-happens : goal.returns-in-Yes-clause-happens
+returns-in-Yes-clause-happens c =
     let s = c.args.setting.now in
     let lt : c.args.dc < s.place.dcs = omega (arith, c.if-dc-dcs.false, c.dcs.ensures.count) in
     let w = the_view c.self.inside in
@@ -30,8 +30,8 @@ returns-in-Yes c =
     subst (λ x. Happens s x (AskAt c.args.dc c.args.key.now c.args.version) Yes (with_answers c.add.new.self.said)) c.self.view_is
     (answers s c.dcs.ensures.setting w (subst (IsReached s) (sym c.self.view_is) c.requires) c.args.dc c.args.key.now c.args.version c.primary.result Yes c.node-node.result.now c.ask.new.self (with_answers c.add.new.self.said) lt c.primary.ensures.count c.node-node.ensures.value c.in-Yes.ensures.happens (ap with_answers answered))
 
-pub returns-in_default-ask : goal.returns-in_default-ask
-returns-in_default-ask c =
+pub returns-in_default-ask-clause-happens : goal.returns-in_default-ask-clause-happens
+returns-in_default-ask-clause-happens c =
     let s = c.args.setting.now in
     let lt : c.args.dc < s.place.dcs = omega (arith, c.if-dc-dcs.false, c.dcs.ensures.count) in
     let w = the_view c.self.inside in

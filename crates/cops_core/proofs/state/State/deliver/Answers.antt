@@ -20,8 +20,8 @@ node-node-requires-clause-place c =
     let lt : c.args.dc < s.place.dcs = omega (arith, c.if-dc-dcs.false, c.dcs.ensures.count) in
     place_there s c.dcs.ensures.setting (the_view c.self.inside) (subst (IsReached s) (sym c.self.view_is) c.requires) c.args.dc c.primary-place.result lt c.primary-place.ensures.range
 
-pub returns : goal.returns
-returns c =
+pub returns-clause-happens : goal.returns-clause-happens
+returns-clause-happens c =
     let s = c.args.setting.now in
     let lt : c.args.dc < s.place.dcs = omega (arith, c.if-dc-dcs.false, c.dcs.ensures.count) in
     let w = the_view c.self.inside in

@@ -5,8 +5,8 @@ use Rattle.cops_core.specs.contracts.state.State.{the_view}
 use Rattle.cops_core.proofs.Events.{dc_there, place_there, settles, settles_nowhere}
 use Rattle.cops_core.proofs.state.State.settle.Goals as goal
 
-pub returns-then-place-nodes : goal.returns-then-place-nodes
-returns-then-place-nodes c =
+pub returns-then-place-nodes-clause-happens : goal.returns-then-place-nodes-clause-happens
+returns-then-place-nodes-clause-happens c =
     let s = c.args.setting.now in
     let lt : c.args.dc < s.place.dcs = omega (arith, c.if-dc-dcs.false, c.dcs.ensures.count) in
     let le : length s.place.splits + 1 ≤ c.place_of-place.result = omega (arith, c.if-place-nodes.true, c.nodes.ensures.count) in
@@ -25,8 +25,8 @@ node-node-requires-clause-place c =
     let le : c.place_of-place.result ≤ length s.place.splits = omega (arith, c.if-place-nodes.false, c.nodes.ensures.count) in
     place_there s c.dcs.ensures.setting (the_view c.self.inside) (subst (IsReached s) (sym c.self.view_is) c.requires) c.args.dc c.place_of-place.result lt le
 
-pub returns : goal.returns
-returns c =
+pub returns-clause-happens : goal.returns-clause-happens
+returns-clause-happens c =
     let s = c.args.setting.now in
     let lt : c.args.dc < s.place.dcs = omega (arith, c.if-dc-dcs.false, c.dcs.ensures.count) in
     let w = the_view c.self.inside in

@@ -1,10 +1,19 @@
 use Rattle.cops_core.proofs.state.State.step.Goals as goal
 
-pub returns-in-Put : goal.returns-in-Put
-returns-in-Put c = rw c.in-Put.is c.put.ensures
+pub returns-in-Put-clause-happens : goal.returns-in-Put-clause-happens
+returns-in-Put-clause-happens c = rw c.in-Put.is c.put.ensures.happens
 
-pub returns-in-Get : goal.returns-in-Get
-returns-in-Get c = rw c.in-Get.is c.get.ensures
+pub returns-in-Get-clause-happens : goal.returns-in-Get-clause-happens
+returns-in-Get-clause-happens c = rw c.in-Get.is c.get.ensures.happens
 
-pub returns-in-Ask : goal.returns-in-Ask
-returns-in-Ask c = rw c.in-Ask.is c.ask.ensures
+pub returns-in-Ask-clause-happens : goal.returns-in-Ask-clause-happens
+returns-in-Ask-clause-happens c = rw c.in-Ask.is c.ask.ensures.happens
+
+pub returns-in-Put-clause-memory : goal.returns-in-Put-clause-memory
+returns-in-Put-clause-memory c = rw c.in-Put.is c.put.ensures.memory
+
+pub returns-in-Get-clause-memory : goal.returns-in-Get-clause-memory
+returns-in-Get-clause-memory c = rw c.in-Get.is c.get.ensures.memory
+
+pub returns-in-Ask-clause-memory : goal.returns-in-Ask-clause-memory
+returns-in-Ask-clause-memory c = rw c.in-Ask.is c.ask.ensures.memory

@@ -1,4 +1,4 @@
-use Rattle.std.proofs.Common.{rules, ◌≡◌, ◌<◌, List, [], length, slice_set, slice_index_or, sym, ◌∙◌, subst}
+use Rattle.std.proofs.Common.{rules, arith, ◌≡◌, ◌<◌, List, [], length, slice_set, slice_index_or, sym, ◌∙◌, subst}
 use Rattle.std.proofs.lemmas.Bool.{ltb-true}
 use Rattle.std.proofs.lemmas.List.{set-get_or}
 use Rattle.cops_types.specs.declared.dep.Dep.{Dep}
@@ -12,10 +12,19 @@ use Rattle.cops_core.specs.Invariants.{IsReached}
 use Rattle.cops_core.specs.World.{World, context_in, with_node, Happens, GetBy}
 use Rattle.cops_core.specs.contracts.state.State.{the_view}
 use Rattle.cops_core.proofs.Events.{admitted, client_there, client_home, home_there, dc_there, place_there, put_back, got_stays, gets_at, keeps_no_get}
+use Rattle.cops_core.proofs.Memory.{none_refused, get_may_fail}
 use Rattle.cops_core.proofs.state.State.try_get.Goals as goal
 
 pub has_room-requires : goal.has_room-requires
 has_room-requires c =
+    let s = c.args.setting.now in
+    let w = the_view c.self.inside in
+    let r = subst (IsReached s) (sym c.self.view_is) c.requires in
+    let a = none_refused w c.args.client (c.in-Err.ensures.memory (omega (arith, c.if-code-eq-MEMORY.true))) in
+    client_there s c.primary-place.ensures.setting w r c.args.client a.0
+
+pub has_room-requires-2 : goal.has_room-requires-2
+has_room-requires-2 c =
     let s = c.args.setting.now in
     let ok = c.primary-place.ensures.setting in
     let w = the_view c.self.inside in
@@ -118,7 +127,7 @@ returns-in_ok-clone-in-Got-clause-ok c =
       contexts = contexts;
       sessions = sessions;
     } in x in
-    let few = ltb-true (length (context_in w client)) 256 (sym c.has_room.ensures ∙ c.if-not-has_room.false) in
+    let few = ltb-true (length (context_in w client)) 256 (sym c.has_room-2.ensures ∙ c.if-not-has_room-2.false) in
     let value = c.in-Got.value in
     let version = c.in-Got.version in
     let contexts = c.add.ensures ∙ (λ i. slice_set (c.reserve.ensures.same i) client (with_pair (slice_index_or (c.reserve.ensures.same i) client []) (record { key = c.in_ok-pair_key.ensures.cases i; version = version }))) in
@@ -147,7 +156,7 @@ returns-in-Missed-clause-ok c =
       contexts = contexts;
       sessions = sessions;
     } in x in
-    let few = ltb-true (length (context_in w client)) 256 (sym c.has_room.ensures ∙ c.if-not-has_room.false) in
+    let few = ltb-true (length (context_in w client)) 256 (sym c.has_room-2.ensures ∙ c.if-not-has_room-2.false) in
     let contexts = c.reserve.ensures.same ∙ sym (set-get_or w.contexts client []) in
     let recorded : c.record-in-Missed.new.history.sessions ≡ with_op c.admit.new.history.sessions client (Missed c.in_ok-op_key.op_key) = search rules in
     let sessions = recorded ∙ (λ i. with_op (c.in_default.ensures.same i) client (Missed (c.in_ok-op_key.ensures.cases i))) in
@@ -174,7 +183,7 @@ returns-in_default-get c =
       contexts = contexts;
       sessions = sessions;
     } in x in
-    let few = ltb-true (length (context_in w client)) 256 (sym c.has_room.ensures ∙ c.if-not-has_room.false) in
+    let few = ltb-true (length (context_in w client)) 256 (sym c.has_room-2.ensures ∙ c.if-not-has_room-2.false) in
     let new = made c.reserve.new.self.pairs c.admit.new.history.sessions in
     let same : new ≡ with_node w dc place c.get.new.self = λ i. made (c.reserve.ensures.same i) (c.in_default.ensures.same i) in
     record {
@@ -182,4 +191,6 @@ returns-in_default-get c =
           (gets_at s ok w r client c.args.key.now dc place c.get.result was c.get.new.self new a.0 a.1 a.2 few c.home.ensures c.primary-place.ensures.count c.node-node.ensures.value c.get.ensures.happens
           (same ∙ sym (keeps_no_get w dc place client c.args.key.now c.get.result c.get.new.self c.in_default-get.not-Got c.in_default-get.not-Missed)));
       err = tt;
+      memory = λ _. get_may_fail c.args.setting.now (the_view c.self.inside) c.args.self.now c.args.client c.args.key.now c.admit.new.history c.self.view_is c.in_default.ensures.same c.in_default.ensures.ok (sym c.has_room-2.ensures ∙ c.if-not-has_room-2.false);
+      takes = tt;
     }

@@ -12,6 +12,7 @@ use Rattle.cops_core.specs.Invariants.{IsReached}
 use Rattle.cops_core.specs.World.{World, context_in, with_node, sent, Happens, PutBy}
 use Rattle.cops_core.specs.contracts.state.State.{the_view}
 use Rattle.cops_core.proofs.Events.{admitted, client_there, client_home, home_there, dc_there, place_there, puts_at, keeps_no_put, new_version}
+use Rattle.cops_core.proofs.Memory.{put_may_fail}
 use Rattle.cops_core.proofs.state.State.try_put.Goals as goal
 
 pub drafted-requires : goal.drafted-requires
@@ -150,4 +151,6 @@ returns-in_default-put c =
           (puts_at s ok w r client c.args.key.now c.args.value.now dc place c.put.result was c.put.new.self new a.0 a.1 a.2 c.home.ensures c.primary-place.ensures.count c.node-node.ensures.value happens
           (same ∙ sym (keeps_no_put w dc place client c.args.key.now c.args.value.now c.put.result c.put.new.self c.in_default-put.not-PutDone)));
       err = tt;
+      memory = λ _. put_may_fail c.args.setting.now (the_view c.self.inside) c.args.self.now c.args.client c.args.key.now c.args.value.now c.admit.new.history c.self.view_is c.in_default.ensures.same c.in_default.ensures.ok;
+      takes = tt;
     }
