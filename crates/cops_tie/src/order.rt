@@ -64,6 +64,7 @@ fn add_book<'a>(
     ensures entries { OnOk result (map shown turns.new.items ≡ map shown turns.old.items ++ map (λ e. record { dc = dc; place = place; entry = e }) book.now) }
     ensures tickets { OnOk result (All HasItsTicket turns.old.items → All HasItsTicket turns.new.items) }
 {
+    turns.reserve(book.len())?;
     for entry in book {
         turns.push(Turn {
             dc,

@@ -89,7 +89,7 @@ fn followed(
     ensures ok { IfOk result (λ events. Follows (setting_of scenario.now) world.old.world (map shown order.now) world.new.world × (events.items ≡ map event_of (map shown order.now))) }
     ensures stops { IfErr result (WhereUntied (StopsAt (setting_of scenario.now) world.old.world (map shown order.now))) }
 {
-    let mut events = Vec::new(alloc);
+    let mut events = Vec::with_capacity(alloc, order.len())?;
     for i in 0..order.len() {
         let turn = &order[i];
         let ticket = turn.entry.ticket;

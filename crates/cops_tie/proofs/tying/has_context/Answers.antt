@@ -8,7 +8,7 @@ use Rattle.cops_tie.proofs.tying.has_context.Goals as goal
 pub returns : goal.returns
 returns c =
     let e : c.eq.result ≡ pointwise is_same_dep (context_in c.args.world.now.world c.args.client) c.args.deps.now =
-    c.eq.ensures ∙ ap₂ (pointwise is_same_dep) (c.as_slice.ensures.pairs ∙ c.in_ok-context.ensures) c.as_slice-2.ensures.pairs in (
+    c.eq.ensures ∙ ap₂ (pointwise is_same_dep) (c.as_slice.ensures.pairs ∙ c.in_ok-context.ensures.ok) c.as_slice-2.ensures.pairs in (
       λ t. sym (pointwise_true is_same_dep same_pair_true _ _ (sym e ∙ t)),
       λ f. e ∙ ap (λ ds. pointwise is_same_dep ds c.args.deps.now) (sym f) ∙ pointwise_refl is_same_dep same_pair_refl c.args.deps.now,
     )
