@@ -1,4 +1,4 @@
-ghost use Rattle.std.specs.Prelude.{◌≡◌, IfOk, IfErr, map};
+ghost use Rattle.std.specs.Prelude.{◌≡◌, [], IsOk, IfOk, IfErr, map};
 ghost use Rattle.clap.specs.Words.{kind_of};
 ghost use Rattle.cops_line.specs.Line.{Tells, Explains, Reports};
 
@@ -26,11 +26,12 @@ fn as_fault(alloc: Global, error: Error) -> LineFault
 
 /// The job that the words ask for: `audit TRACE`, with `--workers N` or without it, which is as 1, `show TRACE`,
 /// `run SCENARIO TRACE`, `serve PORT SCENARIO`, with `--sessions N` or without it, which is as 1, or none, which is as `audit -`. `words` are those after the program's name. `Usage` where they are no job, and `Help` where they ask for help, by `--help`, `-h` or `help`,
-/// each with `clap`'s text; `Memory` where a growth was refused. No words that tell a job are answered with `Usage` or
-/// `Help`, and words that only ask for help are not answered with `Usage`.
+/// each with `clap`'s text; `Memory` where there are words and a growth was refused. No words that tell a job are
+/// answered with `Usage` or `Help`, and words that only ask for help are not answered with `Usage`.
 pub fn line<'a>(alloc: Global, words: &'a [&'a str]) -> Result<Job<'a>, LineFault>
     ensures job { IfOk result (Tells (map (λ s. s.now) words.entry.now)) }
     ensures fault { IfErr result (Explains (map (λ s. s.now) words.entry.now)) }
+    ensures none { words.entry.now ≡ [] → IsOk result }
 {
     if words.is_empty() {
         return Ok(Job::Audit {
