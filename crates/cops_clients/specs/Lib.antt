@@ -7,3 +7,4 @@ pub mod Close
 pub mod Differing
 pub mod HandedBack
 pub mod Outcomes
+pub mod Lending

@@ -12,6 +12,8 @@ pub struct Client {
 
 impl Client {
     ghost use Rattle.std.specs.Prelude.{◌≡◌};
+    ghost use Rattle.std.specs.Borrow.{sem};
+    ghost use Rattle.cops_clients.specs.Lending.{LendsShare};
 
     /// The client's number.
     pub fn number(&self) -> u16
@@ -27,8 +29,11 @@ impl Client {
         self.dc
     }
 
-    /// Lends the share.
-    pub fn share(&mut self) -> &mut Share {
+    /// Lends the share. All else of the client stays.
+    pub fn share(&mut self) -> &mut Share
+        ensures* writes_back { sem 𝓛 (LendsShare self.entry result) }
+        ensures value { result.now ≡ self.old.share }
+    {
         &mut self.share
     }
 

@@ -21,6 +21,13 @@ pub struct Closed {
     pub trace: Trace,
 }
 
+/// What is left of a cluster whose books nobody has compared with the shares yet.
+#[derive(Drop)]
+pub struct Uncompared {
+    pub closed: Closed,
+    pub shares: Vec<Share>,
+}
+
 /// Why a cluster was not closed.
 #[derive(Drop)]
 pub enum CloseFault {
@@ -33,10 +40,10 @@ pub enum CloseFault {
 }
 
 impl Cluster {
-    ghost use Rattle.std.specs.Prelude.{◌≡◌, ◌+◌, ◌*◌, length, IfOk, IfErr};
+    ghost use Rattle.std.specs.Prelude.{◌≡◌, ◌+◌, ◌*◌, length, vec_len, IfOk, IfErr, IfSome, IfNone};
     ghost use Rattle.std.specs.List.Sorted.{IsPermutation};
     ghost use Rattle.cops_clients.specs.Close.{AllReplay, AreAll, made_in, told};
-    ghost use Rattle.cops_clients.specs.HandedBack.{HandsBack};
+    ghost use Rattle.cops_clients.specs.HandedBack.{HandsBack, HasRooms};
 
     /// Ends the cluster. The lists replay, and their entries are those of the shares, each as often. `SharesMissing` unless the
     /// share of each client and of each receiver is there once, then `NotKept` where the entries differ.
@@ -47,15 +54,41 @@ impl Cluster {
         ensures all { IfOk result (λ _. AreAll self.clients self.place.dcs shares.items) }
         ensures back { IfErr result (HandsBack self shares) }
     {
-        match has_all(self.alloc, self.clients, self.place.dcs(), &shares) {
-            Ok(true) => {}
-            Ok(false) => return Err(CloseFault::SharesMissing(self, shares)),
+        let rooms = match self.rooms_for(&shares) {
+            Ok(Some(rooms)) => rooms,
+            Ok(None) => return Err(CloseFault::SharesMissing(self, shares)),
             Err(_) => return Err(CloseFault::Memory(self, shares)),
-        }
-        let Ok(rooms) = Rooms::of(self.alloc, self.nodes.len()) else {
-            return Err(CloseFault::Memory(self, shares));
         };
         self.closed_in(rooms, shares)
+    }
+
+    /// Ends the cluster as `close` does, for whoever compares the books with the shares by `difference_of_lists`. The lists replay.
+    /// `SharesMissing` unless the share of each client and of each receiver is there once.
+    pub fn close_uncompared(self, shares: Vec<Share>) -> Result<Uncompared, CloseFault>
+        ensures len { IfOk result (λ u. length u.closed.books.items ≡ self.place.dcs * (length self.place.splits + 1)) }
+        ensures replays { IfOk result (λ u. AllReplay (length self.place.splits + 1) u.closed.books.items) }
+        ensures shares { IfOk result (λ u. u.shares ≡ shares) }
+        ensures all { IfOk result (λ _. AreAll self.clients self.place.dcs shares.items) }
+        ensures back { IfErr result (HandsBack self shares) }
+    {
+        let rooms = match self.rooms_for(&shares) {
+            Ok(Some(rooms)) => rooms,
+            Ok(None) => return Err(CloseFault::SharesMissing(self, shares)),
+            Err(_) => return Err(CloseFault::Memory(self, shares)),
+        };
+        self.uncompared_in(rooms, shares)
+    }
+
+    /// Lists with room for what each node gives; `None` unless the share of each client and of each receiver is there once.
+    fn rooms_for(&self, shares: &[Share]) -> Result<Option<Rooms>, AllocError>
+        ensures some { IfOk result (λ o. IfSome o (λ rooms. HasRooms (vec_len self.now.nodes) rooms × AreAll self.now.clients self.now.place.dcs shares.now)) }
+        ensures none { IfOk result (λ o. IfNone o (AreAll self.now.clients self.now.place.dcs shares.now → ⊥)) }
+    {
+        if has_all(self.alloc, self.clients, self.place.dcs(), shares)? {
+            Ok(Some(Rooms::of(self.alloc, self.nodes.len())?))
+        } else {
+            Ok(None)
+        }
     }
 }
 
@@ -109,6 +142,49 @@ impl Cluster {
             alloc,
         };
         Err(CloseFault::Memory(cluster, shares))
+    }
+
+    /// The same without the comparison.
+    fn uncompared_in(self, rooms: Rooms, shares: Vec<Share>) -> Result<Uncompared, CloseFault>
+        requires rooms { HasRooms (vec_len self.nodes) rooms }
+        requires all { AreAll self.clients self.place.dcs shares.items }
+        ensures len { IfOk result (λ u. length u.closed.books.items ≡ vec_len self.nodes) }
+        ensures replays { IfOk result (λ u. AllReplay (length self.place.splits + 1) u.closed.books.items) }
+        ensures shares { IfOk result (λ u. u.shares ≡ shares) }
+        ensures back { IfErr result (HandsBack self shares) }
+    {
+        let Cluster {
+            place,
+            clients,
+            nodes,
+            tickets,
+            recorder,
+            alloc,
+        } = self;
+        let Rooms {
+            books,
+            locks: _,
+            lists,
+        } = rooms;
+        let places = usize::from(place.nodes());
+        match recorder.into_trace() {
+            Ok(trace) => {
+                let books = listed(alloc, places, lists, taken_out(books, nodes));
+                let closed = Closed { books, trace };
+                Ok(Uncompared { closed, shares })
+            }
+            Err(IntoTraceFault::Memory(recorder)) => {
+                let cluster = Cluster {
+                    place,
+                    clients,
+                    nodes,
+                    tickets,
+                    recorder,
+                    alloc,
+                };
+                Err(CloseFault::Memory(cluster, shares))
+            }
+        }
     }
 }
 

@@ -1,7 +1,7 @@
 //! Whether the entries of books are those of shares.
 ghost use Rattle.std.specs.Prelude.{◌≡◌, ◌≤◌, ◌<◌, ◌+◌, ◌++◌, ◌∷◌, [], ◌↔◌, length, map, take, IfOk, OnOk, IsNone, IsTrue, slice_index_or};
 ghost use Rattle.std.specs.List.Sorted.{IsPermutation};
-ghost use Rattle.cops_clients.specs.Close.{entries_at, made_by, number_of, told};
+ghost use Rattle.cops_clients.specs.Close.{entries_at, made_by, made_in, number_of, told};
 ghost use Rattle.cops_clients.specs.Shares.{made};
 ghost use Rattle.cops_clients.specs.declared.differing.Noted.{Noted};
 ghost use Rattle.cops_clients.specs.Differing.{shown};
@@ -47,11 +47,52 @@ pub(crate) fn difference(
     requires few { length books.now ≤ 1024 }
     ensures { IfOk result (λ o. IsNone o → IsPermutation (made_by places 0 books.now) (told shares.now)) }
 {
-    let mut kept = kept_in(alloc, places, books)?;
-    let mut heard = told_in(alloc, shares)?;
+    compared(kept_in(alloc, places, books)?, told_in(alloc, shares)?)
+}
+
+/// The same of lists of entries, one for each node in order of node numbers, where each data centre has so many nodes.
+pub fn difference_of_lists(
+    alloc: Global,
+    places: u8,
+    lists: &[Vec<Entry>],
+    shares: &[Share],
+) -> Result<Option<u64>, AllocError>
+    requires places { (0 < places) × (places ≤ 64) }
+    requires few { length lists.now ≤ 1024 }
+    ensures { IfOk result (λ o. IsNone o → IsPermutation (made_in places 0 lists.now) (told shares.now)) }
+{
+    compared(
+        listed_in(alloc, usize::from(places), lists)?,
+        told_in(alloc, shares)?,
+    )
+}
+
+/// The least ticket whose entries in two lists are not the same, each as often.
+fn compared(kept: Vec<Noted<'_>>, heard: Vec<Noted<'_>>) -> Result<Option<u64>, AllocError>
+    ensures { IfOk result (λ o. IsNone o → IsPermutation (map shown kept.entry.items) (map shown heard.entry.items)) }
+{
+    let mut kept = kept;
+    let mut heard = heard;
     kept.sort_by_key(|noted| noted.ticket)?;
     heard.sort_by_key(|noted| noted.ticket)?;
     Ok(first_difference(&kept, &mut heard))
+}
+
+/// The entries of the lists, each with its node.
+fn listed_in<'a>(
+    alloc: Global,
+    places: usize,
+    lists: &'a [Vec<Entry>],
+) -> Result<Vec<Noted<'a>>, AllocError>
+    requires places { 0 < places × places ≤ 64 }
+    requires few { length lists.now ≤ 1024 }
+    ensures { IfOk result (λ all. map shown all.items ≡ made_in places 0 lists.now) }
+{
+    let mut all = Vec::new(alloc);
+    for n in 0..lists.len() {
+        add_entries(&mut all, number_at(places, n) as u16, &lists[n])?;
+    }
+    Ok(all)
 }
 
 /// The entries of the books, each with its node.
@@ -96,6 +137,7 @@ fn add_entries<'a>(
 ) -> Result<(), AllocError>
     ensures { OnOk result (map shown all.new.items ≡ map shown all.old.items ++ map (made node) entries.now) }
 {
+    all.reserve(entries.len())?;
     for entry in entries {
         all.push(Noted::new(entry, node))?;
     }
@@ -117,6 +159,7 @@ fn told_in<'a>(alloc: Global, shares: &'a [Share]) -> Result<Vec<Noted<'a>>, All
 fn add_share<'a>(all: &mut Vec<Noted<'a>>, share: &'a Share) -> Result<(), AllocError>
     ensures { OnOk result (map shown all.new.items ≡ map shown all.old.items ++ share.now.entries.items) }
 {
+    all.reserve(share.entries.len())?;
     for made in &share.entries {
         all.push(Noted::new(&made.entry, made.node))?;
     }

@@ -15,8 +15,9 @@ mod spot;
 mod stepping;
 
 pub use client::Client;
-pub use closing::{CloseFault, Closed};
+pub use closing::{CloseFault, Closed, Uncompared};
 pub use cluster::{Cluster, Opened};
+pub use differing::difference_of_lists;
 pub use fault::OpenFault;
 pub use receiving::{Asked, RECEIVER, Yes};
 pub use share::{Holder, Made, Share};

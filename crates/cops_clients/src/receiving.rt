@@ -54,8 +54,9 @@ impl Yes {
 }
 
 impl Cluster {
-    ghost use Rattle.std.specs.Prelude.{◌≡◌, ◌<◌, ◌⊎◌, ◌++◌, [], ◌∷◌, ℕ, true, IfOk, IfErr, OnOk, OnErr};
+    ghost use Rattle.std.specs.Prelude.{◌≡◌, ◌<◌, ◌≤◌, ◌⊎◌, ◌++◌, [], ◌∷◌, ℕ, true, length, Ok, IfOk, IfErr, OnOk, OnErr};
     ghost use Rattle.cops_core.specs.World.{place_of};
+    ghost use Rattle.cops_node.specs.declared.outcome.Outcome.TheVariants.{Refused as RefusedWith};
     ghost use Rattle.cops_held.specs.Held.{waiting};
     ghost use Rattle.cops_node.specs.declared.event.NodeEvent.TheVariants.{Ask, Deliver, Mark, Settle};
     ghost use Rattle.cops_node.specs.Node.{dep_at, node_step};
@@ -79,6 +80,7 @@ impl Cluster {
         ensures who { share.new.holder ≡ share.old.holder }
         ensures told { IfOk result (λ out. Adds share.old.entries.items share.new.entries.items (node_of self.now dc put.key) (Deliver put) out) }
         ensures most { AddsAtMostOne share.old.entries.items share.new.entries.items (node_of self.now dc put.key) (Deliver put) }
+        ensures unknown { self.now.place.dcs ≤ dc → result ≡ Ok (RefusedWith 10) }
         ensures node { OnErr result (IsNode self.now dc (primary self.now.place.splits put.key)) }
         ensures held { OnErr result (MayHoldStep (G.may_hold gate.now) (node_of self.now dc put.key) 65535) }
     {
@@ -104,6 +106,7 @@ impl Cluster {
         ensures most { AddsAtMostOne share.old.entries.items share.new.entries.items (node_of self.now dc key.now) (Ask key.now version) }
         ensures names { IfOk result (IsAskedOf dc key.now version) }
         ensures outcome { dc < self.now.place.dcs → IfOk result (λ asked. IsAskOutcome (outcome_of asked)) }
+        ensures unknown { self.now.place.dcs ≤ dc → result ≡ Ok (Asked.Other (RefusedWith 10)) }
         ensures node { OnErr result (IsNode self.now dc (primary self.now.place.splits key.now)) }
         ensures held { OnErr result (MayHoldStep (G.may_hold gate.now) (node_of self.now dc key.now) 65535) }
     {
@@ -141,6 +144,8 @@ impl Cluster {
         ensures told { IsNode self.now dc (place_of version) → IfOk result (λ out. Adds share.old.entries.items share.new.entries.items (node_at dc (place_of version)) (Mark version dep) out) }
         ensures most { AddsAtMostOne share.old.entries.items share.new.entries.items (node_at dc (place_of version)) (Mark version dep) }
         ensures no_node { (IsNode self.now dc (place_of version) → ⊥) → share.new.entries.items ≡ share.old.entries.items }
+        ensures unknown { self.now.place.dcs ≤ dc → result ≡ Ok (RefusedWith 10) }
+        ensures not_held { dc < self.now.place.dcs → length self.now.place.splits < place_of version → result ≡ Ok (RefusedWith 5) }
         ensures node { OnErr result (IsNode self.now dc (place_of version)) }
         ensures held { OnErr result (MayHoldStep (G.may_hold gate.now) (node_at dc (place_of version)) 65535) }
     {
@@ -165,6 +170,8 @@ impl Cluster {
         ensures told { IsNode self.now dc (place_of version) → IfOk result (λ out. Adds share.old.entries.items share.new.entries.items (node_at dc (place_of version)) (Settle version) out) }
         ensures most { AddsAtMostOne share.old.entries.items share.new.entries.items (node_at dc (place_of version)) (Settle version) }
         ensures no_node { (IsNode self.now dc (place_of version) → ⊥) → share.new.entries.items ≡ share.old.entries.items }
+        ensures unknown { self.now.place.dcs ≤ dc → result ≡ Ok (RefusedWith 10) }
+        ensures not_held { dc < self.now.place.dcs → length self.now.place.splits < place_of version → result ≡ Ok (RefusedWith 5) }
         ensures node { OnErr result (IsNode self.now dc (place_of version)) }
         ensures held { OnErr result (MayHoldStep (G.may_hold gate.now) (node_at dc (place_of version)) 65535) }
     {
@@ -175,7 +182,10 @@ impl Cluster {
     }
 
     /// Why there is no node at some place of a data centre: there is no such data centre, or else no put waits there.
-    fn code_of_no_node(&self, dc: u8) -> u8 {
+    fn code_of_no_node(&self, dc: u8) -> u8
+        ensures unknown { self.now.place.dcs ≤ dc → result ≡ 10 }
+        ensures not_held { dc < self.now.place.dcs → result ≡ 5 }
+    {
         if dc < self.place.dcs() {
             NOT_HELD
         } else {
