@@ -21,7 +21,7 @@ pub(crate) struct Gathered {
 }
 
 impl Gathered {
-    ghost use Rattle.std.specs.Prelude.{◌≡◌, ◌⊎◌, All, IsErrOf, IsTrue};
+    ghost use Rattle.std.specs.Prelude.{◌≡◌, ◌⊎◌, ◌↔◌, All, IfOk, IsErrOf, IsTrue};
     ghost use Rattle.cops_run.specs.Held.{MayHold};
 
     pub(crate) fn new(alloc: Global) -> Gathered
@@ -83,9 +83,13 @@ impl Gathered {
         }
     }
 
-    /// All of it, where no step was held, each loop ended within its turns, and memory was there.
+    /// All of it: `Held` where a step was held, then `TurnLimit` where a loop did not end within its turns, and then `Memory` where there
+    /// was none for what came back.
     pub(crate) fn whole(self) -> Result<Gathered, RunFault>
-        ensures { IsErrOf result RunFault.Held → IsTrue self.held }
+        ensures ok { IfOk result (λ g. g ≡ self) }
+        ensures held { IsErrOf result RunFault.Held ↔ IsTrue self.held }
+        ensures limit { IsErrOf result RunFault.TurnLimit ↔ (¬ IsTrue self.held × IsTrue self.limit) }
+        ensures lost { IsErrOf result RunFault.Memory ↔ (¬ IsTrue self.held × (¬ IsTrue self.limit × IsTrue self.lost)) }
     {
         if self.held {
             return Err(RunFault::Held);

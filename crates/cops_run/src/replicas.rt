@@ -7,17 +7,6 @@ use crate::stage::Stage;
 use cops_replication::{Receiver, Sender, Turn, TurnFault};
 use cops_types::Gate;
 use std::sync::Wait;
-use std::thread;
-
-/// How often an idle loop lets other threads run before its next turn, which takes locks.
-const RESTS: u32 = 32;
-
-/// Lets other threads run.
-fn rest() {
-    for _ in 0..RESTS {
-        thread::yield_now();
-    }
-}
 
 /// A sender's thread: it turns until the clients are joined, and then for at most so many turns as the stage says, until nothing
 /// is kept back. It says whether that was reached, or it was told to end.
@@ -28,7 +17,7 @@ pub(crate) fn send<R: Wait>(rt: &R, stage: &Stage, mut sender: Sender) -> bool {
         }
         stage.count_turn();
         if !matches!(sender.turn(rt, stage.cluster()), Ok(Turn::Did(_))) {
-            rest();
+            stage.rest(rt);
         }
     }
     let drained = drain(rt, stage, &mut sender);
@@ -43,7 +32,7 @@ fn drain<R: Wait>(rt: &R, stage: &Stage, sender: &mut Sender) -> bool {
         if stage.is_broken() || sender.drain(rt, stage.cluster(), 1).is_ok() {
             return true;
         }
-        rest();
+        stage.rest(rt);
     }
     false
 }
@@ -84,7 +73,7 @@ fn take_in<R: Wait, G: Gate>(rt: &R, stage: &Stage, gate: &G, receiver: &mut Rec
         match receiver.turn(rt, stage.cluster(), gate) {
             Ok(Turn::Did(_)) => {}
             Err(TurnFault::Held) => return true,
-            Ok(Turn::Idle) | Err(TurnFault::Memory | TurnFault::TurnLimit) => thread::yield_now(),
+            Ok(Turn::Idle) | Err(TurnFault::Memory | TurnFault::TurnLimit) => stage.rest(rt),
         }
     }
     false
@@ -102,7 +91,7 @@ fn settle<R: Wait, G: Gate>(rt: &R, stage: &Stage, gate: &G, receiver: &mut Rece
         match receiver.drain(rt, stage.cluster(), gate, 1) {
             Ok(()) => return End::Drained,
             Err(TurnFault::Held) => return End::Held,
-            Err(TurnFault::Memory | TurnFault::TurnLimit) => thread::yield_now(),
+            Err(TurnFault::Memory | TurnFault::TurnLimit) => stage.rest(rt),
         }
     }
     End::TurnLimit

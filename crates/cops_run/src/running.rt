@@ -1,4 +1,6 @@
-ghost use Rattle.std.specs.Prelude.{◌≡◌, ◌+◌, ◌*◌, Err, IfOk, IsErrOf, length, map};
+ghost use Rattle.std.specs.Prelude.{◌≡◌, ◌<◌, ◌≤◌, ◌+◌, ◌*◌, Err, IfOk, IsErrOf, OnOk, length, map};
+ghost use Rattle.std.specs.List.Sorted.{IsPermutation};
+ghost use Rattle.cops_clients.specs.Close.{made_in, told};
 ghost use Rattle.cops_core.specs.Invariants.{HasAcceptedVerdict};
 ghost use Rattle.cops_trace.specs.Text.{sessions_of};
 ghost use Rattle.cops_outcomes.specs.Runs.{IsRun};
@@ -10,13 +12,16 @@ use crate::gathering::Gathered;
 use crate::opening::jobs;
 use crate::ran::{CountedRun, Run};
 use crate::stage::Stage;
-use cops_clients::{CloseFault, Closed, Cluster, Opened, Share};
+use cops_clients::{CloseFault, Closed, Cluster, Opened, Share, Uncompared, difference_of_lists};
+use cops_core::Event;
 use cops_outcomes::{CheckFault, checked};
 use cops_replication::wired;
 use cops_scenario::Scenario;
+use cops_tie::Entry;
 use cops_types::Gate;
 use std::alloc::Global;
 use std::sync::Wait;
+use std::thread;
 use std::thread::Threads;
 
 /// Runs the scripts of the scenario's clients, each on a thread of its own, in a cluster with a sender and a receiver for each
@@ -68,14 +73,15 @@ pub fn run_counted<R: Threads + Wait + Sync, G: Gate>(
         Err(fault) => return Err(fault),
     };
     let turns = stage.turns_made();
-    match tied(alloc, &scenario, stage.into_cluster(), gathered) {
+    match tied(rt, alloc, &scenario, stage.into_cluster(), gathered) {
         Ok(run) => Ok(CountedRun { run, turns }),
         Err(fault) => Err(fault),
     }
 }
 
-/// The run of which the threads left this.
-fn tied(
+/// The run of which the threads left this. Its books are compared with the shares beside the check that they are a run.
+fn tied<R: Threads + Sync>(
+    rt: &R,
     alloc: Global,
     scenario: &Scenario,
     cluster: Cluster,
@@ -84,6 +90,7 @@ fn tied(
     requires { cluster.place ≡ scenario.now.place }
     ensures ok { IfOk result (λ r. IsRun scenario.now (map (λ b. b.items) r.entries.items) (sessions_of r.trace) r.events.items r.outcomes.items) }
     ensures accepted { IfOk result (λ r. HasAcceptedVerdict (sessions_of r.trace)) }
+    ensures told { IfOk result (λ r. IsPermutation (made_in (length scenario.now.place.splits + 1) 0 r.entries.items) (told gathered.shares.items)) }
     ensures fault { result ≡ Err RunFault.Held → ⊥ }
 {
     let Gathered {
@@ -91,11 +98,31 @@ fn tied(
         outcomes,
         ..
     } = gathered;
-    let Closed { books, trace } = match closed(cluster, shares) {
-        Ok(closed) => closed,
+    let Uncompared { closed, shares } = match closed(cluster, shares) {
+        Ok(uncompared) => uncompared,
         Err(fault) => return Err(fault),
     };
-    match checked(alloc, scenario, &books, &trace, &outcomes) {
+    let Closed { books, trace } = closed;
+    let places = scenario.place().nodes();
+    let (compared, checked) = thread::join(
+        rt,
+        || -> Result<(), RunFault>
+            requires places { (0 < places) × (places ≤ 64) }
+            requires few { length books.items ≤ 1024 }
+            ensures told { OnOk result (IsPermutation (made_in places 0 books.items) (told shares.items)) }
+            ensures fault { result ≡ Err RunFault.Held → ⊥ }
+        { compare(alloc, places, &books, shares) },
+        || -> Result<Vec<Event>, CheckFault>
+            requires { length books.items ≡ scenario.now.place.dcs * (length scenario.now.place.splits + 1) }
+            ensures ok { IfOk result (λ events. IsRun scenario.entry.now (map (λ b. b.items) books.items) (sessions_of trace) events.items outcomes.items) }
+            ensures accepted { OnOk result (HasAcceptedVerdict (sessions_of trace)) }
+        { checked(alloc, scenario, &books, &trace, &outcomes) },
+    );
+    match compared {
+        Ok(()) => {}
+        Err(fault) => return Err(fault),
+    }
+    match checked {
         Ok(events) => Ok(Run {
             entries: books,
             events,
@@ -107,13 +134,33 @@ fn tied(
     }
 }
 
-/// What is left of a cluster whose threads are joined. Each thread brought its share, so none is missing.
-fn closed(cluster: Cluster, shares: Vec<Share>) -> Result<Closed, RunFault>
-    ensures len { IfOk result (λ closed. length closed.books.items ≡ cluster.place.dcs * (length cluster.place.splits + 1)) }
+/// `Untied` unless the entries of the books are those of the shares, each as often. The shares are of no use afterwards.
+fn compare(
+    alloc: Global,
+    places: u8,
+    books: &[Vec<Entry>],
+    shares: Vec<Share>,
+) -> Result<(), RunFault>
+    requires places { (0 < places) × (places ≤ 64) }
+    requires few { length books.now ≤ 1024 }
+    ensures told { OnOk result (IsPermutation (made_in places 0 books.now) (told shares.items)) }
     ensures fault { result ≡ Err RunFault.Held → ⊥ }
 {
-    match cluster.close(shares) {
-        Ok(closed) => Ok(closed),
+    match difference_of_lists(alloc, places, books, &shares) {
+        Ok(None) => Ok(()),
+        Ok(Some(ticket)) => Err(RunFault::Untied { ticket }),
+        Err(_) => Err(RunFault::Memory),
+    }
+}
+
+/// What is left of a cluster whose threads are joined. Each thread brought its share, so none is missing.
+fn closed(cluster: Cluster, shares: Vec<Share>) -> Result<Uncompared, RunFault>
+    ensures len { IfOk result (λ u. length u.closed.books.items ≡ cluster.place.dcs * (length cluster.place.splits + 1)) }
+    ensures shares { IfOk result (λ u. u.shares ≡ shares) }
+    ensures fault { result ≡ Err RunFault.Held → ⊥ }
+{
+    match cluster.close_uncompared(shares) {
+        Ok(uncompared) => Ok(uncompared),
         Err(CloseFault::Memory(_, _)) => Err(RunFault::Memory),
         Err(CloseFault::SharesMissing(_, _)) => Err(RunFault::NoThread),
         Err(CloseFault::NotKept { ticket }) => Err(RunFault::Untied { ticket }),

@@ -1,5 +1,10 @@
 use cops_clients::Cluster;
+use std::sync::Wait;
 use std::sync::atomic::{AtomicBool, AtomicU64, Ordering};
+use std::time::Duration;
+
+/// How long an idle loop rests before its next turn, in microseconds.
+const REST: u64 = 50;
 
 /// What the threads of a run share: the cluster, how many turns a loop may make, and what they tell each other.
 #[derive(Drop)]
@@ -7,6 +12,8 @@ pub(crate) struct Stage {
     cluster: Cluster,
     turns: u32,
     turns_made: AtomicU64,
+    /// What idle loops rest on. It stays 0, and nobody wakes them: they rest for their time.
+    resting: AtomicU64,
     broken: AtomicBool,
     clients_joined: AtomicBool,
     senders_joined: AtomicBool,
@@ -23,6 +30,7 @@ impl Stage {
             cluster,
             turns,
             turns_made: AtomicU64::new(0),
+            resting: AtomicU64::new(0),
             broken: AtomicBool::new(false),
             clients_joined: AtomicBool::new(false),
             senders_joined: AtomicBool::new(false),
@@ -55,6 +63,12 @@ impl Stage {
     /// How many turns senders and receivers made so far.
     pub(crate) fn turns_made(&self) -> u64 {
         self.turns_made.load(Ordering::Relaxed)
+    }
+
+    /// An idle loop leaves the processor and the locks to others for a while.
+    pub(crate) fn rest<R: Wait>(&self, rt: &R) {
+        self.resting
+            .park_timeout(rt, 0, Duration::from_micros(REST));
     }
 
     /// All threads are to end: there is no run.
