@@ -1,15 +1,46 @@
 //! Sessions over connections, one after the other.
-ghost use Rattle.std.specs.Prelude.{◌≡◌, ◌++◌, List, ℕ};
+ghost use Rattle.std.specs.Prelude.{◌≡◌, ◌++◌, ◌↔◌, List, ℕ, Result, IsErr, IsErrOf, OnErr};
+ghost use Rattle.std.specs.Io.KnownBytes.{Appends, Consumes, IsAtEnd};
+ghost use Rattle.cops_types.specs.Counted.{failures, inner};
+ghost use Rattle.cops_net.specs.declared.serving.Served.{Served};
+ghost use Rattle.cops_net.specs.declared.fault.NetFault.{NetFault as Fault};
 ghost use Rattle.cops_net.specs.declared.reply.Call.{Call};
 ghost use Rattle.cops_net.specs.Listening.{IsSession, AreSessions, IsCount};
+ghost use Rattle.cops_net.specs.Sessions.{Serves};
 
 use crate::fault::NetFault;
-use crate::serving::{Served, serve_session};
+use crate::serving::serve_session;
 use crate::session::Session;
-use cops_types::Counted;
+use cops_types::{Counted, Memory};
 use std::alloc::Global;
+use std::io::{Read, Write};
 use std::net::{Ipv4Addr, Net, TcpListener, TcpStream};
 use std::sync::Wait;
+
+/// Serves one client over a reader and a writer. Want of memory alone is told: what else ended the session ended it alone.
+fn serve_client<R: Wait, I: Read, W: Write, S: Session>(
+    rt: &R,
+    alloc: Global,
+    reader: &mut Counted<I>,
+    writer: &mut Counted<W>,
+    session: &mut S,
+) -> Result<(), Memory>
+    // The bytes and the calls are those of a session, which ended with `Memory` exactly where this does.
+    ensures serves { (end : Result Served Fault) × (input : List ℕ) × (gained : List Call) × (written : List ℕ)
+        × Consumes (I.remaining (inner reader.old)) (I.remaining (inner reader.new)) input
+        × (S.calls session.new ≡ S.calls session.old ++ gained)
+        × Appends (W.contents (inner writer.old)) (W.contents (inner writer.new)) written
+        × Serves (IsAtEnd (I.remaining (inner reader.new))) input gained written end
+        × (IsErr result ↔ IsErrOf end NetFault.Memory) }
+
+    // Where it ends with `Memory` no read and no write has failed.
+    ensures heard { OnErr result ((failures reader.new ≡ failures reader.old) × (failures writer.new ≡ failures writer.old)) }
+{
+    match serve_session(rt, alloc, reader, writer, session) {
+        Err(NetFault::Memory) => Err(Memory),
+        _ => Ok(()),
+    }
+}
 
 /// Serves one connection.
 fn serve_connection<R: Wait, S: Session>(
@@ -17,12 +48,12 @@ fn serve_connection<R: Wait, S: Session>(
     alloc: Global,
     stream: &TcpStream,
     session: &mut S,
-) -> Result<Served, NetFault>
+) -> Result<(), Memory>
     ensures { (gained : List Call) × (S.calls session.new ≡ S.calls session.old ++ gained) × IsSession gained }
 {
     let mut reader = Counted::new(stream);
     let mut writer = Counted::new(stream);
-    serve_session(rt, alloc, &mut reader, &mut writer, session)
+    serve_client(rt, alloc, &mut reader, &mut writer, session)
 }
 
 /// Listens on a port of 127.0.0.1, and serves so many connections, one after the other, each by `serve_session`. What
@@ -52,7 +83,7 @@ pub fn listen<R: Net<Listener = TcpListener, Stream = TcpStream> + Wait, S: Sess
         let served = serve_connection(rt, alloc, &stream, session);
         drop(stream);
         session.after_session(rt);
-        if let Err(NetFault::Memory) = served {
+        if let Err(Memory) = served {
             return Err(NetFault::Memory);
         }
     }

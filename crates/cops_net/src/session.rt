@@ -4,9 +4,13 @@ use cops_types::{Key, Memory, NodeStatus, Value, Version};
 use std::sync::Wait;
 
 /// Who answers a client's messages. It keeps the list of its calls with their answers. Before each of the five calls
-/// that answer stands a `room`, so that none of them is lost for want of memory.
+/// that answer stands a `room`, so that none of them is lost for want of memory. A session that says more of its calls
+/// gives for each the relation of the session before it, what was asked and answered, and the session after it; where it
+/// gives none, nothing more is said.
 pub trait Session {
-    ghost use Rattle.std.specs.Prelude.{◌≡◌, ◌++◌, ◌∷◌, [], List, OnOk};
+    ghost use Rattle.std.specs.Prelude.{◌≡◌, ◌++◌, ◌∷◌, [], ℕ, List, Option, Result, OnOk, ⊤};
+    ghost use Rattle.cops_types.specs.declared.put_record.NodeStatus.{NodeStatus as Standing};
+    ghost use Rattle.cops_net.specs.declared.reply.Reply.{Reply as Answer};
     ghost use Rattle.cops_net.specs.declared.reply.Call.{Call};
     ghost use Rattle.cops_net.specs.Answers.{IsWelcome, IsPutReply, IsGetReply, IsCheckReply, IsStanding};
 
@@ -16,45 +20,73 @@ pub trait Session {
     /// It has room for one more call.
     ghost has_room: { Self → Type 0 };
 
+    /// What making room leaves.
+    ghost rooms: { Self → Self → Type 0 } = { λ _ _. ⊤ };
+
+    /// What a greeting by a client's number does.
+    ghost hellos: { Self → ℕ → Result (ℕ × ℕ) ℕ → Self → Type 0 } = { λ _ _ _ _. ⊤ };
+
+    /// What a put of a value on a key does.
+    ghost puts: { Self → List ℕ → List ℕ → Answer → Self → Type 0 } = { λ _ _ _ _ _. ⊤ };
+
+    /// What a get of a key does.
+    ghost gets: { Self → List ℕ → Answer → Self → Type 0 } = { λ _ _ _ _. ⊤ };
+
+    /// What the question does whether the put on a key with a version is there.
+    ghost dep_checks: { Self → List ℕ → ℕ → Answer → Self → Type 0 } = { λ _ _ _ _ _. ⊤ };
+
+    /// What the question does how the node of a place stands.
+    ghost statuses: { Self → ℕ → Option Standing → Self → Type 0 } = { λ _ _ _ _. ⊤ };
+
+    /// What is done when a client's session has ended.
+    ghost ends: { Self → Self → Type 0 } = { λ _ _. ⊤ };
+
     /// Makes room for one call.
     fn room(&mut self) -> Result<(), Memory>
         ensures kept { calls self.new ≡ calls self.old }
-        ensures room { OnOk result (has_room self.new) };
+        ensures room { OnOk result (has_room self.new) }
+        ensures same { rooms self.old self.new };
 
     /// A client greets: its data centre, below 16, and the number of its nodes, 1 to 64; or the code 3 where there is no
     /// such client.
     fn hello(&mut self, client: u16) -> Result<(u8, u8), u8>
         requires { has_room self.old }
         ensures told { calls self.new ≡ calls self.old ++ Call.Hello client result ∷ [] }
-        ensures answer { IsWelcome result };
+        ensures answer { IsWelcome result }
+        ensures done { hellos self.old client result self.new };
 
     /// A put: `PutDone`, or `Refused` with 1, the clock is at its greatest, 3, 9, want of memory, or 11, the client's
     /// session is full.
     fn put<R: Wait>(&mut self, rt: &R, key: Key, value: Value) -> Reply
         requires { has_room self.old }
         ensures told { calls self.new ≡ calls self.old ++ Call.Put key value result ∷ [] }
-        ensures answer { IsPutReply result };
+        ensures answer { IsPutReply result }
+        ensures done { puts self.old key value result self.new };
 
     /// A get: `Got`, `Missed`, or `Refused` with 2, the client's context is full, 3, 9 or 11.
     fn get<R: Wait>(&mut self, rt: &R, key: &Key) -> Reply
         requires { has_room self.old }
         ensures told { calls self.new ≡ calls self.old ++ Call.Get key.now result ∷ [] }
-        ensures answer { IsGetReply result };
+        ensures answer { IsGetReply result }
+        ensures done { gets self.old key.now result self.new };
 
     /// Whether this put is there, in the client's data centre: `Yes`, `Wait`, or `Refused` with 9.
     fn dep_check<R: Wait>(&mut self, rt: &R, key: &Key, version: Version) -> Reply
         requires { has_room self.old }
         ensures told { calls self.new ≡ calls self.old ++ Call.DepCheck key.now version result ∷ [] }
-        ensures answer { IsCheckReply result };
+        ensures answer { IsCheckReply result }
+        ensures done { dep_checks self.old key.now version result self.new };
 
     /// How the node of this place in the client's data centre stands, with a clock of at most 281,474,976,710,655;
     /// nothing where there is no such node.
     fn status<R: Wait>(&mut self, rt: &R, place: u8) -> Option<NodeStatus>
         requires { has_room self.old }
         ensures told { calls self.new ≡ calls self.old ++ Call.Status place result ∷ [] }
-        ensures answer { IsStanding result };
+        ensures answer { IsStanding result }
+        ensures done { statuses self.old place result self.new };
 
     /// What is to be done when a client's session has ended. It is no call of the list.
     fn after_session<R: Wait>(&mut self, rt: &R)
-        ensures { calls self.new ≡ calls self.old };
+        ensures kept { calls self.new ≡ calls self.old }
+        ensures done { ends self.old self.new };
 }

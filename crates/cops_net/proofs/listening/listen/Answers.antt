@@ -12,7 +12,7 @@ loop-preserved g c =
     let l = c.loop.invariant in
     let s = c.serve_connection-served.ensures in (
       l.0 ++ s.0,
-      c.after_session.ensures ∙ s.1 ∙ ap (λ (x : List Call). x ++ s.0) l.1 ∙ append_assoc (g.S.Session.calls c.args.session.now) l.0 s.0,
+      c.after_session.ensures.kept ∙ s.1 ∙ ap (λ (x : List Call). x ++ s.0) l.1 ∙ append_assoc (g.S.Session.calls c.args.session.now) l.0 s.0,
       session_more c.loop.counter l.0 s.0 l.2 s.2,
     )
 
@@ -21,15 +21,15 @@ returns g c =
     let l = c.loop.invariant in
     record { sessions = (c.loop.counter, l.0, l.1, l.2, omega (arith, c.loop-test.false, c.loop.auto.counter-end)) }
 
-pub returns-in-Err-Memory : goal.returns-in-Err-Memory
-returns-in-Err-Memory g c =
+pub returns-in-Err-served : goal.returns-in-Err-served
+returns-in-Err-served g c =
     let l = c.loop.invariant in
     let s = c.serve_connection-served.ensures in
     record {
       sessions = (
         c.loop.counter + 1,
         l.0 ++ s.0,
-        c.after_session.ensures ∙ s.1 ∙ ap (λ (x : List Call). x ++ s.0) l.1 ∙ append_assoc (g.S.Session.calls c.args.session.now) l.0 s.0,
+        c.after_session.ensures.kept ∙ s.1 ∙ ap (λ (x : List Call). x ++ s.0) l.1 ∙ append_assoc (g.S.Session.calls c.args.session.now) l.0 s.0,
         session_more c.loop.counter l.0 s.0 l.2 s.2,
         (omega arith, omega (arith, c.loop-test.true)),
       );
