@@ -1,11 +1,122 @@
--- What a call of the front end leaves as it was.
-use Rattle.std.specs.Prelude.{◌≡◌, ◌<◌, vec_len, vec_capacity, IsSome}
+-- What the calls of a front end do.
+use Rattle.std.specs.Prelude.{◌≡◌, ◌<◌, ◌+◌, ◌↔◌, ℕ, List, length, slice_get, slice_set, Option, Some, Result, Ok, Err, MatchOption, vec_len, vec_capacity, IsSome, IsNone}
+use Rattle.cops_types.specs.declared.put_record.NodeStatus.{NodeStatus}
+use Rattle.cops_node.specs.declared.event.NodeEvent.TheVariants.{Put, Get, Ask}
+use Rattle.cops_node.specs.declared.outcome.Outcome.{Outcome}
+use Rattle.cops_node.specs.declared.outcome.Outcome.TheVariants.{Wait, Refused}
+use Rattle.cops_clients.specs.declared.client.Client.{Client}
+use Rattle.cops_clients.specs.declared.cluster.Cluster.{Cluster}
+use Rattle.cops_clients.specs.Cluster.{IsNode, IsSameClient, after_get, after_put, node_of}
+use Rattle.cops_clients.specs.Lending.{with_share}
+use Rattle.cops_clients.specs.Shares.{Adds}
+use Rattle.cops_net.specs.declared.reply.Reply.{Reply}
 use Rattle.cops_serve.specs.declared.front_end.FrontEnd.{FrontEnd}
+use Rattle.cops_serve.specs.declared.front_end.Greeted.{Greeted}
+use Rattle.cops_serve.specs.Replying.{IsReplyTo}
 
 -- there is room for a call, and for the copies that it keeps
 abbrev pub HasRoom : FrontEnd → Type 0
 HasRoom f = IsSome f.room × (vec_len f.calls < vec_capacity f.calls)
 
--- the calls, their room and the scenario are as before
+-- the calls and their room are as before
 abbrev pub IsUnnoted : FrontEnd → FrontEnd → Type 0
 IsUnnoted old new = (new.calls ≡ old.calls) × (new.room ≡ old.room)
+
+-- the scenario, the cluster, who replicates its puts, and which client has greeted are as before
+abbrev pub IsSameSession : FrontEnd → FrontEnd → Type 0
+IsSameSession old new =
+    (new.scenario ≡ old.scenario)
+    × (new.cluster ≡ old.cluster)
+    × (new.senders ≡ old.senders)
+    × (new.receivers ≡ old.receivers)
+    × (new.greeted ≡ old.greeted)
+
+-- the same, and no client changed
+abbrev pub IsSame : FrontEnd → FrontEnd → Type 0
+IsSame old new = IsSameSession old new × (new.clients ≡ old.clients)
+
+-- The client of this number did this, and no other client changed.
+abbrev pub ChangesBy : FrontEnd → ℕ → (Client → Client → Type 0) → FrontEnd → Type 0
+ChangesBy old number Did new =
+    (before : Client) × (after : Client)
+    × (slice_get old.clients.items number ≡ Some before)
+    × (new.clients.items ≡ slice_set old.clients.items number after)
+    × Did before after
+
+-- ---- greetings
+
+-- there is a client of this number, at this data centre, which is there
+abbrev pub IsHome : FrontEnd → ℕ → ℕ → Type 0
+IsHome f number dc = (client : Client) × (slice_get f.clients.items number ≡ Some client) × (client.dc ≡ dc) × (dc < f.cluster.place.dcs)
+
+-- A greeting is answered with the client's data centre and the number of nodes of each, and from now on it is this client
+-- who has greeted; or with 3, where there is no such client, and who has greeted stays.
+abbrev pub Hellos : FrontEnd → ℕ → Result (ℕ × ℕ) ℕ → FrontEnd → Type 0
+Hellos old number (Ok place) new =
+    IsHome old number place.0
+    × (place.1 ≡ length old.cluster.place.splits + 1)
+    × (new.greeted ≡ Some (record { client = number; dc = place.0 }))
+    × (new.clients ≡ old.clients)
+    × (new.cluster ≡ old.cluster)
+Hellos old number (Err code) new = ((dc : ℕ) → IsHome old number dc → ⊥) × (code ≡ 3) × IsSame old new
+
+-- ---- puts, gets and questions
+
+-- What a put of a client leaves of it, by the outcome: the entry in its share, where a node answered, and its context.
+abbrev pub HasPut : Cluster → List ℕ → List ℕ → Outcome → Client → Client → Type 0
+HasPut c key value out before after =
+    IsSameClient before after
+    × Adds before.share.entries.items after.share.entries.items (node_of c before.dc key) (Put before.number key value before.context.pairs) out
+    × (after.context.pairs ≡ after_put before.context.pairs key out)
+
+-- the same of a get
+abbrev pub HasGot : Cluster → List ℕ → Outcome → Client → Client → Type 0
+HasGot c key out before after =
+    IsSameClient before after
+    × Adds before.share.entries.items after.share.entries.items (node_of c before.dc key) (Get before.number key) out
+    × (after.context.pairs ≡ after_get before.context.pairs key out)
+
+-- the same of a question in a data centre, which changes the share alone
+abbrev pub HasAsked : Cluster → ℕ → List ℕ → ℕ → Outcome → Client → Client → Type 0
+HasAsked c dc key version out before after =
+    (after ≡ with_share before after.share)
+    × (after.share.holder ≡ before.share.holder)
+    × Adds before.share.entries.items after.share.entries.items (node_of c dc key) (Ask key version) out
+
+-- Who has greeted did this, or nobody has and this is so. No other client changed.
+abbrev pub DoneByGreeted : FrontEnd → Type 0 → (Greeted → Client → Client → Type 0) → FrontEnd → Type 0
+DoneByGreeted old Nobody Did new =
+    IsSameSession old new
+    × MatchOption old.greeted (Nobody × (new.clients ≡ old.clients)) (λ g. ChangesBy old g.client (Did g) new)
+
+-- Who has greeted puts with this outcome. Where nobody has it is refused with 3.
+abbrev pub PutsAs : FrontEnd → List ℕ → List ℕ → Outcome → FrontEnd → Type 0
+PutsAs old key value out new = DoneByGreeted old (out ≡ Refused 3) (λ g. HasPut old.cluster key value out) new
+
+-- the same of a get
+abbrev pub GetsAs : FrontEnd → List ℕ → Outcome → FrontEnd → Type 0
+GetsAs old key out new = DoneByGreeted old (out ≡ Refused 3) (λ g. HasGot old.cluster key out) new
+
+-- Who has greeted asks in their data centre, with this outcome. Where nobody has it is: not yet.
+abbrev pub AsksAs : FrontEnd → List ℕ → ℕ → Outcome → FrontEnd → Type 0
+AsksAs old key version out new = DoneByGreeted old (out ≡ Wait) (λ g. HasAsked old.cluster g.dc key version out) new
+
+-- the reply tells the outcome of the put that was done
+abbrev pub Puts : FrontEnd → List ℕ → List ℕ → Reply → FrontEnd → Type 0
+Puts old key value reply new = (out : Outcome) × IsReplyTo out reply × PutsAs old key value out new
+
+abbrev pub Gets : FrontEnd → List ℕ → Reply → FrontEnd → Type 0
+Gets old key reply new = (out : Outcome) × IsReplyTo out reply × GetsAs old key out new
+
+abbrev pub Checks : FrontEnd → List ℕ → ℕ → Reply → FrontEnd → Type 0
+Checks old key version reply new = (out : Outcome) × IsReplyTo out reply × AsksAs old key version out new
+
+-- ---- what else is done
+
+-- the node's standing is told where there is such a node in the data centre of who has greeted, and nothing else changed
+abbrev pub Statuses : FrontEnd → ℕ → Option NodeStatus → FrontEnd → Type 0
+Statuses old place answer new = IsSame old new × MatchOption old.greeted (IsNone answer) (λ g. IsSome answer ↔ IsNode old.cluster g.dc place)
+
+-- nobody has greeted from now on, and no client changed
+abbrev pub Ends : FrontEnd → FrontEnd → Type 0
+Ends old new = IsNone new.greeted × (new.clients ≡ old.clients) × (new.scenario ≡ old.scenario) × (new.cluster ≡ old.cluster)

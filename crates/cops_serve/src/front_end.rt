@@ -1,6 +1,6 @@
 //! Who answers the clients of a cluster.
 ghost use Rattle.std.specs.Option.{ForSome};
-ghost use Rattle.std.specs.Prelude.{◌≡◌, ◌<◌, ◌++◌, ◌∷◌, [], IfSome, IsSome, vec_len, vec_capacity};
+ghost use Rattle.std.specs.Prelude.{◌≡◌, ◌<◌, vec_len};
 
 use crate::replying::{Replies, check_replies, get_replies, not_yet, put_replies};
 use cops_clients::{Client, Cluster};
@@ -52,26 +52,29 @@ pub struct FrontEnd {
     pub(crate) room: Option<Room>,
     pub(crate) alloc: Global,
     ghost same_place: { cluster.place ≡ scenario.place },
-    ghost at_home: { ForSome greeted (λ g. g.dc < cluster.place.dcs) },
+    ghost at_home: { ForSome greeted (λ g. (g.client < vec_len clients) × (g.dc < cluster.place.dcs)) },
 }
 
 impl FrontEnd {
-    ghost use Rattle.std.specs.Prelude.{◌≡◌, ◌<◌, ◌++◌, ◌∷◌, [], IfSome, IsSome, vec_len, vec_capacity};
+    ghost use Rattle.std.specs.Prelude.{◌≡◌, ◌<◌, ◌++◌, ◌∷◌, [], ℕ, IfNone, IfSome, vec_len, vec_capacity};
     ghost use Rattle.cops_clients.specs.Outcomes.{IsGetOutcome, IsPutOutcome};
     ghost use Rattle.cops_net.specs.Answers.{IsCheckReply};
-    ghost use Rattle.cops_serve.specs.FrontEnd.{IsUnnoted};
+    ghost use Rattle.cops_serve.specs.FrontEnd.{Checks, GetsAs, IsHome, IsSame, IsUnnoted, PutsAs};
 
-    /// Keeps a call with its answer.
+    /// Keeps a call with its answer. All else stays.
     fn note(&mut self, call: Call)
         requires { vec_len self.old.calls < vec_capacity self.old.calls }
-        ensures { self.new.calls.items ≡ self.old.calls.items ++ call ∷ [] }
+        ensures noted { self.new.calls.items ≡ self.old.calls.items ++ call ∷ [] }
+        ensures same { IsSame self.old self.new }
     {
         self.calls.push_reserved(call);
     }
 
-    /// Where a client is that may greet.
+    /// Where a client is that may greet: nothing where there is no such client, or its data centre is not there.
     fn home_of(&self, client: u16) -> Option<Greeted>
-        ensures { IfSome result (λ g. (g.dc < self.now.cluster.place.dcs) × (g.dc < 16)) }
+        ensures some { IfSome result (λ g. (g.client ≡ client) × IsHome self.now client g.dc) }
+        ensures there { IfSome result (λ g. (g.client < vec_len self.now.clients) × (g.dc < self.now.cluster.place.dcs) × (g.dc < 16)) }
+        ensures none { IfNone result ((dc : ℕ) → IsHome self.now client dc → ⊥) }
     {
         let dc = self.clients.get(usize::from(client))?.dc();
         if dc < self.cluster.dcs() {
@@ -81,16 +84,18 @@ impl FrontEnd {
         }
     }
 
-    /// The client that has greeted puts a value.
+    /// The client that has greeted puts a value: the outcome of the cluster's put, which the client's share and context
+    /// show. It is refused with 3 where nobody has greeted, and with 9 for want of memory. No other client changes.
     fn put_outcome<R: Wait>(&mut self, rt: &R, key: &Key, value: &Value) -> Outcome
         ensures outcome { IsPutOutcome result }
+        ensures done { PutsAs self.old key.now value.now result self.new }
         ensures same { IsUnnoted self.old self.new }
     {
         let Some(greeted) = self.greeted else {
             return Outcome::Refused(UNKNOWN_CLIENT);
         };
         let Some(client) = self.clients.get_mut(usize::from(greeted.client)) else {
-            return Outcome::Refused(UNKNOWN_CLIENT);
+            unreachable!()
         };
         let Ok(key) = key.clone() else {
             return Outcome::Refused(MEMORY);
@@ -104,16 +109,18 @@ impl FrontEnd {
         }
     }
 
-    /// The client that has greeted gets the value of a key.
+    /// The client that has greeted gets the value of a key: the outcome of the cluster's get, which the client's share and
+    /// context show. It is refused with 3 where nobody has greeted, and with 9 for want of memory. No other client changes.
     fn get_outcome<R: Wait>(&mut self, rt: &R, key: &Key) -> Outcome
         ensures outcome { IsGetOutcome result }
+        ensures done { GetsAs self.old key.now result self.new }
         ensures same { IsUnnoted self.old self.new }
     {
         let Some(greeted) = self.greeted else {
             return Outcome::Refused(UNKNOWN_CLIENT);
         };
         let Some(client) = self.clients.get_mut(usize::from(greeted.client)) else {
-            return Outcome::Refused(UNKNOWN_CLIENT);
+            unreachable!()
         };
         let Ok(key) = key.clone() else {
             return Outcome::Refused(MEMORY);
@@ -124,17 +131,19 @@ impl FrontEnd {
         }
     }
 
-    /// Whether a put is there, in the data centre of the client that has greeted.
+    /// Whether a put is there, in the data centre of the client that has greeted: the outcome of the cluster's question,
+    /// which the client's share shows; not yet, where nobody has greeted. No other client changes.
     fn checked<R: Wait>(&mut self, rt: &R, key: &Key, version: Version) -> Replies
         ensures twice { result.told ≡ result.kept }
         ensures reply { IsCheckReply result.told }
+        ensures done { Checks self.old key.now version result.told self.new }
         ensures same { IsUnnoted self.old self.new }
     {
         let Some(greeted) = self.greeted else {
             return not_yet();
         };
         let Some(client) = self.clients.get_mut(usize::from(greeted.client)) else {
-            return not_yet();
+            unreachable!()
         };
         let share = client.share();
         match self
@@ -147,9 +156,11 @@ impl FrontEnd {
     }
 
     /// One turn of every sender and then of every receiver: whether any of them did something, or could not for want of
-    /// memory.
+    /// memory. No client changes.
     fn round<R: Wait>(&mut self, rt: &R) -> bool
-        ensures { self.new.calls.items ≡ self.old.calls.items }
+        ensures noted { self.new.calls.items ≡ self.old.calls.items }
+        ensures clients { (self.new.clients ≡ self.old.clients) × (self.new.greeted ≡ self.old.greeted) }
+        ensures same { (self.new.scenario ≡ self.old.scenario) × (self.new.cluster ≡ self.old.cluster) }
     {
         let mut is_busy = false;
         for sender in self.senders.iter_mut() {
@@ -164,11 +175,25 @@ impl FrontEnd {
 }
 
 impl Session for FrontEnd {
-    ghost use Rattle.cops_serve.specs.FrontEnd.{HasRoom};
+    ghost use Rattle.cops_serve.specs.FrontEnd.{Checks, Ends, Gets, HasRoom, Hellos, IsSame, Puts, Statuses};
 
     ghost calls = { λ f. f.calls.items };
 
     ghost has_room = { HasRoom };
+
+    ghost rooms = { IsSame };
+
+    ghost hellos = { Hellos };
+
+    ghost puts = { Puts };
+
+    ghost gets = { Gets };
+
+    ghost dep_checks = { Checks };
+
+    ghost statuses = { Statuses };
+
+    ghost ends = { Ends };
 
     fn room(&mut self) -> Result<(), Memory> {
         if self.room.is_none() {

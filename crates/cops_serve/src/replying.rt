@@ -3,6 +3,8 @@ ghost use Rattle.std.specs.Prelude.{◌≡◌};
 ghost use Rattle.cops_clients.specs.Outcomes.{IsAskOutcome, IsGetOutcome, IsPutOutcome};
 ghost use Rattle.cops_clients.specs.Receiving.{outcome_of};
 ghost use Rattle.cops_net.specs.Answers.{IsCheckReply, IsGetReply, IsPutReply};
+ghost use Rattle.cops_node.specs.declared.outcome.Outcome.TheVariants.{Wait as NotYet};
+ghost use Rattle.cops_serve.specs.Replying.{IsReplyTo};
 
 use cops_clients::Asked;
 use cops_net::Reply;
@@ -16,10 +18,11 @@ pub(crate) struct Replies {
     pub(crate) told: Reply,
 }
 
-/// The replies to a put.
+/// The replies to a put, which tell its outcome.
 pub(crate) fn put_replies(outcome: &Outcome) -> Replies
     requires { IsPutOutcome outcome.now }
     ensures same { result.told ≡ result.kept }
+    ensures told { IsReplyTo outcome.now result.told }
     ensures answer { IsPutReply result.told }
 {
     match outcome {
@@ -35,10 +38,11 @@ pub(crate) fn put_replies(outcome: &Outcome) -> Replies
     }
 }
 
-/// The replies to a get.
+/// The replies to a get, which tell its outcome.
 pub(crate) fn get_replies(room: ValueRoom, outcome: Outcome) -> Replies
     requires { IsGetOutcome outcome }
     ensures same { result.told ≡ result.kept }
+    ensures told { IsReplyTo outcome result.told }
     ensures answer { IsGetReply result.told }
 {
     match outcome {
@@ -58,10 +62,11 @@ pub(crate) fn get_replies(room: ValueRoom, outcome: Outcome) -> Replies
     }
 }
 
-/// The replies to the question whether a put is there.
+/// The replies to the question whether a put is there, which tell its outcome.
 pub(crate) fn check_replies(asked: &Asked) -> Replies
     requires { IsAskOutcome (outcome_of asked.now) }
     ensures same { result.told ≡ result.kept }
+    ensures told { IsReplyTo (outcome_of asked.now) result.told }
     ensures answer { IsCheckReply result.told }
 {
     match asked {
@@ -77,6 +82,7 @@ pub(crate) fn check_replies(asked: &Asked) -> Replies
 fn outcome_replies(outcome: &Outcome) -> Replies
     requires { IsAskOutcome outcome.now }
     ensures same { result.told ≡ result.kept }
+    ensures told { IsReplyTo outcome.now result.told }
     ensures answer { IsCheckReply result.told }
 {
     match outcome {
@@ -96,6 +102,7 @@ fn outcome_replies(outcome: &Outcome) -> Replies
 /// The replies where a put is not there yet.
 pub(crate) fn not_yet() -> Replies
     ensures same { result.told ≡ result.kept }
+    ensures told { IsReplyTo NotYet result.told }
     ensures answer { IsCheckReply result.told }
 {
     Replies {

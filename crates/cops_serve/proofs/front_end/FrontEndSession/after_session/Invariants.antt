@@ -1,5 +1,10 @@
-use Rattle.std.proofs.Common.{◌≡◌}
+use Rattle.std.proofs.Common.{◌≡◌, None}
 use Rattle.cops_serve.proofs.front_end.FrontEndSession.after_session.Given as goal
 
 abbrev pub invariant-loop : goal.invariant-loop
-invariant-loop g l = l.self.calls.items ≡ l.fn.self.calls.items
+invariant-loop g l =
+    (l.self.calls.items ≡ l.fn.self.calls.items)
+    × (l.self.greeted ≡ None)
+    × (l.self.clients ≡ l.fn.self.clients)
+    × (l.self.scenario ≡ l.fn.self.scenario)
+    × (l.self.cluster ≡ l.fn.self.cluster)

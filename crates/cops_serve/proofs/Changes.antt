@@ -1,0 +1,73 @@
+-- A client that was changed in its place of the list, and what a call that was not made leaves of it.
+use Rattle.std.proofs.Common.{◌≡◌, ℕ, ◌<◌, ◌≤◌, List, length, Some, slice_index_or, slice_set, refl, sym, ap, subst, ◌∙◌, arith}
+use Rattle.std.specs.Prelude.{slice_get, MatchOption}
+use Rattle.std.specs.Global.{Vec}
+use Rattle.std.proofs.lemmas.Option.{slice_get_read}
+use Rattle.cops_node.specs.declared.event.NodeEvent.TheVariants.{Ask}
+use Rattle.cops_node.specs.declared.outcome.Outcome.{Outcome}
+use Rattle.cops_node.specs.declared.outcome.Outcome.TheVariants.{Refused}
+use Rattle.cops_clients.specs.declared.client.Client.{Client}
+use Rattle.cops_clients.specs.declared.cluster.Cluster.{Cluster}
+use Rattle.cops_clients.specs.declared.share.Share.{Share}
+use Rattle.cops_clients.specs.Cluster.{node_of}
+use Rattle.cops_clients.specs.Lending.{with_share}
+use Rattle.cops_clients.specs.Shares.{Adds}
+use Rattle.cops_serve.specs.declared.front_end.FrontEnd.{FrontEnd}
+use Rattle.cops_serve.specs.declared.front_end.Greeted.{Greeted}
+use Rattle.cops_serve.specs.FrontEnd.{DoneByGreeted, HasPut, HasGot, HasAsked, IsSame}
+
+-- what was lent from its place stands there
+pub there : {X : Type 0} (xs : List X) (number place : ℕ) (x : X) → place ≡ number → (place < length xs) × ((d : X) → x ≡ slice_index_or xs place d)
+    → slice_get xs number ≡ Some x
+there xs number place x e (inside, at) = rw (sym e) (slice_get_read xs (length xs) place x refl inside (at x))
+
+-- the same where the list goes by another name
+pub there_in : {X : Type 0} (xs ys : List X) (number place : ℕ) (x : X) → ys ≡ xs → place ≡ number → (place < length ys) × ((d : X) → x ≡ slice_index_or ys place d)
+    → slice_get xs number ≡ Some x
+there_in {X} xs ys number place x same e at = there xs number place x e (subst (λ (l : List X). (place < length l) × ((d : X) → x ≡ slice_index_or l place d)) same at)
+
+-- where a client is at a data centre that is not there, it is at none that is
+pub not_home : (xs : List Client) (number dcs dc : ℕ) (x : Client) → slice_get xs number ≡ Some x → dcs ≤ x.dc
+    → (client : Client) × (slice_get xs number ≡ Some client) × (client.dc ≡ dc) × (dc < dcs) → ⊥
+not_home xs number dcs dc x e far (client, found, home, near) = let s : x ≡ client = cc in absurd (omega (arith, ap (λ (c : Client). c.dc) s, home, far, near))
+
+pub set_there : {X : Type 0} (xs : List X) (number place : ℕ) (x : X) → place ≡ number → slice_set xs place x ≡ slice_set xs number x
+set_there xs number place x e = ap (λ (n : ℕ). slice_set xs n x) e
+
+-- of copies of the key and the value
+pub put_of : (c : Cluster) (key value k v : List ℕ) (out : Outcome) (before after : Client) → k ≡ key → v ≡ value → HasPut c k v out before after
+    → HasPut c key value out before after
+put_of c key value k v out before after ek ev h = rw (sym ek, sym ev) h
+
+pub got_of : (c : Cluster) (key k : List ℕ) (out : Outcome) (before after : Client) → k ≡ key → HasGot c k out before after → HasGot c key out before after
+got_of c key k out before after ek h = rw (sym ek) h
+
+-- a put that was not made for want of memory
+pub no_put : (c : Cluster) (key value : List ℕ) (client : Client) → HasPut c key value (Refused 9) client client
+no_put c key value client = ((refl, refl, refl), (λ h. absurd cc, λ h. refl), refl)
+
+-- a get that was not made for want of memory
+pub no_get : (c : Cluster) (key : List ℕ) (client : Client) → HasGot c key (Refused 9) client client
+no_get c key client = ((refl, refl, refl), (λ h. absurd cc, λ h. refl), refl)
+
+-- a question with the share that the client lent
+pub asked_of : (c : Cluster) (dc : ℕ) (key : List ℕ) (version : ℕ) (out : Outcome) (client : Client) (lent after : Share) → lent ≡ client.share → after.holder ≡ lent.holder
+    → Adds lent.entries.items after.entries.items (node_of c dc key) (Ask key version) out → HasAsked c dc key version out client (with_share client after)
+asked_of c dc key version out client lent after e who told = (
+  refl,
+  subst (λ (s : Share). after.holder ≡ s.holder) e who,
+  subst (λ (s : Share). Adds s.entries.items after.entries.items (node_of c dc key) (Ask key version) out) e told,
+)
+
+-- what is noted afterwards changes no client
+pub noted : (old mid new : FrontEnd) (Nobody : Type 0) (Did : Greeted → Client → Client → Type 0) → DoneByGreeted old Nobody Did mid → IsSame mid new
+    → DoneByGreeted old Nobody Did new
+noted old mid new Nobody Did (session, did) ((scenario, cluster, senders, receivers, greeted), clients) = (
+  (scenario ∙ session.0, cluster ∙ session.1, senders ∙ session.2, receivers ∙ session.3, greeted ∙ session.4),
+  subst (λ (v : Vec Client).
+      MatchOption old.greeted (Nobody × (v ≡ old.clients)) (λ g.
+      (before : Client) × (after : Client)
+      × (slice_get old.clients.items g.client ≡ Some before)
+      × (v.items ≡ slice_set old.clients.items g.client after)
+      × Did g before after)) (sym clients) did,
+)

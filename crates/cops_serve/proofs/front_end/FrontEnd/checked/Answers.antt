@@ -1,0 +1,28 @@
+use Rattle.std.proofs.Common.{refl}
+use Rattle.cops_node.specs.declared.outcome.Outcome.TheVariants.{Wait}
+use Rattle.cops_clients.specs.Lending.{with_share}
+use Rattle.cops_clients.specs.Receiving.{outcome_of}
+use Rattle.cops_serve.proofs.Changes.{there, set_there, asked_of}
+use Rattle.cops_serve.proofs.front_end.FrontEnd.checked.Goals as goal
+
+pub returns-in_default-clause-done : goal.returns-in_default-clause-done
+returns-in_default-clause-done g c = (Wait, c.not_yet.ensures.told, rw c.in_default.is ((refl, refl, refl, refl, refl), (refl, refl)))
+
+pub returns-clause-done : goal.returns-clause-done
+returns-clause-done g c =
+    let client = c.in-Some-get_mut.client.now in
+    let out = outcome_of c.in-Ok.asked in (
+      out,
+      c.check_replies.ensures.told,
+      rw c.in-Some.is (
+        (refl, refl, refl, refl, refl),
+        (
+          client,
+          with_share client c.ask.new.share,
+          there _ _ _ _ c.from.ensures c.in-Some-get_mut.ensures.item.3,
+          set_there _ _ _ _ c.from.ensures,
+          asked_of c.args.self.now.cluster c.in-Some.greeted.dc c.args.key.now c.args.version out client c.share-share.result.now c.ask.new.share
+              c.share-share.ensures.value c.in-Ok.ensures.who c.in-Ok.ensures.told,
+        ),
+      ),
+    )
