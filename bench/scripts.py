@@ -4,8 +4,9 @@ given the very events of that run.
 
 usage: scripts.py [--quick]     --quick has scripts of 1,000 operations
 
-Each client has a script of 10,000 puts and gets of 100 keys. Times are of wall time, the median of five runs, without the time to read
-the scenario. The world's time is that of ten worlds one after the other, divided by ten. An operation makes several events: a put is
+Each client has a script of 10,000 puts and gets of 100 keys. Times are of wall time until the program answers, without the time to read the
+scenario; each column is the median of seven rounds of one run and one run with worlds. The world's time is that of ten worlds one after the
+other, divided by ten. An operation makes several events: a put is
 delivered to each other data centre, asked about, marked and settled there. The last columns are the run's rate by the world's, both in
 operations, and how many cores the run kept busy.
 """
@@ -21,7 +22,7 @@ import time
 
 from building import build
 
-RUNS = 5
+ROUNDS = 7
 WORLDS = 10
 
 
@@ -37,30 +38,36 @@ def scripts(clients, data_centres, operations):
 
 
 def took(program, path, worlds):
-    """Wall seconds, processor seconds and what was printed."""
+    """Wall seconds until it answered, processor seconds, and what was printed."""
     before = resource.getrusage(resource.RUSAGE_CHILDREN)
     begun = time.monotonic()
-    told = subprocess.run([program, "scripts", path, worlds], check=True, stdout=subprocess.PIPE).stdout
-    wall = time.monotonic() - begun
+    with subprocess.Popen([program, "scripts", path, worlds], stdout=subprocess.PIPE) as process:
+        told = process.stdout.readline()
+        wall = time.monotonic() - begun
+        if process.wait() or not told:
+            sys.exit("cops_bench scripts failed")
     after = resource.getrusage(resource.RUSAGE_CHILDREN)
     return wall, after.ru_utime + after.ru_stime - before.ru_utime - before.ru_stime, told
 
 
-def median(program, path, worlds):
-    """Medians of wall and processor seconds."""
-    times = [took(program, path, worlds)[:2] for _ in range(RUNS)]
-    return [statistics.median(column) for column in zip(*times)]
+def round_of(program, path):
+    """What one run gave, beside worlds that were given its kind of events just after it."""
+    read, _, _ = took(program, path, "read")
+    wall, busy, told = took(program, path, "0")
+    worlds, _, _ = took(program, path, str(WORLDS))
+    made, events, asks, turns = map(int, told.split())
+    run, world = max(1e-9, wall - read), max(1e-9, (worlds - wall) / WORLDS)
+    return (
+        made / run, events / made, asks / made, turns / made, made / world, events / world, world / run, (busy - read) / run
+    )
 
 
 def row(program, path, clients, data_centres):
-    made, events, asks, turns = map(int, took(program, path, "0")[2].split())
-    read, _ = median(program, path, "read")
-    wall, busy = median(program, path, "0")
-    worlds, _ = median(program, path, str(WORLDS))
-    run, world = max(1e-9, wall - read), max(1e-9, (worlds - wall) / WORLDS)
+    rounds = [round_of(program, path) for _ in range(ROUNDS)]
+    rate, events, asks, turns, world, its_events, ratio, cores = map(statistics.median, zip(*rounds))
     print(
-        f"| {clients} | {data_centres} | {made / run:,.0f} | {events / made:.1f} | {asks / made:.2f} | {turns / made:.2f} "
-        f"| {made / world:,.0f} | {events / world:,.0f} | {world / run:.2f} | {(busy - read) / run:.1f} |",
+        f"| {clients} | {data_centres} | {rate:,.0f} | {events:.1f} | {asks:.2f} | {turns:.2f} | {world:,.0f} | {its_events:,.0f} "
+        f"| {ratio:.2f} | {cores:.1f} |",
         flush=True,
     )
 

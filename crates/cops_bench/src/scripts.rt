@@ -20,7 +20,7 @@ fn scenario_of(alloc: Global, bytes: &[u8]) -> Result<Scenario, Error> {
     }
 }
 
-/// Reads a scenario. Where a number of worlds is given, its scripts are run, the run's events happen in so many worlds, one after the
+/// Reads a scenario, twice. Where no number of worlds is given it says so; else its scripts are run, the run's events happen in so many worlds, one after the
 /// other, and it prints how many operations were recorded, how many events and how many asks among them there were, and how many turns
 /// the senders and receivers made.
 pub fn run_scripts<R>(rt: &R, path: &str, worlds: &str) -> Result<(), Error>
@@ -33,6 +33,7 @@ where
     let scenario = scenario_of(alloc, &bytes)?;
     let again = scenario_of(alloc, &bytes)?;
     let Ok(worlds) = worlds.parse::<u32>() else {
+        println!(rt; "read")?;
         return Ok(());
     };
     let Ok(counted) = run_counted(rt, alloc, scenario, &OpenGate) else {
