@@ -77,6 +77,18 @@ fn record_found(trace: &Trace, at: u64, entry: Record, index: u32, used: usize) 
     }
 }
 
+/// What an end that counts so many records means.
+fn end_found(trace: &Trace, at: u64, ops: u32, used: usize) -> Found
+    ensures { result ≡ end_found (progress_with at trace.now) ops used }
+{
+    if ops as usize == trace.len() {
+        let item = Item::End;
+        Found::Gives { item, used }
+    } else {
+        Found::Fails(TraceFault::BadCount { offset: at })
+    }
+}
+
 /// What a message means after the head and the records of the trace.
 fn later_message(trace: &Trace, at: u64, message: Message, used: usize) -> Found
     ensures { result ≡ later_message (progress_with at trace.now) message used }
@@ -114,14 +126,7 @@ fn later_message(trace: &Trace, at: u64, message: Message, used: usize) -> Found
             let op = Op::Missed { key };
             record_found(trace, at, Record { client, op }, index, used)
         }
-        Message::TraceEnd { ops } => {
-            if ops as usize == trace.len() {
-                let item = Item::End;
-                Found::Gives { item, used }
-            } else {
-                Found::Fails(TraceFault::BadCount { offset: at })
-            }
-        }
+        Message::TraceEnd { ops } => end_found(trace, at, ops, used),
         _ => Found::Fails(TraceFault::NotARecord { offset: at }),
     }
 }
