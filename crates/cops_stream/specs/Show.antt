@@ -1,10 +1,48 @@
 -- What showing a trace's bytes answers, and what it writes.
-use Rattle.std.specs.Prelude.{◌≡◌, ℕ, List, [], ◌++◌, Option, Some, None, Ok, Err}
+use Rattle.std.specs.Prelude.{◌≡◌, ℕ, ◌≤◌, List, [], ◌∷◌, ◌++◌, length, codes, Option, Some, None, unwrap_or, Ok, Err}
+use Rattle.std.specs.List.{flat_map, AllByRecursion}
 use Rattle.std.specs.Io.KnownBytes.{Appends}
+use Rattle.cops_types.specs.declared.format.Format.TheVariants.{One}
+use Rattle.cops_types.specs.Texts.{◌⧺◌}
+use Rattle.cops_wire.specs.declared.message.Message.{Message}
+use Rattle.cops_wire.specs.Grammar.{grammar, IsMessage}
+use Rattle.cops_wire.specs.Message.{parts}
+use Rattle.cops_wire.specs.Shown.{shown}
 use Rattle.cops_trace.specs.declared.fault.TraceFault.{TraceFault}
-use Rattle.cops_trace.specs.Text.{ATrace}
+use Rattle.cops_trace.specs.Text.{ATrace, spelled}
 use Rattle.cops_trace.specs.Answer.{Says}
+use Rattle.cops_trace.specs.Faults.{offset_of}
 use Rattle.cops_trace.specs.Lines.{fault_line}
+
+-- the line of a message, with its end
+unfoldable pub line_of : Message → List ℕ
+line_of m = shown m ⧺ codes "\n"
+
+-- the lines of messages, in order
+abbrev pub lines_of : List Message → List ℕ
+lines_of ms = flat_map line_of ms
+
+-- their frames, in order
+abbrev pub frames_of : List Message → List ℕ
+frames_of ms = flat_map spelled ms
+
+-- the frames of these messages stand at the front of the bytes, one behind the other, and end at or before this place
+pub record StandBefore (bytes : List ℕ) (end : ℕ) (ms : List Message) : Type 0 where
+  pub legal : AllByRecursion (λ m. IsMessage (grammar One) (parts m)) ms
+  pub rest : List ℕ
+  pub front : bytes ≡ frames_of ms ++ rest
+  pub ends : length (frames_of ms) ≤ end
+
+-- they are all: with one more message this does not hold
+pub record AreShown (bytes : List ℕ) (end : ℕ) (ms : List Message) : Type 0 where
+  pub stand : StandBefore bytes end ms
+  pub all : (m : Message) → StandBefore bytes end (ms ++ m ∷ []) → ⊥
+
+-- The line of the message whose frame stands at the front was appended, and this is the frame's length; or none stands
+-- there that ends at or before this place.
+abbrev pub AppendsNext : List ℕ → ℕ → List ℕ → List ℕ → Option ℕ → Type 0
+AppendsNext bytes end old new None = (new ≡ old) × ((m : Message) → StandBefore bytes end (m ∷ []) → ⊥)
+AppendsNext bytes end old new (Some used) = (m : Message) × StandBefore bytes end (m ∷ []) × (used ≡ length (spelled m)) × (new ≡ old ++ line_of m)
 
 -- the bytes have this fault first, or are a trace's text
 abbrev pub HasFirst : List ℕ → Option TraceFault → Type 0
@@ -20,7 +58,14 @@ abbrev pub last_line : Option TraceFault → List ℕ
 last_line None = []
 last_line (Some e) = fault_line e
 
--- the writer gained lines and then the fault's, with the status of the fault that the bytes have
+-- where showing ends: with the bytes, or at the fault's place
+abbrev pub end_of : List ℕ → Option TraceFault → ℕ
+end_of bytes None = length bytes
+end_of bytes (Some e) = unwrap_or (offset_of e) (length bytes)
+
+-- The writer gained the lines of all messages whose frames end at or before the fault that the bytes have, or with the
+-- bytes, and then the fault's line. The status is that of the fault.
 abbrev pub Shows : List ℕ → ℕ → Option (List ℕ) → Option (List ℕ) → Type 0
 Shows bytes status old new =
-    (fault : Option TraceFault) × (lines : List ℕ) × HasFirst bytes fault × (status ≡ status_of fault) × Appends old new (lines ++ last_line fault)
+    (fault : Option TraceFault) × (ms : List Message) × HasFirst bytes fault × AreShown bytes (end_of bytes fault) ms
+    × (status ≡ status_of fault) × Appends old new (lines_of ms ++ last_line fault)

@@ -1,19 +1,23 @@
 //! The lines of a trace's frames.
-ghost use Rattle.std.specs.Prelude.{◌≡◌, ◌⊎◌, List, ℕ, true, false, Ok, IfOk, IfSome};
+ghost use Rattle.std.specs.Prelude.{◌≡◌, ◌++◌, ◌⊎◌, ◌<◌, ◌≤◌, List, ℕ, length, true, false, Ok, OnOk, IfOk, IfSome};
 ghost use Rattle.std.specs.Io.KnownBytes.{Appends};
 ghost use Rattle.cops_types.specs.Failures.{Failed};
 ghost use Rattle.cops_types.specs.Counted.{failures, inner};
 ghost use Rattle.cops_trace.specs.Answer.{Agrees};
-ghost use Rattle.cops_stream.specs.Show.{HasFirst, Shows};
+ghost use Rattle.cops_wire.specs.declared.message.Message.{Message as AMessage};
+ghost use Rattle.cops_stream.specs.Show.{HasFirst, Shows, AreShown, AppendsNext, end_of, line_of, lines_of};
 
 use cops_device::{FAULTY, PIECE, failed, read_all};
 use cops_trace::{Trace, TraceFault, fault_line, read_trace, write_text};
 use cops_types::{Counted, Memory};
-use cops_wire::{Feeder, WireFault, body_len, show};
+use cops_wire::{Decoded, Message, WireFault, decode, show};
 use std::alloc::Global;
 use std::io::{Read, Write};
 
 const SHOWN: u8 = 0;
+
+/// How much text is gathered before it is written.
+const GATHERED: usize = 4 * PIECE;
 
 /// Writes a line for each frame of a trace that ends at or before the trace's first fault, or for all, and then the
 /// fault's line where there is one. The answer is the status: 0 for a whole trace, 2 for a fault, and 4 where a read or
@@ -24,7 +28,8 @@ pub fn show_stream<R: Read, W: Write, E: Write>(
     out: &mut Counted<W>,
     errors: &mut Counted<E>,
 ) -> Result<u8, Memory>
-    // The status is that of the reader's bytes, and the last line is that of their fault, unless a device failed.
+    // The status is that of the reader's bytes, and the lines are those of their frames and of their fault, unless a
+    // device failed.
     ensures shown { IfOk result (λ status. (status ≡ 4) ⊎ IfSome (R.remaining (inner reader.old)) (λ bytes.
         Shows bytes status (W.contents (inner out.old)) (W.contents (inner out.new)))) }
 
@@ -37,13 +42,7 @@ pub fn show_stream<R: Read, W: Write, E: Write>(
         None => return Ok(failed(errors, b"failed: read\n")),
     };
     let fault = first_fault(alloc, &bytes)?;
-    let end = match &fault {
-        None => bytes.len() as u64,
-        Some(fault) => match fault.offset() {
-            Some(offset) => offset,
-            None => return Err(Memory),
-        },
-    };
+    let end = end_of(&bytes, fault)?;
     if !show_frames(alloc, &bytes, end, out)? {
         return Ok(failed(errors, b"failed: write\n"));
     }
@@ -76,6 +75,19 @@ fn fault_in(read: Result<Trace, TraceFault>) -> Result<Option<TraceFault>, Memor
     }
 }
 
+/// Where showing ends: with the bytes, or at the fault's place.
+fn end_of(bytes: &[u8], fault: Option<TraceFault>) -> Result<u64, Memory>
+    ensures { IfOk result (λ end. end ≡ end_of bytes.now fault) }
+{
+    let Some(fault) = fault else {
+        return Ok(bytes.len() as u64);
+    };
+    match fault.offset() {
+        Some(offset) => Ok(offset),
+        None => Err(Memory),
+    }
+}
+
 /// Writes the lines of the frames that end at or before this place, and says whether all were written.
 fn show_frames<W: Write>(
     alloc: Global,
@@ -83,46 +95,75 @@ fn show_frames<W: Write>(
     end: u64,
     out: &mut Counted<W>,
 ) -> Result<bool, Memory>
-    ensures written { result ≡ Ok true → (lines : List ℕ) × Appends (W.contents (inner out.old)) (W.contents (inner out.new)) lines }
+    ensures written { result ≡ Ok true → (ms : List AMessage) × AreShown bytes.now end ms × Appends (W.contents (inner out.old)) (W.contents (inner out.new)) (lines_of ms) }
     ensures failed { result ≡ Ok false → Failed (failures out.old) (failures out.new) }
     ensures heard { (result ≡ Ok false) ⊎ (failures out.new ≡ failures out.old) }
 {
-    let mut feeder = Feeder::new(alloc);
-    let mut at = 0u64;
-    for piece in bytes.chunks(PIECE) {
-        feeder.feed(piece)?;
-        let text = shown_frames(alloc, &mut feeder, piece.len(), &mut at, end)?;
-        match write_text(out, &text) {
-            Ok(()) => {}
-            Err(_) => return Ok(false),
+    let mut text = Vec::new(alloc);
+    let mut at = 0;
+    while let Some(used) = append_next(alloc, &bytes[at..], end - at as u64, &mut text)? {
+        at += used;
+        if !write_long(out, &mut text) {
+            return Ok(false);
         }
     }
-    Ok(true)
+    match write_text(out, &text) {
+        Ok(()) => Ok(true),
+        Err(_) => Ok(false),
+    }
 }
 
-/// The lines of the whole frames that were fed, of which there are at most so many, and that end at or before a place;
-/// `at` is where the last of them ends.
-fn shown_frames(
+/// Appends the line of the frame at the front and tells the frame's length, where a whole one stands there that ends at
+/// or before this place.
+fn append_next(
     alloc: Global,
-    feeder: &mut Feeder,
-    most: usize,
-    at: &mut u64,
+    bytes: &[u8],
     end: u64,
-) -> Result<Vec<u8>, Memory> {
-    let mut text = Vec::new(alloc);
-    for _ in 0..most {
-        let message = match feeder.next() {
-            Ok(Some(message)) => message,
-            Err(WireFault::Memory) => return Err(Memory),
-            Ok(None) | Err(_) => break,
-        };
-        let length = body_len(&message) as u64;
-        *at = at.saturating_add(length).saturating_add(4);
-        if *at > end {
-            break;
+    text: &mut Vec<u8>,
+) -> Result<Option<usize>, Memory>
+    ensures next { IfOk result (AppendsNext bytes.now end text.old.items text.new.items) }
+    ensures used { IfOk result (λ next. IfSome next (λ used. (0 < used) × (used ≤ length bytes.now) × (used ≤ end))) }
+{
+    let Decoded { message, used } = match decode(alloc, bytes) {
+        Ok(decoded) => decoded,
+        Err(fault) => {
+            return match fault {
+                WireFault::Memory => Err(Memory),
+                _ => Ok(None),
+            };
         }
-        show(alloc, &message, &mut text)?;
-        text.push(b'\n')?;
+    };
+    if used as u64 > end {
+        return Ok(None);
     }
-    Ok(text)
+    append_line(alloc, &message, text)?;
+    Ok(Some(used))
+}
+
+/// Appends the line of a message, with its end.
+#[tactic(auto, unfolding(crate::specs::Show::line_of))]
+fn append_line(alloc: Global, message: &Message, text: &mut Vec<u8>) -> Result<(), Memory>
+    ensures { OnOk result (text.new.items ≡ text.old.items ++ line_of message.now) }
+{
+    show(alloc, message, text)?;
+    text.push(b'\n')?;
+    Ok(())
+}
+
+/// Writes a text and empties it where enough is gathered, and says whether all of it was written.
+fn write_long<W: Write>(out: &mut Counted<W>, text: &mut Vec<u8>) -> bool
+    ensures written { result ≡ true → (front : List ℕ) × (text.old.items ≡ front ++ text.new.items) × Appends (W.contents (inner out.old)) (W.contents (inner out.new)) front }
+    ensures failed { result ≡ false → Failed (failures out.old) (failures out.new) }
+    ensures heard { result ≡ true → failures out.new ≡ failures out.old }
+{
+    if text.len() < GATHERED {
+        return true;
+    }
+    match write_text(out, text) {
+        Ok(()) => {
+            text.clear();
+            true
+        }
+        Err(_) => false,
+    }
 }

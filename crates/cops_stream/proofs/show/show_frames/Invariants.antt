@@ -1,13 +1,16 @@
-use Rattle.std.proofs.Common.{◌≡◌, ℕ, List}
-use Rattle.std.specs.Io.KnownBytes.{Appends}
+use Rattle.std.proofs.Common.{◌≡◌, ◌≤◌, ◌-◌, length}
 use Rattle.cops_types.specs.Counted.{failures, inner}
+use Rattle.cops_stream.proofs.Frames.{WrittenTo}
 use Rattle.cops_stream.proofs.show.show_frames.Given as goal
 
-abbrev pub invariant-loop-piece : goal.invariant-loop-piece
-invariant-loop-piece g l =
+abbrev pub invariant-loop-text : goal.invariant-loop-text
+invariant-loop-text g l =
     record {
-      can_next : (goal.iterator-loop-piece g).can_next l.piece-iterator;
-      is_finite : (goal.iterator-loop-piece g).is_finite l.piece-iterator;
-      written : (lines : List ℕ) × Appends (g.W.Write.contents (inner l.fn.out)) (g.W.Write.contents (inner l.out)) lines;
+      written : WrittenTo l.bytes l.end l.at (g.W.Write.contents (inner l.fn.out)) (g.W.Write.contents (inner l.out)) l.text.items;
+      within : l.at ≤ length l.bytes;
+      before : l.at ≤ l.end;
       count : failures l.out ≡ failures l.fn.out;
     }
+
+abbrev pub decreases-loop-text : goal.decreases-loop-text
+decreases-loop-text g l = length l.bytes - l.at

@@ -1,0 +1,164 @@
+-- The frames at the front of some bytes, one after the other, and what was written of their lines.
+use Rattle.std.proofs.Common.{◌≡◌, ℕ, ◌+◌, ◌-◌, ◌<◌, ◌≤◌, List, [], ◌∷◌, ◌++◌, length, drop, Option, Some, None, Result, Ok, Err, refl, sym, ap, ◌∙◌, append_assoc, arith}
+use Rattle.std.specs.Io.KnownBytes.{Appends}
+use Rattle.std.proofs.lemmas.Grind.{flat_map-append}
+use Rattle.std.proofs.lemmas.List.{length-append, append-nil, append_cancel_left}
+use Rattle.std.proofs.Math.Seq.{drop-append_seam}
+use Rattle.cops_types.specs.declared.format.Format.TheVariants.{One}
+use Rattle.cops_wire.specs.declared.fault.WireFault.{WireFault}
+use Rattle.cops_wire.specs.declared.fault.WireFault.TheVariants as wire
+use Rattle.cops_wire.specs.declared.message.Message.{Message}
+use Rattle.cops_wire.specs.declared.decoding.Decoded.{Decoded}
+use Rattle.cops_wire.specs.Grammar.{grammar, Parts, IsMessage}
+use Rattle.cops_wire.specs.Message.{parts}
+use Rattle.cops_wire.specs.Answer.{Answers, IsAnswer}
+use Rattle.cops_trace.specs.Text.{spelled}
+use Rattle.cops_trace.proofs.Lists.{all_both, all_back}
+use Rattle.cops_trace.proofs.Writings.{appends_more}
+use Rattle.cops_stream.proofs.Shown.{appends_none}
+use Rattle.cops_stream.specs.Show.{line_of, lines_of, frames_of, StandBefore, AreShown, AppendsNext}
+
+-- ---- one more frame
+
+abbrev pub IsLegal : Message → Type 0
+IsLegal m = IsMessage (grammar One) (parts m)
+
+one_frame : (m : Message) → frames_of (m ∷ []) ≡ spelled m
+one_frame m = append-nil (spelled m)
+
+more_frames : (ms : List Message) (m : Message) → frames_of (ms ++ m ∷ []) ≡ frames_of ms ++ spelled m
+more_frames ms m = flat_map-append spelled ms (m ∷ []) ∙ ap (λ (x : List ℕ). frames_of ms ++ x) (one_frame m)
+
+one_length : (m : Message) → length (frames_of (m ∷ [])) ≡ length (spelled m)
+one_length m = ap length (one_frame m)
+
+more_length : (ms : List Message) (m : Message) → length (frames_of (ms ++ m ∷ [])) ≡ length (frames_of ms) + length (spelled m)
+more_length ms m = ap length (more_frames ms m) ∙ length-append (frames_of ms) (spelled m)
+
+more_lines : (ms : List Message) (m : Message) → lines_of (ms ++ m ∷ []) ≡ lines_of ms ++ line_of m
+more_lines ms m = flat_map-append line_of ms (m ∷ []) ∙ ap (λ (x : List ℕ). lines_of ms ++ x) (append-nil (line_of m))
+
+-- ---- messages up to a place
+
+-- these messages stand before the end, and their frames end at this place
+pub record StandTo (bytes : List ℕ) (end at : ℕ) (ms : List Message) : Type 0 where
+  pub stand : StandBefore bytes end ms
+  pub place : at ≡ length (frames_of ms)
+
+no_frames : (bytes : List ℕ) (end : ℕ) → StandTo bytes end 0 []
+no_frames bytes end = record { stand = record { legal = tt; rest = bytes; front = refl; ends = omega arith }; place = refl }
+
+rest_is : (bytes : List ℕ) (end at : ℕ) (ms : List Message) (h : StandTo bytes end at ms) → drop at bytes ≡ h.stand.rest
+rest_is bytes end at ms h =
+    ap (λ (n : ℕ). drop n bytes) h.place ∙ ap (λ (x : List ℕ). drop (length (frames_of ms)) x) h.stand.front ∙ drop-append_seam (frames_of ms) h.stand.rest
+
+-- the message at the front of the rest stands behind them
+one_more : (bytes : List ℕ) (end at used : ℕ) (ms : List Message) (m : Message) → StandTo bytes end at ms → StandBefore (drop at bytes) (end - at) (m ∷ []) → used ≡ length (spelled m)
+    → StandTo bytes end (at + used) (ms ++ m ∷ [])
+one_more bytes end at used ms m h n len =
+    record {
+      stand = record {
+        legal = all_both IsLegal ms (m ∷ []) h.stand.legal n.legal;
+        rest = n.rest;
+        front = h.stand.front ∙ ap (λ (x : List ℕ). frames_of ms ++ x) (sym (rest_is bytes end at ms h) ∙ n.front ∙ ap (λ (x : List ℕ). x ++ n.rest) (one_frame m))
+            ∙ sym (append_assoc (frames_of ms) (spelled m) n.rest) ∙ ap (λ (x : List ℕ). x ++ n.rest) (sym (more_frames ms m));
+        ends = omega (arith, h.place, h.stand.ends, n.ends, one_length m, more_length ms m);
+      };
+      place = omega (arith, h.place, len, more_length ms m);
+    }
+
+-- where none stands there, they are all
+no_more : (bytes : List ℕ) (end at : ℕ) (ms : List Message) → StandTo bytes end at ms → ((m : Message) → StandBefore (drop at bytes) (end - at) (m ∷ []) → ⊥) → AreShown bytes end ms
+no_more bytes end at ms h none = record {
+  stand = h.stand;
+  all = λ m s.
+      none m
+      (record {
+        legal = all_back IsLegal ms (m ∷ []) s.legal;
+        rest = s.rest;
+        front = rest_is bytes end at ms h ∙ append_cancel_left (frames_of ms) h.stand.rest (frames_of (m ∷ []) ++ s.rest)
+            (sym h.stand.front ∙ s.front ∙ ap (λ (x : List ℕ). x ++ s.rest) (flat_map-append spelled ms (m ∷ [])) ∙ append_assoc (frames_of ms) (frames_of (m ∷ [])) s.rest);
+        ends = omega (arith, h.place, s.ends, one_length m, more_length ms m);
+      });
+}
+
+-- ---- what is written of them
+
+-- Messages stand before the end, and their frames end at this place. Their lines are written, but for this text.
+pub record WrittenTo (bytes : List ℕ) (end at : ℕ) (old new : Option (List ℕ)) (text : List ℕ) : Type 0 where
+  pub messages : List Message
+  pub stand : StandTo bytes end at messages
+  pub front : List ℕ
+  pub wrote : Appends old new front
+  pub lines : front ++ text ≡ lines_of messages
+
+pub none_written : (bytes : List ℕ) (end : ℕ) (known : Option (List ℕ)) → WrittenTo bytes end 0 known known []
+none_written bytes end known = record { messages = []; stand = no_frames bytes end; front = []; wrote = appends_none known; lines = refl }
+
+pub line_appended : (bytes : List ℕ) (end at used : ℕ) (old new : Option (List ℕ)) (text more : List ℕ) → WrittenTo bytes end at old new text → AppendsNext (drop at bytes) (end - at) text more (Some used)
+    → WrittenTo bytes end (at + used) old new more
+line_appended bytes end at used old new text more h n = record {
+  messages = h.messages ++ n.0 ∷ [];
+  stand = one_more bytes end at used h.messages n.0 h.stand n.1 n.2;
+  front = h.front;
+  wrote = h.wrote;
+  lines = ap (λ (x : List ℕ). h.front ++ x) n.3 ∙ sym (append_assoc h.front text (line_of n.0)) ∙ ap (λ (x : List ℕ). x ++ line_of n.0) h.lines ∙ sym (more_lines h.messages n.0);
+}
+
+pub text_written : (bytes : List ℕ) (end at : ℕ) (old mid new : Option (List ℕ)) (text front left : List ℕ) → WrittenTo bytes end at old mid text → text ≡ front ++ left → Appends mid new front
+    → WrittenTo bytes end at old new left
+text_written bytes end at old mid new text front left h split w = record {
+  messages = h.messages;
+  stand = h.stand;
+  front = h.front ++ front;
+  wrote = appends_more old mid new h.front front (h.front ++ front) h.wrote w refl;
+  lines = append_assoc h.front front left ∙ ap (λ (x : List ℕ). h.front ++ x) (sym split) ∙ h.lines;
+}
+
+pub all_written : (bytes : List ℕ) (end at : ℕ) (old mid new : Option (List ℕ)) (text more : List ℕ) → WrittenTo bytes end at old mid text → AppendsNext (drop at bytes) (end - at) text more None → Appends mid new more
+    → (ms : List Message) × AreShown bytes end ms × Appends old new (lines_of ms)
+all_written bytes end at old mid new text more h none w =
+    (h.messages, no_more bytes end at h.messages h.stand none.1, appends_more old mid new h.front more (lines_of h.messages) h.wrote w (ap (λ (x : List ℕ). h.front ++ x) none.0 ∙ h.lines))
+
+-- ---- the frame at the front
+
+-- a message that stands at the front of the bytes is what decoding answers of them
+message_stands : (bytes : List ℕ) (end : ℕ) (m : Message) → StandBefore bytes end (m ∷ []) → IsAnswer (grammar One) bytes (Ok (parts m, length (spelled m)))
+unfolding spelled
+message_stands bytes end m s = record { message = s.legal.0; rest = s.rest; front = s.front ∙ ap (λ (x : List ℕ). x ++ s.rest) (one_frame m); length_is = refl }
+
+-- a fault that decoding answers is no message
+no_fault : (f : WireFault) (x : Parts × ℕ) → (f ≡ wire.Memory → ⊥) → Answers (Err f) (λ b. b ≡ Ok x) → ⊥
+no_fault wire.Memory x ne h = ne refl
+no_fault wire.Short x ne h = cc
+no_fault wire.BadLength x ne h = cc
+no_fault wire.UnknownKind x ne h = cc
+no_fault (wire.BadField offset) x ne h = cc
+no_fault wire.TrailingBytes x ne h = cc
+
+pub none_stands : (bytes : List ℕ) (end : ℕ) (f : WireFault) → (f ≡ wire.Memory → ⊥) → ((a : Result (Parts × ℕ) WireFault) → IsAnswer (grammar One) bytes a → Answers (Err f) (λ b. b ≡ a))
+    → (m : Message) → StandBefore bytes end (m ∷ []) → ⊥
+none_stands bytes end f ne only m s = no_fault f (parts m, length (spelled m)) ne (only (Ok (parts m, length (spelled m))) (message_stands bytes end m s))
+
+same_used : (x y : Parts × ℕ) → ◌≡◌ {A = Result (Parts × ℕ) WireFault} (Ok x) (Ok y) → x.1 ≡ y.1
+same_used x y e =
+    let same : x ≡ y = cc in
+    ap (λ (p : Parts × ℕ). p.1) same
+
+-- where the frame at the front ends behind the place, none stands there that ends before
+pub too_long : (bytes : List ℕ) (end : ℕ) (d : Decoded) → end < d.used → ((a : Result (Parts × ℕ) WireFault) → IsAnswer (grammar One) bytes a → Answers (Ok d) (λ b. b ≡ a))
+    → (m : Message) → StandBefore bytes end (m ∷ []) → ⊥
+too_long bytes end d long only m s =
+    let used : d.used ≡ length (spelled m) = same_used (parts d.message, d.used) (parts m, length (spelled m)) (only (Ok (parts m, length (spelled m))) (message_stands bytes end m s)) in
+    absurd (omega (arith, s.ends, one_length m))
+
+-- where it ends before, its message stands there
+pub it_stands : (bytes : List ℕ) (end : ℕ) (d : Decoded) (old new : List ℕ) → IsAnswer (grammar One) bytes (Ok (parts d.message, d.used)) → d.used ≤ end → new ≡ old ++ line_of d.message
+    → AppendsNext bytes end old new (Some d.used)
+unfolding spelled
+it_stands bytes end d old new a within lines = (
+  d.message,
+  record { legal = (a.message, tt); rest = a.rest; front = a.front ∙ ap (λ (x : List ℕ). x ++ a.rest) (sym (one_frame d.message)); ends = omega (arith, a.length_is, one_length d.message) },
+  a.length_is,
+  lines,
+)
