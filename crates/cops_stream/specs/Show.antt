@@ -26,14 +26,15 @@ lines_of ms = flat_map line_of ms
 abbrev pub frames_of : List Message → List ℕ
 frames_of ms = flat_map spelled ms
 
--- the frames of these messages stand at the front of the bytes, one behind the other, and end at or before this place
+-- These messages are legal, and their frames stand at the front of the bytes, one behind the other, and end at or
+-- before this place.
 pub record StandBefore (bytes : List ℕ) (end : ℕ) (ms : List Message) : Type 0 where
   pub legal : AllByRecursion (λ m. IsMessage (grammar One) (parts m)) ms
   pub rest : List ℕ
   pub front : bytes ≡ frames_of ms ++ rest
   pub ends : length (frames_of ms) ≤ end
 
--- they are all: with one more message this does not hold
+-- they are all that do: with one more message this does not hold
 pub record AreShown (bytes : List ℕ) (end : ℕ) (ms : List Message) : Type 0 where
   pub stand : StandBefore bytes end ms
   pub all : (m : Message) → StandBefore bytes end (ms ++ m ∷ []) → ⊥
