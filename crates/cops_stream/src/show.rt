@@ -5,6 +5,7 @@ ghost use Rattle.cops_types.specs.Failures.{Failed};
 ghost use Rattle.cops_types.specs.Counted.{failures, inner};
 ghost use Rattle.cops_trace.specs.Answer.{Agrees};
 ghost use Rattle.cops_wire.specs.declared.message.Message.{Message as AMessage};
+ghost use Rattle.cops_stream.specs.declared.show.TheConstants.{GATHERED};
 ghost use Rattle.cops_stream.specs.Show.{HasFirst, Shows, AreShown, AppendsNext, end_of, line_of, lines_of};
 
 use cops_device::{FAULTY, PIECE, failed, read_all};
@@ -150,9 +151,10 @@ fn append_line(alloc: Global, message: &Message, text: &mut Vec<u8>) -> Result<(
     Ok(())
 }
 
-/// Writes a text and empties it where enough is gathered, and says whether all of it was written.
+/// Writes a text and empties it where enough is gathered, and says whether no write failed.
 fn write_long<W: Write>(out: &mut Counted<W>, text: &mut Vec<u8>) -> bool
     ensures written { result ≡ true → (front : List ℕ) × (text.old.items ≡ front ++ text.new.items) × Appends (W.contents (inner out.old)) (W.contents (inner out.new)) front }
+    ensures short { result ≡ true → length text.new.items < GATHERED }
     ensures failed { result ≡ false → Failed (failures out.old) (failures out.new) }
     ensures heard { result ≡ true → failures out.new ≡ failures out.old }
 {
