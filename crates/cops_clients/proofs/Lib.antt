@@ -1,4 +1,6 @@
 pub mod Nodes
 pub mod Tellings
 pub mod Lists
+pub mod Shuffles
+pub mod Differences
 pub mod Joins

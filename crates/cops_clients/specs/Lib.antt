@@ -4,6 +4,7 @@ pub mod Cluster
 pub mod Replies
 pub mod Receiving
 pub mod Close
+pub mod Differences
 pub mod Differing
 pub mod HandedBack
 pub mod Outcomes

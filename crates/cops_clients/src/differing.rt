@@ -1,39 +1,18 @@
 //! Whether the entries of books are those of shares.
-ghost use Rattle.std.specs.Prelude.{◌≡◌, ◌≤◌, ◌<◌, ◌+◌, ◌++◌, ◌∷◌, [], ◌↔◌, length, map, take, IfOk, OnOk, IsNone, IsTrue, slice_index_or};
-ghost use Rattle.std.specs.List.Sorted.{IsPermutation};
+ghost use Rattle.std.specs.Prelude.{◌≡◌, ◌≤◌, ◌<◌, ◌+◌, ◌++◌, ◌∷◌, [], ◌↔◌, length, map, take, drop, IfOk, OnOk, IsFalse, IsTrue, slice_index_or};
+ghost use Rattle.std.specs.List.{Contains};
+ghost use Rattle.std.specs.List.Sorted.{IsNonDecreasingBy, IsPermutation};
 ghost use Rattle.cops_clients.specs.Close.{entries_at, made_by, made_in, number_of, told};
 ghost use Rattle.cops_clients.specs.Shares.{made};
-ghost use Rattle.cops_clients.specs.declared.differing.Noted.{Noted};
-ghost use Rattle.cops_clients.specs.Differing.{shown};
+ghost use Rattle.cops_clients.specs.declared.noted.Noted.{Noted};
+ghost use Rattle.cops_clients.specs.Differences.{Compares};
+ghost use Rattle.cops_clients.specs.Differing.{shown, ticket_of};
 
 use crate::closing::number_at;
+use crate::noted::Noted;
 use crate::share::Share;
 use cops_tie::{Book, Entry};
 use std::alloc::{AllocError, Global};
-
-/// An entry, with the number of its node, and its ticket, by which it is sorted without a look at it.
-#[derive(Clone, Copy)]
-pub struct Noted<'a> {
-    pub ticket: u64,
-    pub entry: &'a Entry,
-    pub node: u16,
-}
-
-impl<'a> Noted<'a> {
-    ghost use Rattle.std.specs.Prelude.{◌≡◌};
-    ghost use Rattle.cops_clients.specs.Shares.{made};
-    ghost use Rattle.cops_clients.specs.Differing.{shown};
-
-    fn new(entry: &'a Entry, node: u16) -> Self
-        ensures { shown result ≡ made node entry.now }
-    {
-        Noted {
-            ticket: entry.ticket,
-            entry,
-            node,
-        }
-    }
-}
 
 /// The least ticket whose entries in the books are not those in the shares; `None` where the entries are the same, each as
 /// often.
@@ -45,7 +24,7 @@ pub(crate) fn difference(
 ) -> Result<Option<u64>, AllocError>
     requires places { 0 < places × places ≤ 64 }
     requires few { length books.now ≤ 1024 }
-    ensures { IfOk result (λ o. IsNone o → IsPermutation (made_by places 0 books.now) (told shares.now)) }
+    ensures { IfOk result (Compares (made_by places 0 books.now) (told shares.now)) }
 {
     compared(kept_in(alloc, places, books)?, told_in(alloc, shares)?)
 }
@@ -59,7 +38,7 @@ pub fn difference_of_lists(
 ) -> Result<Option<u64>, AllocError>
     requires places { (0 < places) × (places ≤ 64) }
     requires few { length lists.now ≤ 1024 }
-    ensures { IfOk result (λ o. IsNone o → IsPermutation (made_in places 0 lists.now) (told shares.now)) }
+    ensures { IfOk result (Compares (made_in places 0 lists.now) (told shares.now)) }
 {
     compared(
         listed_in(alloc, usize::from(places), lists)?,
@@ -69,7 +48,7 @@ pub fn difference_of_lists(
 
 /// The least ticket whose entries in two lists are not the same, each as often.
 fn compared(kept: Vec<Noted<'_>>, heard: Vec<Noted<'_>>) -> Result<Option<u64>, AllocError>
-    ensures { IfOk result (λ o. IsNone o → IsPermutation (map shown kept.entry.items) (map shown heard.entry.items)) }
+    ensures { IfOk result (Compares (map shown kept.entry.items) (map shown heard.entry.items)) }
 {
     let mut kept = kept;
     let mut heard = heard;
@@ -168,49 +147,50 @@ fn add_share<'a>(all: &mut Vec<Noted<'a>>, share: &'a Share) -> Result<(), Alloc
 
 /// The least ticket at which two lists in order of tickets differ. Entries of one ticket may come in any order.
 fn first_difference(kept: &[Noted<'_>], heard: &mut [Noted<'_>]) -> Option<u64>
-    ensures order { IsPermutation heard.old heard.new }
-    ensures same { IsNone result → map shown kept.now ≡ map shown heard.new }
+    requires kept { IsNonDecreasingBy ticket_of kept.now }
+    requires heard { IsNonDecreasingBy ticket_of heard.old }
+    ensures { Compares (map shown kept.now) (map shown heard.old) result }
 {
     let both = kept.len().min(heard.len());
     for i in 0..both {
-        if !bring(&kept[i], heard, i) {
-            return Some(kept[i].entry.ticket.min(heard[i].entry.ticket));
+        let noted = &kept[i];
+        let ticket = heard[i].ticket;
+        if ticket < noted.ticket {
+            return Some(ticket);
+        }
+        if !bring(noted, heard, i) {
+            return Some(noted.ticket);
         }
     }
     if both < kept.len() {
-        return Some(kept[both].entry.ticket);
+        return Some(kept[both].ticket);
     }
     if both < heard.len() {
-        return Some(heard[both].entry.ticket);
+        return Some(heard[both].ticket);
     }
     None
 }
 
 /// Brings the same entry to a place, from among those of its ticket that stand there and behind it, if it is there.
 fn bring(noted: &Noted<'_>, heard: &mut [Noted<'_>], i: usize) -> bool
-    requires { i < length heard.old }
+    requires place { i < length heard.old }
+    requires sorted { IsNonDecreasingBy ticket_of heard.old }
+    requires behind { (d : Noted) → ticket_of noted.now ≤ ticket_of (slice_index_or heard.old i d) }
     ensures order { IsPermutation heard.old heard.new }
+    ensures sorted { IsNonDecreasingBy ticket_of heard.new }
     ensures before { take i heard.new ≡ take i heard.old }
     ensures len { length heard.new ≡ length heard.old }
     ensures found { IsTrue result → (d : Noted) × ((slice_index_or heard.new i d ≡ d) × (shown d ≡ shown noted.now)) }
+    ensures missing { IsFalse result → Contains (drop i (map shown heard.old)) (shown noted.now) → ⊥ }
 {
     for j in i..heard.len() {
-        if heard[j].entry.ticket != noted.entry.ticket {
+        if heard[j].ticket != noted.ticket {
             return false;
         }
-        if is_same(&heard[j], noted) {
+        if heard[j].is(noted) {
             heard.swap(i, j);
             return true;
         }
     }
     false
-}
-
-fn is_same(one: &Noted<'_>, other: &Noted<'_>) -> bool
-    ensures { IsTrue result ↔ (shown one.now ≡ shown other.now) }
-{
-    if one.node != other.node {
-        return false;
-    }
-    one.entry.is(other.entry)
 }

@@ -8,6 +8,7 @@ mod closing;
 mod cluster;
 mod differing;
 mod fault;
+mod noted;
 mod receiving;
 mod refusal;
 mod share;
