@@ -76,12 +76,13 @@ impl LinkIn {
 
 impl LinkOut {
     /// Takes the oldest frame that is there and gives its message, which replicates a put; `None` where no frame is
-    /// there. Where memory runs out nothing is taken.
+    /// there. It takes memory only for a frame that is there; where that runs out nothing is taken.
     pub fn take(&mut self) -> Result<Option<Message>, Memory>
         ensures same { SameOut self.old self.new }
         ensures none { IfOk result (λ o. MatchOption o ((taken self.new ≡ taken self.old) × (seen self.new ≡ [])) (λ _. Unit {0})) }
         ensures some { IfOk result (λ o. MatchOption o (Unit {0}) (λ m. (put : PutRecord) × (m ≡ put_after put) × (taken self.new ≡ taken self.old ++ spelled put ∷ []))) }
         ensures err { OnErr result (taken self.new ≡ taken self.old) }
+        ensures memory { OnErr result (0 < length (seen self.new)) }
     {
         if self.consumer.is_empty() {
             return Ok(None);
