@@ -124,9 +124,10 @@ impl Records {
         self.reserved -= 1;
     }
 
-    /// A copy of the records from a place on: none from a place that is not there.
+    /// A copy of the records from a place on: none, which takes no memory, from a place that is not there.
     pub(crate) fn copy_from(&self, alloc: Global, place: usize) -> Result<Vec<Record>, Memory>
-        ensures { IfOk result (λ copies. copies.items ≡ drop place self.now.records) }
+        ensures ok { IfOk result (λ copies. copies.items ≡ drop place self.now.records) }
+        ensures err { OnErr result (place < length self.now.records) }
     {
         let rest = &self.records[place.min(self.records.len())..];
         let mut copies = Vec::new(alloc);
