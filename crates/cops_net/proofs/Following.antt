@@ -5,7 +5,7 @@ use Rattle.cops_net.specs.declared.fault.NetFault.TheVariants.{Memory, Wire, Rea
 use Rattle.cops_net.specs.declared.reply.Call.{Call}
 use Rattle.cops_net.specs.declared.serving.Served.{Served}
 use Rattle.cops_net.specs.Sessions.{Serves}
-use Rattle.cops_net.specs.Listening.{IsSession, AreSessions}
+use Rattle.cops_net.specs.Listening.{IsSession, AreSessions, IsServed, AreServed}
 
 -- however a session ended, its calls are those of some messages
 pub is_session : (P : Type 0) (input : List ℕ) (calls : List Call) (written : List ℕ) (r : Result Served NetFault) → Serves P input calls written r → IsSession calls
@@ -22,3 +22,7 @@ is_session P input calls written (Err AcceptFailed) s = absurd s
 -- one session more
 pub session_more : (n : ℕ) (before last : List Call) → AreSessions n before → IsSession last → AreSessions (n + 1) (before ++ last)
 session_more n before last h s = rw add-one (before, last, refl, h, s)
+
+-- one session more, from one state of who answers to the next
+pub served_more : {S : Type 0} (calls : S → List Call) (Ends : S → S → Type 0) (n : ℕ) (old mid new : S) → AreServed calls Ends n old mid → IsServed calls Ends mid new → AreServed calls Ends (n + 1) old new
+served_more calls Ends n old mid new h s = rw add-one (mid, h, s)

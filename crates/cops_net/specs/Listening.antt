@@ -15,6 +15,16 @@ abbrev pub AreSessions : ℕ → List Call → Type 0
 AreSessions zero calls = calls ≡ []
 AreSessions (suc n) calls = (before : List Call) × (last : List Call) × (calls ≡ before ++ last) × AreSessions n before × IsSession last
 
+module _ {S : Type 0} where
+  -- The calls of one session were made, and then was done what is to be done when a session has ended.
+  abbrev pub IsServed : (S → List Call) → (S → S → Type 0) → S → S → Type 0
+  IsServed calls Ends old new = (last : S) × (gained : List Call) × (calls last ≡ calls old ++ gained) × IsSession gained × Ends last new
+
+  -- the same for so many sessions, one after the other
+  abbrev pub AreServed : (S → List Call) → (S → S → Type 0) → ℕ → S → S → Type 0
+  AreServed calls Ends zero old new = new ≡ old
+  AreServed calls Ends (suc n) old new = (mid : S) × AreServed calls Ends n old mid × IsServed calls Ends mid new
+
 -- How many sessions were begun, of so many that were asked for: all; fewer, where no connection could be accepted; none,
 -- where the port could not be bound. For want of memory the last that was begun ended.
 abbrev pub IsCount : ℕ → ℕ → Result (Unit {0}) NetFault → Type 0

@@ -5,7 +5,7 @@ ghost use Rattle.cops_types.specs.Counted.{failures, inner};
 ghost use Rattle.cops_net.specs.declared.serving.Served.{Served};
 ghost use Rattle.cops_net.specs.declared.fault.NetFault.{NetFault as Fault};
 ghost use Rattle.cops_net.specs.declared.reply.Call.{Call};
-ghost use Rattle.cops_net.specs.Listening.{IsSession, AreSessions, IsCount};
+ghost use Rattle.cops_net.specs.Listening.{IsSession, AreSessions, AreServed, IsCount};
 ghost use Rattle.cops_net.specs.Sessions.{Serves};
 
 use crate::fault::NetFault;
@@ -67,9 +67,9 @@ pub fn listen<R: Net<Listener = TcpListener, Stream = TcpStream> + Wait, S: Sess
     session: &mut S,
     sessions: u16,
 ) -> Result<(), NetFault>
-    // The session's list gained the calls of so many sessions, and no other.
+    // The session's list gained the calls of so many sessions, and no other, and each of them was ended before the next.
     ensures sessions { (begun : ℕ) × (gained : List Call) × (S.calls session.new ≡ S.calls session.old ++ gained)
-        × AreSessions begun gained × IsCount sessions begun result }
+        × AreSessions begun gained × AreServed S.calls S.ends begun session.old session.new × IsCount sessions begun result }
 {
     let listener = match TcpListener::bind(rt, (Ipv4Addr::LOCALHOST, port)) {
         Ok(listener) => listener,

@@ -1,9 +1,10 @@
 use Rattle.std.proofs.Common.{◌≡◌, ℕ, List, ◌++◌}
 use Rattle.cops_net.specs.declared.reply.Call.{Call}
-use Rattle.cops_net.specs.Listening.{AreSessions}
+use Rattle.cops_net.specs.Listening.{AreSessions, AreServed}
 use Rattle.cops_net.proofs.listening.listen.Given as goal
 
 abbrev pub invariant-loop : goal.invariant-loop
 invariant-loop g l =
     let calls = g.S.Session.calls in
     (gained : List Call) × (calls l.session ≡ calls l.fn.session ++ gained) × AreSessions l.counter gained
+    × AreServed calls g.S.Session.ends l.counter l.fn.session l.session
