@@ -1,2 +1,4 @@
 pub mod Clients
 pub mod Texts
+pub mod Scripts
+pub mod Order

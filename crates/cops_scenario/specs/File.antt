@@ -1,5 +1,5 @@
 -- The JSON that stands in a file for each part of a scenario.
-use Rattle.std.specs.Prelude.{◌≡◌, ◌≢◌, ◌≤◌, ℕ, List, [], ◌∷◌, map, codes, Option, None, Some, IsUtf8}
+use Rattle.std.specs.Prelude.{◌≡◌, ◌≢◌, ◌≤◌, ◌⊎◌, ℕ, List, [], ◌∷◌, map, codes, All, Option, None, Some, IsUtf8}
 use Rattle.serde_json.specs.Data.{Data, unsigned, number, string, array, object, member, no_members}
 use Rattle.serde_json.specs.Read.{read}
 use Rattle.serde_json.specs.View.{items_of}
@@ -62,11 +62,16 @@ TellsEvents None events = events ≡ None
 TellsEvents (Some d) None = ⊥
 TellsEvents (Some d) (Some events) = d ≡ list_json (map event_json events)
 
+-- where there are events no client has a script, not even an empty one
+abbrev pub AreUnscripted : List Data → Option (List Event) → Type 0
+AreUnscripted ds None = Unit {0}
+AreUnscripted ds (Some events) = All (λ d. get (codes "script") d ≡ None) ds
+
 -- the file's root tells the whole scenario
 pub record TellsScenario (root : Data) (s : AScenario) : Type 0 where
   pub numbers : HasNumbersOf root s
   pub splits : IsListOrMissing (map text_json s.place.splits) (get (name_of Splits) root)
-  pub clients : (ds : List Data) × (get (name_of Clients) root ≡ Some (list_json ds)) × TellClients ds s.clients
+  pub clients : (ds : List Data) × (get (name_of Clients) root ≡ Some (list_json ds)) × TellClients ds s.clients × AreUnscripted ds s.events
   pub events : TellsEvents (get (name_of Events) root) s.events
 
 -- no whole number from the least to the most
@@ -83,6 +88,34 @@ IsWrong root Turns = (get (name_of Turns) root ≢ None) × IsNoNumber 1 1000000
 IsWrong root Clients = get (name_of Clients) root ≢ Some (list_json [])
 IsWrong root Events = get (name_of Events) root ≢ None
 
+-- a whole number from the least to the most
+abbrev pub IsNumber : ℕ → ℕ → Option Data → Type 0
+IsNumber least most d = (n : ℕ) × (least ≤ n) × (n ≤ most) × (d ≡ Some (number_json n))
+
+-- a file's field is of its form
+abbrev pub IsRight : Data → Field → Type 0
+IsRight root Root = as_object root ≢ None
+IsRight root DataCentres = IsNumber 1 16 (get (name_of DataCentres) root)
+IsRight root Splits = (keys : List (List ℕ)) × IsListOrMissing (map text_json keys) (get (name_of Splits) root)
+IsRight root Link = (get (name_of Link) root ≡ None) ⊎ IsNumber 1 1024 (get (name_of Link) root)
+IsRight root Turns = (get (name_of Turns) root ≡ None) ⊎ IsNumber 1 1000000000 (get (name_of Turns) root)
+IsRight root Clients = (ds : List Data) × (clients : List ScriptedClient) × (get (name_of Clients) root ≡ Some (list_json ds)) × TellClients ds clients
+IsRight root Events = (events : Option (List Event)) × TellsEvents (get (name_of Events) root) events
+
+-- the fields that are looked at before it
+abbrev pub before : Field → List Field
+before Root = []
+before DataCentres = Root ∷ []
+before Splits = DataCentres ∷ Root ∷ []
+before Link = Splits ∷ DataCentres ∷ Root ∷ []
+before Turns = Link ∷ Splits ∷ DataCentres ∷ Root ∷ []
+before Clients = Turns ∷ Link ∷ Splits ∷ DataCentres ∷ Root ∷ []
+before Events = Clients ∷ Turns ∷ Link ∷ Splits ∷ DataCentres ∷ Root ∷ []
+
+-- those are of their form
+abbrev pub AreRightBefore : Data → Field → Type 0
+AreRightBefore root field = All (IsRight root) (before field)
+
 -- the bytes are a JSON text that tells the scenario
 abbrev pub IsTextOf : List ℕ → AScenario → Type 0
 IsTextOf bytes s = (root : Data) × IsUtf8 bytes × (read bytes ≡ Some root) × TellsScenario root s
@@ -91,6 +124,6 @@ IsTextOf bytes s = (root : Data) × IsUtf8 bytes × (read bytes ≡ Some root) �
 abbrev pub IsNoText : List ℕ → Type 0
 IsNoText bytes = IsUtf8 bytes → read bytes ≡ None
 
--- they are one in which the field is wrong
+-- they are one in which the field is wrong, and none before it
 abbrev pub IsWrongText : List ℕ → Field → Type 0
-IsWrongText bytes field = (root : Data) × IsUtf8 bytes × (read bytes ≡ Some root) × IsWrong root field
+IsWrongText bytes field = (root : Data) × IsUtf8 bytes × (read bytes ≡ Some root) × IsWrong root field × AreRightBefore root field

@@ -1,9 +1,9 @@
 //! A scenario from its JSON text.
-ghost use Rattle.std.specs.Prelude.{◌≡◌, ◌≢◌, ◌≤◌, ◌<◌, List, [], ℕ, length, map, All, None, Some, Err, IfOk, OnErr, IsSome, unwrap_or, option_map};
+ghost use Rattle.std.specs.Prelude.{◌≡◌, ◌≢◌, ◌≤◌, ◌<◌, ◌⊎◌, List, [], ℕ, length, map, codes, All, None, Some, Err, IfOk, OnOk, OnErr, IsSome, unwrap_or, option_map};
 ghost use Rattle.std.specs.Bool.{OnFalse};
 ghost use Rattle.serde_json.specs.Data.{Data};
 ghost use Rattle.serde_json.specs.View.{view};
-ghost use Rattle.cops_scenario.specs.File.{text_json, list_json, IsListOrMissing, TellsClient, TellClients, TellsScenario, IsNoNumber, IsWrong};
+ghost use Rattle.cops_scenario.specs.File.{text_json, list_json, AreRightBefore, AreUnscripted, IsListOrMissing, TellsClient, TellClients, TellsScenario, IsNoNumber, IsNumber, IsWrong};
 ghost use Rattle.cops_scenario.specs.declared.fault.Field.{Field as AField};
 ghost use Rattle.serde_json.specs.Find.{get};
 ghost use Rattle.cops_scenario.specs.Scenario.{IsClientOf, name_of, number_at};
@@ -42,6 +42,7 @@ impl Scenario {
 fn scenario(alloc: Global, root: &Json) -> Result<Scenario, ScenarioFault>
     ensures told { IfOk result (TellsScenario (view root.now)) }
     ensures wrong { (field : AField) → result ≡ Err (ScenarioFault.BadField field) → IsWrong (view root.now) field }
+    ensures first { (field : AField) → result ≡ Err (ScenarioFault.BadField field) → AreRightBefore (view root.now) field }
     ensures json { result ≢ Err ScenarioFault.NotJson }
 {
     if !root.is_object() {
@@ -80,6 +81,7 @@ fn number_of(
 ) -> Result<u64, ScenarioFault>
     ensures value { IfOk result (λ n. n ≡ number_at (view root.now) field (unwrap_or missing 0)) }
     ensures range { IfOk result (λ n. (least ≤ n) × (n ≤ most)) }
+    ensures right { OnOk result (((get (name_of field) (view root.now) ≡ None) × IsSome missing) ⊎ IsNumber least most (get (name_of field) (view root.now))) }
     ensures wrong { OnErr result (result ≡ Err (ScenarioFault.BadField field)) }
     ensures none { OnErr result (IsNoNumber least most (get (name_of field) (view root.now))) }
     ensures there { OnErr result ((n : ℕ) → missing ≡ Some n → least ≤ n → n ≤ most → get (name_of field) (view root.now) ≢ None) }
@@ -152,11 +154,25 @@ fn client(alloc: Global, dcs: u8, json: &Json) -> Result<ScriptedClient, Unread>
 
 /// Whether some client has a script, be it an empty one.
 fn is_scripted(listed: &Json, clients: &[ScriptedClient]) -> bool
-    ensures { OnFalse result (All (λ c. c.script.items ≡ []) clients.now) }
+    ensures empty { OnFalse result (All (λ c. c.script.items ≡ []) clients.now) }
+    ensures missing { OnFalse result ((ds : List Data) → view listed.now ≡ list_json ds → AreUnscripted ds (Some [])) }
 {
-    let is_listed = match listed.as_array() {
-        Some(items) => items.iter().any(|client| client.get("script").is_some()),
+    lists_script(listed) || clients.iter().any(|client| !client.script.is_empty())
+}
+
+/// Whether something that is listed has a script.
+fn lists_script(listed: &Json) -> bool
+    ensures { OnFalse result ((ds : List Data) → view listed.now ≡ list_json ds → AreUnscripted ds (Some [])) }
+{
+    match listed.as_array() {
+        Some(items) => has_script(items),
         None => false,
-    };
-    is_listed || clients.iter().any(|client| !client.script.is_empty())
+    }
+}
+
+/// Whether one of these has a script.
+fn has_script(items: &[Json]) -> bool
+    ensures { OnFalse result (All (λ v. get (codes "script") (view v) ≡ None) items.now) }
+{
+    items.iter().any(|client| client.get("script").is_some())
 }
