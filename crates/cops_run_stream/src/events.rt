@@ -1,7 +1,12 @@
 //! The run of an event list, in a world on one thread.
+ghost use Rattle.std.specs.Prelude.{◌≡◌, ◌++◌, Some, length, IfOk, OnOk};
+ghost use Rattle.cops_types.specs.declared.op.Op.TheVariants.{Put as Wrote, Got};
+ghost use Rattle.cops_tie.specs.Turns.{setting_of};
+ghost use Rattle.cops_run_stream.specs.Lines.{outcome_lines};
+ghost use Rattle.cops_run_stream.specs.Running.{AreAnswers, IsRunLeft, all_seen, saw};
 
 use crate::leaving::{Left, reported_left};
-use cops_core::Event;
+use cops_core::{Event, every_interleaving_is_accepted};
 use cops_node::Outcome;
 use cops_scenario::{Scenario, outcome_line};
 use cops_trace::Trace;
@@ -13,18 +18,33 @@ pub(crate) fn run_events(
     alloc: Global,
     scenario: &Scenario,
     events: &[Event],
-) -> Result<Left, Memory> {
-    let outcomes = scenario.open_world(alloc)?.run(events)?;
+) -> Result<Left, Memory>
+    requires { scenario.now.events ≡ Some events.now }
+    ensures { IfOk result (IsRunLeft scenario.now) }
+{
+    let clients = scenario.clients().len() as u16;
+    let outcomes = answers(alloc, scenario, events)?;
     let lines = lines(alloc, &outcomes)?;
-    let trace = recorded(alloc, scenario.clients().len() as u16, events, &outcomes)?;
-    reported_left(alloc, lines, trace)
+    let trace = recorded(alloc, clients, events, &outcomes)?;
+    Ok(reported_left(alloc, lines, trace)?)
+}
+
+/// What a world of the scenario answers to the events. Whatever they are, what its clients saw is accepted.
+fn answers(alloc: Global, scenario: &Scenario, events: &[Event]) -> Result<Vec<Outcome>, Memory>
+    ensures { IfOk result (λ outcomes. AreAnswers (setting_of scenario.now) events.now outcomes.items) }
+{
+    every_interleaving_is_accepted();
+    let mut world = scenario.open_world(alloc)?;
+    world.run(events)
 }
 
 /// A line for each event.
-fn lines(alloc: Global, outcomes: &[Outcome]) -> Result<Vec<u8>, Memory> {
+fn lines(alloc: Global, outcomes: &[Outcome]) -> Result<Vec<u8>, Memory>
+    ensures { IfOk result (λ text. text.items ≡ outcome_lines 0 outcomes.now) }
+{
     let mut text = Vec::new(alloc);
-    for (n, outcome) in outcomes.iter().enumerate() {
-        outcome_line(alloc, n, outcome, &mut text)?;
+    for n in 0..outcomes.len() {
+        outcome_line(alloc, n, &outcomes[n], &mut text)?;
     }
     Ok(text)
 }
@@ -35,16 +55,21 @@ fn recorded(
     clients: u16,
     events: &[Event],
     outcomes: &[Outcome],
-) -> Result<Trace, Memory> {
+) -> Result<Trace, Memory>
+    requires { length outcomes.now ≡ length events.now }
+    ensures { IfOk result (λ trace. trace ≡ record { clients = clients; records = all_seen events.now outcomes.now }) }
+{
     let mut trace = Trace::new(alloc, clients)?;
-    for (event, outcome) in events.iter().zip(outcomes) {
-        record(&mut trace, event, outcome)?;
+    for n in 0..events.len() {
+        record(&mut trace, &events[n], &outcomes[n])?;
     }
     Ok(trace)
 }
 
 /// Records what a client saw of an event, if it saw any of it. The world takes no more operations than a trace.
-fn record(trace: &mut Trace, event: &Event, outcome: &Outcome) -> Result<(), Memory> {
+fn record(trace: &mut Trace, event: &Event, outcome: &Outcome) -> Result<(), Memory>
+    ensures { OnOk result (trace.new ≡ record { clients = trace.old.clients; records = trace.old.records ++ saw event.now outcome.now }) }
+{
     let (client, op) = match (event, outcome) {
         (Event::Put { client, key, value }, Outcome::PutDone(version)) => {
             (*client, put(key, value, *version)?)
@@ -64,7 +89,9 @@ fn record(trace: &mut Trace, event: &Event, outcome: &Outcome) -> Result<(), Mem
     }
 }
 
-fn put(key: &Key, value: &Value, version: Version) -> Result<Op, Memory> {
+fn put(key: &Key, value: &Value, version: Version) -> Result<Op, Memory>
+    ensures { IfOk result (λ op. op ≡ Wrote key.now value.now version) }
+{
     Ok(Op::Put {
         key: key.clone()?,
         value: value.clone()?,
@@ -72,7 +99,9 @@ fn put(key: &Key, value: &Value, version: Version) -> Result<Op, Memory> {
     })
 }
 
-fn got(key: &Key, value: &Value, version: Version) -> Result<Op, Memory> {
+fn got(key: &Key, value: &Value, version: Version) -> Result<Op, Memory>
+    ensures { IfOk result (λ op. op ≡ Got key.now value.now version) }
+{
     Ok(Op::Got {
         key: key.clone()?,
         value: value.clone()?,

@@ -1,11 +1,14 @@
 //! The run of scripted clients, on threads.
+ghost use Rattle.std.specs.Prelude.{◌≡◌, None, IfOk, string_bytes};
+ghost use Rattle.cops_run_stream.specs.Lines.{client_line, client_lines};
+ghost use Rattle.cops_run_stream.specs.Running.{IsRunLeft};
 
 use crate::leaving::{Left, reported_left};
 use cops_outcomes::ClientOutcome;
 use cops_run::{Run, RunFault, run};
 use cops_scenario::Scenario;
 use cops_types::{Gate, Memory};
-use std::alloc::Global;
+use std::alloc::{AllocError, Global};
 use std::sync::Wait;
 use std::thread::Threads;
 
@@ -15,7 +18,10 @@ pub(crate) fn run_scripts<R: Threads + Wait + Sync, G: Gate>(
     alloc: Global,
     scenario: Scenario,
     gate: &G,
-) -> Result<Left, RunFault> {
+) -> Result<Left, RunFault>
+    requires { scenario.events ≡ None }
+    ensures { IfOk result (IsRunLeft scenario) }
+{
     let Run {
         trace,
         outcomes,
@@ -28,14 +34,21 @@ pub(crate) fn run_scripts<R: Threads + Wait + Sync, G: Gate>(
 }
 
 /// A line for each client.
-fn lines(alloc: Global, outcomes: &[ClientOutcome]) -> Result<Vec<u8>, Memory> {
+fn lines(alloc: Global, outcomes: &[ClientOutcome]) -> Result<Vec<u8>, Memory>
+    ensures { IfOk result (λ text. text.items ≡ client_lines 0 outcomes.now) }
+{
     let mut text = Vec::new(alloc);
-    for (n, outcome) in outcomes.iter().enumerate() {
-        let line = match outcome {
-            ClientOutcome::Done => format!(in alloc; "client {n} done\n")?,
-            ClientOutcome::Stopped(code) => format!(in alloc; "client {n} stopped {code}\n")?,
-        };
-        text.extend_from_slice(line.as_bytes())?;
+    for n in 0..outcomes.len() {
+        text.extend_from_slice(line(alloc, n, &outcomes[n])?.as_bytes())?;
     }
     Ok(text)
+}
+
+fn line(alloc: Global, n: usize, outcome: &ClientOutcome) -> Result<String, AllocError>
+    ensures { IfOk result (λ s. string_bytes s ≡ client_line n outcome.now) }
+{
+    match *outcome {
+        ClientOutcome::Done => format!(in alloc; "client {n} done\n"),
+        ClientOutcome::Stopped(code) => format!(in alloc; "client {n} stopped {code}\n"),
+    }
 }

@@ -1,10 +1,18 @@
+ghost use Rattle.std.specs.Prelude.{◌≡◌, ◌⊎◌, Ok, IfOk, IfSome};
+ghost use Rattle.std.specs.Io.KnownBytes.{Appends, Keeps};
+ghost use Rattle.cops_types.specs.Failures.{Failed};
+ghost use Rattle.cops_types.specs.Counted.{failures, inner};
+ghost use Rattle.cops_trace.specs.Text.{text};
+ghost use Rattle.cops_run_stream.specs.Running.{IsRunLeft, EndsAs};
+ghost use Rattle.cops_run_stream.specs.declared.leaving.Left.{Left as ALeft};
+
 use crate::events::run_events;
 use crate::leaving::Left;
 use crate::scripts::run_scripts;
 use crate::telling::{faulty, print};
 use cops_device::{failed, read_all};
 use cops_run::RunFault;
-use cops_scenario::Scenario;
+use cops_scenario::{Scenario, ScenarioFault};
 use cops_trace::{WriteFault, write_trace};
 use cops_types::{Counted, Gate, Memory};
 use std::alloc::Global;
@@ -13,9 +21,9 @@ use std::sync::Wait;
 use std::thread::Threads;
 
 /// Runs a scenario: its events in a world, or the scripts of its clients on threads. It writes the trace of what the clients saw,
-/// and prints a line for each event, or for each client, and then the report. The answer is the status: 0 for an accepted
-/// history, 1 for a refused one, 2 for a faulty scenario, which a line on `out` tells, and 4 where a read or a write failed, or
-/// the run on threads did, which a line on `errors` tells. Where a run failed nothing was written but that line.
+/// and prints a line for each event, or for each client, and then the report. The answer is the status: 0 for a run, whose history
+/// is accepted; 2 for a faulty scenario, which a line on `out` tells; and 4 where a read or a write failed, or the run on threads
+/// did, which a line on `errors` tells. Where a run failed nothing was written but that line.
 pub fn run_stream<S, R, T, W, E, G>(
     rt: &S,
     alloc: Global,
@@ -32,17 +40,30 @@ where
     W: Write,
     E: Write,
     G: Gate,
+    // The status is that of the reader's bytes and of what was written, unless something failed: never 1.
+    ensures ended { IfOk result (λ status. (status ≡ 4) ⊎ IfSome (R.remaining (inner reader.old)) (λ bytes.
+        EndsAs bytes status (T.contents (inner trace.old)) (T.contents (inner trace.new)) (W.contents (inner out.old)) (W.contents (inner out.new)))) }
+
+    // What failed was a device, or a run before anything was written.
+    ensures failed { result ≡ Ok 4 → Failed (failures reader.old) (failures reader.new) ⊎ (Failed (failures trace.old) (failures trace.new)
+        ⊎ (Failed (failures out.old) (failures out.new) ⊎ (Keeps (T.contents (inner trace.old)) (T.contents (inner trace.new)) × Keeps (W.contents (inner out.old)) (W.contents (inner out.new))))) }
+    ensures heard { (result ≡ Ok 4) ⊎ ((failures reader.new ≡ failures reader.old) × ((failures trace.new ≡ failures trace.old) × (failures out.new ≡ failures out.old))) }
 {
     let Some(bytes) = read_all(alloc, reader)? else {
         return Ok(failed(errors, b"failed: read\n"));
     };
-    match Scenario::from_json(alloc, &bytes) {
-        Ok(scenario) => {
-            let ran = run_scenario(rt, alloc, scenario, gate);
-            told(alloc, ran, trace, out, errors)
+    let scenario = match Scenario::from_json(alloc, &bytes) {
+        Ok(scenario) => scenario,
+        Err(ScenarioFault::Memory) => return Err(Memory),
+        Err(ScenarioFault::NotJson) => {
+            return Ok(faulty(alloc, ScenarioFault::NotJson, out, errors)?);
         }
-        Err(fault) => faulty(alloc, fault, out, errors),
-    }
+        Err(ScenarioFault::BadField(field)) => {
+            return Ok(faulty(alloc, ScenarioFault::BadField(field), out, errors)?);
+        }
+    };
+    let ran = run_scenario(rt, alloc, scenario, gate);
+    Ok(told(alloc, ran, trace, out, errors)?)
 }
 
 /// Runs the events, where the scenario has them, or the scripts.
@@ -51,7 +72,9 @@ fn run_scenario<S: Threads + Wait + Sync, G: Gate>(
     alloc: Global,
     scenario: Scenario,
     gate: &G,
-) -> Result<Left, RunFault> {
+) -> Result<Left, RunFault>
+    ensures { IfOk result (IsRunLeft scenario) }
+{
     if let Some(events) = scenario.events() {
         return Ok(run_events(alloc, &scenario, events)?);
     }
@@ -65,9 +88,16 @@ fn told<T: Write, W: Write, E: Write>(
     trace: &mut Counted<T>,
     out: &mut Counted<W>,
     errors: &mut Counted<E>,
-) -> Result<u8, Memory> {
+) -> Result<u8, Memory>
+    ensures whole { IfOk result (λ status. (status ≡ 4) ⊎ ((left : ALeft) × (ran ≡ Ok left) × (status ≡ left.status)
+        × Appends (T.contents (inner trace.old)) (T.contents (inner trace.new)) (text left.trace)
+        × Appends (W.contents (inner out.old)) (W.contents (inner out.new)) left.text.items)) }
+    ensures failed { IfOk ran (λ left. left.status ≡ 0) → result ≡ Ok 4 → Failed (failures trace.old) (failures trace.new)
+        ⊎ (Failed (failures out.old) (failures out.new) ⊎ (Keeps (T.contents (inner trace.old)) (T.contents (inner trace.new)) × Keeps (W.contents (inner out.old)) (W.contents (inner out.new)))) }
+    ensures heard { (result ≡ Ok 4) ⊎ ((failures trace.new ≡ failures trace.old) × (failures out.new ≡ failures out.old)) }
+{
     match ran {
-        Ok(left) => write(alloc, &left, trace, out, errors),
+        Ok(left) => Ok(write(alloc, &left, trace, out, errors)?),
         Err(RunFault::Memory) => Err(Memory),
         Err(fault) => {
             let line = format!(in alloc; "failed: {fault}\n")?;
@@ -83,7 +113,13 @@ fn write<T: Write, W: Write, E: Write>(
     trace: &mut Counted<T>,
     out: &mut Counted<W>,
     errors: &mut Counted<E>,
-) -> Result<u8, Memory> {
+) -> Result<u8, Memory>
+    ensures whole { IfOk result (λ status. (status ≡ 4) ⊎ ((status ≡ left.now.status)
+        × Appends (T.contents (inner trace.old)) (T.contents (inner trace.new)) (text left.now.trace)
+        × Appends (W.contents (inner out.old)) (W.contents (inner out.new)) left.now.text.items)) }
+    ensures failed { left.now.status ≡ 0 → result ≡ Ok 4 → Failed (failures trace.old) (failures trace.new) ⊎ Failed (failures out.old) (failures out.new) }
+    ensures heard { (result ≡ Ok 4) ⊎ ((failures trace.new ≡ failures trace.old) × (failures out.new ≡ failures out.old)) }
+{
     match write_trace(alloc, trace, &left.trace) {
         Ok(()) => Ok(print(&left.text, left.status, out, errors)),
         Err(WriteFault::Memory) => Err(Memory),

@@ -1,0 +1,72 @@
+-- What a run leaves, from what its parts answer.
+use Rattle.std.specs.Prelude.{IfOk}
+use Rattle.std.specs.Global.{Vec}
+use Rattle.cops_types.specs.declared.fault.Memory.{Memory}
+use Rattle.std.proofs.Common.{Result, Ok, Err, ◌≡◌, ℕ, List, [], ◌++◌, length, replicate, sym, ap, subst, ◌∙◌}
+use Rattle.std.proofs.lemmas.List.{length-map}
+use Rattle.cops_node.specs.declared.outcome.Outcome.{Outcome}
+use Rattle.cops_core.specs.declared.event.Event.{Event}
+use Rattle.cops_core.specs.World.{Cluster, IsSetting, Setting, World, Run, opened_cluster, opening}
+use Rattle.cops_core.specs.Invariants.{HasAcceptedVerdict, IsReached}
+use Rattle.cops_trace.specs.Text.{ATrace, IsTrace, sessions_after, sessions_of}
+use Rattle.cops_scenario.specs.declared.scenario.ScriptedClient.{ScriptedClient}
+use Rattle.cops_scenario.specs.Scenario.{AScenario, homes_of}
+use Rattle.cops_run_stream.specs.declared.leaving.Left.{Left}
+use Rattle.cops_run_stream.specs.Lines.{outcome_lines}
+use Rattle.cops_tie.specs.Turns.{setting_of}
+use Rattle.cops_run_stream.specs.Running.{all_seen, AreAnswers, IsEventRun, IsRunOf, IsReportOf, IsLeft, IsRunLeft}
+use Rattle.cops_run_stream.proofs.Recording.{run_saw}
+
+-- a world that was opened, and events came
+answered : (s : AScenario) (c : Cluster) (d : Setting) (events : List Event) (outcomes : List Outcome) (end : World)
+    → ((t : Setting) (w : World) → IsSetting t → IsReached t w → HasAcceptedVerdict w.sessions)
+    → c ≡ opened_cluster s.place (homes_of s) → d ≡ c.setting → IsSetting d → Run c.setting c.world events outcomes end → AreAnswers (setting_of s) events outcomes
+answered s c d events outcomes end law opened same legal ran =
+    let t = setting_of s in
+    let legal_t : IsSetting t = subst (λ (k : Cluster). IsSetting k.setting) opened (subst IsSetting same legal) in
+    let ran_t : Run t (opening t) events outcomes end = subst (λ (k : Cluster). Run k.setting k.world events outcomes end) opened ran in
+    (end, ran_t, law t end legal_t (events, outcomes, ran_t))
+
+pub answered_if : (s : AScenario) (c : Cluster) (d : Setting) (events : List Event) (r : Result (Vec Outcome) Memory) (end : World)
+    → ((t : Setting) (w : World) → IsSetting t → IsReached t w → HasAcceptedVerdict w.sessions)
+    → c ≡ opened_cluster s.place (homes_of s) → d ≡ c.setting → IsSetting d → IfOk r (λ outcomes. Run c.setting c.world events outcomes.items end)
+    → IfOk r (λ outcomes. AreAnswers (setting_of s) events outcomes.items)
+answered_if s c d events (Ok outcomes) end law opened same legal ran = answered s c d events outcomes.items end law opened same legal ran
+answered_if s c d events (Err e) end law opened same legal ran = tt
+
+-- the trace of such events holds what the world's sessions do
+pub event_run : (s : AScenario) (events : List Event) (outcomes : List Outcome) (lines : List ℕ) (t : ATrace) (n : ℕ) → AreAnswers (setting_of s) events outcomes
+    → n ≡ length s.clients → t ≡ record { clients = n; records = all_seen events outcomes } → lines ≡ outcome_lines 0 outcomes
+    → IsEventRun s events lines t × HasAcceptedVerdict (sessions_of t)
+event_run s events outcomes lines t n (end, ran, accepted) count trace told =
+    let records = all_seen events outcomes in
+    let start = opening (setting_of s) in
+    let homes : length (homes_of s) ≡ n = length-map s.clients (λ (k : ScriptedClient). k.at) ∙ sym count in
+    let saw_these : end.sessions ≡ sessions_of t =
+    run_saw (setting_of s) start events outcomes end ran ∙ ap (λ (k : ℕ). sessions_after (replicate k []) records) homes ∙ ap (λ (u : ATrace). sessions_of u) (sym trace) in (
+      record {
+        outcomes = outcomes;
+        end = end;
+        ran = ran;
+        trace_is = trace ∙ ap (λ (k : ℕ). record { clients = k; records = records }) count;
+        saw_these = saw_these;
+        lines_are = told;
+      },
+      subst HasAcceptedVerdict saw_these accepted,
+    )
+
+-- what a run left, once its report was appended to its lines
+pub left_of : (s : AScenario) (left : Left) (t : ATrace) (lines : List ℕ) → IsRunOf s s.events lines t → HasAcceptedVerdict (sessions_of t)
+    → left.status ≡ 0 → (left.trace ≡ t) × IsTrace t → ((report : List ℕ) × IsReportOf (sessions_of t) report × (left.text.items ≡ lines ++ report)) → IsRunLeft s left
+left_of s left t lines ran accepted status (same, legal) (report, is_report, told) = (
+  status,
+  subst (λ (u : ATrace). IsLeft s u left.text.items) (sym same) (record {
+    lines = lines;
+    report = report;
+    is_trace = legal;
+    ran = ran;
+    accepted = accepted;
+    is_report = is_report;
+    told_is = told;
+  }),
+)

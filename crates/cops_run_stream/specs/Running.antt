@@ -1,0 +1,100 @@
+-- What running a scenario leaves: the trace of what its clients saw, the lines that tell what happened, and the report.
+use Rattle.std.specs.Prelude.{◌≡◌, ◌⊎◌, ℕ, List, [], ◌∷◌, ◌++◌, length, Option, None, Some}
+use Rattle.std.specs.Io.KnownBytes.{Appends, Keeps}
+use Rattle.cops_types.specs.Histories.{Sessions}
+use Rattle.cops_types.specs.declared.op.Op.TheVariants.{Put as Wrote, Got, Missed}
+use Rattle.cops_node.specs.declared.outcome.Outcome.{Outcome}
+use Rattle.cops_node.specs.declared.outcome.Outcome.TheVariants.{PutDone, Got as Answered, Missed as Nothing}
+use Rattle.cops_core.specs.declared.event.Event.{Event}
+use Rattle.cops_core.specs.declared.event.Event.TheVariants.{Put as PutBy, Get as GetBy}
+use Rattle.cops_core.specs.World.{Setting, World, Run, opening}
+use Rattle.cops_core.specs.Invariants.{HasAcceptedVerdict}
+use Rattle.cops_trace.specs.declared.record.Record.{Record}
+use Rattle.cops_trace.specs.Text.{ATrace, IsTrace, sessions_of, text}
+use Rattle.cops_audit.specs.declared.verdict.Verdict.{Verdict}
+use Rattle.cops_audit.specs.Verdicts.{IsVerdict}
+use Rattle.cops_report.specs.Reports.{IsReport}
+use Rattle.cops_scenario.specs.declared.fault.Field.{Field}
+use Rattle.cops_scenario.specs.Scenario.{AScenario}
+use Rattle.cops_scenario.specs.File.{IsTextOf, IsNoText, IsWrongText}
+use Rattle.cops_tie.specs.declared.entry.Entry.{Entry}
+use Rattle.cops_tie.specs.Turns.{setting_of}
+use Rattle.cops_outcomes.specs.declared.outcome.ClientOutcome.{ClientOutcome}
+use Rattle.cops_outcomes.specs.Runs.{IsRun}
+use Rattle.cops_run_stream.specs.declared.leaving.Left.{Left}
+use Rattle.cops_run_stream.specs.Lines.{outcome_lines, client_lines}
+
+-- what a client saw of an event that was answered so: of its put that was done, and of its get
+abbrev pub saw : Event → Outcome → List Record
+saw (PutBy client key value) (PutDone version) = record { client = client; op = Wrote key value version } ∷ []
+saw (GetBy client key) (Answered value version) = record { client = client; op = Got key value version } ∷ []
+saw (GetBy client key) Nothing = record { client = client; op = Missed key } ∷ []
+saw event outcome = []
+
+-- what the clients saw, in the order of the events
+abbrev pub all_seen : List Event → List Outcome → List Record
+all_seen [] outcomes = []
+all_seen (event ∷ events) [] = []
+all_seen (event ∷ events) (outcome ∷ outcomes) = saw event outcome ++ all_seen events outcomes
+
+-- a world that was opened so answered these events with these outcomes, and what its clients saw is accepted
+abbrev pub AreAnswers : Setting → List Event → List Outcome → Type 0
+AreAnswers s events outcomes = (end : World) × Run s (opening s) events outcomes end × HasAcceptedVerdict end.sessions
+
+-- these events, one after the other, in the scenario's world: the trace is what its clients saw
+pub record IsEventRun (s : AScenario) (events : List Event) (lines : List ℕ) (t : ATrace) : Type 0 where
+  pub outcomes : List Outcome
+  pub end : World
+  pub ran : Run (setting_of s) (opening (setting_of s)) events outcomes end
+  pub trace_is : t ≡ record { clients = length s.clients; records = all_seen events outcomes }
+  pub saw_these : end.sessions ≡ sessions_of t
+  pub lines_are : lines ≡ outcome_lines 0 outcomes
+
+-- the scripts of the scenario's clients on threads: the books of all nodes are one run of its world, whose clients saw the trace
+pub record IsScriptRun (s : AScenario) (lines : List ℕ) (t : ATrace) : Type 0 where
+  pub books : List (List Entry)
+  pub events : List Event
+  pub outcomes : List ClientOutcome
+  pub ran : IsRun s books (sessions_of t) events outcomes
+  pub lines_are : lines ≡ client_lines 0 outcomes
+
+-- its events where it has them, and else its scripts
+abbrev pub IsRunOf : AScenario → Option (List Event) → List ℕ → ATrace → Type 0
+IsRunOf s None lines t = IsScriptRun s lines t
+IsRunOf s (Some events) lines t = IsEventRun s events lines t
+
+-- the report of what clients saw
+pub record IsReportOf (h : Sessions) (report : List ℕ) : Type 0 where
+  pub verdict : Verdict
+  pub is_verdict : IsVerdict h verdict
+  pub is_report : IsReport h verdict report
+
+-- a run of the scenario with its trace, which is accepted, and the text that tells it: the lines, and then the report
+pub record IsLeft (s : AScenario) (t : ATrace) (told : List ℕ) : Type 0 where
+  pub lines : List ℕ
+  pub report : List ℕ
+  pub is_trace : IsTrace t
+  pub ran : IsRunOf s s.events lines t
+  pub accepted : HasAcceptedVerdict (sessions_of t)
+  pub is_report : IsReportOf (sessions_of t) report
+  pub told_is : told ≡ lines ++ report
+
+-- the same of what the code holds, with the status 0
+abbrev pub IsRunLeft : AScenario → Left → Type 0
+IsRunLeft s left = (left.status ≡ 0) × IsLeft s left.trace left.text.items
+
+-- how it ends with the status 0: the bytes tell a scenario, the one writer gained the text of a run's trace, and the other what tells it
+pub record EndsWell (bytes : List ℕ) (trace_old trace_new old new : Option (List ℕ)) : Type 0 where
+  pub scenario : AScenario
+  pub trace : ATrace
+  pub told : List ℕ
+  pub is_text : IsTextOf bytes scenario
+  pub left : IsLeft scenario trace told
+  pub traced : Appends trace_old trace_new (text trace)
+  pub printed : Appends old new told
+
+-- how it ends, by the status: 0 so, and 2 where the bytes tell no scenario; there is no other
+abbrev pub EndsAs : List ℕ → ℕ → Option (List ℕ) → Option (List ℕ) → Option (List ℕ) → Option (List ℕ) → Type 0
+EndsAs bytes status trace_old trace_new old new =
+    ((status ≡ 0) × EndsWell bytes trace_old trace_new old new)
+    ⊎ ((status ≡ 2) × (IsNoText bytes ⊎ ((field : Field) × IsWrongText bytes field)) × Keeps trace_old trace_new)
