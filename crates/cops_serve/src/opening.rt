@@ -7,11 +7,11 @@ use cops_types::Memory;
 use std::alloc::Global;
 
 impl FrontEnd {
-    ghost use Rattle.std.specs.Prelude.{◌≡◌, [], IfOk};
+    ghost use Rattle.std.specs.Prelude.{◌≡◌, [], IfOk, IsNone};
 
-    /// A front end of a scenario's cluster, in which nothing has happened.
+    /// A front end of a scenario's cluster, in which nothing has happened and nobody has greeted.
     pub fn open(alloc: Global, scenario: Scenario) -> Result<FrontEnd, Memory>
-        ensures { IfOk result (λ f. (f.scenario ≡ scenario) × (f.calls.items ≡ [])) }
+        ensures { IfOk result (λ f. (f.scenario ≡ scenario) × (f.calls.items ≡ []) × IsNone f.greeted) }
     {
         let Opened {
             cluster,
