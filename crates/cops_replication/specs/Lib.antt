@@ -4,3 +4,4 @@ pub mod Reading
 pub mod Shares
 pub mod Sending
 pub mod Receiving
+pub mod Lending

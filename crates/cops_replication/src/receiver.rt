@@ -41,6 +41,8 @@ pub struct Receiver {
 
 impl Receiver {
     ghost use Rattle.std.specs.Prelude.{◌≡◌, ◌↔◌, IsTrue, OnOk, OnErr, IfErr, Err};
+    ghost use Rattle.std.specs.Borrow.{sem};
+    ghost use Rattle.cops_replication.specs.Lending.{LendsShare};
     ghost use Rattle.cops_replication.specs.Receiving.{EachTakesUpTo, IsSame, KeepsNothing, ends};
     ghost use Rattle.cops_replication.specs.Shares.{Gains};
     ghost use Rattle.cops_replication.specs.Turns.{IsEndAt, IsFaultAt};
@@ -103,8 +105,11 @@ impl Receiver {
         Err(TurnFault::TurnLimit)
     }
 
-    /// Lends the share.
-    pub fn share(&mut self) -> &mut Share {
+    /// Lends the share. All else of the receiver stays.
+    pub fn share(&mut self) -> &mut Share
+        ensures* writes_back { sem 𝓛 (LendsShare self.entry result) }
+        ensures value { result.now ≡ self.old.share }
+    {
         &mut self.share
     }
 
