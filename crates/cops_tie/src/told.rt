@@ -1,5 +1,5 @@
 //! What a book tells of its steps beside their answers.
-ghost use Rattle.std.specs.Prelude.{◌≡◌, IfOk, OnErr};
+ghost use Rattle.std.specs.Prelude.{◌≡◌, ◌≢◌, IfOk, OnErr};
 ghost use Rattle.cops_node.specs.Outcomes.{IsGot};
 ghost use Rattle.cops_tie.specs.Book.{put_made};
 
@@ -37,7 +37,7 @@ pub(crate) struct Copies {
 }
 
 impl Book {
-    ghost use Rattle.std.specs.Prelude.{◌≡◌, [], ◌∷◌, ◌++◌, drop, length, IfOk, OnErr};
+    ghost use Rattle.std.specs.Prelude.{◌≡◌, ◌≢◌, [], ◌∷◌, ◌++◌, drop, length, IfOk, OnErr};
     ghost use Rattle.cops_node.specs.Node.{node_step};
     ghost use Rattle.cops_tie.specs.Book.{entry, puts_in};
 
@@ -76,10 +76,11 @@ impl Book {
     }
 
     /// Copies of the puts that were issued here, from the entry at a place on, and how many entries there are: from there
-    /// on the next copies are to be made. From a place that is not there on no put was issued.
+    /// on the next copies are to be made. From a place that is not there on no put was issued. It takes memory only where one was.
     pub fn puts_from(&self, alloc: Global, place: usize) -> Result<Puts, Memory>
         ensures puts { IfOk result (λ r. r.puts.items ≡ puts_in (drop place self.now.entries)) }
         ensures entries { IfOk result (λ r. r.entries ≡ length self.now.entries) }
+        ensures err { OnErr result (puts_in (drop place self.now.entries) ≢ []) }
     {
         let entries = self.entries.len();
         let rest = &self.entries[place.min(entries)..];
@@ -109,9 +110,10 @@ impl Copies {
     }
 }
 
-/// A copy of the put that an entry issued, if it issued one.
+/// A copy of the put that an entry issued, if it issued one. It takes memory only where it did.
 pub(crate) fn put_of(entry: &Entry) -> Result<Option<PutRecord>, Memory>
-    ensures { IfOk result (λ put. put ≡ put_made entry.now.event entry.now.outcome) }
+    ensures put { IfOk result (λ put. put ≡ put_made entry.now.event entry.now.outcome) }
+    ensures err { OnErr result (put_made entry.now.event entry.now.outcome ≢ None) }
 {
     let NodeEvent::Put {
         key,
