@@ -1,3 +1,4 @@
 pub mod Recording
 pub mod LineByLine
 pub mod Left
+pub mod Ending
