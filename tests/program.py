@@ -295,6 +295,8 @@ def refusals():
     split = {"splits": ["g", "p"]}
     given = [{"put": [0, key, ""]} for key in ("a", "g", "o", "p", "z")]
     check("places of keys", outcomes_of(*given, **split), (0, ["done 1.0", "done 2.1", "done 3.1", "done 4.2", "done 5.2"], b""))
+    most = {"splits": [f"k{n:02}" for n in range(63)]}
+    check("the most split keys", outcomes_of({"put": [0, "k00", ""]}, {"put": [0, "z", ""]}, **most), (0, ["done 1.1", "done 2.63"], b""))
     check("a get of an empty value", outcomes_of({"put": [0, "x", ""]}, get), (0, ["done 1.0", "got 1.0"], b""))
 
 
