@@ -16,7 +16,8 @@ use Rattle.cops_trace.specs.Text.{spelled}
 use Rattle.cops_trace.proofs.Lists.{all_both, all_back}
 use Rattle.cops_trace.proofs.Writings.{appends_more}
 use Rattle.cops_stream.proofs.Shown.{appends_none}
-use Rattle.cops_stream.specs.Show.{line_of, lines_of, frames_of, StandBefore, AreShown, AppendsNext}
+use Rattle.cops_stream.specs.NextLine.{AppendsNext}
+use Rattle.cops_stream.specs.Show.{line_of, lines_of, frames_of, StandBefore, AreShown}
 
 -- ---- one more frame
 

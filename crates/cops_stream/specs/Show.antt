@@ -39,12 +39,6 @@ pub record AreShown (bytes : List ℕ) (end : ℕ) (ms : List Message) : Type 0 
   pub stand : StandBefore bytes end ms
   pub all : (m : Message) → StandBefore bytes end (ms ++ m ∷ []) → ⊥
 
--- The line of the message whose frame stands at the front was appended, and this is the frame's length; or none stands
--- there that ends at or before this place.
-abbrev pub AppendsNext : List ℕ → ℕ → List ℕ → List ℕ → Option ℕ → Type 0
-AppendsNext bytes end old new None = (new ≡ old) × ((m : Message) → StandBefore bytes end (m ∷ []) → ⊥)
-AppendsNext bytes end old new (Some used) = (m : Message) × StandBefore bytes end (m ∷ []) × (used ≡ length (spelled m)) × (new ≡ old ++ line_of m)
-
 -- the bytes have this fault first, or are a trace's text
 abbrev pub HasFirst : List ℕ → Option TraceFault → Type 0
 HasFirst bytes None = (t : ATrace) × Says bytes (Ok t)

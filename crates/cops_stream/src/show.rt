@@ -6,7 +6,8 @@ ghost use Rattle.cops_types.specs.Counted.{failures, inner};
 ghost use Rattle.cops_trace.specs.Answer.{Agrees};
 ghost use Rattle.cops_wire.specs.declared.message.Message.{Message as AMessage};
 ghost use Rattle.cops_stream.specs.declared.show.TheConstants.{GATHERED};
-ghost use Rattle.cops_stream.specs.Show.{HasFirst, Shows, AreShown, AppendsNext, end_of, line_of, lines_of};
+ghost use Rattle.cops_stream.specs.NextLine.{AppendsNext};
+ghost use Rattle.cops_stream.specs.Show.{HasFirst, Shows, AreShown, end_of, line_of, lines_of};
 
 use cops_device::{FAULTY, PIECE, failed, read_all};
 use cops_trace::{Trace, TraceFault, fault_line, read_trace, write_text};
