@@ -14,7 +14,8 @@ use Rattle.cops_scenario.specs.Scenario.{AScenario, homes_of}
 use Rattle.cops_run_stream.specs.declared.leaving.Left.{Left}
 use Rattle.cops_run_stream.specs.Lines.{outcome_lines}
 use Rattle.cops_tie.specs.Turns.{setting_of}
-use Rattle.cops_run_stream.specs.Running.{all_seen, AreAnswers, IsEventRun, IsRunOf, IsReportOf, IsLeft, IsRunLeft}
+use Rattle.cops_run_stream.specs.Parts.{AreAnswers, IsRunLeft}
+use Rattle.cops_run_stream.specs.Running.{all_seen, IsEventRun, IsRunOf, IsReportOf, IsLeft}
 use Rattle.cops_run_stream.proofs.Recording.{run_saw}
 
 -- a world that was opened, and events came
@@ -36,7 +37,7 @@ answered_if s c d events (Err e) end law opened same legal ran = tt
 
 -- the trace of such events holds what the world's sessions do
 pub event_run : (s : AScenario) (events : List Event) (outcomes : List Outcome) (lines : List ℕ) (t : ATrace) (n : ℕ) → AreAnswers (setting_of s) events outcomes
-    → n ≡ length s.clients → t ≡ record { clients = n; records = all_seen events outcomes } → lines ≡ outcome_lines 0 outcomes
+    → n ≡ length s.clients → t ≡ record { clients = n; records = all_seen events outcomes } → lines ≡ outcome_lines outcomes
     → IsEventRun s events lines t × HasAcceptedVerdict (sessions_of t)
 event_run s events outcomes lines t n (end, ran, accepted) count trace told =
     let records = all_seen events outcomes in

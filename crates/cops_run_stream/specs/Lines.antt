@@ -6,16 +6,19 @@ use Rattle.cops_scenario.specs.Lines.{outcome_line}
 use Rattle.cops_outcomes.specs.declared.outcome.ClientOutcome.{ClientOutcome}
 use Rattle.cops_outcomes.specs.declared.outcome.ClientOutcome.TheVariants.{Done, Stopped}
 
--- a line for each event, the first of which has this number
-abbrev pub outcome_lines : ℕ → List Outcome → List ℕ
-outcome_lines n [] = []
-outcome_lines n (o ∷ os) = outcome_line n o ++ outcome_lines (n + 1) os
+-- the text of each, one after the other, where the first has this number
+abbrev pub numbered_from : {A : Type 0} → (ℕ → A → List ℕ) → ℕ → List A → List ℕ
+numbered_from line n [] = []
+numbered_from line n (x ∷ xs) = line n x ++ numbered_from line (n + 1) xs
+
+-- a line for each event
+abbrev pub outcome_lines : List Outcome → List ℕ
+outcome_lines os = numbered_from outcome_line 0 os
 
 abbrev pub client_line : ℕ → ClientOutcome → List ℕ
 client_line n Done = codes "client " ⧺ decimal n ⧺ codes " done\n"
 client_line n (Stopped code) = codes "client " ⧺ decimal n ⧺ codes " stopped " ⧺ decimal code ⧺ codes "\n"
 
--- a line for each client, the first of which has this number
-abbrev pub client_lines : ℕ → List ClientOutcome → List ℕ
-client_lines n [] = []
-client_lines n (o ∷ os) = client_line n o ++ client_lines (n + 1) os
+-- a line for each client
+abbrev pub client_lines : List ClientOutcome → List ℕ
+client_lines os = numbered_from client_line 0 os

@@ -21,7 +21,6 @@ use Rattle.cops_tie.specs.declared.entry.Entry.{Entry}
 use Rattle.cops_tie.specs.Turns.{setting_of}
 use Rattle.cops_outcomes.specs.declared.outcome.ClientOutcome.{ClientOutcome}
 use Rattle.cops_outcomes.specs.Runs.{IsRun}
-use Rattle.cops_run_stream.specs.declared.leaving.Left.{Left}
 use Rattle.cops_run_stream.specs.Lines.{outcome_lines, client_lines}
 
 -- what a client saw of an event that was answered so: of its put that was done, and of its get
@@ -37,10 +36,6 @@ all_seen [] outcomes = []
 all_seen (event ∷ events) [] = []
 all_seen (event ∷ events) (outcome ∷ outcomes) = saw event outcome ++ all_seen events outcomes
 
--- a world that was opened so answered these events with these outcomes, and what its clients saw is accepted
-abbrev pub AreAnswers : Setting → List Event → List Outcome → Type 0
-AreAnswers s events outcomes = (end : World) × Run s (opening s) events outcomes end × HasAcceptedVerdict end.sessions
-
 -- these events, one after the other, in the scenario's world: the trace is what its clients saw
 pub record IsEventRun (s : AScenario) (events : List Event) (lines : List ℕ) (t : ATrace) : Type 0 where
   pub outcomes : List Outcome
@@ -48,7 +43,7 @@ pub record IsEventRun (s : AScenario) (events : List Event) (lines : List ℕ) (
   pub ran : Run (setting_of s) (opening (setting_of s)) events outcomes end
   pub trace_is : t ≡ record { clients = length s.clients; records = all_seen events outcomes }
   pub saw_these : end.sessions ≡ sessions_of t
-  pub lines_are : lines ≡ outcome_lines 0 outcomes
+  pub lines_are : lines ≡ outcome_lines outcomes
 
 -- the scripts of the scenario's clients on threads: the books of all nodes are one run of its world, whose clients saw the trace
 pub record IsScriptRun (s : AScenario) (lines : List ℕ) (t : ATrace) : Type 0 where
@@ -56,7 +51,7 @@ pub record IsScriptRun (s : AScenario) (lines : List ℕ) (t : ATrace) : Type 0 
   pub events : List Event
   pub outcomes : List ClientOutcome
   pub ran : IsRun s books (sessions_of t) events outcomes
-  pub lines_are : lines ≡ client_lines 0 outcomes
+  pub lines_are : lines ≡ client_lines outcomes
 
 -- its events where it has them, and else its scripts
 abbrev pub IsRunOf : AScenario → Option (List Event) → List ℕ → ATrace → Type 0
@@ -78,10 +73,6 @@ pub record IsLeft (s : AScenario) (t : ATrace) (told : List ℕ) : Type 0 where
   pub accepted : HasAcceptedVerdict (sessions_of t)
   pub is_report : IsReportOf (sessions_of t) report
   pub told_is : told ≡ lines ++ report
-
--- the same of what the code holds, with the status 0
-abbrev pub IsRunLeft : AScenario → Left → Type 0
-IsRunLeft s left = (left.status ≡ 0) × IsLeft s left.trace left.text.items
 
 -- how it ends with the status 0: the bytes tell a scenario, the one writer gained the text of a run's trace, and the other what tells it
 pub record EndsWell (bytes : List ℕ) (trace_old trace_new old new : Option (List ℕ)) : Type 0 where

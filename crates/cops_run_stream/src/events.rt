@@ -3,7 +3,8 @@ ghost use Rattle.std.specs.Prelude.{◌≡◌, ◌++◌, Some, length, IfOk, OnO
 ghost use Rattle.cops_types.specs.declared.op.Op.TheVariants.{Put as Wrote, Got};
 ghost use Rattle.cops_tie.specs.Turns.{setting_of};
 ghost use Rattle.cops_run_stream.specs.Lines.{outcome_lines};
-ghost use Rattle.cops_run_stream.specs.Running.{AreAnswers, IsRunLeft, all_seen, saw};
+ghost use Rattle.cops_run_stream.specs.Parts.{AreAnswers, IsRunLeft};
+ghost use Rattle.cops_run_stream.specs.Running.{all_seen, saw};
 
 use crate::leaving::{Left, reported_left};
 use cops_core::{Event, every_interleaving_is_accepted};
@@ -40,7 +41,7 @@ fn answers(alloc: Global, scenario: &Scenario, events: &[Event]) -> Result<Vec<O
 
 /// A line for each event.
 fn lines(alloc: Global, outcomes: &[Outcome]) -> Result<Vec<u8>, Memory>
-    ensures { IfOk result (λ text. text.items ≡ outcome_lines 0 outcomes.now) }
+    ensures { IfOk result (λ text. text.items ≡ outcome_lines outcomes.now) }
 {
     let mut text = Vec::new(alloc);
     for n in 0..outcomes.len() {

@@ -1,7 +1,7 @@
 //! The run of scripted clients, on threads.
 ghost use Rattle.std.specs.Prelude.{◌≡◌, None, IfOk, string_bytes};
 ghost use Rattle.cops_run_stream.specs.Lines.{client_line, client_lines};
-ghost use Rattle.cops_run_stream.specs.Running.{IsRunLeft};
+ghost use Rattle.cops_run_stream.specs.Parts.{IsRunLeft};
 
 use crate::leaving::{Left, reported_left};
 use cops_outcomes::ClientOutcome;
@@ -35,7 +35,7 @@ pub(crate) fn run_scripts<R: Threads + Wait + Sync, G: Gate>(
 
 /// A line for each client.
 fn lines(alloc: Global, outcomes: &[ClientOutcome]) -> Result<Vec<u8>, Memory>
-    ensures { IfOk result (λ text. text.items ≡ client_lines 0 outcomes.now) }
+    ensures { IfOk result (λ text. text.items ≡ client_lines outcomes.now) }
 {
     let mut text = Vec::new(alloc);
     for n in 0..outcomes.len() {

@@ -3,7 +3,8 @@ ghost use Rattle.std.specs.Io.KnownBytes.{Appends, Keeps};
 ghost use Rattle.cops_types.specs.Failures.{Failed};
 ghost use Rattle.cops_types.specs.Counted.{failures, inner};
 ghost use Rattle.cops_trace.specs.Text.{text};
-ghost use Rattle.cops_run_stream.specs.Running.{IsRunLeft, EndsAs};
+ghost use Rattle.cops_run_stream.specs.Parts.{IsRunLeft};
+ghost use Rattle.cops_run_stream.specs.Running.{EndsAs};
 ghost use Rattle.cops_run_stream.specs.declared.leaving.Left.{Left as ALeft};
 
 use crate::events::run_events;

@@ -2,7 +2,7 @@ use Rattle.std.proofs.Common.{ℕ, List, ◌++◌, take, sym, ap, ◌∙◌}
 use Rattle.cops_node.specs.declared.outcome.Outcome.{Outcome}
 use Rattle.cops_scenario.specs.Lines.{outcome_line}
 use Rattle.cops_run_stream.specs.Lines.{outcome_lines}
-use Rattle.cops_run_stream.proofs.LineByLine.{outcomes_next}
+use Rattle.cops_run_stream.proofs.LineByLine.{next_line}
 use Rattle.cops_run_stream.proofs.events.lines.Goals as goal
 
 pub loop-n-preserved : goal.loop-n-preserved
@@ -11,5 +11,5 @@ loop-n-preserved c =
     let outcome = c.index-outcomes-n.result in
     c.in_ok-outcome_line.ensures.ok
     ∙ ap (λ (xs : List ℕ). xs ++ outcome_line n outcome) c.loop-n.invariant
-    ∙ ap (λ (o : Outcome). outcome_lines 0 (take n c.args.outcomes.now) ++ outcome_line n o) c.index-outcomes-n.is
-    ∙ sym (outcomes_next c.args.outcomes.now n outcome c.loop-n-test.true)
+    ∙ ap (λ (o : Outcome). outcome_lines (take n c.args.outcomes.now) ++ outcome_line n o) c.index-outcomes-n.is
+    ∙ sym (next_line outcome_line c.args.outcomes.now n outcome c.loop-n-test.true)

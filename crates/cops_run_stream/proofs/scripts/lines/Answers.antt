@@ -1,7 +1,7 @@
 use Rattle.std.proofs.Common.{ℕ, List, ◌++◌, slice_index_or, sym, ap, ◌∙◌}
 use Rattle.cops_outcomes.specs.declared.outcome.ClientOutcome.TheVariants.{Done}
 use Rattle.cops_run_stream.specs.Lines.{client_line}
-use Rattle.cops_run_stream.proofs.LineByLine.{clients_next}
+use Rattle.cops_run_stream.proofs.LineByLine.{next_line}
 use Rattle.cops_run_stream.proofs.scripts.lines.Goals as goal
 
 pub loop-n-preserved : goal.loop-n-preserved
@@ -10,4 +10,4 @@ loop-n-preserved c =
     let outcomes = c.args.outcomes.now in
     rw (c.as_bytes.ensures.value, c.in_ok-line.ensures) at c.in_ok-extend_from_slice.ensures.items
     ∙ ap (λ (xs : List ℕ). xs ++ client_line n (slice_index_or outcomes n Done)) c.loop-n.invariant
-    ∙ sym (clients_next outcomes n Done c.loop-n-test.true)
+    ∙ sym (next_line client_line outcomes n Done c.loop-n-test.true)

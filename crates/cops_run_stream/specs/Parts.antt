@@ -1,0 +1,17 @@
+-- What the parts of running a scenario hand over.
+use Rattle.std.specs.Prelude.{◌≡◌, List}
+use Rattle.cops_node.specs.declared.outcome.Outcome.{Outcome}
+use Rattle.cops_core.specs.declared.event.Event.{Event}
+use Rattle.cops_core.specs.World.{Setting, World, Run, opening}
+use Rattle.cops_core.specs.Invariants.{HasAcceptedVerdict}
+use Rattle.cops_scenario.specs.Scenario.{AScenario}
+use Rattle.cops_run_stream.specs.declared.leaving.Left.{Left}
+use Rattle.cops_run_stream.specs.Running.{IsLeft}
+
+-- a world that was opened so answered these events with these outcomes, and what its clients saw is accepted
+abbrev pub AreAnswers : Setting → List Event → List Outcome → Type 0
+AreAnswers s events outcomes = (end : World) × Run s (opening s) events outcomes end × HasAcceptedVerdict end.sessions
+
+-- a run of the scenario, and what tells it, with the status 0
+abbrev pub IsRunLeft : AScenario → Left → Type 0
+IsRunLeft s left = (left.status ≡ 0) × IsLeft s left.trace left.text.items
