@@ -318,14 +318,14 @@ fn all_shares(
     Ok(shares)
 }
 
-/// How a cluster with one node ends in which client 0 was held, and client 1 put twice: an entry of its share may be lost, or
-/// a whole share.
-fn ended<R: Wait>(
+/// A cluster with one node before its end, with its shares: client 0 was held, and client 1 put twice. An entry of its share may be
+/// lost, or a whole share.
+fn before_the_end<R: Wait>(
     rt: &R,
     alloc: Global,
     is_entry_lost: bool,
     is_share_lost: bool,
-) -> Result<Result<Closed, CloseFault>, Fail> {
+) -> Result<(Cluster, Vec<Share>), Fail> {
     let Opened {
         cluster,
         mut clients,
@@ -341,13 +341,13 @@ fn ended<R: Wait>(
     if is_share_lost {
         let _lost = shares.pop();
     }
-    Ok(cluster.close(shares))
+    Ok((cluster, shares))
 }
 
 #[test]
 fn a_cluster_ends_with_its_entries(rt: HostRuntime) -> Result<(), Fail> {
-    let alloc = rt.alloc();
-    let Ok(closed) = ended(&rt, alloc, false, false)? else {
+    let (cluster, shares) = before_the_end(&rt, rt.alloc(), false, false)?;
+    let Ok(closed) = cluster.close(shares) else {
         return Err(Fail::new("not closed"));
     };
     assert_eq!(rt; closed.books.len(), 1);
@@ -358,14 +358,50 @@ fn a_cluster_ends_with_its_entries(rt: HostRuntime) -> Result<(), Fail> {
 
 #[test]
 fn a_share_without_an_entry_is_not_kept(rt: HostRuntime) -> Result<(), Fail> {
-    let ended = ended(&rt, rt.alloc(), true, false)?;
-    assert!(rt; matches!(ended, Err(CloseFault::NotKept { ticket: 1 })));
+    let (cluster, shares) = before_the_end(&rt, rt.alloc(), true, false)?;
+    assert!(rt;
+        matches!(
+            cluster.close(shares),
+            Err(CloseFault::NotKept { ticket: 1 })
+        )
+    );
     Ok(())
 }
 
 #[test]
 fn a_cluster_without_all_shares_comes_back(rt: HostRuntime) -> Result<(), Fail> {
-    let ended = ended(&rt, rt.alloc(), false, true)?;
+    let (cluster, shares) = before_the_end(&rt, rt.alloc(), false, true)?;
+    assert!(rt; matches!(cluster.close(shares), Err(CloseFault::SharesMissing(_, _))));
+    Ok(())
+}
+
+/// The difference of a cluster's entries and shares, where nobody compared them as it ended.
+fn difference_at_the_end<R: Wait>(
+    rt: &R,
+    alloc: Global,
+    is_entry_lost: bool,
+) -> Result<Option<u64>, Fail> {
+    let (cluster, shares) = before_the_end(rt, alloc, is_entry_lost, false)?;
+    let Ok(Uncompared { closed, shares }) = cluster.close_uncompared(shares) else {
+        return Err(Fail::new("not closed"));
+    };
+    if closed.books.len() != 1 {
+        return Err(Fail::new("there is not one list of entries"));
+    }
+    Ok(difference_of_lists(alloc, 1, &closed.books, &shares)?)
+}
+
+#[test]
+fn entries_are_compared_with_shares_after_the_end(rt: HostRuntime) -> Result<(), Fail> {
+    assert_eq!(rt; difference_at_the_end(&rt, rt.alloc(), false)?, None);
+    assert_eq!(rt; difference_at_the_end(&rt, rt.alloc(), true)?, Some(1));
+    Ok(())
+}
+
+#[test]
+fn a_cluster_without_all_shares_comes_back_uncompared(rt: HostRuntime) -> Result<(), Fail> {
+    let (cluster, shares) = before_the_end(&rt, rt.alloc(), false, true)?;
+    let ended = cluster.close_uncompared(shares);
     assert!(rt; matches!(ended, Err(CloseFault::SharesMissing(_, _))));
     Ok(())
 }
