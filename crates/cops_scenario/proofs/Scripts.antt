@@ -1,28 +1,49 @@
 -- What is listed has no script.
 use Rattle.std.proofs.Common.{◌≡◌, List, [], ◌∷◌, All, map, refl, sym, ap, ◌∙◌}
-use Rattle.std.specs.Prelude.{ℕ, Option, None, Some}
-use Rattle.std.proofs.lemmas.List.Elements.{All-map, All-same}
-use Rattle.serde_json.specs.Data.{Data, Items, no_items, item}
-use Rattle.serde_json.specs.View.{view, items_of, items_view}
+use Rattle.std.specs.Prelude.{ℕ, ◌≤◌, length, codes, Option, None, Some, IfSome}
+use Rattle.std.proofs.lemmas.List.Elements.{All-map, All-same, All-cons, All-nil, All-head, All-tail}
+use Rattle.serde_json.specs.Data.{Data}
+use Rattle.serde_json.specs.View.{view, items_view}
 use Rattle.serde_json.specs.Find.{as_array, get}
 use Rattle.serde_json.specs.declared.value.Value.{Value}
-use Rattle.cops_scenario.specs.File.{list_json}
+use Rattle.cops_core.specs.declared.event.Event.{Event}
+use Rattle.cops_scenario.specs.declared.scenario.ScriptOp.{ScriptOp}
+use Rattle.cops_scenario.specs.declared.scenario.ScriptedClient.{ScriptedClient}
+use Rattle.cops_scenario.specs.File.{AreUnscripted, IsListOrMissing, TellClients, list_json, op_json}
+use Rattle.cops_scenario.specs.Scenario.{AreEventsOf}
+use Rattle.cops_scenario.proofs.Forms.{same_items}
 
-items_alike : (xs ys : List Data) → items_of xs ≡ items_of ys → xs ≡ ys
-items_alike [] [] e = refl
-items_alike [] (y ∷ ys) e = let no : ⊥ = cc in absurd no
-items_alike (x ∷ xs) [] e = let no : ⊥ = cc in absurd no
-items_alike (x ∷ xs) (y ∷ ys) e =
-    let one : x ≡ y = cc in
-    let rest : items_of xs ≡ items_of ys = cc in
-    let more : xs ≡ ys = items_alike xs ys rest in
-    cc
-
-same_items : (xs ys : List Data) → Some (items_of xs) ≡ Some (items_of ys) → xs ≡ ys
-same_items xs ys e = let same : items_of xs ≡ items_of ys = cc in items_alike xs ys same
+-- the listed values
+same_values : (vs : List Value) (d : Data) (ds : List Data) → Some (items_view vs) ≡ as_array d → d ≡ list_json ds → map view vs ≡ ds
+same_values vs d ds seen e = same_items (map view vs) ds (seen ∙ ap as_array e)
 
 -- where the values of a list have none, what the list is has none
 pub none_has : (k : List ℕ) (vs : List Value) (d : Data) (ds : List Data) → Some (items_view vs) ≡ as_array d → d ≡ list_json ds → All (λ v. get k (view v) ≡ None) vs → All (λ d. get k d ≡ None) ds
-none_has k vs d ds seen e h =
-    let same : map view vs ≡ ds = same_items (map view vs) ds (seen ∙ ap as_array e) in
-    All-same (λ d. get k d ≡ None) ds (map view vs) (sym same) (All-map (λ d. get k d ≡ None) view vs h)
+none_has k vs d ds seen e h = All-same (λ d. get k d ≡ None) ds (map view vs) (sym (same_values vs d ds seen e)) (All-map (λ d. get k d ≡ None) view vs h)
+
+values_have_none : (k : List ℕ) (vs : List Value) → All (λ d. get k d ≡ None) (map view vs) → All (λ v. get k (view v) ≡ None) vs
+values_have_none k [] h = All-nil (λ v. get k (view v) ≡ None)
+values_have_none k (v ∷ vs) h =
+    let P : Data → Type 0 = λ d. get k d ≡ None in
+    All-cons (λ v. get k (view v) ≡ None) v vs (All-head P (view v) (map view vs) h) (values_have_none k vs (All-tail P (view v) (map view vs) h))
+
+-- and the other way round
+pub one_has : (k : List ℕ) (vs : List Value) (d : Data) (ds : List Data) → Some (items_view vs) ≡ as_array d → d ≡ list_json ds → (All (λ v. get k (view v) ≡ None) vs → ⊥) → All (λ d. get k d ≡ None) ds → ⊥
+one_has k vs d ds seen e some h = some (values_have_none k vs (All-same (λ d. get k d ≡ None) (map view vs) ds (same_values vs d ds seen e) h))
+
+no_ops : (ops : List ScriptOp) (d : Option Data) → d ≡ None → IsListOrMissing (map op_json ops) d → ops ≡ []
+no_ops [] d e told = refl
+no_ops (op ∷ ops) None e told = let no : ⊥ = cc in absurd no
+no_ops (op ∷ ops) (Some d) e told = let no : ⊥ = cc in absurd no
+
+-- a client that is listed without a script has an empty one
+pub all_empty : (ds : List Data) (cs : List ScriptedClient) → TellClients ds cs → All (λ d. get (codes "script") d ≡ None) ds → All (λ c. c.script.items ≡ []) cs
+all_empty ds [] told h = All-nil (λ (c : ScriptedClient). c.script.items ≡ [])
+all_empty [] (c ∷ cs) told h = absurd told
+all_empty (d ∷ ds) (c ∷ cs) told h =
+    let P : Data → Type 0 = λ d. get (codes "script") d ≡ None in
+    All-cons (λ (c : ScriptedClient). c.script.items ≡ []) c cs (no_ops c.script.items (get (codes "script") d) (All-head P d ds h) told.0.script) (all_empty ds cs told.1 (All-tail P d ds h))
+
+pub are_events : (ds : List Data) (cs : List ScriptedClient) (events : Option (List Event)) → TellClients ds cs → AreUnscripted ds events → IfSome events (λ es. length es ≤ 100000) → AreEventsOf cs events
+are_events ds cs None told h few = tt
+are_events ds cs (Some es) told h few = (few, all_empty ds cs told h)

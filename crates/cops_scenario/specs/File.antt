@@ -1,5 +1,5 @@
 -- The JSON that stands in a file for each part of a scenario.
-use Rattle.std.specs.Prelude.{◌≡◌, ◌≢◌, ◌≤◌, ◌⊎◌, ℕ, List, [], ◌∷◌, map, codes, All, Option, None, Some, IsUtf8}
+use Rattle.std.specs.Prelude.{◌≡◌, ◌≢◌, ◌≤◌, ◌⊎◌, ℕ, List, [], ◌∷◌, length, map, codes, All, Option, None, Some, IsUtf8}
 use Rattle.serde_json.specs.Data.{Data, unsigned, number, string, array, object, member, no_members}
 use Rattle.serde_json.specs.Read.{read}
 use Rattle.serde_json.specs.View.{items_of}
@@ -12,7 +12,7 @@ use Rattle.cops_scenario.specs.declared.fault.Field.TheVariants.{Root, DataCentr
 use Rattle.cops_scenario.specs.declared.scenario.ScriptOp.{ScriptOp}
 use Rattle.cops_scenario.specs.declared.scenario.ScriptOp.TheVariants as script
 use Rattle.cops_scenario.specs.declared.scenario.ScriptedClient.{ScriptedClient}
-use Rattle.cops_scenario.specs.Scenario.{AScenario, HasNumbersOf, name_of}
+use Rattle.cops_scenario.specs.Scenario.{AScenario, HasNumbersOf, AreSplits, IsLegalClient, AreLegalEvents, name_of, number_at}
 
 abbrev pub number_json : ℕ → Data
 number_json n = number (unsigned n)
@@ -27,13 +27,26 @@ list_json items = array (items_of items)
 abbrev pub one_json : List ℕ → Data → Data
 one_json name of = object (member name of no_members)
 
+-- the name of what happens in an event
+abbrev pub kind_of : Event → List ℕ
+kind_of (Put client key value) = codes "put"
+kind_of (Get client key) = codes "get"
+kind_of (Deliver dc version) = codes "deliver"
+kind_of (Ask dc key version) = codes "ask"
+kind_of (Mark dc version dep) = codes "mark"
+kind_of (Settle dc version) = codes "settle"
+
+-- its numbers, key, value and version
+abbrev pub parts_of : Event → List Data
+parts_of (Put client key value) = number_json client ∷ text_json key ∷ text_json value ∷ []
+parts_of (Get client key) = number_json client ∷ text_json key ∷ []
+parts_of (Deliver dc version) = number_json dc ∷ text_json (version_text version) ∷ []
+parts_of (Ask dc key version) = number_json dc ∷ text_json key ∷ text_json (version_text version) ∷ []
+parts_of (Mark dc version dep) = number_json dc ∷ text_json (version_text version) ∷ number_json dep ∷ []
+parts_of (Settle dc version) = number_json dc ∷ text_json (version_text version) ∷ []
+
 abbrev pub event_json : Event → Data
-event_json (Put client key value) = one_json (codes "put") (list_json (number_json client ∷ text_json key ∷ text_json value ∷ []))
-event_json (Get client key) = one_json (codes "get") (list_json (number_json client ∷ text_json key ∷ []))
-event_json (Deliver dc version) = one_json (codes "deliver") (list_json (number_json dc ∷ text_json (version_text version) ∷ []))
-event_json (Ask dc key version) = one_json (codes "ask") (list_json (number_json dc ∷ text_json key ∷ text_json (version_text version) ∷ []))
-event_json (Mark dc version dep) = one_json (codes "mark") (list_json (number_json dc ∷ text_json (version_text version) ∷ number_json dep ∷ []))
-event_json (Settle dc version) = one_json (codes "settle") (list_json (number_json dc ∷ text_json (version_text version) ∷ []))
+event_json e = one_json (kind_of e) (list_json (parts_of e))
 
 abbrev pub op_json : ScriptOp → Data
 op_json (script.Put key value) = one_json (codes "put") (list_json (text_json key ∷ text_json value ∷ []))
@@ -78,15 +91,29 @@ pub record TellsScenario (root : Data) (s : AScenario) : Type 0 where
 abbrev pub IsNoNumber : ℕ → ℕ → Option Data → Type 0
 IsNoNumber least most d = (n : ℕ) → least ≤ n → n ≤ most → d ≢ Some (number_json n)
 
--- what is wrong with a file's field where it is named: of lists only that they are there, and of the clients that some are
+-- the field tells no split keys within their limits
+abbrev pub TellsNoSplits : Data → Type 0
+TellsNoSplits root = (splits : List (List ℕ)) → AreSplits splits → IsListOrMissing (map text_json splits) (get (name_of Splits) root) → ⊥
+
+-- it tells no clients within their limits, at most 64
+abbrev pub TellsNoClients : Data → Type 0
+TellsNoClients root = (ds : List Data) (clients : List ScriptedClient) → get (name_of Clients) root ≡ Some (list_json ds) → TellClients ds clients
+    → length clients ≤ 64 → All (IsLegalClient (number_at root DataCentres 0)) clients → ⊥
+
+-- it tells no events within their limits, beside clients without a script
+abbrev pub TellsNoEvents : Data → Type 0
+TellsNoEvents root = (ds : List Data) (events : Option (List Event)) → get (name_of Clients) root ≡ Some (list_json ds) → TellsEvents (get (name_of Events) root) events
+    → AreLegalEvents events → AreUnscripted ds events → ⊥
+
+-- what is wrong with a file's field where it is named: it is missing and has no default, or tells nothing that is legal there
 abbrev pub IsWrong : Data → Field → Type 0
 IsWrong root Root = as_object root ≡ None
 IsWrong root DataCentres = IsNoNumber 1 16 (get (name_of DataCentres) root)
-IsWrong root Splits = get (name_of Splits) root ≢ None
+IsWrong root Splits = TellsNoSplits root
 IsWrong root Link = (get (name_of Link) root ≢ None) × IsNoNumber 1 1024 (get (name_of Link) root)
 IsWrong root Turns = (get (name_of Turns) root ≢ None) × IsNoNumber 1 1000000000 (get (name_of Turns) root)
-IsWrong root Clients = get (name_of Clients) root ≢ Some (list_json [])
-IsWrong root Events = get (name_of Events) root ≢ None
+IsWrong root Clients = TellsNoClients root
+IsWrong root Events = TellsNoEvents root
 
 -- a whole number from the least to the most
 abbrev pub IsNumber : ℕ → ℕ → Option Data → Type 0

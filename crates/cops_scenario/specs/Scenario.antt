@@ -2,10 +2,16 @@
 use Rattle.std.specs.Prelude.{◌≡◌, ℕ, ◌<◌, ◌≤◌, List, [], length, map, All, Option, None, Some, codes, unwrap_or, option_and_then}
 use Rattle.serde_json.specs.Data.{Data}
 use Rattle.serde_json.specs.Find.{get, as_number, as_u64}
+use Rattle.cops_types.specs.Key.{IsKey}
+use Rattle.cops_types.specs.Value.{IsValue}
+use Rattle.cops_types.specs.Version.{IsVersion}
 use Rattle.cops_core.specs.declared.event.Event.{Event}
-use Rattle.cops_place.specs.Place.{APlace, IsPlace}
+use Rattle.cops_core.specs.declared.event.Event.TheVariants as event
+use Rattle.cops_place.specs.Place.{APlace, IsPlace, AreAscending}
 use Rattle.cops_scenario.specs.declared.fault.Field.{Field}
 use Rattle.cops_scenario.specs.declared.fault.Field.TheVariants.{Root, DataCentres, Splits, Link, Turns, Clients, Events}
+use Rattle.cops_scenario.specs.declared.scenario.ScriptOp.{ScriptOp}
+use Rattle.cops_scenario.specs.declared.scenario.ScriptOp.TheVariants as script
 use Rattle.cops_scenario.specs.declared.scenario.ScriptedClient.{ScriptedClient}
 
 -- a place, what the links hold, how many turns a loop may take, the clients, and the events where there are any
@@ -33,6 +39,33 @@ pub record IsScenario (s : AScenario) : Type 0 where
   pub few_clients : length s.clients ≤ 64
   pub each_client : All (IsClientOf s.place.dcs) s.clients
   pub few_events : AreEventsOf s.clients s.events
+
+-- at most 63 split keys, each a key, and each above the one before it
+abbrev pub AreSplits : List (List ℕ) → Type 0
+AreSplits splits = (length splits ≤ 63) × AreAscending splits × All IsKey splits
+
+-- an operation of a script, whose key and value are of their ranges
+abbrev pub IsLegalOp : ScriptOp → Type 0
+IsLegalOp (script.Put key value) = IsKey key × IsValue value
+IsLegalOp (script.Get key) = IsKey key
+
+-- a client within its limits, each operation of whose script is legal
+abbrev pub IsLegalClient : ℕ → ScriptedClient → Type 0
+IsLegalClient dcs c = IsClientOf dcs c × All IsLegalOp c.script.items
+
+-- an event whose numbers, key, value and version are of their ranges, whatever clients and data centres there are
+abbrev pub IsLegalEvent : Event → Type 0
+IsLegalEvent (event.Put client key value) = (client ≤ 65535) × IsKey key × IsValue value
+IsLegalEvent (event.Get client key) = (client ≤ 65535) × IsKey key
+IsLegalEvent (event.Deliver dc version) = (dc ≤ 255) × IsVersion version
+IsLegalEvent (event.Ask dc key version) = (dc ≤ 255) × IsKey key × IsVersion version
+IsLegalEvent (event.Mark dc version dep) = (dc ≤ 255) × IsVersion version × (dep ≤ 65535)
+IsLegalEvent (event.Settle dc version) = (dc ≤ 255) × IsVersion version
+
+-- at most 100,000 legal events
+abbrev pub AreLegalEvents : Option (List Event) → Type 0
+AreLegalEvents None = Unit {0}
+AreLegalEvents (Some events) = (length events ≤ 100000) × All IsLegalEvent events
 
 -- the data centre of each client
 abbrev pub homes_of : AScenario → List ℕ

@@ -1,11 +1,19 @@
 //! Events, and the operations of a script: objects of one member, which names what happens.
-ghost use Rattle.std.specs.Prelude.{◌≡◌, ◌≤◌, length, map, IfOk};
+ghost use Rattle.std.specs.Prelude.{◌≡◌, ◌≢◌, ◌≤◌, ℕ, List, [], ◌∷◌, length, map, codes, All, Err, IfOk, OnErr};
 ghost use Rattle.serde_json.specs.View.{view};
-ghost use Rattle.cops_scenario.specs.File.{event_json, op_json, list_json};
+ghost use Rattle.cops_types.specs.Key.{IsKey};
+ghost use Rattle.cops_types.specs.Texts.{version_text};
+ghost use Rattle.cops_types.specs.Value.{IsValue};
+ghost use Rattle.cops_types.specs.Version.{IsVersion};
+ghost use Rattle.cops_core.specs.declared.event.Event.{Event as AnEvent};
+ghost use Rattle.cops_scenario.specs.File.{event_json, op_json, list_json, number_json, text_json, kind_of, parts_of};
+ghost use Rattle.cops_scenario.specs.Scenario.{IsLegalEvent, IsLegalOp};
+ghost use Rattle.cops_scenario.specs.declared.scenario.ScriptOp.{ScriptOp as AnOp};
 
 use crate::field::{Unread, client, dc, key, list, number, only_member, value, version};
 use crate::scenario::ScriptOp;
 use cops_core::Event;
+use cops_types::{Key, Value, Version};
 use serde_json::Value as Json;
 use std::alloc::Global;
 
@@ -13,6 +21,7 @@ use std::alloc::Global;
 pub(crate) fn events(alloc: Global, json: &Json, most: usize) -> Result<Vec<Event>, Unread>
     ensures few { IfOk result (λ events. length events.items ≤ most) }
     ensures json { IfOk result (λ events. view json.now ≡ list_json (map event_json events.items)) }
+    ensures none { result ≡ Err Unread.Form → (events : List AnEvent) → length events ≤ most → All IsLegalEvent events → view json.now ≢ list_json (map event_json events) }
 {
     let mut events = Vec::new(alloc);
     for item in list(json, most)? {
@@ -25,6 +34,7 @@ pub(crate) fn events(alloc: Global, json: &Json, most: usize) -> Result<Vec<Even
 pub(crate) fn script(alloc: Global, json: &Json, most: usize) -> Result<Vec<ScriptOp>, Unread>
     ensures few { IfOk result (λ script. length script.items ≤ most) }
     ensures json { IfOk result (λ script. view json.now ≡ list_json (map op_json script.items)) }
+    ensures none { result ≡ Err Unread.Form → (ops : List AnOp) → length ops ≤ most → All IsLegalOp ops → view json.now ≢ list_json (map op_json ops) }
 {
     let mut script = Vec::new(alloc);
     for item in list(json, most)? {
@@ -35,55 +45,122 @@ pub(crate) fn script(alloc: Global, json: &Json, most: usize) -> Result<Vec<Scri
 
 /// An operation of a script.
 fn script_op(alloc: Global, json: &Json) -> Result<ScriptOp, Unread>
-    ensures { IfOk result (λ op. view json.now ≡ op_json op) }
+    ensures json { IfOk result (λ op. view json.now ≡ op_json op) }
+    ensures none { result ≡ Err Unread.Form → (op : AnOp) → IsLegalOp op → view json.now ≢ op_json op }
 {
-    match only_member(json)? {
-        ("put", of) => match list(of, 2)? {
-            [k, v] => Ok(ScriptOp::Put {
-                key: key(alloc, k)?,
-                value: value(alloc, v)?,
-            }),
-            _ => Err(Unread::Form),
-        },
-        ("get", of) => Ok(ScriptOp::Get {
+    let (name, of) = only_member(json)?;
+    match name {
+        "put" => {
+            let (key, value) = pair(alloc, list(of, 2)?)?;
+            Ok(ScriptOp::Put { key, value })
+        }
+        "get" => Ok(ScriptOp::Get {
             key: key(alloc, of)?,
         }),
         _ => Err(Unread::Form),
     }
 }
 
+/// A key and a value.
+fn pair(alloc: Global, parts: &[Json]) -> Result<(Key, Value), Unread>
+    ensures json { IfOk result (λ p. map view parts.now ≡ text_json p.0 ∷ text_json p.1 ∷ []) }
+    ensures none { result ≡ Err Unread.Form → (key value : List ℕ) → IsKey key → IsValue value → map view parts.now ≢ text_json key ∷ text_json value ∷ [] }
+{
+    match parts {
+        [k, v] => Ok((key(alloc, k)?, value(alloc, v)?)),
+        _ => Err(Unread::Form),
+    }
+}
+
 /// An event.
 fn event(alloc: Global, json: &Json) -> Result<Event, Unread>
-    ensures { IfOk result (λ event. view json.now ≡ event_json event) }
+    ensures json { IfOk result (λ event. view json.now ≡ event_json event) }
+    ensures none { result ≡ Err Unread.Form → (event : AnEvent) → IsLegalEvent event → view json.now ≢ event_json event }
 {
     let (name, of) = only_member(json)?;
-    match (name, list(of, 3)?) {
-        ("put", [c, k, v]) => Ok(Event::Put {
+    let parts = list(of, 3)?;
+    match name {
+        "put" => put(alloc, parts),
+        "get" => get(alloc, parts),
+        "deliver" => {
+            let (dc, version) = put_at(parts)?;
+            Ok(Event::Deliver { dc, version })
+        }
+        "ask" => ask(alloc, parts),
+        "mark" => mark(parts),
+        "settle" => {
+            let (dc, version) = put_at(parts)?;
+            Ok(Event::Settle { dc, version })
+        }
+        _ => Err(Unread::Form),
+    }
+}
+
+/// A put: a client, a key and a value.
+fn put(alloc: Global, parts: &[Json]) -> Result<Event, Unread>
+    ensures json { IfOk result (λ event. (kind_of event ≡ codes "put") × (parts_of event ≡ map view parts.now)) }
+    ensures none { result ≡ Err Unread.Form → (client : ℕ) (key value : List ℕ) → client ≤ 65535 → IsKey key → IsValue value → map view parts.now ≢ number_json client ∷ text_json key ∷ text_json value ∷ [] }
+{
+    match parts {
+        [c, k, v] => Ok(Event::Put {
             client: client(c)?,
             key: key(alloc, k)?,
             value: value(alloc, v)?,
         }),
-        ("get", [c, k]) => Ok(Event::Get {
+        _ => Err(Unread::Form),
+    }
+}
+
+/// A get: a client and a key.
+fn get(alloc: Global, parts: &[Json]) -> Result<Event, Unread>
+    ensures json { IfOk result (λ event. (kind_of event ≡ codes "get") × (parts_of event ≡ map view parts.now)) }
+    ensures none { result ≡ Err Unread.Form → (client : ℕ) (key : List ℕ) → client ≤ 65535 → IsKey key → map view parts.now ≢ number_json client ∷ text_json key ∷ [] }
+{
+    match parts {
+        [c, k] => Ok(Event::Get {
             client: client(c)?,
             key: key(alloc, k)?,
         }),
-        ("deliver", [d, v]) => Ok(Event::Deliver {
-            dc: dc(d)?,
-            version: version(v)?,
-        }),
-        ("ask", [d, k, v]) => Ok(Event::Ask {
+        _ => Err(Unread::Form),
+    }
+}
+
+/// A data centre, and the version of a put.
+fn put_at(parts: &[Json]) -> Result<(u8, Version), Unread>
+    ensures json { IfOk result (λ p. map view parts.now ≡ number_json p.0 ∷ text_json (version_text p.1) ∷ []) }
+    ensures none { OnErr result ((dc version : ℕ) → dc ≤ 255 → IsVersion version → map view parts.now ≢ number_json dc ∷ text_json (version_text version) ∷ []) }
+{
+    match parts {
+        [d, v] => Ok((dc(d)?, version(v)?)),
+        _ => Err(Unread::Form),
+    }
+}
+
+/// A question: a data centre, a key and a version.
+fn ask(alloc: Global, parts: &[Json]) -> Result<Event, Unread>
+    ensures json { IfOk result (λ event. (kind_of event ≡ codes "ask") × (parts_of event ≡ map view parts.now)) }
+    ensures none { result ≡ Err Unread.Form → (dc : ℕ) (key : List ℕ) (version : ℕ) → dc ≤ 255 → IsKey key → IsVersion version → map view parts.now ≢ number_json dc ∷ text_json key ∷ text_json (version_text version) ∷ [] }
+{
+    match parts {
+        [d, k, v] => Ok(Event::Ask {
             dc: dc(d)?,
             key: key(alloc, k)?,
             version: version(v)?,
         }),
-        ("mark", [d, v, n]) => Ok(Event::Mark {
+        _ => Err(Unread::Form),
+    }
+}
+
+/// A mark: a data centre, the version of a put and a dependency's index.
+fn mark(parts: &[Json]) -> Result<Event, Unread>
+    ensures json { IfOk result (λ event. (kind_of event ≡ codes "mark") × (parts_of event ≡ map view parts.now)) }
+    ensures none { OnErr result ((dc version dep : ℕ) → dc ≤ 255 → IsVersion version → dep ≤ 65535 → map view parts.now ≢ number_json dc ∷ text_json (version_text version) ∷ number_json dep ∷ []) }
+{
+    match parts {
+        [d, v, n] => Ok(Event::Mark {
             dc: dc(d)?,
             version: version(v)?,
             dep: number(n, 0, 65_535)? as u16,
-        }),
-        ("settle", [d, v]) => Ok(Event::Settle {
-            dc: dc(d)?,
-            version: version(v)?,
         }),
         _ => Err(Unread::Form),
     }

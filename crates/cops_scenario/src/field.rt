@@ -1,8 +1,12 @@
 //! What stands in a scenario's fields: numbers, keys, values and versions, and lists of known length.
-ghost use Rattle.std.specs.Prelude.{◌≡◌, ◌≢◌, ◌≤◌, [], length, map, decimal, Some, Err, IfOk, OnErr, option_and_then};
+ghost use Rattle.std.specs.Prelude.{◌≡◌, ◌≢◌, ◌≤◌, ◌<◌, ◌^◌, ℕ, List, length, map, decimal, Some, Err, IfOk, OnErr, option_and_then};
+ghost use Rattle.serde_json.specs.Data.{Data};
 ghost use Rattle.serde_json.specs.Find.{as_number, as_u64};
 ghost use Rattle.serde_json.specs.View.{view};
+ghost use Rattle.cops_types.specs.Key.{IsKey};
 ghost use Rattle.cops_types.specs.Texts.{version_text};
+ghost use Rattle.cops_types.specs.Value.{IsValue};
+ghost use Rattle.cops_types.specs.Version.{IsVersion};
 ghost use Rattle.cops_scenario.specs.declared.field.Unread.TheVariants.{Memory as OutOfMemory};
 ghost use Rattle.cops_scenario.specs.File.{number_json, text_json, list_json, one_json, IsNoNumber};
 
@@ -90,7 +94,8 @@ pub(crate) fn number(json: &Json, least: u64, most: u64) -> Result<u64, Unread>
 pub(crate) fn list(json: &Json, most: usize) -> Result<&[Json], Unread>
     ensures few { IfOk result (λ items. length items.now ≤ most) }
     ensures json { IfOk result (λ items. view json.now ≡ list_json (map view items.now)) }
-    ensures none { OnErr result (view json.now ≢ list_json []) }
+    ensures form { OnErr result (result ≡ Err Unread.Form) }
+    ensures none { OnErr result ((items : List Data) → length items ≤ most → view json.now ≢ list_json items) }
 {
     let items = json.as_array().ok_or(Unread::Form)?;
     if items.len() > most {
@@ -101,7 +106,8 @@ pub(crate) fn list(json: &Json, most: usize) -> Result<&[Json], Unread>
 
 /// The name and the value of an object's only member.
 pub(crate) fn only_member(json: &Json) -> Result<(&str, &Json), Unread>
-    ensures { IfOk result (λ m. view json.now ≡ one_json m.0.now (view m.1.now)) }
+    ensures json { IfOk result (λ m. view json.now ≡ one_json m.0.now (view m.1.now)) }
+    ensures none { OnErr result ((name : List ℕ) (of : Data) → view json.now ≢ one_json name of) }
 {
     let members = json.as_object().ok_or(Unread::Form)?;
     if members.len() != 1 {
@@ -113,7 +119,8 @@ pub(crate) fn only_member(json: &Json) -> Result<(&str, &Json), Unread>
 
 /// A text as a key, 1 to 64 bytes.
 pub(crate) fn key(alloc: Global, json: &Json) -> Result<Key, Unread>
-    ensures { IfOk result (λ bytes. view json.now ≡ text_json bytes) }
+    ensures json { IfOk result (λ bytes. view json.now ≡ text_json bytes) }
+    ensures none { result ≡ Err Unread.Form → (bytes : List ℕ) → IsKey bytes → view json.now ≢ text_json bytes }
 {
     let text = json.as_str().ok_or(Unread::Form)?;
     Ok(Key::new(alloc, text.as_bytes())?)
@@ -121,7 +128,8 @@ pub(crate) fn key(alloc: Global, json: &Json) -> Result<Key, Unread>
 
 /// A text as a value, at most 4,096 bytes.
 pub(crate) fn value(alloc: Global, json: &Json) -> Result<Value, Unread>
-    ensures { IfOk result (λ bytes. view json.now ≡ text_json bytes) }
+    ensures json { IfOk result (λ bytes. view json.now ≡ text_json bytes) }
+    ensures none { result ≡ Err Unread.Form → (bytes : List ℕ) → IsValue bytes → view json.now ≢ text_json bytes }
 {
     let text = json.as_str().ok_or(Unread::Form)?;
     Ok(Value::new(alloc, text.as_bytes())?)
@@ -129,7 +137,8 @@ pub(crate) fn value(alloc: Global, json: &Json) -> Result<Value, Unread>
 
 /// A text as a version: a clock, a dot and a node, each decimal without leading zeros.
 pub(crate) fn version(json: &Json) -> Result<Version, Unread>
-    ensures { IfOk result (λ version. view json.now ≡ text_json (version_text version)) }
+    ensures json { IfOk result (λ version. view json.now ≡ text_json (version_text version)) }
+    ensures none { OnErr result ((version : ℕ) → IsVersion version → view json.now ≢ text_json (version_text version)) }
 {
     let text = json.as_str().ok_or(Unread::Form)?;
     let (clock, node) = text.split_once('.').ok_or(Unread::Form)?;
@@ -139,7 +148,8 @@ pub(crate) fn version(json: &Json) -> Result<Version, Unread>
 
 /// A number of digits alone, without leading zeros.
 fn decimal(text: &str) -> Result<u64, Unread>
-    ensures { IfOk result (λ n. text.now ≡ decimal n) }
+    ensures text { IfOk result (λ n. text.now ≡ decimal n) }
+    ensures none { OnErr result ((n : ℕ) → n < 2 ^ 64 → text.now ≢ decimal n) }
 {
     let digits = text.as_bytes();
     if digits.is_empty() || digits[0] == b'+' {
@@ -156,14 +166,16 @@ fn decimal(text: &str) -> Result<u64, Unread>
 
 /// A client's number.
 pub(crate) fn client(json: &Json) -> Result<u16, Unread>
-    ensures { IfOk result (λ n. view json.now ≡ number_json n) }
+    ensures json { IfOk result (λ n. view json.now ≡ number_json n) }
+    ensures none { OnErr result (IsNoNumber 0 65535 (Some (view json.now))) }
 {
     Ok(number(json, 0, 65_535)? as u16)
 }
 
 /// A data centre's number, of one that is there or not.
 pub(crate) fn dc(json: &Json) -> Result<u8, Unread>
-    ensures { IfOk result (λ n. view json.now ≡ number_json n) }
+    ensures json { IfOk result (λ n. view json.now ≡ number_json n) }
+    ensures none { OnErr result (IsNoNumber 0 255 (Some (view json.now))) }
 {
     Ok(number(json, 0, 255)? as u8)
 }

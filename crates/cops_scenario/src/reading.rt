@@ -1,12 +1,14 @@
 //! A scenario from its JSON text.
-ghost use Rattle.std.specs.Prelude.{◌≡◌, ◌≢◌, ◌≤◌, ◌<◌, ◌⊎◌, List, [], ℕ, length, map, codes, All, None, Some, Err, IfOk, OnOk, OnErr, IsSome, unwrap_or, option_map};
-ghost use Rattle.std.specs.Bool.{OnFalse};
+ghost use Rattle.std.specs.Prelude.{◌≡◌, ◌≢◌, ◌≤◌, ◌<◌, ◌⊎◌, List, [], ℕ, length, map, codes, All, Option, None, Some, Err, IfOk, IfSome, OnOk, OnErr, IsSome, unwrap_or, option_map};
+ghost use Rattle.std.specs.Bool.{OnFalse, OnTrue};
 ghost use Rattle.serde_json.specs.Data.{Data};
 ghost use Rattle.serde_json.specs.View.{view};
-ghost use Rattle.cops_scenario.specs.File.{text_json, list_json, AreRightBefore, AreUnscripted, IsListOrMissing, TellsClient, TellClients, TellsScenario, IsNoNumber, IsNumber, IsWrong};
+ghost use Rattle.cops_scenario.specs.File.{text_json, list_json, AreRightBefore, AreUnscripted, IsListOrMissing, TellsClient, TellClients, TellsEvents, TellsScenario, IsNoNumber, IsNumber, IsWrong};
 ghost use Rattle.cops_scenario.specs.declared.fault.Field.{Field as AField};
 ghost use Rattle.serde_json.specs.Find.{get};
-ghost use Rattle.cops_scenario.specs.Scenario.{IsClientOf, name_of, number_at};
+ghost use Rattle.cops_scenario.specs.Scenario.{AreLegalEvents, AreSplits, IsClientOf, IsLegalClient, name_of, number_at};
+ghost use Rattle.cops_core.specs.declared.event.Event.{Event as AnEvent};
+ghost use Rattle.cops_scenario.specs.declared.scenario.ScriptedClient.{ScriptedClient as AClient};
 
 use crate::event::{events, script};
 use crate::fault::{Field, ScenarioFault};
@@ -14,6 +16,7 @@ use crate::field::{Unread, dc, key, list, number};
 use crate::scenario::{
     MAX_CLIENTS, MAX_EVENTS, MAX_LINK, MAX_SCRIPT, MAX_TURNS, Scenario, ScriptedClient,
 };
+use cops_core::Event;
 use cops_place::{MAX_DCS, MAX_SPLITS, Place, PlaceFault};
 use serde_json::Value as Json;
 use std::alloc::Global;
@@ -58,16 +61,9 @@ fn scenario(alloc: Global, root: &Json) -> Result<Scenario, ScenarioFault>
         return Err(ScenarioFault::BadField(Field::Clients));
     };
     let clients = clients(alloc, dcs, listed).map_err(|unread| unread.of(Field::Clients))?;
-    let events = match root.get(Field::Events.name()) {
-        None => None,
-        Some(_) if is_scripted(listed, &clients) => {
-            return Err(ScenarioFault::BadField(Field::Events));
-        }
-        Some(json) => {
-            let events = events(alloc, json, MAX_EVENTS);
-            Some(events.map_err(|unread| unread.of(Field::Events))?)
-        }
-    };
+    let events = events_beside(alloc, listed, root.get(Field::Events.name())).map_err(
+        |unread| unread.of(Field::Events),
+    )?;
     Ok(Scenario::new(place, link, turns, clients, events))
 }
 
@@ -97,8 +93,8 @@ fn number_of(
 fn place(alloc: Global, dcs: u8, splits: Option<&Json>) -> Result<Place, Unread>
     requires { (1 ≤ dcs) × (dcs ≤ 16) }
     ensures dcs { IfOk result (λ place. place.dcs ≡ dcs) }
-    ensures there { result ≡ Err Unread.Form → IsSome splits.entry }
     ensures splits { IfOk result (λ place. IsListOrMissing (map text_json place.splits) (option_map (λ v. view v.now) splits.entry)) }
+    ensures none { result ≡ Err Unread.Form → (keys : List (List ℕ)) → AreSplits keys → IsListOrMissing (map text_json keys) (option_map (λ v. view v.now) splits.entry) → ⊥ }
 {
     let Some(json) = splits else {
         return Ok(whole_place(alloc, dcs));
@@ -126,8 +122,8 @@ fn whole_place(alloc: Global, dcs: u8) -> Place
 fn clients(alloc: Global, dcs: u8, json: &Json) -> Result<Vec<ScriptedClient>, Unread>
     ensures few { IfOk result (λ clients. length clients.items ≤ 64) }
     ensures each { IfOk result (λ clients. All (IsClientOf dcs) clients.items) }
-    ensures some { result ≡ Err Unread.Form → view json.now ≢ list_json [] }
     ensures told { IfOk result (λ clients. (ds : List Data) × (view json.now ≡ list_json ds) × TellClients ds clients.items) }
+    ensures none { result ≡ Err Unread.Form → (ds : List Data) (cs : List AClient) → view json.now ≡ list_json ds → TellClients ds cs → length cs ≤ 64 → All (IsLegalClient dcs) cs → ⊥ }
 {
     let mut clients = Vec::new(alloc);
     for item in list(json, MAX_CLIENTS)? {
@@ -140,6 +136,7 @@ fn clients(alloc: Global, dcs: u8, json: &Json) -> Result<Vec<ScriptedClient>, U
 fn client(alloc: Global, dcs: u8, json: &Json) -> Result<ScriptedClient, Unread>
     ensures limits { IfOk result (IsClientOf dcs) }
     ensures told { IfOk result (TellsClient (view json.now)) }
+    ensures none { result ≡ Err Unread.Form → (c : AClient) → IsLegalClient dcs c → TellsClient (view json.now) c → ⊥ }
 {
     let at = dc(json.get("at").ok_or(Unread::Form)?)?;
     if at >= dcs {
@@ -152,17 +149,30 @@ fn client(alloc: Global, dcs: u8, json: &Json) -> Result<ScriptedClient, Unread>
     Ok(ScriptedClient { at, script })
 }
 
-/// Whether some client has a script, be it an empty one.
-fn is_scripted(listed: &Json, clients: &[ScriptedClient]) -> bool
-    ensures empty { OnFalse result (All (λ c. c.script.items ≡ []) clients.now) }
-    ensures missing { OnFalse result ((ds : List Data) → view listed.now ≡ list_json ds → AreUnscripted ds (Some [])) }
+/// The events of a list, none where it is missing: beside events no client that is listed has a script.
+fn events_beside(
+    alloc: Global,
+    listed: &Json,
+    list: Option<&Json>,
+) -> Result<Option<Vec<Event>>, Unread>
+    ensures few { IfOk result (λ found. IfSome (option_map (λ e. e.items) found) (λ events. length events ≤ 100000)) }
+    ensures told { IfOk result (λ found. TellsEvents (option_map (λ v. view v.now) list.entry) (option_map (λ e. e.items) found)) }
+    ensures beside { IfOk result (λ found. (ds : List Data) → view listed.now ≡ list_json ds → AreUnscripted ds (option_map (λ e. e.items) found)) }
+    ensures none { result ≡ Err Unread.Form → (ds : List Data) (told : Option (List AnEvent)) → view listed.now ≡ list_json ds → TellsEvents (option_map (λ v. view v.now) list.entry) told → AreLegalEvents told → AreUnscripted ds told → ⊥ }
 {
-    lists_script(listed) || clients.iter().any(|client| !client.script.is_empty())
+    let Some(json) = list else {
+        return Ok(None);
+    };
+    if lists_script(listed) {
+        return Err(Unread::Form);
+    }
+    Ok(Some(events(alloc, json, MAX_EVENTS)?))
 }
 
-/// Whether something that is listed has a script.
+/// Whether some client that is listed has a script, be it an empty one.
 fn lists_script(listed: &Json) -> bool
-    ensures { OnFalse result ((ds : List Data) → view listed.now ≡ list_json ds → AreUnscripted ds (Some [])) }
+    ensures none { OnFalse result ((ds : List Data) → view listed.now ≡ list_json ds → AreUnscripted ds (Some [])) }
+    ensures some { OnTrue result ((ds : List Data) → view listed.now ≡ list_json ds → AreUnscripted ds (Some []) → ⊥) }
 {
     match listed.as_array() {
         Some(items) => has_script(items),
@@ -172,7 +182,8 @@ fn lists_script(listed: &Json) -> bool
 
 /// Whether one of these has a script.
 fn has_script(items: &[Json]) -> bool
-    ensures { OnFalse result (All (λ v. get (codes "script") (view v) ≡ None) items.now) }
+    ensures none { OnFalse result (All (λ v. get (codes "script") (view v) ≡ None) items.now) }
+    ensures some { OnTrue result (All (λ v. get (codes "script") (view v) ≡ None) items.now → ⊥) }
 {
     items.iter().any(|client| client.get("script").is_some())
 }

@@ -1,22 +1,16 @@
-use Rattle.std.proofs.Common.{◌≡◌, List, rules}
+use Rattle.std.proofs.Common.{◌≡◌, ◌≤◌, List, length, rules}
+use Rattle.std.specs.Prelude.{Option, IfSome, option_map}
 use Rattle.serde_json.specs.Data.{Data}
 use Rattle.serde_json.specs.View.{view}
-use Rattle.cops_scenario.specs.File.{AreRightBefore, IsRight, TellClients, list_json}
+use Rattle.cops_core.specs.declared.event.Event.{Event}
+use Rattle.cops_scenario.specs.File.{AreUnscripted, IsRight, TellClients, list_json}
 use Rattle.cops_scenario.specs.declared.fault.Field.TheVariants.{Root, DataCentres, Splits, Link, Turns, Clients, Events}
 use Rattle.cops_scenario.proofs.Order.{before_clients, before_events}
+use Rattle.cops_scenario.proofs.Scripts.{are_events}
 use Rattle.cops_scenario.proofs.reading.scenario.Goals as goal
 
-pub returns-in-Some-get-clause-first : goal.returns-in-Some-get-clause-first
-returns-in-Some-get-clause-first c = λ field e.
-    let root = view c.args.root.now in
-    let told : (ds : List Data) × (view c.in-Some.listed.now ≡ list_json ds) × TellClients ds c.in_ok-clients.clients.items = search rules in
-    let right : IsRight root Clients = (told.0, c.in_ok-clients.clients.items, search rules, told.2) in
-    let earlier : AreRightBefore root Clients = search rules in
-    let is : Events ≡ field = cc in
-    before_events root field is earlier right
-
-pub returns-in_err-map_err-in-Some-2-clause-first : goal.returns-in_err-map_err-in-Some-2-clause-first
-returns-in_err-map_err-in-Some-2-clause-first c = λ field e.
+pub returns-in_err-events-clause-first : goal.returns-in_err-events-clause-first
+returns-in_err-events-clause-first c = λ field e.
     let root = view c.args.root.now in
     let told : (ds : List Data) × (view c.in-Some.listed.now ≡ list_json ds) × TellClients ds c.in_ok-clients.clients.items = search rules in
     let right : IsRight root Clients = (told.0, c.in_ok-clients.clients.items, search rules, told.2) in
@@ -28,3 +22,11 @@ returns-in_err-map_err-in-Some-2-clause-first c = λ field e.
     let earlier = before_clients root whole dcs splits link turns in
     let is : Events ≡ field = search rules in
     before_events root field is earlier right
+
+pub new-requires-clause-events : goal.new-requires-clause-events
+new-requires-clause-events c =
+    let told : (ds : List Data) × (view c.in-Some.listed.now ≡ list_json ds) × TellClients ds c.in_ok-clients.clients.items = search rules in
+    let events : Option (List Event) = option_map (λ e. e.items) c.in_ok-events.events in
+    let few : IfSome (option_map (λ e. e.items) c.in_ok-events.events) (λ es. length es ≤ 100000) = search rules in
+    let beside : (ds : List Data) → view c.in-Some.listed.now ≡ list_json ds → AreUnscripted ds (option_map (λ e. e.items) c.in_ok-events.events) = search rules in
+    are_events told.0 c.in_ok-clients.clients.items events told.2 (beside told.0 told.1) few

@@ -1,0 +1,68 @@
+-- A JSON form tells what it stands for.
+use Rattle.std.proofs.Common.{◌≡◌, ◌<◌, ℕ, zero, suc, List, [], ◌∷◌, All, map, length, get_or, refl, sym, ap, ◌∙◌, arith}
+use Rattle.std.specs.Prelude.{◌≢◌, Some}
+use Rattle.std.proofs.lemmas.List.Elements.{All-head, All-tail}
+use Rattle.serde_json.specs.Data.{Data}
+use Rattle.serde_json.specs.View.{view, items_of}
+use Rattle.serde_json.specs.Find.{as_array}
+use Rattle.serde_json.specs.declared.value.Value.{Value}
+use Rattle.cops_scenario.specs.declared.scenario.ScriptedClient.{ScriptedClient}
+use Rattle.cops_scenario.specs.File.{list_json, text_json, one_json, TellsClient, TellClients}
+
+items_alike : (xs ys : List Data) → items_of xs ≡ items_of ys → xs ≡ ys
+items_alike [] [] e = refl
+items_alike [] (y ∷ ys) e = let no : ⊥ = cc in absurd no
+items_alike (x ∷ xs) [] e = let no : ⊥ = cc in absurd no
+items_alike (x ∷ xs) (y ∷ ys) e =
+    let one : x ≡ y = cc in
+    let rest : items_of xs ≡ items_of ys = cc in
+    let more : xs ≡ ys = items_alike xs ys rest in
+    cc
+
+pub same_items : (xs ys : List Data) → Some (items_of xs) ≡ Some (items_of ys) → xs ≡ ys
+same_items xs ys e = let same : items_of xs ≡ items_of ys = cc in items_alike xs ys same
+
+pub same_list : (xs ys : List Data) → list_json xs ≡ list_json ys → xs ≡ ys
+same_list xs ys e = same_items xs ys (ap as_array e)
+
+pub same_texts : (xs ys : List (List ℕ)) → map text_json xs ≡ map text_json ys → xs ≡ ys
+same_texts [] [] e = refl
+same_texts [] (y ∷ ys) e = let no : ⊥ = cc in absurd no
+same_texts (x ∷ xs) [] e = let no : ⊥ = cc in absurd no
+same_texts (x ∷ xs) (y ∷ ys) e =
+    let one : x ≡ y = cc in
+    let rest : map text_json xs ≡ map text_json ys = cc in
+    let more : xs ≡ ys = same_texts xs ys rest in
+    cc
+
+pub same_one : (a b : List ℕ) (x y : Data) → one_json a x ≡ one_json b y → (a ≡ b) × (x ≡ y)
+same_one a b x y e = (cc, cc)
+
+-- an item of a list is one of those that the list tells
+pub no_such_item : {A : Type 0} (json : A → Data) (P : A → Type 0) (items : List Value) (i : ℕ) (item : Value) (xs : List A)
+    → i < length items → item ≡ get_or items i item → ((x : A) → P x → view item ≢ json x) → map view items ≡ map json xs → All P xs → ⊥
+no_such_item json P [] i item xs within is none e each = omega arith
+no_such_item json P (v ∷ vs) i item [] within is none e each = cc
+no_such_item json P (v ∷ vs) zero item (x ∷ xs) within is none e each =
+    let head : view v ≡ json x = cc in
+    none x (All-head P x xs each) (ap view is ∙ head)
+no_such_item json P (v ∷ vs) (suc i) item (x ∷ xs) within is none e each =
+    let rest : map view vs ≡ map json xs = cc in
+    no_such_item json P vs i item xs (omega arith) is none rest (All-tail P x xs each)
+
+-- nor is one among the clients that it tells
+pub no_such_client : (P : ScriptedClient → Type 0) (items : List Value) (i : ℕ) (item : Value) (cs : List ScriptedClient)
+    → i < length items → item ≡ get_or items i item → ((c : ScriptedClient) → P c → TellsClient (view item) c → ⊥) → TellClients (map view items) cs → All P cs → ⊥
+no_such_client P [] i item cs within is none told each = omega arith
+no_such_client P (v ∷ vs) i item [] within is none told each = told
+no_such_client P (v ∷ vs) zero item (c ∷ cs) within is none told each =
+    let e : v ≡ item = sym is in
+    none c (All-head P c cs each) (rw e at told.0)
+no_such_client P (v ∷ vs) (suc i) item (c ∷ cs) within is none told each =
+    no_such_client P vs i item cs (omega arith) is none told.1 (All-tail P c cs each)
+
+pub as_many : (ds : List Data) (cs : List ScriptedClient) → TellClients ds cs → length ds ≡ length cs
+as_many [] [] told = refl
+as_many [] (c ∷ cs) told = absurd told
+as_many (d ∷ ds) [] told = absurd told
+as_many (d ∷ ds) (c ∷ cs) told = ap suc (as_many ds cs told.1)

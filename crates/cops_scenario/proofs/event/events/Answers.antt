@@ -1,0 +1,14 @@
+use Rattle.std.proofs.Common.{◌≡◌, ◌∙◌, map, rules, sym}
+use Rattle.serde_json.specs.View.{view}
+use Rattle.cops_core.specs.declared.event.Event.{Event}
+use Rattle.cops_scenario.specs.File.{event_json}
+use Rattle.cops_scenario.specs.Scenario.{IsLegalEvent}
+use Rattle.cops_scenario.proofs.Forms.{no_such_item, same_list}
+use Rattle.cops_scenario.proofs.event.events.Goals as goal
+
+pub returns-in_err-event-clause-none : goal.returns-in_err-event-clause-none
+returns-in_err-event-clause-none c = λ err told few each e.
+    let items = c.in_ok-item-items.item-items.now in
+    let none : (x : Event) → IsLegalEvent x → view c.item-item.result ≡ event_json x → ⊥ = search rules in
+    no_such_item event_json IsLegalEvent items c.loop-item.item-index c.item-item.result told c.loop-item-test.true c.item-item.is none
+    (same_list (map view items) (map event_json told) (sym c.in_ok-item-items.ensures.json ∙ e)) each

@@ -1,0 +1,14 @@
+use Rattle.std.proofs.Common.{◌≡◌, ◌∙◌, map, rules, sym}
+use Rattle.serde_json.specs.View.{view}
+use Rattle.cops_scenario.specs.declared.scenario.ScriptOp.{ScriptOp}
+use Rattle.cops_scenario.specs.File.{op_json}
+use Rattle.cops_scenario.specs.Scenario.{IsLegalOp}
+use Rattle.cops_scenario.proofs.Forms.{no_such_item, same_list}
+use Rattle.cops_scenario.proofs.event.script.Goals as goal
+
+pub returns-in_err-script_op-clause-none : goal.returns-in_err-script_op-clause-none
+returns-in_err-script_op-clause-none c = λ err told few each e.
+    let items = c.in_ok-item-items.item-items.now in
+    let none : (x : ScriptOp) → IsLegalOp x → view c.item-item.result ≡ op_json x → ⊥ = search rules in
+    no_such_item op_json IsLegalOp items c.loop-item.item-index c.item-item.result told c.loop-item-test.true c.item-item.is none
+    (same_list (map view items) (map op_json told) (sym c.in_ok-item-items.ensures.json ∙ e)) each
