@@ -4,3 +4,4 @@ pub mod Counting
 pub mod Carrying
 pub mod Gained
 pub mod Taken
+pub mod Joining

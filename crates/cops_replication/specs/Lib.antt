@@ -5,3 +5,5 @@ pub mod Shares
 pub mod Sending
 pub mod Receiving
 pub mod Lending
+pub mod Wiring
+pub mod Making

@@ -1,5 +1,10 @@
 //! Senders and receivers, and the links between them.
-ghost use Rattle.std.specs.Prelude.{◌≤◌};
+ghost use Rattle.std.specs.Prelude.{◌≡◌, ◌≤◌, ◌-◌, All, IfOk, [], length, map};
+ghost use Rattle.cops_link.specs.Link.{known_room, sent, taken, IsLink};
+ghost use Rattle.cops_replication.specs.Making.{AreEnds, ArePaired, GainsEnds, rows};
+ghost use Rattle.cops_replication.specs.Receiving.{ends};
+ghost use Rattle.cops_replication.specs.Sending.{lanes};
+ghost use Rattle.cops_replication.specs.Wiring.{AreJoined, AreReceivers, AreSenders, IsFreshIn, place_beside};
 
 use crate::receiver::Receiver;
 use crate::sender::Sender;
@@ -15,24 +20,53 @@ pub struct Replicas {
     pub receivers: Vec<Receiver>,
 }
 
-/// A sender and a receiver for each of so many data centres, with a link of this capacity from each sender to the receiver of
-/// each other one. The receivers take the shares, which are in order of data centres.
+/// A sender and a receiver for each of so many data centres, in order, with a link of this capacity from each sender to the
+/// receiver of each other one. The receivers take the shares in order. Where shares are missing, the last data centres have no
+/// receiver.
 pub fn wired(alloc: Global, dcs: u8, capacity: u16, shares: Vec<Share>) -> Result<Replicas, Memory>
     requires { (1 ≤ capacity) × (capacity ≤ 1024) }
+    ensures senders { IfOk result (λ r. AreSenders dcs (dcs - 1) capacity r.senders.items) }
+    ensures receivers { IfOk result (λ r. length shares.items ≡ dcs → AreReceivers dcs shares.items r.receivers.items) }
+    ensures joined { IfOk result (λ r. length shares.items ≡ dcs → AreJoined dcs (map lanes r.senders.items) (map ends r.receivers.items)) }
+{
+    let mut outs = no_ends(alloc, dcs)?;
+    let senders = senders(alloc, dcs, capacity, &mut outs)?;
+    let receivers = receivers(alloc, dcs, outs, shares)?;
+    Ok(Replicas { senders, receivers })
+}
+
+/// A list for the ends that take of each data centre, still empty.
+fn no_ends(alloc: Global, dcs: u8) -> Result<Vec<Vec<LinkOut>>, Memory>
+    ensures length { IfOk result (λ outs. length outs.items ≡ dcs) }
+    ensures none { IfOk result (λ outs. All (λ (v : _). v.items ≡ []) outs.items) }
 {
     let mut outs = Vec::new(alloc);
     for _ in 0..dcs {
         outs.push(Vec::new(alloc))?;
     }
+    Ok(outs)
+}
+
+/// The sender of each data centre, with a link to each other one. The ends that take go to the others.
+fn senders(
+    alloc: Global,
+    dcs: u8,
+    capacity: u16,
+    outs: &mut [Vec<LinkOut>],
+) -> Result<Vec<Sender>, Memory>
+    requires capacity { (1 ≤ capacity) × (capacity ≤ 1024) }
+    requires length { length outs.old ≡ dcs }
+    requires none { All (λ (v : _). v.items ≡ []) outs.old }
+    ensures senders { IfOk result (λ s. AreSenders dcs (dcs - 1) capacity s.items) }
+    ensures ends { IfOk result (λ _. AreEnds dcs dcs (rows outs.new)) }
+    ensures joined { IfOk result (λ s. AreJoined dcs (map lanes s.items) (rows outs.new)) }
+{
     let mut senders = Vec::new(alloc);
     for dc in 0..dcs {
-        let links = links_from(alloc, dc, capacity, &mut outs)?;
+        let links = links_from(alloc, dc, capacity, outs)?;
         senders.push(Sender::new(alloc, dc, links)?)?;
     }
-    Ok(Replicas {
-        senders,
-        receivers: receivers(alloc, dcs, outs, shares)?,
-    })
+    Ok(senders)
 }
 
 /// A link from a data centre to each other one. The ends that take go to the others.
@@ -43,20 +77,26 @@ fn links_from(
     outs: &mut [Vec<LinkOut>],
 ) -> Result<Vec<LinkIn>, Memory>
     requires { (1 ≤ capacity) × (capacity ≤ 1024) }
+    ensures length { IfOk result (λ ins. length ins.items ≡ place_beside from (length outs.old)) }
+    ensures fresh { IfOk result (λ ins. All (IsFreshIn capacity) ins.items) }
+    ensures gains { IfOk result (λ ins. GainsEnds from ins.items (rows outs.old) (rows outs.new)) }
 {
     let mut ins = Vec::new(alloc);
     for to in 0..outs.len() {
-        if to != usize::from(from) {
-            let (sends, takes) = link_of(alloc, capacity)?;
-            ins.push(sends)?;
-            outs[to].push(takes)?;
+        if to == usize::from(from) {
+            continue;
         }
+        let (sends, takes) = link_of(alloc, capacity)?;
+        ins.push(sends)?;
+        outs[to].push(takes)?;
     }
     Ok(ins)
 }
 
+/// A link, of which nothing was sent or taken.
 fn link_of(alloc: Global, capacity: u16) -> Result<(LinkIn, LinkOut), Memory>
     requires { (1 ≤ capacity) × (capacity ≤ 1024) }
+    ensures { IfOk result (λ r. IsLink r.0 r.1 × (sent r.0 ≡ []) × (taken r.1 ≡ []) × (known_room r.0 ≡ capacity)) }
 {
     match link(alloc, usize::from(capacity)) {
         Ok(ends) => Ok(ends),
@@ -65,16 +105,24 @@ fn link_of(alloc: Global, capacity: u16) -> Result<(LinkIn, LinkOut), Memory>
     }
 }
 
-/// The receiver of each data centre.
+/// The receivers of the data centres, in order, as far as there are shares.
 fn receivers(
     alloc: Global,
     dcs: u8,
-    mut outs: Vec<Vec<LinkOut>>,
-    mut shares: Vec<Share>,
-) -> Result<Vec<Receiver>, Memory> {
+    outs: Vec<Vec<LinkOut>>,
+    shares: Vec<Share>,
+) -> Result<Vec<Receiver>, Memory>
+    requires { length outs.items ≡ dcs }
+    ensures { IfOk result (λ r. length shares.items ≡ dcs → ArePaired dcs (rows outs.items) shares.items r.items) }
+{
+    let mut outs = outs.into_iter();
+    let mut shares = shares.into_iter();
     let mut receivers = Vec::new(alloc);
-    for dc in (0..dcs).rev() {
-        let (Some(links), Some(share)) = (outs.pop(), shares.pop()) else {
+    for dc in 0..dcs {
+        let Some(links) = outs.next() else {
+            break;
+        };
+        let Some(share) = shares.next() else {
             break;
         };
         receivers.push(Receiver::new(alloc, dc, links, share))?;
