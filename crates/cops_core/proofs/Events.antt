@@ -10,14 +10,17 @@ use Rattle.cops_types.specs.Recorded.{Recorded, count_of}
 use Rattle.cops_types.specs.Version.{version_of}
 use Rattle.cops_store.specs.Store.{has_pair}
 use Rattle.cops_held.specs.Held.{waiting}
+use Rattle.cops_node.specs.declared.event.NodeEvent.{NodeEvent}
 use Rattle.cops_node.specs.declared.event.NodeEvent.TheVariants.{Put as NodePut, Get as NodeGet, Deliver as NodeDeliver, Ask as NodeAsk, Mark as NodeMark, Settle as NodeSettle}
 use Rattle.cops_node.specs.declared.outcome.Outcome.{Outcome}
 use Rattle.cops_node.specs.declared.outcome.Outcome.TheVariants.{PutDone, Got as Answered, Missed as Nothing, Yes, Refused}
 use Rattle.cops_node.specs.Node.{Node, opened, greatest_clock, raised, put_at, dep_at, NodeHappens}
+use Rattle.cops_core.specs.declared.recording.Draft.{Draft}
 use Rattle.cops_core.specs.Invariants.{IsReached}
 use Rattle.cops_core.specs.Parts.{MayRecord}
-use Rattle.cops_core.specs.World.{Setting, IsSetting, World, home, primary, node_at, with_node, context_in, sent, place_of, is_answered, knows, has_room, is_dc, refusal, keeps, delivers, settled_in, Happens, PutBy, GetBy, DeliverTo, AskAt, MarkAt, SettleAt}
+use Rattle.cops_core.specs.World.{Said, Setting, IsSetting, World, home, primary, node_at, with_node, context_in, sent, place_of, is_answered, knows, has_room, is_dc, checks, refusal, keeps, asks, delivers, done, settled_in, Happens, Event, PutBy, GetBy, DeliverTo, AskAt, MarkAt, SettleAt}
 use Rattle.cops_core.proofs.Nodes.{same_node}
+use Rattle.cops_core.proofs.Placed.{Placed}
 use Rattle.cops_core.proofs.Simulation.{home_within, settled_here}
 use Rattle.cops_core.proofs.Putting.{fresh}
 use Rattle.cops_core.proofs.Worlds.{Sound, reached_sound}
@@ -25,15 +28,29 @@ use Rattle.cops_core.proofs.Asking.{asks_happens, passed_happens, refused_happen
 use Rattle.cops_core.proofs.Versions.{not_sent}
 
 -- the client's next operation is not refused
-abbrev pub Admitted : World → ℕ → Type 0
-Admitted w client = (client < length w.sessions) × (length (slice_index_or w.sessions client []) < 1000000) × (count_of w.sessions < 16000000)
+pub record Admitted (w : World) (client : ℕ) : Type 0 where
+  pub known : client < length w.sessions
+  pub few : length (slice_index_or w.sessions client []) < 1000000
+  pub all : count_of w.sessions < 16000000
 
-pub admitted : (h : Recorded) (w : World) (client : ℕ) → h.sessions ≡ w.sessions → MayRecord h client → Admitted w client
-admitted h w client same may = (
-  subst (λ (x : Sessions). client < length x) same may.known,
-  subst (λ (x : Sessions). length (slice_index_or x client []) < 1000000) same may.few,
-  subst (λ (x : Sessions). count_of x < 16000000) same may.all,
-)
+pub admitted : {h : Recorded} {w : World} {client : ℕ} → h.sessions ≡ w.sessions → MayRecord h client → Admitted w client
+admitted {h} {w} {client} same may = record {
+  known = subst (λ (x : Sessions). client < length x) same may.known;
+  few = subst (λ (x : Sessions). length (slice_index_or x client []) < 1000000) same may.few;
+  all = subst (λ (x : Sessions). count_of x < 16000000) same may.all;
+}
+
+-- the history has room for it
+pub admitted_room : {w : World} {client : ℕ} → Admitted w client → has_room w client ≡ true
+admitted_room {w} {client} a =
+    and_from (nat_lt (length (slice_index_or w.sessions client [])) 1000000) (nat_lt (count_of w.sessions) 16000000)
+    (lt-ltb (length (slice_index_or w.sessions client [])) 1000000 a.few) (lt-ltb (count_of w.sessions) 16000000 a.all)
+
+-- and neither test of the client refuses it
+pub client_passes : {w : World} {client : ℕ} (tests : List (Bool × ℕ)) → Admitted w client → refusal ((knows w client, 3) ∷ (has_room w client, 11) ∷ tests) ≡ refusal tests
+client_passes {w} {client} tests a =
+    ap (λ b. refusal ((b, 3) ∷ (has_room w client, 11) ∷ tests)) (lt-ltb client (length w.sessions) a.known)
+    ∙ ap (λ b. refusal ((b, 11) ∷ tests)) (admitted_room a)
 
 -- an answer that is not Yes is not kept
 pub keeps_wait : (w : World) (dc place d : ℕ) (key : List ℕ) (version : ℕ) (o : Outcome) (n : Node) → (o ≡ Yes → ⊥) → keeps w dc place (AskAt d key version) o n ≡ with_node w dc place n
@@ -55,179 +72,212 @@ pub got_stays : (was : Node) (client : ℕ) (key : List ℕ) (o : Outcome) (n : 
 got_stays was client key o n (inl h) = sym (ap (λ (x : Outcome × Node). x.1) h)
 got_stays was client key o n (inr h) = h.1
 
-module _ (s : Setting) (ok : IsSetting s) (w : World) (reached : IsReached s w) where
-  sound : Sound s w
-  sound = reached_sound s ok w reached
+-- the node at a place of a data centre
+abbrev IsAt : World → ℕ → ℕ → Node → Type 0
+IsAt w dc place was = slice_get (slice_index_or w.nodes dc []) place ≡ Some was
 
-  -- the node at a place of a data centre
-  abbrev At : ℕ → ℕ → Node → Type 0
-  At dc place was = slice_get (slice_index_or w.nodes dc []) place ≡ Some was
+is_node : (w : World) (dc place : ℕ) (was : Node) → IsAt w dc place was → node_at w dc place ≡ was
+is_node w dc place was at = get_or_from_slice_get (slice_index_or w.nodes dc []) place was (opened (dc * 64 + place)) at
 
-  pub dc_there : (dc : ℕ) → dc < s.place.dcs → dc < length w.nodes
-  dc_there dc lt = let e = sound.placed.dcs in omega arith
+-- a world with a node put back, and with these puts, contexts and sessions
+abbrev pub with_parts : World → ℕ → ℕ → Node → List PutRecord → List (List Dep) → Sessions → World
+with_parts w dc place n issued contexts sessions = record {
+  nodes = (with_node w dc place n).nodes;
+  issued = issued;
+  said = w.said;
+  contexts = contexts;
+  sessions = sessions;
+}
 
-  pub place_there : (dc place : ℕ) → dc < s.place.dcs → place ≤ length s.place.splits → place < length (slice_index_or w.nodes dc [])
-  place_there dc place lt le = let e = sound.placed.places dc lt in omega arith
+-- a world with a node put back, and with these answers Yes
+abbrev pub with_answers : World → ℕ → ℕ → Node → List Said → World
+with_answers w dc place n said = record {
+  nodes = (with_node w dc place n).nodes;
+  issued = w.issued;
+  said = said;
+  contexts = w.contexts;
+  sessions = w.sessions;
+}
 
-  pub client_there : (client : ℕ) → client < length w.sessions → client < length w.contexts
-  client_there client lt = let a = sound.placed.sessions in let b = sound.placed.contexts in omega arith
+-- where the node, the puts, the contexts and the sessions stayed, the world did
+pub put_back : {issued : List PutRecord} {contexts : List (List Dep)} {sessions : Sessions} (w : World) (dc place : ℕ) (was n : Node) → IsAt w dc place was → n ≡ was
+    → issued ≡ w.issued → contexts ≡ w.contexts → sessions ≡ w.sessions → with_parts w dc place n issued contexts sessions ≡ w
+put_back w dc place was n at stays issued contexts sessions =
+    (λ i. with_parts w dc place n (issued i) (contexts i) (sessions i))
+    ∙ ap (with_node w dc place) (stays ∙ sym (is_node w dc place was at))
+    ∙ same_node w dc place
 
-  pub client_home : (client : ℕ) → client < length w.sessions → client < length s.homes
-  client_home client lt = let a = sound.placed.sessions in omega arith
+sound : {s : Setting} {w old : World} → IsSetting s → w ≡ old → IsReached s old → Sound s w
+sound {s} {w} ok view reached = reached_sound s ok w (subst (IsReached s) (sym view) reached)
 
-  pub home_there : (client : ℕ) → client < length w.sessions → home s client < s.place.dcs
-  home_there client lt = home_within s ok w sound.placed client lt
+-- what the node at a place answers the world does
+node_happens : {w : World} {dc d place q : ℕ} {was : Node} (event : Event) (asked : NodeEvent) (o : Outcome) (n : Node) (new : World) → dc ≡ d → place ≡ q → node_at w dc place ≡ was
+    → NodeHappens was asked o n → new ≡ keeps w dc place event o n → (asks w event d q asked ≡ (o, new)) ⊎ ((o ≡ Refused 9) × (new ≡ w))
+node_happens {w} {dc} {d} {place} {q} event asked o n new same_dc same_place is h kept =
+    subst (λ x. (asks w event x q asked ≡ (o, new)) ⊎ ((o ≡ Refused 9) × (new ≡ w))) same_dc
+    (subst (λ x. (asks w event dc x asked ≡ (o, new)) ⊎ ((o ≡ Refused 9) × (new ≡ w))) same_place
+    (asks_happens w event dc place asked o n new (subst (λ m. NodeHappens m asked o n) (sym is) h) kept))
 
-  is_node : (dc place : ℕ) (was : Node) → At dc place was → node_at w dc place ≡ was
-  is_node dc place was at = get_or_from_slice_get (slice_index_or w.nodes dc []) place was (opened (dc * 64 + place)) at
+-- where the tests of a world pass, what its node does happens in each world that is the same
+passed : {w old : World} (s : Setting) (event : Event) (o : Outcome) (new : World) → w ≡ old → refusal (checks s w event) ≡ None
+    → (done s w event ≡ (o, new)) ⊎ ((o ≡ Refused 9) × (new ≡ w)) → Happens s old event o new
+passed {w} s event o new view none h = subst (λ x. Happens s x event o new) view (passed_happens s w event o new none h)
 
-  -- what a key's node has settled its data centre has, and one that is not there has nothing
-  pub settled_there : (dc place : ℕ) (was : Node) (pair : Dep) → place ≡ primary s pair.key → At dc place was → has_pair was.settled pair ≡ has_pair (settled_in w dc) pair
-  settled_there dc place was pair e at =
-      ap (λ (n : Node). has_pair n.settled pair) (sym (is_node dc place was at)) ∙ ap (λ q. has_pair (node_at w dc q).settled pair) e ∙ settled_here s w sound.placed dc pair
+-- a data centre that is not there has nothing settled
+pub settled_nowhere : {s : Setting} (w : World) (dc : ℕ) (pair : Dep) → IsSetting s → IsReached s w → s.place.dcs ≤ dc → has_pair (settled_in w dc) pair ≡ false
+settled_nowhere {s} w dc pair ok reached le =
+    let e = (reached_sound s ok w reached).placed.dcs in
+    ap (λ (ns : List Node). has_pair (flat_map (λ (n : Node). n.settled) ns) pair) (get_or_past w.nodes dc [] (omega arith))
 
-  pub settled_nowhere : (dc : ℕ) (pair : Dep) → s.place.dcs ≤ dc → has_pair (settled_in w dc) pair ≡ false
-  settled_nowhere dc pair le =
-      ap (λ (ns : List Node). has_pair (flat_map (λ (n : Node). n.settled) ns) pair) (get_or_past w.nodes dc [] (let e = sound.placed.dcs in omega arith))
+-- a state is seen as the world `w`, which is `old`, a reached one, and one of its data centres is asked
+pub record Asked (s : Setting) (w old : World) (dc : ℕ) : Type 0 where
+  pub setting : IsSetting s
+  pub view : w ≡ old
+  pub reached : IsReached s old
+  pub there : dc < s.place.dcs
 
-  -- a node that stayed is put back
-  pub put_back : (dc place : ℕ) (was n : Node) → At dc place was → n ≡ was → with_node w dc place n ≡ w
-  put_back dc place was n at stays = ap (with_node w dc place) (stays ∙ sym (is_node dc place was at)) ∙ same_node w dc place
+pub asked : {s : Setting} {w old : World} {dc : ℕ} → IsSetting s → w ≡ old → IsReached s old → dc < s.place.dcs → Asked s w old dc
+asked setting view reached there = record { setting = setting; view = view; reached = reached; there = there }
 
-  no_node : (dc place : ℕ) → dc < s.place.dcs → length s.place.splits + 1 ≤ place → node_at w dc place ≡ opened (dc * 64 + place)
-  no_node dc place lt le = get_or_past (slice_index_or w.nodes dc []) place (opened (dc * 64 + place)) (let e = sound.placed.places dc lt in omega arith)
+module _ {s : Setting} {w old : World} {dc : ℕ} (a : Asked s w old dc) where
+  placed : Placed s w
+  placed = (sound a.setting a.view a.reached).placed
 
-  known_dc : (dc : ℕ) → dc < s.place.dcs → (tests : List (Bool × ℕ)) → refusal ((is_dc s dc, 10) ∷ tests) ≡ refusal tests
-  known_dc dc lt tests = ap (λ b. refusal ((b, 10) ∷ tests)) (lt-ltb dc s.place.dcs lt)
+  pub dc_there : dc < length w.nodes
+  dc_there = let e = placed.dcs in let lt = a.there in omega arith
+
+  pub place_there : {place : ℕ} → place ≤ length s.place.splits → place < length (slice_index_or w.nodes dc [])
+  place_there le = let e = placed.places dc a.there in omega arith
+
+  -- what a key's node has settled its data centre has
+  pub settled_there : (place : ℕ) (was : Node) (pair : Dep) → place ≡ primary s pair.key → IsAt w dc place was → has_pair was.settled pair ≡ has_pair (settled_in old dc) pair
+  settled_there place was pair e at =
+      ap (λ (n : Node). has_pair n.settled pair) (sym (is_node w dc place was at))
+      ∙ ap (λ q. has_pair (node_at w dc q).settled pair) e
+      ∙ settled_here s w placed dc pair
+      ∙ ap (λ (x : World). has_pair (settled_in x dc) pair) a.view
+
+  no_node : (place : ℕ) → length s.place.splits + 1 ≤ place → node_at w dc place ≡ opened (dc * 64 + place)
+  no_node place le = let e = placed.places dc a.there in get_or_past (slice_index_or w.nodes dc []) place (opened (dc * 64 + place)) (omega arith)
+
+  known_dc : (tests : List (Bool × ℕ)) → refusal ((is_dc s dc, 10) ∷ tests) ≡ refusal tests
+  known_dc tests = ap (λ b. refusal ((b, 10) ∷ tests)) (lt-ltb dc s.place.dcs a.there)
+
+  stays_nowhere : (place : ℕ) → length s.place.splits + 1 ≤ place → w ≡ with_node w dc place (opened (dc * 64 + place))
+  stays_nowhere place le = sym (same_node w dc place) ∙ ap (with_node w dc place) (no_node place le)
 
   -- settle
-  pub settles : (dc version place : ℕ) (o : Outcome) (was n : Node) → dc < s.place.dcs → place ≡ place_of version → At dc place was → NodeHappens was (NodeSettle version) o n
-      → Happens s w (SettleAt dc version) o (with_node w dc place n)
-  settles dc version place o was n lt e at h =
-      subst (λ q. Happens s w (SettleAt dc version) o (with_node w dc q n)) (sym e)
-      (passed_happens s w (SettleAt dc version) o (with_node w dc (place_of version) n) (known_dc dc lt [])
-      (asks_happens w (SettleAt dc version) dc (place_of version) (NodeSettle version) o n (with_node w dc (place_of version) n)
-      (subst (λ m. NodeHappens m (NodeSettle version) o n) (sym (is_node dc (place_of version) was (subst (λ q. At dc q was) e at))) h) refl))
+  pub settles : (version place : ℕ) (o : Outcome) (was n : Node) → place ≡ place_of version → IsAt w dc place was → NodeHappens was (NodeSettle version) o n
+      → Happens s old (SettleAt dc version) o (with_node w dc place n)
+  settles version place o was n e at h =
+      passed s (SettleAt dc version) o (with_node w dc place n) a.view (known_dc [])
+      (node_happens (SettleAt dc version) (NodeSettle version) o n (with_node w dc place n) refl e (is_node w dc place was at) h refl)
 
-  pub settles_nowhere : (dc version place : ℕ) → dc < s.place.dcs → place ≡ place_of version → length s.place.splits + 1 ≤ place → Happens s w (SettleAt dc version) (Refused 5) w
-  settles_nowhere dc version place lt e le =
-      passed_happens s w (SettleAt dc version) (Refused 5) w (known_dc dc lt [])
-      (asks_happens w (SettleAt dc version) dc (place_of version) (NodeSettle version) (Refused 5) (node_at w dc (place_of version)) w
-      (subst (λ m. NodeHappens m (NodeSettle version) (Refused 5) m) (sym (no_node dc (place_of version) lt (subst (λ q. length s.place.splits + 1 ≤ q) e le))) (inl refl))
-      (sym (same_node w dc (place_of version))))
+  pub settles_nowhere : (version place : ℕ) → place ≡ place_of version → length s.place.splits + 1 ≤ place → Happens s old (SettleAt dc version) (Refused 5) w
+  settles_nowhere version place e le =
+      passed s (SettleAt dc version) (Refused 5) w a.view (known_dc [])
+      (node_happens (SettleAt dc version) (NodeSettle version) (Refused 5) (opened (dc * 64 + place)) w refl e (no_node place le) (inl refl) (stays_nowhere place le))
 
   -- mark
-  abbrev Allowed : ℕ → ℕ → ℕ → Node → Bool → Type 0
-  Allowed dc version dep n b = is_answered w.said dc (dep_at (waiting n.held version) dep) ≡ b
+  tests_of_mark : (version dep place : ℕ) (was : Node) (b : Bool) → place ≡ place_of version → node_at w dc place ≡ was → is_answered w.said dc (dep_at (waiting was.held version) dep) ≡ b
+      → refusal (checks s w (MarkAt dc version dep)) ≡ refusal ((b, 7) ∷ [])
+  tests_of_mark version dep place was b e is answered =
+      known_dc ((is_answered w.said dc (dep_at (waiting (node_at w dc (place_of version)).held version) dep), 7) ∷ [])
+      ∙ ap (λ q. refusal ((is_answered w.said dc (dep_at (waiting (node_at w dc q).held version) dep), 7) ∷ [])) (sym e)
+      ∙ ap (λ (n : Node). refusal ((is_answered w.said dc (dep_at (waiting n.held version) dep), 7) ∷ [])) is
+      ∙ ap (λ x. refusal ((x, 7) ∷ [])) answered
 
-  pub marks : (dc version dep place : ℕ) (o : Outcome) (was n : Node) → dc < s.place.dcs → place ≡ place_of version → At dc place was → Allowed dc version dep was true → NodeHappens was (NodeMark version dep) o n
-      → Happens s w (MarkAt dc version dep) o (with_node w dc place n)
-  marks dc version dep place o was n lt e at answered h =
-      let is = is_node dc (place_of version) was (subst (λ q. At dc q was) e at) in
-      let passed : Allowed dc version dep (node_at w dc (place_of version)) true = subst (λ m. Allowed dc version dep m true) (sym is) answered in
-      subst (λ q. Happens s w (MarkAt dc version dep) o (with_node w dc q n)) (sym e)
-      (passed_happens s w (MarkAt dc version dep) o (with_node w dc (place_of version) n)
-      (known_dc dc lt ((is_answered w.said dc (dep_at (waiting (node_at w dc (place_of version)).held version) dep), 7) ∷ []) ∙ ap (λ b. refusal ((b, 7) ∷ [])) passed)
-      (asks_happens w (MarkAt dc version dep) dc (place_of version) (NodeMark version dep) o n (with_node w dc (place_of version) n)
-      (subst (λ m. NodeHappens m (NodeMark version dep) o n) (sym is) h) refl))
+  pub marks : (version dep place : ℕ) (o : Outcome) (was n : Node) → place ≡ place_of version → IsAt w dc place was → is_answered w.said dc (dep_at (waiting was.held version) dep) ≡ true
+      → NodeHappens was (NodeMark version dep) o n → Happens s old (MarkAt dc version dep) o (with_node w dc place n)
+  marks version dep place o was n e at answered h =
+      let is = is_node w dc place was at in
+      passed s (MarkAt dc version dep) o (with_node w dc place n) a.view (tests_of_mark version dep place was true e is answered)
+      (node_happens (MarkAt dc version dep) (NodeMark version dep) o n (with_node w dc place n) refl e is h refl)
 
-  pub marks_unanswered : (dc version dep place : ℕ) (was : Node) → dc < s.place.dcs → place ≡ place_of version → At dc place was → Allowed dc version dep was false
-      → Happens s w (MarkAt dc version dep) (Refused 7) w
-  marks_unanswered dc version dep place was lt e at answered =
-      let is = is_node dc (place_of version) was (subst (λ q. At dc q was) e at) in
-      let failed : Allowed dc version dep (node_at w dc (place_of version)) false = subst (λ m. Allowed dc version dep m false) (sym is) answered in
-      refused_happens s w (MarkAt dc version dep) 7
-      (known_dc dc lt ((is_answered w.said dc (dep_at (waiting (node_at w dc (place_of version)).held version) dep), 7) ∷ []) ∙ ap (λ b. refusal ((b, 7) ∷ [])) failed)
+  pub marks_unanswered : (version dep place : ℕ) (was : Node) → place ≡ place_of version → IsAt w dc place was → is_answered w.said dc (dep_at (waiting was.held version) dep) ≡ false
+      → Happens s old (MarkAt dc version dep) (Refused 7) old
+  marks_unanswered version dep place was e at answered =
+      subst (λ x. Happens s x (MarkAt dc version dep) (Refused 7) x) a.view
+      (refused_happens s w (MarkAt dc version dep) 7 (tests_of_mark version dep place was false e (is_node w dc place was at) answered))
 
-  pub marks_nowhere : (dc version dep place : ℕ) → dc < s.place.dcs → place ≡ place_of version → length s.place.splits + 1 ≤ place → Happens s w (MarkAt dc version dep) (Refused 5) w
-  marks_nowhere dc version dep place lt e le =
-      let none = no_node dc (place_of version) lt (subst (λ q. length s.place.splits + 1 ≤ q) e le) in
-      let passed : Allowed dc version dep (node_at w dc (place_of version)) true = subst (λ m. Allowed dc version dep m true) (sym none) refl in
-      passed_happens s w (MarkAt dc version dep) (Refused 5) w
-      (known_dc dc lt ((is_answered w.said dc (dep_at (waiting (node_at w dc (place_of version)).held version) dep), 7) ∷ []) ∙ ap (λ b. refusal ((b, 7) ∷ [])) passed)
-      (asks_happens w (MarkAt dc version dep) dc (place_of version) (NodeMark version dep) (Refused 5) (node_at w dc (place_of version)) w
-      (subst (λ m. NodeHappens m (NodeMark version dep) (Refused 5) m) (sym none) (inl refl))
-      (sym (same_node w dc (place_of version))))
+  pub marks_nowhere : (version dep place : ℕ) → place ≡ place_of version → length s.place.splits + 1 ≤ place → Happens s old (MarkAt dc version dep) (Refused 5) w
+  marks_nowhere version dep place e le =
+      passed s (MarkAt dc version dep) (Refused 5) w a.view (tests_of_mark version dep place (opened (dc * 64 + place)) true e (no_node place le) refl)
+      (node_happens (MarkAt dc version dep) (NodeMark version dep) (Refused 5) (opened (dc * 64 + place)) w refl e (no_node place le) (inl refl) (stays_nowhere place le))
 
   -- deliver
-  pub comes : (dc version place : ℕ) (o : Outcome) (put : PutRecord) (was n : Node) → dc < s.place.dcs → Some put ≡ sent w.issued version → place ≡ primary s put.key → At dc place was
-      → NodeHappens was (NodeDeliver put) o n → Happens s w (DeliverTo dc version) o (with_node w dc place n)
-  comes dc version place o put was n lt found e at h =
-      let is = is_node dc (primary s put.key) was (subst (λ q. At dc q was) e at) in
-      subst (λ q. Happens s w (DeliverTo dc version) o (with_node w dc q n)) (sym e)
-      (passed_happens s w (DeliverTo dc version) o (with_node w dc (primary s put.key) n)
-      (known_dc dc lt ((is_some (sent w.issued version), 4) ∷ []) ∙ ap (λ x. refusal ((is_some x, 4) ∷ [])) (sym found))
-      (subst (λ x. (delivers s w dc version x ≡ (o, with_node w dc (primary s put.key) n)) ⊎ ((o ≡ Refused 9) × (with_node w dc (primary s put.key) n ≡ w))) found
-      (asks_happens w (DeliverTo dc version) dc (primary s put.key) (NodeDeliver put) o n (with_node w dc (primary s put.key) n)
-      (subst (λ m. NodeHappens m (NodeDeliver put) o n) (sym is) h) refl)))
+  pub comes : (version place : ℕ) (o : Outcome) (put : PutRecord) (was n : Node) → Some put ≡ sent w.issued version → place ≡ primary s put.key → IsAt w dc place was
+      → NodeHappens was (NodeDeliver put) o n → Happens s old (DeliverTo dc version) o (with_node w dc place n)
+  comes version place o put was n found e at h =
+      passed s (DeliverTo dc version) o (with_node w dc place n) a.view
+      (known_dc ((is_some (sent w.issued version), 4) ∷ []) ∙ ap (λ x. refusal ((is_some x, 4) ∷ [])) (sym found))
+      (subst (λ x. (delivers s w dc version x ≡ (o, with_node w dc place n)) ⊎ ((o ≡ Refused 9) × (with_node w dc place n ≡ w))) found
+      (node_happens (DeliverTo dc version) (NodeDeliver put) o n (with_node w dc place n) refl e (is_node w dc place was at) h refl))
 
   -- ask
-  pub answers : (dc : ℕ) (key : List ℕ) (version place : ℕ) (o : Outcome) (was n : Node) (new : World) → dc < s.place.dcs → place ≡ primary s key → At dc place was
-      → NodeHappens was (NodeAsk key version) o n → new ≡ keeps w dc place (AskAt dc key version) o n → Happens s w (AskAt dc key version) o new
-  answers dc key version place o was n new lt e at h is =
-      passed_happens s w (AskAt dc key version) o new (known_dc dc lt [])
-      (asks_happens w (AskAt dc key version) dc (primary s key) (NodeAsk key version) o n new
-      (subst (λ m. NodeHappens m (NodeAsk key version) o n) (sym (is_node dc (primary s key) was (subst (λ q. At dc q was) e at))) h)
-      (is ∙ ap (λ q. keeps w dc q (AskAt dc key version) o n) e))
+  pub answers : (key : List ℕ) (version place : ℕ) (o : Outcome) (was n : Node) (new : World) → place ≡ primary s key → IsAt w dc place was
+      → NodeHappens was (NodeAsk key version) o n → new ≡ keeps w dc place (AskAt dc key version) o n → Happens s old (AskAt dc key version) o new
+  answers key version place o was n new e at h kept =
+      passed s (AskAt dc key version) o new a.view (known_dc []) (node_happens (AskAt dc key version) (NodeAsk key version) o n new refl e (is_node w dc place was at) h kept)
 
-  -- a client's events
-  known_client : (client : ℕ) (tests : List (Bool × ℕ)) → client < length w.sessions → length (slice_index_or w.sessions client []) < 1000000 → count_of w.sessions < 16000000
-      → refusal ((knows w client, 3) ∷ (has_room w client, 11) ∷ tests) ≡ refusal tests
-  known_client client tests known few all =
-      let room : has_room w client ≡ true = and_from (nat_lt (length (slice_index_or w.sessions client [])) 1000000) (nat_lt (count_of w.sessions) 16000000)
-      (lt-ltb (length (slice_index_or w.sessions client [])) 1000000 few) (lt-ltb (count_of w.sessions) 16000000 all) in
-      ap (λ b. refusal ((b, 3) ∷ (has_room w client, 11) ∷ tests)) (lt-ltb client (length w.sessions) known)
-      ∙ ap (λ b. refusal ((b, 11) ∷ tests)) room
+-- the same state, and the next operation of one of its clients is not refused
+pub record Entered (s : Setting) (w old : World) (client : ℕ) : Type 0 where
+  pub setting : IsSetting s
+  pub view : w ≡ old
+  pub reached : IsReached s old
+  pub may : Admitted w client
 
-  pub puts_at : (client : ℕ) (key value : List ℕ) (dc place : ℕ) (o : Outcome) (was n : Node) (new : World)
-      → client < length w.sessions → length (slice_index_or w.sessions client []) < 1000000 → count_of w.sessions < 16000000
-      → dc ≡ home s client → place ≡ primary s key → At dc place was → NodeHappens was (NodePut client key value (context_in w client)) o n
-      → new ≡ keeps w dc place (PutBy client key value) o n → Happens s w (PutBy client key value) o new
-  puts_at client key value dc place o was n new known few all d e at h is =
-      let asked = NodePut client key value (context_in w client) in
-      passed_happens s w (PutBy client key value) o new (known_client client [] known few all)
-      (asks_happens w (PutBy client key value) (home s client) (primary s key) asked o n new
-      (subst (λ m. NodeHappens m asked o n) (sym (is_node (home s client) (primary s key) was (subst (λ q. At (home s client) q was) e (subst (λ q. At q place was) d at)))) h)
-      (is ∙ ap (λ q. keeps w q place (PutBy client key value) o n) d ∙ ap (λ q. keeps w (home s client) q (PutBy client key value) o n) e))
+pub entered : {s : Setting} {w old : World} {client : ℕ} → IsSetting s → w ≡ old → IsReached s old → Admitted w client → Entered s w old client
+entered setting view reached may = record { setting = setting; view = view; reached = reached; may = may }
 
-  pub gets_at : (client : ℕ) (key : List ℕ) (dc place : ℕ) (o : Outcome) (was n : Node) (new : World)
-      → client < length w.sessions → length (slice_index_or w.sessions client []) < 1000000 → count_of w.sessions < 16000000 → length (context_in w client) < 256
-      → dc ≡ home s client → place ≡ primary s key → At dc place was → NodeHappens was (NodeGet client key) o n
-      → new ≡ keeps w dc place (GetBy client key) o n → Happens s w (GetBy client key) o new
-  gets_at client key dc place o was n new known few all room d e at h is =
-      passed_happens s w (GetBy client key) o new
-      (known_client client ((nat_lt (length (context_in w client)) 256, 2) ∷ []) known few all ∙ ap (λ b. refusal ((b, 2) ∷ [])) (lt-ltb (length (context_in w client)) 256 room))
-      (asks_happens w (GetBy client key) (home s client) (primary s key) (NodeGet client key) o n new
-      (subst (λ m. NodeHappens m (NodeGet client key) o n) (sym (is_node (home s client) (primary s key) was (subst (λ q. At (home s client) q was) e (subst (λ q. At q place was) d at)))) h)
-      (is ∙ ap (λ q. keeps w q place (GetBy client key) o n) d ∙ ap (λ q. keeps w (home s client) q (GetBy client key) o n) e))
+module _ {s : Setting} {w old : World} {client : ℕ} (a : Entered s w old client) where
+  grounds : Sound s w
+  grounds = sound a.setting a.view a.reached
 
-  pub full_context : (client : ℕ) (key : List ℕ) → client < length w.sessions → length (slice_index_or w.sessions client []) < 1000000 → count_of w.sessions < 16000000
-      → nat_lt (length (context_in w client)) 256 ≡ false → Happens s w (GetBy client key) (Refused 2) w
-  full_context client key known few all full =
-      refused_happens s w (GetBy client key) 2
-      (known_client client ((nat_lt (length (context_in w client)) 256, 2) ∷ []) known few all ∙ ap (λ b. refusal ((b, 2) ∷ [])) full)
+  pub client_there : client < length w.contexts
+  client_there = let e = grounds.placed.sessions in let f = grounds.placed.contexts in let lt = a.may.known in omega arith
+
+  pub client_home : client < length s.homes
+  client_home = let e = grounds.placed.sessions in let lt = a.may.known in omega arith
+
+  pub home_asked : {dc : ℕ} → dc ≡ home s client → Asked s w old dc
+  home_asked e = asked a.setting a.view a.reached (subst (λ d. d < s.place.dcs) (sym e) (home_within s a.setting w grounds.placed client a.may.known))
+
+  pub puts_at : (key value : List ℕ) (dc place : ℕ) (o : Outcome) (was n : Node) (own : Draft) (new : World) → dc ≡ home s client → place ≡ primary s key → IsAt w dc place was
+      → own ≡ record { key = key; value = value; deps = context_in w client } → NodeHappens was (NodePut client own.key own.value own.deps) o n
+      → new ≡ keeps w dc place (PutBy client key value) o n → Happens s old (PutBy client key value) o new
+  puts_at key value dc place o was n own new d e at drafted h kept =
+      passed s (PutBy client key value) o new a.view (client_passes [] a.may)
+      (node_happens (PutBy client key value) (NodePut client key value (context_in w client)) o n new d e (is_node w dc place was at)
+      (subst (λ (x : Draft). NodeHappens was (NodePut client x.key x.value x.deps) o n) drafted h) kept)
+
+  pub gets_at : (key : List ℕ) (dc place : ℕ) (o : Outcome) (was n : Node) (new : World) → nat_lt (length (context_in w client)) 256 ≡ true → dc ≡ home s client → place ≡ primary s key → IsAt w dc place was
+      → NodeHappens was (NodeGet client key) o n → new ≡ keeps w dc place (GetBy client key) o n → Happens s old (GetBy client key) o new
+  gets_at key dc place o was n new few d e at h kept =
+      passed s (GetBy client key) o new a.view
+      (client_passes ((nat_lt (length (context_in w client)) 256, 2) ∷ []) a.may ∙ ap (λ b. refusal ((b, 2) ∷ [])) few)
+      (node_happens (GetBy client key) (NodeGet client key) o n new d e (is_node w dc place was at) h kept)
 
   -- the version that a node gives is new
-  pub new_version : (client : ℕ) (key value : List ℕ) (dc place version : ℕ) (was n : Node) → client < length w.sessions → length (slice_index_or w.sessions client []) < 1000000 → count_of w.sessions < 16000000
-      → dc ≡ home s client → place ≡ primary s key → At dc place was → NodeHappens was (NodePut client key value (context_in w client)) (PutDone version) n
-      → sent w.issued version ≡ None
-  new_version client key value dc place version was n known few all d e at (inr h) = cc
-  new_version client key value dc place version was n known few all d e at (inl h) =
-      go (nat_lt (raised node.clock (context_in w client)) greatest_clock)
-      (subst (λ m. cond (nat_lt (raised m.clock (context_in w client)) greatest_clock) (put_at m key value (raised m.clock (context_in w client) + 1)) (Refused 1, m) ≡ (PutDone version, n)) (sym is) h)
+  pub new_version : (key value : List ℕ) (dc place version : ℕ) (was n : Node) (own : Draft) → dc ≡ home s client → place ≡ primary s key → IsAt w dc place was
+      → own ≡ record { key = key; value = value; deps = context_in w client } → NodeHappens was (NodePut client own.key own.value own.deps) (PutDone version) n → sent w.issued version ≡ None
+  new_version key value dc place version was n own d e at drafted happens =
+      given (subst (λ (x : Draft). NodeHappens was (NodePut client x.key x.value x.deps) (PutDone version) n) drafted happens)
     where
       node : Node
       node = node_at w (home s client) (primary s key)
 
       is : node ≡ was
-      is = is_node (home s client) (primary s key) was (subst (λ q. At (home s client) q was) e (subst (λ q. At q place was) d at))
-
-      room : has_room w client ≡ true
-      room = and_from (nat_lt (length (slice_index_or w.sessions client [])) 1000000) (nat_lt (count_of w.sessions) 16000000)
-          (lt-ltb (length (slice_index_or w.sessions client [])) 1000000 few) (lt-ltb (count_of w.sessions) 16000000 all)
+      is = ap (node_at w (home s client)) (sym e) ∙ ap (λ x. node_at w x place) (sym d) ∙ is_node w dc place was at
 
       go : (b : Bool) → cond b (put_at node key value (raised node.clock (context_in w client) + 1)) (Refused 1, node) ≡ (PutDone version, n) → sent w.issued version ≡ None
       go true g =
           let same : version_of (raised node.clock (context_in w client) + 1) node.number ≡ version = (let o : PutDone (version_of (raised node.clock (context_in w client) + 1) node.number) ≡ PutDone version = ap (λ (x : Outcome × Node). x.0) g in cc) in
-          not_sent w.issued version (λ p c f. fresh s ok w sound.placed sound.kept client key value sound.bounded known room p c (f ∙ sym same))
+          not_sent w.issued version (λ p c f. fresh s a.setting w grounds.placed grounds.kept client key value grounds.bounded a.may.known (admitted_room a.may) p c (f ∙ sym same))
       go false g = let o : Refused 1 ≡ PutDone version = ap (λ (x : Outcome × Node). x.0) g in cc
+
+      given : NodeHappens was (NodePut client key value (context_in w client)) (PutDone version) n → sent w.issued version ≡ None
+      given (inr h) = cc
+      given (inl h) =
+          go (nat_lt (raised node.clock (context_in w client)) greatest_clock)
+          (subst (λ m. cond (nat_lt (raised m.clock (context_in w client)) greatest_clock) (put_at m key value (raised m.clock (context_in w client) + 1)) (Refused 1, m) ≡ (PutDone version, n)) (sym is) h)

@@ -1,13 +1,12 @@
 -- Which answers take memory.
-use Rattle.std.proofs.Common.{◌≡◌, ℕ, ◌+◌, Bool, true, false, cond, ◌&&◌, List, [], ◌∷◌, Option, Some, None, length, slice_index_or, refl, sym, ap, ◌∙◌, subst, nat_lt, lt-ltb}
-use Rattle.std.proofs.lemmas.Bool.{and_from, ltb-true}
-use Rattle.cops_types.specs.Recorded.{Recorded, count_of}
+use Rattle.std.proofs.Common.{◌≡◌, ℕ, ◌+◌, Bool, true, false, cond, ◌&&◌, List, [], ◌∷◌, Option, Some, None, length, slice_index_or, refl, sym, ap, ◌∙◌, subst, nat_lt}
+use Rattle.std.proofs.lemmas.Bool.{ltb-true}
+use Rattle.cops_types.specs.Recorded.{count_of}
 use Rattle.cops_store.specs.Store.{Stored, shown}
 use Rattle.cops_node.specs.declared.outcome.Outcome.TheVariants.{Refused}
 use Rattle.cops_node.specs.Node.{Node, answer, greatest_clock, raised, put_at}
-use Rattle.cops_core.specs.Parts.{MayRecord}
 use Rattle.cops_core.specs.World.{Setting, World, home, primary, node_at, context_in, knows, has_room, checks, refusal, unless, done, happens, TakesMemory, Event, PutBy, GetBy}
-use Rattle.cops_core.proofs.Events.{Admitted, admitted}
+use Rattle.cops_core.proofs.Events.{Admitted, client_passes}
 
 -- an event takes memory where its answer in a world does
 abbrev Takes : Setting → World → Event → Type 0
@@ -31,17 +30,14 @@ pub none_refused : (w : World) (client : ℕ) → refusal ((knows w client, 3) �
 none_refused w client h =
     let met = tests_met (knows w client) (has_room w client) h in
     let room = both (nat_lt (length (slice_index_or w.sessions client [])) 1000000) (nat_lt (count_of w.sessions) 16000000) met.1 in
-    (ltb-true client (length w.sessions) met.0, ltb-true (length (slice_index_or w.sessions client [])) 1000000 room.0, ltb-true (count_of w.sessions) 16000000 room.1)
-
-client_passes : (w : World) (client : ℕ) (tests : List (Bool × ℕ)) → Admitted w client → refusal ((knows w client, 3) ∷ (has_room w client, 11) ∷ tests) ≡ refusal tests
-client_passes w client tests a =
-    let room : has_room w client ≡ true = and_from (nat_lt (length (slice_index_or w.sessions client [])) 1000000) (nat_lt (count_of w.sessions) 16000000)
-    (lt-ltb (length (slice_index_or w.sessions client [])) 1000000 a.1) (lt-ltb (count_of w.sessions) 16000000 a.2) in
-    ap (λ b. refusal ((b, 3) ∷ (has_room w client, 11) ∷ tests)) (lt-ltb client (length w.sessions) a.0)
-    ∙ ap (λ b. refusal ((b, 11) ∷ tests)) room
+    record {
+      known = ltb-true client (length w.sessions) met.0;
+      few = ltb-true (length (slice_index_or w.sessions client [])) 1000000 room.0;
+      all = ltb-true (count_of w.sessions) 16000000 room.1;
+    }
 
 put_takes : (s : Setting) (w : World) (client : ℕ) (key value : List ℕ) → Admitted w client → Takes s w (PutBy client key value)
-put_takes s w client key value a = passes s w (PutBy client key value) (client_passes w client [] a) (go (nat_lt (raised n.clock (context_in w client)) greatest_clock))
+put_takes s w client key value a = passes s w (PutBy client key value) (client_passes [] a) (go (nat_lt (raised n.clock (context_in w client)) greatest_clock))
   where
     n : Node
     n = node_at w (home s client) (primary s key)
@@ -53,7 +49,7 @@ put_takes s w client key value a = passes s w (PutBy client key value) (client_p
 get_takes : (s : Setting) (w : World) (client : ℕ) (key : List ℕ) → Admitted w client → nat_lt (length (context_in w client)) 256 ≡ true → Takes s w (GetBy client key)
 get_takes s w client key a few =
     passes s w (GetBy client key)
-    (client_passes w client ((nat_lt (length (context_in w client)) 256, 2) ∷ []) a ∙ ap (λ b. refusal ((b, 2) ∷ [])) few)
+    (client_passes ((nat_lt (length (context_in w client)) 256, 2) ∷ []) a ∙ ap (λ b. refusal ((b, 2) ∷ [])) few)
     (go (shown (node_at w (home s client) (primary s key)).settled key))
   where
     go : (o : Option Stored) → TakesMemory (GetBy client key) (answer o)
@@ -61,9 +57,8 @@ get_takes s w client key a few =
     go (Some t) = tt
 
 -- what a client's event answers for want of memory, in a world that is seen by its parts
-pub put_may_fail : (s : Setting) (w old : World) (client : ℕ) (key value : List ℕ) (h : Recorded) → w ≡ old → h.sessions ≡ w.sessions → MayRecord h client → Takes s old (PutBy client key value)
-put_may_fail s w old client key value h is same may = subst (λ x. Takes s x (PutBy client key value)) is (put_takes s w client key value (admitted h w client same may))
+pub put_may_fail : (s : Setting) (w old : World) (client : ℕ) (key value : List ℕ) → w ≡ old → Admitted w client → Takes s old (PutBy client key value)
+put_may_fail s w old client key value is may = subst (λ x. Takes s x (PutBy client key value)) is (put_takes s w client key value may)
 
-pub get_may_fail : (s : Setting) (w old : World) (client : ℕ) (key : List ℕ) (h : Recorded) → w ≡ old → h.sessions ≡ w.sessions → MayRecord h client → nat_lt (length (context_in w client)) 256 ≡ true
-    → Takes s old (GetBy client key)
-get_may_fail s w old client key h is same may few = subst (λ x. Takes s x (GetBy client key)) is (get_takes s w client key (admitted h w client same may) few)
+pub get_may_fail : (s : Setting) (w old : World) (client : ℕ) (key : List ℕ) → w ≡ old → Admitted w client → nat_lt (length (context_in w client)) 256 ≡ true → Takes s old (GetBy client key)
+get_may_fail s w old client key is may few = subst (λ x. Takes s x (GetBy client key)) is (get_takes s w client key may few)
