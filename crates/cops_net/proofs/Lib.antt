@@ -1,7 +1,6 @@
 pub mod Spellings
 pub mod Turning
 pub mod Readings
-pub mod Writings
 pub mod Lists
 pub mod Going
 pub mod Following

@@ -1,5 +1,5 @@
 //! One session of a client.
-ghost use Rattle.std.specs.Prelude.{◌≡◌, ◌++◌, ◌⊎◌, ◌<◌, List, ℕ, length, take, IsErrOf, OnOk, IfErr};
+ghost use Rattle.std.specs.Prelude.{◌≡◌, ◌++◌, ◌⊎◌, List, ℕ, IsErrOf};
 ghost use Rattle.std.specs.Io.KnownBytes.{Appends, Consumes, IsAtEnd};
 ghost use Rattle.cops_types.specs.Failures.{Failed};
 ghost use Rattle.cops_types.specs.Counted.{failures, inner};
@@ -12,6 +12,7 @@ use crate::fault::NetFault;
 use crate::incoming::Incoming;
 use crate::own::{is_bye, is_welcome};
 use crate::session::Session;
+use cops_trace::write_text;
 use cops_types::Counted;
 use cops_wire::{Message, encode};
 use std::alloc::Global;
@@ -29,26 +30,6 @@ const LONGEST_REPLY: usize = 4_115;
 pub struct Served {
     /// How many replies were written: one for each message.
     pub answered: u32,
-}
-
-/// Writes all of a text, or tells how many of its first bytes were written, fewer than all. A failed write is not tried
-/// again.
-fn write_text<W: Write>(writer: &mut Counted<W>, text: &[u8]) -> Result<(), usize>
-    ensures ok { OnOk result (Appends (W.contents (inner writer.old)) (W.contents (inner writer.new)) text.now) }
-    ensures err { IfErr result (λ n. Appends (W.contents (inner writer.old)) (W.contents (inner writer.new)) (take n text.now)) }
-    ensures failed { IfErr result (λ n. (n < length text.now) × Failed (failures writer.old) (failures writer.new)) }
-    ensures heard { OnOk result (failures writer.new ≡ failures writer.old) }
-{
-    let mut written = 0;
-    while written < text.len() {
-        let (_, rest) = text.split_at(written);
-        match writer.write(rest) {
-            Ok(0) => return Err(written),
-            Ok(count) => written += count,
-            Err(_) => return Err(written),
-        }
-    }
-    Ok(())
 }
 
 /// Answers a message and writes its reply, which is put together in `out`. It tells whether the session was greeted by

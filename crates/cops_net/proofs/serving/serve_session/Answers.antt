@@ -8,8 +8,9 @@ use Rattle.cops_net.specs.declared.reply.Call.{Call}
 use Rattle.cops_net.specs.Sessions.{Answered}
 use Rattle.cops_net.specs.Turns.{IsAnswered}
 use Rattle.cops_net.proofs.Going.{begun, goes_on, ends_reading, ends_input, ends_bye, ends_answering, ends_full, stays_open, greeted_on, heard_ok, same_error}
-use Rattle.cops_net.proofs.Readings.{consumed, consumed_none}
-use Rattle.cops_net.proofs.Writings.{appends_more, appends_none}
+use Rattle.cops_trace.proofs.Feeding.{consumed, consumed_none}
+use Rattle.cops_trace.proofs.Writings.{appends_more}
+use Rattle.cops_net.proofs.Readings.{appends_none}
 use Rattle.cops_net.proofs.serving.serve_session.Goals as goal
 
 pub returns-in_err-reserve-clause-serves : goal.returns-in_err-reserve-clause-serves

@@ -8,7 +8,7 @@ use Rattle.cops_wire.specs.Grammar.{grammar, spelling}
 use Rattle.cops_wire.specs.Message.{parts}
 use Rattle.cops_net.specs.Sessions.{spelled}
 use Rattle.cops_net.proofs.Spellings.{spelled_is, spelled_some}
-use Rattle.cops_net.proofs.Writings.{appends_none}
+use Rattle.cops_net.proofs.Readings.{appends_none}
 use Rattle.cops_net.proofs.serving.turn.Goals as goal
 
 pub returns-in_err-reply-clause-answered : goal.returns-in_err-reply-clause-answered

@@ -4,7 +4,8 @@ use Rattle.std.proofs.lemmas.Result.{err_from_is_err_and}
 use Rattle.std.specs.Io.KnownBytes.{IsAtEnd}
 use Rattle.cops_types.specs.Counted.{inner}
 use Rattle.cops_net.specs.Turns.{IsTaken}
-use Rattle.cops_net.proofs.Readings.{consumed, taken_at_end}
+use Rattle.cops_trace.proofs.Feeding.{consumed}
+use Rattle.cops_net.proofs.Readings.{taken_at_end}
 use Rattle.cops_net.proofs.incoming.Incoming.next.Goals as goal
 
 pub returns-then-count-eq0-clause-next : goal.returns-then-count-eq0-clause-next
