@@ -20,7 +20,7 @@ the clients of such a cluster.
 
 The exit status is 0 where the trace is accepted or the command did its work, 1 where the trace
 is refused, 2 where the input or the words are faulty, 3 where memory ran out, and 4 where a
-file could not be opened, read or written.";
+file could not be opened, read or written, or a run or a serving failed.";
 
 const AUDIT_LONG_ABOUT: &str = "\
 Judges whether a recorded history is causally convergent.
@@ -38,9 +38,10 @@ Where the file is no whole trace, the frames before the fault are printed, and t
 const RUN_LONG_ABOUT: &str = "\
 Runs the cluster that a scenario describes, and records what its clients saw.
 
-Prints a line for each event with its outcome, and then the report of the recorded history. The
-trace file is written anew. A scenario that is mistaken is answered with one line, `faulty: ..`,
-that names the field.";
+Prints a line for each event with its outcome, or, where clients have scripts, a line for each
+client, and then the report of the recorded history. Clients with scripts run on threads of their
+own. The trace file is written anew. A scenario that is mistaken is answered with one line,
+`faulty: ..`, that names the field.";
 
 const SERVE_LONG_ABOUT: &str = "\
 Serves clients of the cluster that a scenario describes, on a port of 127.0.0.1.
