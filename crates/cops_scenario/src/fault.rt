@@ -58,7 +58,7 @@ pub enum ScenarioFault {
     /// The bytes are no JSON text: by its grammar, for their encoding, or nested deeper than 127.
     #[error("scenario is not JSON")]
     NotJson,
-    /// The first field that is missing and has no default, or is not of its form.
+    /// The first field that is missing and has no default, is not of its form, or is not within its limits.
     #[error("scenario field {0}")]
     BadField(Field),
 }
