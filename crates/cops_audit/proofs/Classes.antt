@@ -15,7 +15,7 @@ use Rattle.cops_audit.specs.declared.window.Suspect.{Suspect}
 use Rattle.cops_audit.specs.Names.{ListsAmong}
 use Rattle.cops_audit.specs.Notes.{IsNoted, IsSourceless, SeesNotAbove}
 use Rattle.cops_audit.specs.Tables.{IsPutTable, IsVersionTable}
-use Rattle.cops_audit.specs.Windows.{AreSuspects}
+use Rattle.cops_audit.specs.Windows.{AreSuspects, IsSuspect}
 use Rattle.cops_audit.proofs.Collect.{among_all, among_none, among_same, get_or-default}
 use Rattle.cops_audit.proofs.PastOrder.{past_to}
 use Rattle.cops_audit.proofs.Places.{doubled_by_neighbour, neighbour_of_doubled, place_of_put, put_at}
@@ -24,6 +24,10 @@ use Rattle.cops_audit.proofs.Reading.{above_same, sourceless_same}
 -- where each get has a source, none waits
 pub sourced_wait : (h : Sessions) → AllHaveSources h → HaveSourcesOrWait h
 sourced_wait h sources n f = absurd (sources n f)
+
+pub empty_list : {A : Type 0} (xs : List A) → length xs ≡ 0 → xs ≡ []
+empty_list [] e = refl
+empty_list (x ∷ xs) e = absurd (omega (arith, e))
 
 -- an operation of a suspect
 op_listed : (suspects : List Suspect) (s : Suspect) → Contains suspects s → Contains (map (λ (x : Suspect). x.op) suspects) s.op
@@ -35,10 +39,18 @@ listed_op suspects n at =
     let d : Suspect = record { op = n; first = 0; from = 0 } in
     (get_or suspects at.0 d, Contains-get_or suspects at.0 d inside, sym (get_or-map (λ (x : Suspect). x.op) suspects at.0 d n inside) ∙ at.2)
 
+-- suspects that are seen as another list
+pub seen_suspects : {h : Sessions} {table : List VersionedPut} {names : List OpName} {seen suspects : List Suspect} → seen ≡ suspects → AreSuspects h table names suspects → AreSuspects h table names seen
+seen_suspects {h} {table} {names} e are = subst (AreSuspects h table names) (sym e) are
+
+pub each_suspect : {h : Sessions} {table : List VersionedPut} {names : List OpName} {suspects : List Suspect} → AreSuspects h table names suspects
+    → (k : ℕ) (d : Suspect) → k < length suspects → IsSuspect h table (get_or suspects k d)
+each_suspect {suspects = suspects} are k d inside = (are.each _ (Contains-get_or suspects k d inside)).0
+
 -- what is stale among the suspects is what is stale among the names
-pub of_suspects : (h : Sessions) (table : List VersionedPut) (names : List OpName) (suspects : List Suspect) (faults : List Stale) → AreSuspects h table names suspects
+pub of_suspects : {h : Sessions} {table : List VersionedPut} {names : List OpName} {suspects : List Suspect} {faults : List Stale} → AreSuspects h table names suspects
     → ListsAmong (λ f. f.op) (λ f. IsStale h f.op f.newer) (map (λ (s : Suspect). s.op) suspects) faults → ListsAmong (λ f. f.op) (λ f. IsStale h f.op f.newer) names faults
-of_suspects h table names suspects faults are lists = record {
+of_suspects {names = names} {suspects = suspects} are lists = record {
   members = λ x. (
     (λ at.
         let o = (lists.members x).0 at in
@@ -51,9 +63,12 @@ of_suspects h table names suspects faults are lists = record {
   in_order = lists.in_order;
 }
 
-pub no_stale : (h : Sessions) (table : List VersionedPut) (names : List OpName) (suspects : List Suspect) → suspects ≡ [] → AreSuspects h table names suspects → ListsAmong {A = Stale} (λ f. f.op) (λ f. IsStale h f.op f.newer) names []
-no_stale h table names [] e are = of_suspects h table names [] [] are (among_none {A = Stale} (λ f. f.op) (λ f. IsStale h f.op f.newer))
-no_stale h table names (s ∷ ss) e are = absurd cc
+-- where nothing is suspected, nothing is stale
+pub no_stale : {h : Sessions} {table : List VersionedPut} {names : List OpName} {suspects : List Suspect} {faults : List Stale} → AreSuspects h table names suspects → length suspects ≡ 0 → faults ≡ []
+    → ListsAmong (λ f. f.op) (λ f. IsStale h f.op f.newer) names faults
+no_stale {h} {table} {names} {suspects} are none empty =
+    let nothing = subst (AreSuspects h table names) (empty_list suspects none) are in
+    subst (ListsAmong (λ f. f.op) (λ f. IsStale h f.op f.newer) names) (sym empty) (of_suspects nothing (among_none {A = Stale} (λ f. f.op) (λ f. IsStale h f.op f.newer)))
 
 module _ (h : Sessions) (names : List OpName) (all : Lists (λ n. n) (IsNamed h) names) where
   pub doubled_listed : (faults : List OpName) → ListsAmong (λ n. n) (IsDoubled h) names faults → Lists (λ n. n) (IsDoubled h) faults
@@ -106,7 +121,3 @@ some_listed h faults lists some e =
     let at = (lists.members some.0).1 some.1 in
     let none : length faults ≡ 0 = ap length e in
     omega (arith, at.1, none)
-
-pub empty_list : {A : Type 0} (xs : List A) → length xs ≡ 0 → xs ≡ []
-empty_list [] e = refl
-empty_list (x ∷ xs) e = absurd (omega (arith, e))

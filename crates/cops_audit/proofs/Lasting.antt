@@ -1,14 +1,16 @@
 -- What is said so far, from the faults of each class.
-use Rattle.std.proofs.Common.{◌<◌, ℕ, List, get_or, length, sym, subst, inl, inr}
+use Rattle.std.proofs.Common.{◌≡◌, ◌∙◌, ◌<◌, ℕ, Bool, true, false, List, get_or, length, sym, subst, inl, inr}
 use Rattle.cops_types.specs.declared.op.OpName.{OpName}
 use Rattle.cops_types.specs.Histories.{Sessions, IsNamed, PutsVersion, SourceStep}
 use Rattle.cops_types.specs.Faults.{HasNoSource, Lists}
 use Rattle.cops_types.specs.Verdicts.{AllAbove, NoneDoubled, NoneStale}
 use Rattle.cops_audit.specs.declared.notes.Note.{Note}
 use Rattle.cops_audit.specs.declared.table.VersionedPut.{VersionedPut}
-use Rattle.cops_audit.specs.Notes.{IsNoted, SeesNotBelow}
+use Rattle.cops_audit.specs.Names.{ListsAmong}
+use Rattle.cops_audit.specs.Notes.{IsNoted, IsSourceless, SeesNotBelow}
 use Rattle.cops_audit.specs.Tables.{IsVersionTable}
 use Rattle.cops_audit.specs.SoFar.{HasLastingFault, HaveSourcesOrWait, IsMismatched, IsWaiting}
+use Rattle.cops_audit.proofs.Classes.{none_doubled, sourceless_listed}
 use Rattle.cops_audit.proofs.Differing.{name_cases}
 use Rattle.cops_audit.proofs.Exact.{source_version}
 use Rattle.cops_audit.proofs.Reading.{above_same}
@@ -54,15 +56,15 @@ module _ (h : Sessions) (doubled : NoneDoubled h) where
       waits.none m.1 (subst (λ v. PutsVersion h m.1 v) (one_get_version h m.0 f.version waits.version f.gets waits.gets) f.puts)
 
 -- where each of the names without a source waits, each get without a source does
-pub all_wait : (h : Sessions) (names : List OpName) → Lists (λ n. n) (IsNamed h) names → ((k : ℕ) (d : OpName) → k < length names → HasNoSource h (get_or names k d) → IsWaiting h (get_or names k d)) → HaveSourcesOrWait h
-all_wait h names all waits n f =
+pub all_wait : {h : Sessions} {names : List OpName} → Lists (λ n. n) (IsNamed h) names → ((k : ℕ) (d : OpName) → k < length names → HasNoSource h (get_or names k d) → IsWaiting h (get_or names k d)) → HaveSourcesOrWait h
+all_wait {h} all waits n f =
     let at = (all.members n).1 (_, f.got) in
     subst (IsWaiting h) at.2 (waits at.0 n at.1 (subst (HasNoSource h) (sym at.2) f))
 
 -- where none of the names is a put that saw what is not below it, all puts are above what their sessions saw
-pub all_above : (h : Sessions) (names : List OpName) → Lists (λ n. n) (IsNamed h) names → (table : List VersionedPut) → IsVersionTable h table → (notes : List (List Note)) → IsNoted h table notes → HaveSourcesOrWait h
+pub all_above : {h : Sessions} {names : List OpName} {table : List VersionedPut} {notes : List (List Note)} → Lists (λ n. n) (IsNamed h) names → IsVersionTable h table → IsNoted h table notes → HaveSourcesOrWait h
     → ((k : ℕ) (d : OpName) → k < length names → (earlier : OpName) → ¬ SeesNotBelow notes earlier (get_or names k d)) → AllAbove h
-all_above h names all table t notes noted waits none n earlier f =
+all_above {h} {table = table} {notes = notes} all t noted waits none n earlier f =
     let at = (all.members n).1 (_, f.is_not_below.put.2) in
     let sees = ((above_same h table t notes noted waits n earlier).1 f).not_below in
     none at.0 n at.1 earlier (subst (SeesNotBelow notes earlier) (sym at.2) sees)
@@ -73,3 +75,32 @@ waiting_listed h gets lists sources = record {
   members = λ n. ((λ at. sources n ((lists.members n).0 at)), (λ w. (lists.members n).1 (waiting_sourceless h n w)));
   in_order = lists.in_order;
 }
+
+-- what did not come out as true
+pub not_true : {b : Bool} → b ≡ false → ¬ (b ≡ true)
+not_true f t = let e : true ≡ false = sym t ∙ f in cc
+
+-- names, or a table, that are seen as another list
+pub seen_names : {seen names : List OpName} (h : Sessions) → seen ≡ names → Lists (λ n. n) (IsNamed h) names → Lists (λ n. n) (IsNamed h) seen
+seen_names h e all = subst (Lists (λ n. n) (IsNamed h)) (sym e) all
+
+pub seen_table : {h : Sessions} {seen table : List VersionedPut} → seen ≡ table → IsVersionTable h table → IsVersionTable h seen
+seen_table {h} e t = subst (IsVersionTable h) (sym e) t
+
+-- no fault lasts, and these gets wait
+pub record Waits (h : Sessions) (gets : List OpName) : Type 0 where
+  pub lasting : ¬ HasLastingFault h
+  pub waiting : Lists (λ n. n) (IsWaiting h) gets
+
+-- what is known where no class that lasts has a fault among the names, and those without a source are listed
+pub waits : {h : Sessions} {table : List VersionedPut} {notes later : List (List Note)} {names same_names gets : List OpName} → Lists (λ n. n) (IsNamed h) names → IsVersionTable h table → IsNoted h table notes
+    → ((k : ℕ) (d : OpName) → k < length names → HasNoSource h (get_or names k d) → IsWaiting h (get_or names k d))
+    → ((k : ℕ) (d : OpName) → k < length names → (earlier : OpName) → ¬ SeesNotBelow notes earlier (get_or names k d))
+    → NoneStale h → Lists (λ n. n) (IsNamed h) same_names → later ≡ notes → ListsAmong (λ n. n) (IsSourceless later) same_names gets → Waits h gets
+waits {h} {table} {notes} {later} {names} {same_names} {gets} all t noted waiting none_below stale same_all same listed =
+    let sources = all_wait all waiting in
+    let still = subst (IsNoted h table) (sym same) noted in
+    record {
+      lasting = no_lasting_fault h (none_doubled h table t) sources (all_above all t noted sources none_below) stale;
+      waiting = waiting_listed h gets (sourceless_listed h same_names same_all table t later still gets listed) sources;
+    }

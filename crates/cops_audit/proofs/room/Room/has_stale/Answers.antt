@@ -1,9 +1,7 @@
 use Rattle.std.proofs.Common.{length, sym, subst, ap, arith}
-use Rattle.std.proofs.lemmas.List.Elements.{Contains-get_or}
 use Rattle.cops_types.specs.Histories.{IsNamed}
 use Rattle.cops_types.specs.Faults.{Lists}
-use Rattle.cops_audit.specs.Windows.{AreSuspects}
-use Rattle.cops_audit.proofs.Classes.{none_stale}
+use Rattle.cops_audit.proofs.Classes.{each_suspect, none_stale, seen_suspects}
 use Rattle.cops_audit.proofs.Fitting.{no_ok}
 use Rattle.cops_audit.proofs.Growing.{count_notes, fresh_idle, fresh_room}
 use Rattle.cops_audit.proofs.Numbering.{keys_same, still_numbers}
@@ -31,8 +29,7 @@ returns-in_err-set_floors-clause-ok c = no_ok (c.in_err-set_floors.ensures.succe
 
 pub has_stale-requires-clause-suspects : goal.has_stale-requires-clause-suspects
 has_stale-requires-clause-suspects c =
-    let are = subst (AreSuspects c.args.history.now.sessions c.as_slice-table.result.now c.as_slice-names.result.now) (sym c.as_slice-suspects.ensures.value) c.in_ok-push_suspects.ensures.suspects in
-    λ k d inside. (are.each _ (Contains-get_or c.as_slice-suspects.result.now k d inside)).0
+    each_suspect (seen_suspects c.as_slice-suspects.ensures.value c.in_ok-push_suspects.ensures.suspects)
 
 pub has_stale-requires-clause-idle : goal.has_stale-requires-clause-idle
 has_stale-requires-clause-idle c =
@@ -47,8 +44,8 @@ pub returns-clause-none : goal.returns-clause-none
 returns-clause-none c = λ found.
     let h = c.args.history.now.sessions in
     let names = subst (Lists (λ n. n) (IsNamed h)) (sym c.as_slice-names.ensures.value) c.requires.filled.names in
-    let are = subst (AreSuspects h c.as_slice-table.result.now c.as_slice-names.result.now) (sym c.as_slice-suspects.ensures.value) c.in_ok-push_suspects.ensures.suspects in
-    none_stale h c.as_slice-table.result.now c.as_slice-names.result.now c.as_slice-suspects.result.now names are (c.in_ok-found.ensures.none found)
+    none_stale h c.as_slice-table.result.now c.as_slice-names.result.now c.as_slice-suspects.result.now names
+    (seen_suspects c.as_slice-suspects.ensures.value c.in_ok-push_suspects.ensures.suspects) (c.in_ok-found.ensures.none found)
 
 pub returns-clause-fits : goal.returns-clause-fits
 returns-clause-fits c =
