@@ -1,16 +1,13 @@
 -- Where no operation is faulty by its version, steps never lead back.
-use Rattle.std.proofs.Common.{◌≡◌, ◌<◌, ◌≤◌, ◌⊎◌, ℕ, List, Some, refl, sym, ◌∙◌, ap, inl, inr, arith}
+use Rattle.std.proofs.Common.{◌≡◌, ◌<◌, ◌≤◌, ◌⊎◌, ℕ, Some, refl, sym, ◌∙◌, ap, inl, inr, arith}
 use Rattle.cops_types.specs.declared.op.Op.TheVariants.{Put, Got}
 use Rattle.cops_types.specs.declared.op.OpName.{OpName}
-use Rattle.cops_types.specs.Histories.{Sessions, op_at, IsGot, PutsVersion, Step, Past, step, more}
+use Rattle.cops_types.specs.Histories.{Sessions, op_at, PutsVersion, Step, Past, step, more}
 use Rattle.cops_types.specs.Faults.{IsNotBelow}
+use Rattle.cops_audit.specs.Tables.{GetsVersion}
 
 pub same_name : (a b : OpName) → a.client ≡ b.client → a.index ≡ b.index → a ≡ b
 same_name a b c i = ap (λ (p : ℕ × ℕ). let n : OpName = record { client = p.0; index = p.1 } in n) (let q : (a.client, a.index) ≡ (b.client, b.index) = cc in q)
-
--- a get's version
-abbrev pub GetsVersion : Sessions → OpName → ℕ → Type 0
-GetsVersion h name version = (key value : List ℕ) × IsGot h name key value version
 
 -- a put is no get
 pub put_is_no_get : (h : Sessions) (p g : OpName) (v w : ℕ) → PutsVersion h p v → GetsVersion h g w → p ≡ g → ⊥

@@ -4,7 +4,7 @@
 //! versions as the arbitration. Stands on cops_types, which has the definitions. The layers above use the verdict, that
 //! it is the only one, that acceptance is convergence by the order of versions, and the past of an operation. A judge
 //! that shares the work uses the tables, the search for each class among given names, and the verdict that the faults
-//! of all names make.
+//! of all names make. Reports use what single operations put and got.
 #![tactic(auto)]
 
 mod assessing;
@@ -40,6 +40,7 @@ pub use laws::{
 pub use names::all_names;
 pub use notes::{Note, Notes, Seen, without_source};
 pub use online::Online;
+pub use ops::{got_version, is_source, put_version};
 pub use rising::not_above;
 pub use search::past;
 pub use settling::{refused_before_stale, refused_doubled, verdict_by_stale};

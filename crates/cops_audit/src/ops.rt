@@ -4,7 +4,7 @@ ghost use Rattle.cops_audit.specs.Tables.{GetsVersion};
 
 use cops_types::{History, Op, OpName, Version};
 
-/// The version that a put bears.
+/// The version that a put bears: none where there is no put of that name.
 pub fn put_version(history: &History, name: OpName) -> Option<Version>
     ensures put { IfSome result (λ v. PutsVersion history.now.sessions name v) }
     ensures none { IfNone result ((v : ℕ) → ¬ PutsVersion history.now.sessions name v) }
@@ -15,7 +15,7 @@ pub fn put_version(history: &History, name: OpName) -> Option<Version>
     }
 }
 
-/// Whether the one is a put that the other returned.
+/// Whether the one is a put, and the other a get that returned it: its key, its value and its version.
 pub fn is_source(history: &History, put: OpName, got: OpName) -> bool
     ensures source { IsTrue result ↔ SourceStep history.now.sessions put got }
     ensures limit { IsTrue result → put.index < 1000000 }
@@ -41,7 +41,7 @@ pub fn is_source(history: &History, put: OpName, got: OpName) -> bool
     }
 }
 
-/// The version of what a get returned.
+/// The version of what a get returned: none where there is no get of that name, or it missed.
 pub fn got_version(history: &History, name: OpName) -> Option<Version>
     ensures got { IfSome result (λ v. GetsVersion history.now.sessions name v) }
     ensures none { IfNone result ((v : ℕ) → ¬ GetsVersion history.now.sessions name v) }

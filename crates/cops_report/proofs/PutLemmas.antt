@@ -8,9 +8,10 @@ use Rattle.cops_types.specs.declared.op.Op.TheVariants.{Got}
 use Rattle.cops_types.specs.declared.op.OpName.{OpName}
 use Rattle.cops_types.specs.Histories.{Sessions, IsNamed, PutsVersion, SourceStep}
 use Rattle.cops_report.specs.declared.marks.Mark.{Mark}
-use Rattle.cops_report.specs.declared.puts.VersionedPut.{VersionedPut}
+use Rattle.cops_audit.specs.declared.table.VersionedPut.{VersionedPut}
 use Rattle.cops_report.specs.Marks.{Table, Gains, IsMarked}
-use Rattle.cops_report.specs.Puts.{GetsVersion, HasPut, IsPutTable}
+use Rattle.cops_audit.specs.Tables.{GetsVersion}
+use Rattle.cops_report.specs.Puts.{HasPut, IsPutTable}
 use Rattle.cops_report.proofs.NameCases.{same_name}
 use Rattle.cops_report.proofs.StepLemmas.{name_at}
 use Rattle.cops_report.proofs.Tables.{named_index}

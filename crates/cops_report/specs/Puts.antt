@@ -2,8 +2,8 @@
 use Rattle.std.specs.Prelude.{ℕ, List, Contains}
 use Rattle.std.specs.List.Sorted.{IsNonDecreasingBy}
 use Rattle.cops_types.specs.declared.op.OpName.{OpName}
-use Rattle.cops_types.specs.Histories.{Sessions, IsGot, PutsVersion}
-use Rattle.cops_report.specs.declared.puts.VersionedPut.{VersionedPut}
+use Rattle.cops_types.specs.Histories.{Sessions, PutsVersion}
+use Rattle.cops_audit.specs.declared.table.VersionedPut.{VersionedPut}
 
 -- the list has the put with its version
 abbrev pub HasPut : List VersionedPut → OpName → ℕ → Type 0
@@ -13,7 +13,3 @@ HasPut puts n v = Contains puts (record { version = v; name = n })
 pub record IsPutTable (h : Sessions) (puts : List VersionedPut) : Type 0 where
   pub all : (n : OpName) (v : ℕ) → PutsVersion h n v → HasPut puts n v
   pub rising : IsNonDecreasingBy (λ p. p.version) puts
-
--- a get's version
-abbrev pub GetsVersion : Sessions → OpName → ℕ → Type 0
-GetsVersion h name version = (key value : List ℕ) × IsGot h name key value version

@@ -6,8 +6,9 @@ ghost use Rattle.cops_report.specs.Puts.{IsPutTable};
 ghost use Rattle.cops_report.specs.Searches.{IsWalk, LeadsBack};
 
 use crate::marks::Marks;
-use crate::puts::{VersionedPut, put_table};
+use crate::puts::put_table;
 use crate::search::search;
+use cops_audit::VersionedPut;
 use cops_types::{History, Memory, OpName};
 use std::alloc::{AllocError, Global};
 

@@ -1,42 +1,14 @@
 //! The puts of a history, by their versions.
-ghost use Rattle.std.specs.Prelude.{◌≡◌, ◌<◌, ◌≤◌, ℕ, length, slice_index_or, Contains, IfOk, IfSome, IfNone, OnOk};
+ghost use Rattle.std.specs.Prelude.{◌≡◌, ◌<◌, ◌≤◌, ℕ, length, slice_index_or, Contains, IfOk, OnOk};
 ghost use Rattle.std.specs.List.Sorted.{IsNonDecreasingBy};
 ghost use Rattle.cops_types.specs.declared.op.OpName.{OpName};
 ghost use Rattle.cops_types.specs.Histories.{PutsVersion};
-ghost use Rattle.cops_report.specs.declared.puts.VersionedPut.{VersionedPut};
-ghost use Rattle.cops_report.specs.Puts.{GetsVersion, HasPut, IsPutTable};
+ghost use Rattle.cops_audit.specs.declared.table.VersionedPut.{VersionedPut};
+ghost use Rattle.cops_report.specs.Puts.{HasPut, IsPutTable};
 
-use cops_types::{History, Op, OpName, Version};
+use cops_audit::{VersionedPut, put_version};
+use cops_types::{History, OpName, Version};
 use std::alloc::{AllocError, Global};
-
-/// A put's name with its version.
-#[derive(Clone, Copy, Debug, PartialEq, Eq)]
-pub struct VersionedPut {
-    pub version: Version,
-    pub name: OpName,
-}
-
-/// The version that a put bears.
-fn put_version(history: &History, name: OpName) -> Option<Version>
-    ensures put { IfSome result (PutsVersion history.now.sessions name) }
-    ensures none { IfNone result ((v : ℕ) → ¬ PutsVersion history.now.sessions name v) }
-{
-    match history.op(name) {
-        Some(Op::Put { version, .. }) => Some(*version),
-        _ => None,
-    }
-}
-
-/// The version that a get returned.
-pub fn got_version(history: &History, name: OpName) -> Option<Version>
-    ensures got { IfSome result (GetsVersion history.now.sessions name) }
-    ensures none { IfNone result ((v : ℕ) → ¬ GetsVersion history.now.sessions name v) }
-{
-    match history.op(name) {
-        Some(Op::Got { version, .. }) => Some(*version),
-        _ => None,
-    }
-}
 
 /// Adds the operation, if it is a put.
 fn push_put(puts: &mut Vec<VersionedPut>, history: &History, name: OpName) -> Result<(), AllocError>

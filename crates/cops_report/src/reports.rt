@@ -12,8 +12,8 @@ ghost use Rattle.cops_report.specs.Reports.{accepted_line, named_line, not_above
 
 use crate::chains::chain_by;
 use crate::lines;
-use crate::puts::{VersionedPut, put_table};
-use cops_audit::{Faults, NotAbove, Stale, Verdict};
+use crate::puts::put_table;
+use cops_audit::{Faults, NotAbove, Stale, Verdict, VersionedPut};
 use cops_types::{History, Memory, OpName};
 use std::alloc::Global;
 

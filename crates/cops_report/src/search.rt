@@ -3,14 +3,15 @@ ghost use Rattle.std.specs.Prelude.{◌≡◌, ℕ, ◌+◌, ◌<◌, ◌≤◌,
 ghost use Rattle.std.specs.List.Sorted.{IsNonDecreasingBy};
 ghost use Rattle.cops_types.specs.Histories.{Sessions, Step, SessionStep, SourceStep, IsNamed};
 ghost use Rattle.cops_types.specs.declared.op.OpName.{OpName};
-ghost use Rattle.cops_report.specs.declared.puts.VersionedPut.{VersionedPut};
+ghost use Rattle.cops_audit.specs.declared.table.VersionedPut.{VersionedPut};
 ghost use Rattle.cops_report.specs.Puts.{HasPut, IsPutTable};
 ghost use Rattle.cops_report.specs.Marks.{Gains, HasPlace, IsMarked, IsNearer, open_places, PlacesAll, SessionsMarked};
 ghost use Rattle.cops_report.specs.Searches.{IsFound, IsLevel, IsRising, IsSearch};
 
 use crate::marks::{Mark, Marks};
-use crate::puts::{VersionedPut, from_version, got_version};
-use cops_types::{History, Op, OpName, Version};
+use crate::puts::from_version;
+use cops_audit::{VersionedPut, got_version, is_source};
+use cops_types::{History, OpName, Version};
 use std::alloc::{AllocError, Global};
 
 /// Marks an operation that has no mark yet, and adds it to the names.
@@ -67,31 +68,6 @@ fn mark_session(
         mark_new(marks, names, name, mark)?;
     }
     Ok(())
-}
-
-/// Whether the one is a put that the other returned.
-fn is_source(history: &History, put: OpName, got: OpName) -> bool
-    ensures { IsTrue result ↔ SourceStep history.now.sessions put got }
-{
-    match (history.op(put), history.op(got)) {
-        (
-            Some(
-                Op::Put {
-                    key,
-                    value,
-                    version,
-                },
-            ),
-            Some(
-                Op::Got {
-                    key: got_key,
-                    value: got_value,
-                    version: got_version,
-                },
-            ),
-        ) => key.is(got_key) && value.is(got_value) && *version == *got_version,
-        _ => false,
-    }
 }
 
 /// Marks the first of the puts that the mark's next one returned: those with its version.

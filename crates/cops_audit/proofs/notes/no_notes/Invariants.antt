@@ -1,4 +1,4 @@
-use Rattle.std.proofs.Common.{◌≡◌, ◌≤◌, ◌+◌, [], length, All}
+use Rattle.std.proofs.Common.{◌≡◌, ◌+◌, [], length, All}
 use Rattle.cops_audit.proofs.notes.no_notes.Given as goal
 
 abbrev pub invariant-loop-client : goal.invariant-loop-client

@@ -1,7 +1,7 @@
 use Rattle.std.proofs.Common.{◌≡◌, ◌≢◌, ◌∙◌, ◌≤◌, arith, inr, false, true, refl, subst, sym, ap, get_or, length}
 use Rattle.std.proofs.lemmas.List.{get_or_default}
 use Rattle.cops_types.specs.Histories.{SourceStep}
-use Rattle.cops_report.specs.declared.puts.VersionedPut.{VersionedPut}
+use Rattle.cops_audit.specs.declared.table.VersionedPut.{VersionedPut}
 use Rattle.cops_report.specs.Marks.{IsMarked}
 use Rattle.cops_report.proofs.GainLemmas.{gains_more, gains_none}
 use Rattle.cops_report.proofs.PutLemmas.{bearers_all, bearers_more, source_named}
@@ -14,7 +14,7 @@ false_not_true e = cc
 pub mark_new-requires : goal.mark_new-requires
 mark_new-requires c =
     let n = c.put-item.result.name in
-    (c.loop-put.invariant.gains.places n).1 ((c.requires.places n).1 (source_named c.args.history.now.sessions n c.args.mark.next (c.if-is_source.ensures.0 refl)))
+    (c.loop-put.invariant.gains.places n).1 ((c.requires.places n).1 (source_named c.args.history.now.sessions n c.args.mark.next (c.if-is_source.ensures.source.0 refl)))
 
 pub loop-put-preserved : goal.loop-put-preserved
 loop-put-preserved c =
@@ -25,7 +25,7 @@ loop-put-preserved c =
     let names = c.loop-put.names.items in
     elim c.if-is_source.branch [
       | then-is_source+in_ok-mark_new w ↦
-          let g = w.in_ok-mark_new.ensures.gains h (inr (w.if-is_source.ensures.0 refl)) in
+          let g = w.in_ok-mark_new.ensures.gains h (inr (w.if-is_source.ensures.source.0 refl)) in
           rw (w.marks-is, w.names-is)
           (record {
             gains = gains_more h c.args.mark c.args.marks.now c.loop-put.marks _ c.args.names.now.items names _ c.loop-put.invariant.gains g;
@@ -37,7 +37,7 @@ loop-put-preserved c =
           (record {
             gains = c.loop-put.invariant.gains;
             all = bearers_more h c.args.mark c.loop-put.marks c.loop-put.marks names names puts i p c.loop-put-test.true c.loop-put.invariant.all (gains_none h c.args.mark c.loop-put.marks names)
-                (λ s. absurd (false_not_true (w.if-is_source.ensures.1 (subst (λ (q : VersionedPut). SourceStep h q.name c.args.mark.next) (sym c.put-item.is) s))));
+                (λ s. absurd (false_not_true (w.if-is_source.ensures.source.1 (subst (λ (q : VersionedPut). SourceStep h q.name c.args.mark.next) (sym c.put-item.is) s))));
           })
     ]
 

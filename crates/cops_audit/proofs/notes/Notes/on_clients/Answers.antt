@@ -1,7 +1,5 @@
-use Rattle.std.proofs.Common.{◌≡◌, ◌+◌, ◌∙◌, length, arith, Vec, Global}
-use Rattle.std.proofs.lemmas.List.{length-map}
+use Rattle.std.proofs.Common.{◌≡◌, ◌+◌, length, arith, Vec, Global}
 use Rattle.cops_audit.specs.declared.notes.Note.{Note}
-use Rattle.cops_audit.specs.Notes.{AreNoted}
 use Rattle.cops_audit.proofs.Noting.{fronts_of_none, noted_all, noted_whole}
 use Rattle.cops_audit.proofs.notes.Notes.on_clients.Goals as goal
 
