@@ -2,7 +2,7 @@
 use crate::net::{BYE, BYE_OK, HELLO, HELLO_OK, PUT, PUT_DONE, from_hex};
 use cops_net::{Session, serve_session};
 use cops_scenario::Scenario;
-use cops_serve::{FrontEnd, serve_stream};
+use cops_serve::{FrontEnd, ServeFault, serve_stream};
 use cops_types::{Counted, Memory};
 use std::alloc::{AllocError, Global};
 use std::net::{Ipv4Addr, Net, TcpListener, TcpStream};
@@ -15,9 +15,9 @@ const ONE: &[u8] = b"{\"data_centres\":1,\"clients\":[{\"at\":0}]}";
 /// Two data centres, each with a client.
 const TWO: &[u8] = b"{\"data_centres\":2,\"clients\":[{\"at\":0},{\"at\":1}]}";
 
-fn opened(alloc: Global, text: &[u8]) -> Result<FrontEnd, Fail> {
+fn scenario_of(alloc: Global, text: &[u8]) -> Result<Scenario, Fail> {
     match Scenario::from_json(alloc, text) {
-        Ok(scenario) => Ok(FrontEnd::open(alloc, scenario)?),
+        Ok(scenario) => Ok(scenario),
         Err(_) => Err(Fail::new("the scenario is faulty")),
     }
 }
@@ -47,7 +47,8 @@ fn speaks<R: Wait>(
 #[test]
 fn a_put_and_a_later_session(rt: HostRuntime) -> Result<(), Fail> {
     let alloc = rt.alloc();
-    let mut front_end = opened(alloc, ONE)?;
+    let scenario = scenario_of(alloc, ONE)?;
+    let mut front_end = FrontEnd::open(alloc, &scenario)?;
     let replies = [HELLO_OK, PUT_DONE, BYE_OK];
     let first = speaks(&rt, alloc, &mut front_end, &[HELLO, PUT, BYE], &replies)?;
     let messages = [
@@ -67,7 +68,7 @@ fn a_put_and_a_later_session(rt: HostRuntime) -> Result<(), Fail> {
         "000000050c00000006",
     ];
     let second = speaks(&rt, alloc, &mut front_end, &messages, &replies)?;
-    let report = front_end.finish().unwrap_or(Vec::new(alloc));
+    let report = front_end.finish(&scenario).unwrap_or(Vec::new(alloc));
     let is_told = report.as_slice() == b"accepted: 2 operations, 1 puts\n".as_slice();
     assert!(rt; first & second & is_told);
     Ok(())
@@ -76,7 +77,8 @@ fn a_put_and_a_later_session(rt: HostRuntime) -> Result<(), Fail> {
 #[test]
 fn a_put_comes_into_the_other_data_centre(rt: HostRuntime) -> Result<(), Fail> {
     let alloc = rt.alloc();
-    let mut front_end = opened(alloc, TWO)?;
+    let scenario = scenario_of(alloc, TWO)?;
+    let mut front_end = FrontEnd::open(alloc, &scenario)?;
     let first = speaks(
         &rt,
         alloc,
@@ -90,9 +92,18 @@ fn a_put_comes_into_the_other_data_centre(rt: HostRuntime) -> Result<(), Fail> {
     let messages = ["000000050100010002", "0000000704000000020178"];
     let replies = ["00000006080000000003", "00000006080000000210"];
     let third = speaks(&rt, alloc, &mut front_end, &messages, &replies)?;
-    let report = front_end.finish().unwrap_or(Vec::new(alloc));
+    let report = front_end.finish(&scenario).unwrap_or(Vec::new(alloc));
     let is_told = report.as_slice() == b"accepted: 2 operations, 1 puts\n".as_slice();
     assert!(rt; first & second & third & is_told);
+    Ok(())
+}
+
+#[test]
+fn another_scenario_ends_no_front_end(rt: HostRuntime) -> Result<(), Fail> {
+    let alloc = rt.alloc();
+    let front_end = FrontEnd::open(alloc, &scenario_of(alloc, ONE)?)?;
+    let ended = front_end.finish(&scenario_of(alloc, TWO)?);
+    assert!(rt; matches!(ended, Err(ServeFault::Untied { ticket: 0 })));
     Ok(())
 }
 

@@ -22,10 +22,10 @@ HasRoom f = IsSome f.room × (vec_len f.calls < vec_capacity f.calls)
 abbrev pub IsUnnoted : FrontEnd → FrontEnd → Type 0
 IsUnnoted old new = (new.calls ≡ old.calls) × (new.room ≡ old.room)
 
--- the scenario, the cluster, who replicates its puts, and which client has greeted are as before
+-- the number of turns, the cluster, who replicates its puts, and which client has greeted are as before
 abbrev pub IsSameSession : FrontEnd → FrontEnd → Type 0
 IsSameSession old new =
-    (new.scenario ≡ old.scenario)
+    (new.turns ≡ old.turns)
     × (new.cluster ≡ old.cluster)
     × (new.senders ≡ old.senders)
     × (new.receivers ≡ old.receivers)
@@ -119,4 +119,4 @@ Statuses old place answer new = IsSame old new × MatchOption old.greeted (IsNon
 
 -- nobody has greeted from now on, and no client changed
 abbrev pub Ends : FrontEnd → FrontEnd → Type 0
-Ends old new = IsNone new.greeted × (new.clients ≡ old.clients) × (new.scenario ≡ old.scenario) × (new.cluster ≡ old.cluster)
+Ends old new = IsNone new.greeted × (new.clients ≡ old.clients) × (new.turns ≡ old.turns) × (new.cluster ≡ old.cluster)

@@ -1,3 +1,4 @@
 pub mod Replying
 pub mod FrontEnd
 pub mod Serving
+pub mod Opening

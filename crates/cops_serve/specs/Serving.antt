@@ -1,7 +1,10 @@
 -- What is told when the serving ends.
-use Rattle.std.specs.Prelude.{◌≡◌, ◌⊎◌, ℕ, List, Option}
+use Rattle.std.specs.Prelude.{◌≡◌, ◌⊎◌, ◌+◌, ℕ, List, ◌++◌, length, map, Option}
+use Rattle.std.specs.Global.{Vec}
 use Rattle.std.specs.Io.KnownBytes.{Appends}
+use Rattle.std.specs.List.Sorted.{IsPermutation}
 use Rattle.cops_types.specs.Histories.{Sessions}
+use Rattle.cops_place.specs.Place.{APlace}
 use Rattle.cops_core.specs.declared.event.Event.{Event}
 use Rattle.cops_core.specs.World.{Setting}
 use Rattle.cops_core.specs.Invariants.{HasAcceptedVerdict}
@@ -13,20 +16,46 @@ use Rattle.cops_scenario.specs.Scenario.{AScenario}
 use Rattle.cops_scenario.specs.File.{IsTextOf, IsNoText, IsWrongText}
 use Rattle.cops_tie.specs.declared.entry.Entry.{Entry}
 use Rattle.cops_tie.specs.Tie.{IsTied}
+use Rattle.cops_tie.specs.Turns.{setting_of}
+use Rattle.cops_clients.specs.Close.{made_in, told}
+use Rattle.cops_clients.specs.declared.client.Client.{Client}
+use Rattle.cops_clients.specs.declared.share.Made.{Made}
+use Rattle.cops_net.specs.Listening.{AreSessions}
+use Rattle.cops_replication.specs.declared.receiver.Receiver.{Receiver}
+use Rattle.cops_serve.specs.declared.front_end.FrontEnd.{FrontEnd}
 
--- the report of what the clients saw, which is accepted, where the books of all nodes are one run of the world with these sessions
-pub record IsTiedReport (s : Setting) (told : List ℕ) : Type 0 where
-  pub books : List (List Entry)
+-- as many data centres, and as many nodes in each
+abbrev pub HasNodesOf : APlace → APlace → Type 0
+HasNodesOf wanted place = (place.dcs ≡ wanted.dcs) × (length place.splits ≡ length wanted.splits)
+
+-- the entries that the clients and the receivers of a front end were told
+abbrev pub told_to : FrontEnd → List Made
+told_to f = told (map (λ (c : Client). c.share) f.clients.items ++ map (λ (r : Receiver). r.share) f.receivers.items)
+
+-- the report of what the clients saw, which is accepted, where these books are one run of the world with these sessions
+pub record IsTiedReport (s : Setting) (books : List (Vec Entry)) (text : List ℕ) : Type 0 where
   pub sessions : Sessions
   pub events : List Event
-  pub tied : IsTied s books sessions events
+  pub tied : IsTied s (map (λ (b : Vec Entry). b.items) books) sessions events
   pub accepted : HasAcceptedVerdict sessions
   pub verdict : Verdict
   pub is_verdict : IsVerdict sessions verdict
-  pub is_report : IsReport sessions verdict told
+  pub is_report : IsReport sessions verdict text
 
--- how serving ends, by the status: 0 of a scenario's text, where the writer gained the report of a world, or 2 of a faulty text
-abbrev pub EndsAs : List ℕ → ℕ → Option (List ℕ) → Option (List ℕ) → Type 0
-EndsAs bytes status old new =
-    ((status ≡ 0) × ((scenario : AScenario) × IsTextOf bytes scenario) × ((s : Setting) × (told : List ℕ) × IsTiedReport s told × Appends old new told))
+-- such a report in a scenario's world, of books that have just the entries that the clients and the receivers of a front end were told
+pub record IsReportOn (s : AScenario) (f : FrontEnd) (text : List ℕ) : Type 0 where
+  pub books : List (Vec Entry)
+  pub same : IsPermutation (made_in (length s.place.splits + 1) 0 books) (told_to f)
+  pub report : IsTiedReport (setting_of s) books text
+
+-- the report on a front end whose calls are those of so many sessions, one after the other
+pub record IsServed (sessions : ℕ) (s : AScenario) (text : List ℕ) : Type 0 where
+  pub front_end : FrontEnd
+  pub calls : AreSessions sessions front_end.calls.items
+  pub report : IsReportOn s front_end text
+
+-- how serving so many sessions ends, by the status: 0 of a scenario's text, where the writer gained such a report, or 2 of a faulty text
+abbrev pub EndsAs : List ℕ → ℕ → ℕ → Option (List ℕ) → Option (List ℕ) → Type 0
+EndsAs bytes sessions status old new =
+    ((status ≡ 0) × ((s : AScenario) × IsTextOf bytes s × ((text : List ℕ) × IsServed sessions s text × Appends old new text)))
     ⊎ ((status ≡ 2) × (IsNoText bytes ⊎ ((field : Field) × IsWrongText bytes field)))

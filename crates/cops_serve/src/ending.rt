@@ -1,50 +1,75 @@
 //! The end of the serving: the books are tied to what was recorded.
-ghost use Rattle.std.specs.Prelude.{◌≡◌, ◌+◌, ◌*◌, length, IfOk};
+ghost use Rattle.std.specs.Prelude.{◌≡◌, ◌+◌, ◌*◌, ◌++◌, ◌↔◌, length, map, IfOk, IsTrue};
+ghost use Rattle.std.specs.List.Sorted.{IsPermutation};
+ghost use Rattle.cops_clients.specs.Close.{made_in, told as told_in};
 ghost use Rattle.cops_tie.specs.Turns.{setting_of};
-ghost use Rattle.cops_serve.specs.Serving.{IsTiedReport};
+ghost use Rattle.cops_serve.specs.Serving.{HasNodesOf, IsTiedReport};
 
 use crate::fault::ServeFault;
 use crate::front_end::FrontEnd;
 use cops_audit::judge;
-use cops_clients::{CloseFault, Closed, Cluster, Share};
+use cops_clients::{Client, CloseFault, Closed, Cluster, Share};
+use cops_replication::Receiver;
 use cops_report::report;
 use cops_scenario::Scenario;
 use cops_tie::{TieFault, tied_run};
-use std::alloc::Global;
+use std::alloc::{AllocError, Global};
 
 impl FrontEnd {
     ghost use Rattle.std.specs.Prelude.{IfOk};
-    ghost use Rattle.cops_tie.specs.Turns.{setting_of};
-    ghost use Rattle.cops_serve.specs.Serving.{IsTiedReport};
+    ghost use Rattle.cops_serve.specs.Serving.{IsReportOn};
 
-    /// The report of what the clients saw: `Untied` where the books of the nodes are no run of the world with it, at the least
-    /// ticket that does not continue one.
-    pub fn finish(self) -> Result<Vec<u8>, ServeFault>
-        ensures { IfOk result (λ told. IsTiedReport (setting_of self.scenario) told.items) }
+    /// The report of what the clients saw in this scenario's world: `Untied` where the books of the nodes are no run of that
+    /// world with it, at the least ticket that does not continue one, or 0 where there are other nodes than the scenario's.
+    pub fn finish(self, scenario: &Scenario) -> Result<Vec<u8>, ServeFault>
+        ensures { IfOk result (λ text. IsReportOn scenario.now self text.items) }
     {
         let FrontEnd {
-            scenario,
             cluster,
             clients,
             receivers,
             alloc,
             ..
         } = self;
-        let mut shares = Vec::with_capacity(alloc, clients.len() + receivers.len())?;
-        for client in clients {
-            shares.push(client.into_share())?;
+        if !is_of(&cluster, scenario) {
+            return Err(ServeFault::Untied { ticket: 0 });
         }
-        for receiver in receivers {
-            shares.push(receiver.into_share())?;
-        }
-        let closed = closed(cluster, shares)?;
-        told(alloc, &scenario, &closed)
+        let closed = closed(cluster, shares(alloc, clients, receivers)?)?;
+        told(alloc, scenario, &closed)
     }
 }
 
-/// What is left of the cluster. A share that is missing, which none is, would leave nothing tied.
+/// Whether a cluster has as many data centres and nodes as a scenario says.
+fn is_of(cluster: &Cluster, scenario: &Scenario) -> bool
+    ensures { IsTrue result ↔ HasNodesOf scenario.now.place cluster.now.place }
+{
+    let place = scenario.place();
+    cluster.dcs() == place.dcs() && cluster.nodes() == place.nodes()
+}
+
+/// The shares of the clients and of the receivers.
+fn shares(
+    alloc: Global,
+    clients: Vec<Client>,
+    receivers: Vec<Receiver>,
+) -> Result<Vec<Share>, AllocError>
+    ensures { IfOk result (λ shares. shares.items ≡ map (λ (c : _). c.share) clients.items ++ map (λ (r : _). r.share) receivers.items) }
+{
+    let mut shares = Vec::with_capacity(alloc, clients.len() + receivers.len())?;
+    for client in clients {
+        shares.push(client.into_share())?;
+    }
+    for receiver in receivers {
+        shares.push(receiver.into_share())?;
+    }
+    Ok(shares)
+}
+
+/// What is left of the cluster, whose entries are those of the shares. A share that is missing, which none is, would leave
+/// nothing tied.
 fn closed(cluster: Cluster, shares: Vec<Share>) -> Result<Closed, ServeFault>
-    ensures { IfOk result (λ closed. length closed.books.items ≡ cluster.place.dcs * (length cluster.place.splits + 1)) }
+    ensures len { IfOk result (λ closed. length closed.books.items ≡ cluster.place.dcs * (length cluster.place.splits + 1)) }
+    ensures told { IfOk result (λ closed. IsPermutation (made_in (length cluster.place.splits + 1) 0 closed.books.items) (told_in shares.items)) }
 {
     match cluster.close(shares) {
         Ok(closed) => Ok(closed),
@@ -57,7 +82,7 @@ fn closed(cluster: Cluster, shares: Vec<Share>) -> Result<Closed, ServeFault>
 /// The report of what a closed cluster's clients saw.
 fn told(alloc: Global, scenario: &Scenario, closed: &Closed) -> Result<Vec<u8>, ServeFault>
     requires { length closed.now.books.items ≡ scenario.now.place.dcs * (length scenario.now.place.splits + 1) }
-    ensures { IfOk result (λ told. IsTiedReport (setting_of scenario.now) told.items) }
+    ensures { IfOk result (λ text. IsTiedReport (setting_of scenario.now) closed.now.books.items text.items) }
 {
     match tied_run(alloc, scenario, &closed.books, &closed.trace) {
         Ok(_run) => {}

@@ -7,7 +7,6 @@ use cops_clients::{Client, Cluster};
 use cops_net::{Call, Reply, Session};
 use cops_node::{MEMORY, Outcome};
 use cops_replication::{Receiver, Sender, Turn};
-use cops_scenario::Scenario;
 use cops_types::{GateHeld, Key, KeyRoom, Memory, NodeStatus, OpenGate, Value, ValueRoom, Version};
 use std::alloc::{AllocError, Global};
 use std::sync::Wait;
@@ -38,11 +37,11 @@ impl Room {
     }
 }
 
-/// A scenario's cluster behind the front door: its clients, one of whom has greeted in a session; the senders and receivers
-/// that replicate what was put, on this thread, after each session; and the calls so far.
+/// A cluster behind the front door: its clients, one of whom has greeted in a session; the senders and receivers that
+/// replicate what was put, on this thread, after each session, in at most so many rounds of turns; and the calls so far.
 #[derive(Drop)]
 pub struct FrontEnd {
-    pub(crate) scenario: Scenario,
+    pub(crate) turns: u32,
     pub(crate) cluster: Cluster,
     pub(crate) clients: Vec<Client>,
     pub(crate) senders: Vec<Sender>,
@@ -51,7 +50,6 @@ pub struct FrontEnd {
     pub(crate) calls: Vec<Call>,
     pub(crate) room: Option<Room>,
     pub(crate) alloc: Global,
-    ghost same_place: { cluster.place ≡ scenario.place },
     ghost at_home: { ForSome greeted (λ g. (g.client < vec_len clients) × (g.dc < cluster.place.dcs)) },
 }
 
@@ -160,7 +158,7 @@ impl FrontEnd {
     fn round<R: Wait>(&mut self, rt: &R) -> bool
         ensures noted { self.new.calls.items ≡ self.old.calls.items }
         ensures clients { (self.new.clients ≡ self.old.clients) × (self.new.greeted ≡ self.old.greeted) }
-        ensures same { (self.new.scenario ≡ self.old.scenario) × (self.new.cluster ≡ self.old.cluster) }
+        ensures same { (self.new.turns ≡ self.old.turns) × (self.new.cluster ≡ self.old.cluster) }
     {
         let mut is_busy = false;
         for sender in self.senders.iter_mut() {
@@ -261,7 +259,7 @@ impl Session for FrontEnd {
 
     fn after_session<R: Wait>(&mut self, rt: &R) {
         self.greeted = None;
-        for _ in 0..self.scenario.turns() {
+        for _ in 0..self.turns {
             if !self.round(rt) {
                 break;
             }

@@ -7,20 +7,21 @@ use cops_types::Memory;
 use std::alloc::Global;
 
 impl FrontEnd {
-    ghost use Rattle.std.specs.Prelude.{◌≡◌, [], IfOk, IsNone};
+    ghost use Rattle.std.specs.Prelude.{IfOk};
+    ghost use Rattle.cops_serve.specs.Opening.{IsOpened};
 
     /// A front end of a scenario's cluster, in which nothing has happened and nobody has greeted.
-    pub fn open(alloc: Global, scenario: Scenario) -> Result<FrontEnd, Memory>
-        ensures { IfOk result (λ f. (f.scenario ≡ scenario) × (f.calls.items ≡ []) × IsNone f.greeted) }
+    pub fn open(alloc: Global, scenario: &Scenario) -> Result<FrontEnd, Memory>
+        ensures { IfOk result (IsOpened scenario.now) }
     {
         let Opened {
             cluster,
             clients,
             shares,
-        } = Cluster::of_scenario(alloc, &scenario)?;
+        } = Cluster::of_scenario(alloc, scenario)?;
         let Replicas { senders, receivers } = wired(alloc, cluster.dcs(), scenario.link(), shares)?;
         Ok(FrontEnd {
-            scenario,
+            turns: scenario.turns(),
             cluster,
             clients,
             senders,

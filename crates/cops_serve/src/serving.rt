@@ -2,8 +2,8 @@
 ghost use Rattle.std.specs.Prelude.{◌≡◌, ◌⊎◌, Ok, IfOk, IfSome};
 ghost use Rattle.std.specs.Io.KnownBytes.{Appends};
 ghost use Rattle.cops_types.specs.Counted.{failures, inner};
-ghost use Rattle.cops_core.specs.World.{Setting};
-ghost use Rattle.cops_serve.specs.Serving.{IsTiedReport, EndsAs};
+ghost use Rattle.cops_net.specs.Listening.{AreSessions};
+ghost use Rattle.cops_serve.specs.Serving.{EndsAs, IsServed};
 
 use crate::fault::ServeFault;
 use crate::front_end::FrontEnd;
@@ -35,9 +35,9 @@ where
     I: Read,
     W: Write,
     E: Write,
-    // The status is that of the reader's bytes and of the text that was printed, unless something failed.
+    // The status is that of the reader's bytes, of so many sessions and of the text that was printed, unless something failed.
     ensures ended { IfOk result (λ status. (status ≡ 4) ⊎ IfSome (I.remaining (inner reader.old)) (λ bytes.
-        EndsAs bytes status (W.contents (inner out.old)) (W.contents (inner out.new)))) }
+        EndsAs bytes sessions status (W.contents (inner out.old)) (W.contents (inner out.new)))) }
     ensures heard { (result ≡ Ok 4) ⊎ ((failures reader.new ≡ failures reader.old) × (failures out.new ≡ failures out.old)) }
 {
     let Some(bytes) = read_all(alloc, reader)? else {
@@ -53,7 +53,7 @@ where
             return Ok(faulty(alloc, ScenarioFault::BadField(field), out, errors)?);
         }
     };
-    match served(rt, alloc, scenario, port, sessions) {
+    match served(rt, alloc, &scenario, port, sessions) {
         Ok(report) => Ok(printed(&report, ACCEPTED, out, errors)),
         Err(ServeFault::Memory) => Err(Memory),
         Err(fault) => {
@@ -67,15 +67,29 @@ where
 fn served<R: Net<Listener = TcpListener, Stream = TcpStream> + Wait>(
     rt: &R,
     alloc: Global,
-    scenario: Scenario,
+    scenario: &Scenario,
     port: u16,
     sessions: u16,
 ) -> Result<Vec<u8>, ServeFault>
-    ensures { IfOk result (λ told. (s : Setting) × IsTiedReport s told.items) }
+    ensures { IfOk result (λ text. IsServed sessions scenario.now text.items) }
+{
+    let front_end = attended(rt, alloc, scenario, port, sessions)?;
+    front_end.finish(scenario)
+}
+
+/// A front end of a scenario's cluster, behind so many sessions.
+fn attended<R: Net<Listener = TcpListener, Stream = TcpStream> + Wait>(
+    rt: &R,
+    alloc: Global,
+    scenario: &Scenario,
+    port: u16,
+    sessions: u16,
+) -> Result<FrontEnd, ServeFault>
+    ensures { IfOk result (λ f. AreSessions sessions f.calls.items) }
 {
     let mut front_end = FrontEnd::open(alloc, scenario)?;
     match listen(rt, alloc, port, &mut front_end, sessions) {
-        Ok(()) => front_end.finish(),
+        Ok(()) => Ok(front_end),
         Err(NetFault::BindFailed) => Err(ServeFault::BindFailed),
         Err(NetFault::AcceptFailed) => Err(ServeFault::AcceptFailed),
         Err(NetFault::Memory) => Err(ServeFault::Memory),

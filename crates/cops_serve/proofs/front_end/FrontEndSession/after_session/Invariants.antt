@@ -6,5 +6,5 @@ invariant-loop g l =
     (l.self.calls.items ≡ l.fn.self.calls.items)
     × (l.self.greeted ≡ None)
     × (l.self.clients ≡ l.fn.self.clients)
-    × (l.self.scenario ≡ l.fn.self.scenario)
+    × (l.self.turns ≡ l.fn.self.turns)
     × (l.self.cluster ≡ l.fn.self.cluster)

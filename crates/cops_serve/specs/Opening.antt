@@ -1,0 +1,23 @@
+-- A front end in which nothing has happened.
+use Rattle.std.specs.Prelude.{◌≡◌, ◌-◌, List, [], length, map, IsNone}
+use Rattle.cops_clients.specs.Opening.{AreClientsAt, AreReceivers as AreSharesOfReceivers}
+use Rattle.cops_clients.specs.declared.share.Share.{Share}
+use Rattle.cops_replication.specs.Receiving.{ends}
+use Rattle.cops_replication.specs.Sending.{lanes}
+use Rattle.cops_replication.specs.Wiring.{AreJoined, AreReceivers, AreSenders}
+use Rattle.cops_scenario.specs.Scenario.{AScenario, homes_of}
+use Rattle.cops_serve.specs.declared.front_end.FrontEnd.{FrontEnd}
+
+-- the scenario's clients, and a sender and a receiver for each data centre, all with empty shares; nobody has greeted, and there
+-- was no call
+pub record IsOpened (s : AScenario) (f : FrontEnd) : Type 0 where
+  pub turns : f.turns ≡ s.turns
+  pub place : f.cluster.place ≡ s.place
+  pub clients : AreClientsAt (homes_of s) (length (homes_of s)) f.clients.items
+  pub senders : AreSenders s.place.dcs (s.place.dcs - 1) s.link f.senders.items
+  pub shares : List Share
+  pub empty : AreSharesOfReceivers s.place.dcs shares
+  pub receivers : AreReceivers s.place.dcs shares f.receivers.items
+  pub joined : AreJoined s.place.dcs (map lanes f.senders.items) (map ends f.receivers.items)
+  pub greeted : IsNone f.greeted
+  pub calls : f.calls.items ≡ []
