@@ -1,4 +1,3 @@
-pub mod Nodes
 pub mod Tellings
 pub mod Lists
 pub mod Shuffles
