@@ -4,3 +4,4 @@ pub mod Readings
 pub mod Lists
 pub mod Going
 pub mod Following
+pub mod Underway
