@@ -1,10 +1,38 @@
--- The statuses that the program ends with.
-use Rattle.std.specs.Prelude.{ℕ}
+-- The statuses that the program ends with, and what 0 says.
+use Rattle.std.specs.Prelude.{ℕ, List, Ok}
+use Rattle.cops_line.specs.declared.job.Job.{Job}
+use Rattle.cops_line.specs.declared.job.Job.TheVariants.{Audit, Show, Run, Serve}
+use Rattle.cops_trace.specs.Text.{ATrace}
+use Rattle.cops_trace.specs.Answer.{Says}
+use Rattle.cops_scenario.specs.Scenario.{AScenario}
+use Rattle.cops_scenario.specs.File.{IsTextOf}
 use Rattle.cops_stream.specs.declared.audit.Answer.{Answer}
 use Rattle.cops_stream.specs.declared.audit.Answer.TheVariants.{Accepted, Refused, Faulty}
+use Rattle.cops_stream.specs.Audit.{SpellsConvergent}
+use Rattle.cops_run_stream.specs.Running.{IsLeft}
+use Rattle.cops_serve.specs.Serving.{IsServed}
 
 -- the status of an audit's answer
 abbrev pub status_of : Answer → ℕ
 status_of Accepted = 0
 status_of Refused = 1
 status_of Faulty = 2
+
+-- the bytes are a trace's text
+abbrev pub TellsTrace : List ℕ → Type 0
+TellsTrace bytes = (t : ATrace) × Says bytes (Ok t)
+
+-- the bytes tell a scenario, and there is a run of it, with its trace, which is accepted
+abbrev pub TellsRun : List ℕ → Type 0
+TellsRun bytes = (s : AScenario) × (t : ATrace) × (told : List ℕ) × IsTextOf bytes s × IsLeft s t told
+
+-- the bytes tell a scenario, and there is a report on so many sessions of clients of its world, which is accepted
+abbrev pub TellsServed : ℕ → List ℕ → Type 0
+TellsServed sessions bytes = (s : AScenario) × (text : List ℕ) × IsTextOf bytes s × IsServed sessions s text
+
+-- what is so of the bytes of a job's input where the job ends with the status 0
+abbrev pub EndsWell : Job → List ℕ → Type 0
+EndsWell (Audit trace workers) bytes = SpellsConvergent bytes
+EndsWell (Show trace) bytes = TellsTrace bytes
+EndsWell (Run scenario trace) bytes = TellsRun bytes
+EndsWell (Serve port scenario sessions) bytes = TellsServed sessions bytes

@@ -4,7 +4,7 @@
 
 ghost use Rattle.std.specs.Prelude.{◌≡◌, IfSome};
 ghost use Rattle.cops_stream.specs.Audit.{SpellsConvergent};
-ghost use Rattle.cops.specs.Status.{status_of};
+ghost use Rattle.cops.specs.Status.{EndsWell, TellsRun, TellsServed, TellsTrace, status_of};
 
 use cops_line::{Job, LineFault, line};
 use cops_run_stream::run_stream;
@@ -70,11 +70,13 @@ where
     }
 }
 
+/// Shows the input, and gives the status: 0 only of a trace's text.
 fn show<R, I, E>(rt: &R, input: I, errors: E) -> u8
 where
     R: Print + Eprint + AllocGlobal,
     I: Read + Drop,
     E: Write + Drop,
+    ensures { result ≡ 0 → IfSome (I.remaining input) TellsTrace }
 {
     let mut reader = Counted::new(input);
     let mut out = Counted::new(io::writer(rt));
@@ -85,12 +87,14 @@ where
     }
 }
 
-/// Runs the scenario that the input holds, and writes its trace to the file of that name.
+/// Runs the scenario that the input holds, writes its trace to the file of that name, and gives the status: 0 only of a
+/// scenario with a run whose history is accepted.
 fn run_scenario<R, I, E>(rt: &R, input: I, trace: &str, errors: E) -> u8
 where
     R: Files + Print + Eprint + AllocGlobal + Threads + Wait + Sync,
     I: Read + Drop,
     E: Write + Drop,
+    ensures { result ≡ 0 → IfSome (I.remaining input) TellsRun }
 {
     let Ok(file) = File::create(rt, trace) else {
         return failed(rt, "open", FAILED);
@@ -113,12 +117,14 @@ where
     }
 }
 
-/// Serves so many sessions of clients of the cluster of the scenario that the input holds.
+/// Serves so many sessions of clients of the cluster of the scenario that the input holds, and gives the status: 0 only of a
+/// scenario with a report on so many sessions, whose history is accepted.
 fn serve<R, I, E>(rt: &R, input: I, port: u16, sessions: u16, errors: E) -> u8
 where
     R: Net<Listener = TcpListener, Stream = TcpStream> + Print + Eprint + AllocGlobal + Wait,
     I: Read + Drop,
     E: Write + Drop,
+    ensures { result ≡ 0 → IfSome (I.remaining input) (TellsServed sessions) }
 {
     let mut reader = Counted::new(input);
     let mut out = Counted::new(io::writer(rt));
@@ -137,12 +143,14 @@ where
     }
 }
 
+/// Does a job over its input, and gives the status.
 fn command<R, I, E>(rt: &R, job: Job<'_>, input: I, errors: E) -> u8
 where
     R: Files + Print + Eprint + AllocGlobal + Threads + Wait + Sync,
     R: Net<Listener = TcpListener, Stream = TcpStream>,
     I: Read + Drop,
     E: Write + Drop,
+    ensures { result ≡ 0 → IfSome (I.remaining input) (EndsWell job.entry) }
 {
     match job {
         Job::Audit { workers, .. } => audit(rt, input, workers),
