@@ -38,6 +38,15 @@ same_texts (x ∷ xs) (y ∷ ys) e =
 pub same_one : (a b : List ℕ) (x y : Data) → one_json a x ≡ one_json b y → (a ≡ b) × (x ≡ y)
 same_one a b x y e = (cc, cc)
 
+-- the form of an item of a list
+pub part_at : (items : List Value) (i : ℕ) (item : Value) (ds : List Data) → i < length items → item ≡ get_or items i item → map view items ≡ ds → view item ≡ get_or ds i (view item)
+part_at [] i item ds within is e = absurd (omega arith)
+part_at (v ∷ vs) zero item ds within is e = ap view is ∙ ap (λ l. get_or l 0 (view item)) e
+part_at (v ∷ vs) (suc i) item [] within is e = cc
+part_at (v ∷ vs) (suc i) item (d ∷ ds) within is e =
+    let rest : map view vs ≡ ds = cc in
+    part_at vs i item ds (omega arith) is rest
+
 -- an item of a list is one of those that the list tells
 pub no_such_item : {A : Type 0} (json : A → Data) (P : A → Type 0) (items : List Value) (i : ℕ) (item : Value) (xs : List A)
     → i < length items → item ≡ get_or items i item → ((x : A) → P x → view item ≢ json x) → map view items ≡ map json xs → All P xs → ⊥

@@ -154,7 +154,7 @@ fn ask(alloc: Global, parts: &[Json]) -> Result<Event, Unread>
 /// A mark: a data centre, the version of a put and a dependency's index.
 fn mark(parts: &[Json]) -> Result<Event, Unread>
     ensures json { IfOk result (λ event. (kind_of event ≡ codes "mark") × (parts_of event ≡ map view parts.now)) }
-    ensures none { OnErr result ((dc version dep : ℕ) → dc ≤ 255 → IsVersion version → dep ≤ 65535 → map view parts.now ≢ number_json dc ∷ text_json (version_text version) ∷ number_json dep ∷ []) }
+    ensures none { result ≡ Err Unread.Form → (dc version dep : ℕ) → dc ≤ 255 → IsVersion version → dep ≤ 65535 → map view parts.now ≢ number_json dc ∷ text_json (version_text version) ∷ number_json dep ∷ [] }
 {
     match parts {
         [d, v, n] => Ok(Event::Mark {

@@ -31,7 +31,7 @@ pub returns-in-mark-clause-none : goal.returns-in-mark-clause-none
 returns-in-mark-clause-none c = λ err event legal e.
     let parts = map view c.in_ok-parts.parts.now in
     let same = same_event (view c.args.json.now) (view c.in_ok-name.of.now) c.in_ok-name.name.now parts event c.in_ok-name.ensures.json c.in_ok-parts.ensures.json e in
-    no_mark parts (rw err at c.mark.ensures.none) event legal (sym c.in-mark.is ∙ same.0) same.1
+    no_mark parts (c.mark.ensures.none err) event legal (sym c.in-mark.is ∙ same.0) same.1
 
 pub returns-in_err-dc-in-settle-clause-none : goal.returns-in_err-dc-in-settle-clause-none
 returns-in_err-dc-in-settle-clause-none c = λ err event legal e.

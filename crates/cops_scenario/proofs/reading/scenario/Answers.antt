@@ -1,13 +1,24 @@
-use Rattle.std.proofs.Common.{◌≡◌, ◌≤◌, List, length, rules}
+use Rattle.std.proofs.Common.{◌≡◌, ◌≤◌, List, length, rules, subst}
 use Rattle.std.specs.Prelude.{Option, IfSome, option_map}
 use Rattle.serde_json.specs.Data.{Data}
 use Rattle.serde_json.specs.View.{view}
 use Rattle.cops_core.specs.declared.event.Event.{Event}
-use Rattle.cops_scenario.specs.File.{AreUnscripted, IsRight, TellClients, list_json}
+use Rattle.cops_scenario.specs.File.{AreRightBefore, AreUnscripted, IsRight, TellClients, list_json}
 use Rattle.cops_scenario.specs.declared.fault.Field.TheVariants.{Root, DataCentres, Splits, Link, Turns, Clients, Events}
 use Rattle.cops_scenario.proofs.Order.{before_clients, before_events}
 use Rattle.cops_scenario.proofs.Scripts.{are_events}
 use Rattle.cops_scenario.proofs.reading.scenario.Goals as goal
+
+pub returns-in_err-clients-clause-first : goal.returns-in_err-clients-clause-first
+returns-in_err-clients-clause-first c = λ field e.
+    let root = view c.args.root.now in
+    let whole : IsRight root Root = search rules in
+    let dcs : IsRight root DataCentres = search rules in
+    let splits : IsRight root Splits = search rules in
+    let link : IsRight root Link = search rules in
+    let turns : IsRight root Turns = search rules in
+    let is : Clients ≡ field = search rules in
+    subst (AreRightBefore root) is (before_clients root whole dcs splits link turns)
 
 pub returns-in_err-events-clause-first : goal.returns-in_err-events-clause-first
 returns-in_err-events-clause-first c = λ field e.
@@ -30,3 +41,14 @@ new-requires-clause-events c =
     let few : IfSome (option_map (λ e. e.items) c.in_ok-events.events) (λ es. length es ≤ 100000) = search rules in
     let beside : (ds : List Data) → view c.in-Some.listed.now ≡ list_json ds → AreUnscripted ds (option_map (λ e. e.items) c.in_ok-events.events) = search rules in
     are_events told.0 c.in_ok-clients.clients.items events told.2 (beside told.0 told.1) few
+
+pub returns-clause-told : goal.returns-clause-told
+returns-clause-told c =
+    let told : (ds : List Data) × (view c.in-Some.listed.now ≡ list_json ds) × TellClients ds c.in_ok-clients.clients.items = search rules in
+    let beside : (ds : List Data) → view c.in-Some.listed.now ≡ list_json ds → AreUnscripted ds (option_map (λ e. e.items) c.in_ok-events.events) = search rules in
+    rw c.new.ensures (record {
+      numbers = search rules;
+      splits = search rules;
+      clients = (told.0, search rules, told.2, beside told.0 told.1);
+      events = search rules;
+    })
