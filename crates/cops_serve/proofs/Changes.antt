@@ -17,7 +17,7 @@ use Rattle.cops_serve.specs.declared.front_end.Greeted.{Greeted}
 use Rattle.cops_serve.specs.FrontEnd.{DoneByGreeted, HasPut, HasGot, HasAsked, IsSame}
 
 -- what was lent from its place stands there
-pub there : {X : Type 0} (xs : List X) (number place : ℕ) (x : X) → place ≡ number → (place < length xs) × ((d : X) → x ≡ slice_index_or xs place d)
+there : {X : Type 0} (xs : List X) (number place : ℕ) (x : X) → place ≡ number → (place < length xs) × ((d : X) → x ≡ slice_index_or xs place d)
     → slice_get xs number ≡ Some x
 there xs number place x e (inside, at) = rw (sym e) (slice_get_read xs (length xs) place x refl inside (at x))
 
@@ -31,8 +31,13 @@ pub not_home : (xs : List Client) (number dcs dc : ℕ) (x : Client) → slice_g
     → (client : Client) × (slice_get xs number ≡ Some client) × (client.dc ≡ dc) × (dc < dcs) → ⊥
 not_home xs number dcs dc x e far (client, found, home, near) = let s : x ≡ client = cc in absurd (omega (arith, ap (λ (c : Client). c.dc) s, home, far, near))
 
-pub set_there : {X : Type 0} (xs : List X) (number place : ℕ) (x : X) → place ≡ number → slice_set xs place x ≡ slice_set xs number x
+set_there : {X : Type 0} (xs : List X) (number place : ℕ) (x : X) → place ≡ number → slice_set xs place x ≡ slice_set xs number x
 set_there xs number place x e = ap (λ (n : ℕ). slice_set xs n x) e
+
+-- what was lent from its place is put back as it became, and this happened to it
+pub changed : {X : Type 0} (Did : X → X → Type 0) (xs : List X) (number place : ℕ) (before after : X) → place ≡ number → (place < length xs) × ((d : X) → before ≡ slice_index_or xs place d) → Did before after
+    → (x : X) × (y : X) × (slice_get xs number ≡ Some x) × (slice_set xs place after ≡ slice_set xs number y) × Did x y
+changed Did xs number place before after e lent did = (before, after, there xs number place before e lent, set_there xs number place after e, did)
 
 -- of copies of the key and the value
 pub put_of : (c : Cluster) (key value k v : List ℕ) (out : Outcome) (before after : Client) → k ≡ key → v ≡ value → HasPut c k v out before after

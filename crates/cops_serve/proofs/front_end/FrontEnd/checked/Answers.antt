@@ -2,7 +2,7 @@ use Rattle.std.proofs.Common.{refl}
 use Rattle.cops_node.specs.declared.outcome.Outcome.TheVariants.{Wait}
 use Rattle.cops_clients.specs.Lending.{with_share}
 use Rattle.cops_clients.specs.Receiving.{outcome_of}
-use Rattle.cops_serve.proofs.Changes.{there, set_there, asked_of}
+use Rattle.cops_serve.proofs.Changes.{changed, asked_of}
 use Rattle.cops_serve.proofs.front_end.FrontEnd.checked.Goals as goal
 
 pub returns-in_default-clause-done : goal.returns-in_default-clause-done
@@ -16,13 +16,8 @@ returns-clause-done g c =
       c.check_replies.ensures.told,
       rw c.in-Some.is (
         (refl, refl, refl, refl, refl),
-        (
-          client,
-          with_share client c.ask.new.share,
-          there _ _ _ _ c.from.ensures c.in-Some-get_mut.ensures.item.3,
-          set_there _ _ _ _ c.from.ensures,
-          asked_of c.args.self.now.cluster c.in-Some.greeted.dc c.args.key.now c.args.version out client c.share-share.result.now c.ask.new.share
-              c.share-share.ensures.value c.in-Ok.ensures.who c.in-Ok.ensures.told,
-        ),
+        changed _ _ _ _ _ (with_share client c.ask.new.share) c.from.ensures c.in-Some-get_mut.ensures.item.3
+            (asked_of c.args.self.now.cluster c.in-Some.greeted.dc c.args.key.now c.args.version out client c.share-share.result.now c.ask.new.share
+            c.share-share.ensures.value c.in-Ok.ensures.who c.in-Ok.ensures.told),
       ),
     )

@@ -1,19 +1,13 @@
 use Rattle.std.proofs.Common.{refl}
-use Rattle.cops_serve.proofs.Changes.{there, set_there, got_of, no_get}
+use Rattle.cops_serve.proofs.Changes.{changed, got_of, no_get}
 use Rattle.cops_serve.proofs.front_end.FrontEnd.get_outcome.Goals as goal
 
 pub returns-in_default-clone-clause-done : goal.returns-in_default-clone-clause-done
 returns-in_default-clone-clause-done g c =
-    let client = c.in-Some-get_mut.client.now in
     rw c.in-Some.is (
       (refl, refl, refl, refl, refl),
-      (
-        client,
-        client,
-        there _ _ _ _ c.from.ensures c.in-Some-get_mut.ensures.item.3,
-        set_there _ _ _ _ c.from.ensures,
-        no_get c.args.self.now.cluster c.args.key.now client,
-      ),
+      changed _ _ _ _ _ _ c.from.ensures c.in-Some-get_mut.ensures.item.3
+          (no_get c.args.self.now.cluster c.args.key.now c.in-Some-get_mut.client.now),
     )
 
 pub returns-clause-done : goal.returns-clause-done
@@ -21,12 +15,6 @@ returns-clause-done g c =
     let p = c.in-Ok-get.ensures in
     rw c.in-Some.is (
       (refl, refl, refl, refl, refl),
-      (
-        c.in-Some-get_mut.client.now,
-        c.get.new.client,
-        there _ _ _ _ c.from.ensures c.in-Some-get_mut.ensures.item.3,
-        set_there _ _ _ _ c.from.ensures,
-        got_of c.args.self.now.cluster c.args.key.now c.in-Ok.key c.in-Ok-get.outcome c.in-Some-get_mut.client.now c.get.new.client
-            c.in-Ok.ensures.cases (p.who, p.told, p.context),
-      ),
+      changed _ _ _ _ _ _ c.from.ensures c.in-Some-get_mut.ensures.item.3
+          (got_of c.args.self.now.cluster c.args.key.now c.in-Ok.key c.in-Ok-get.outcome c.in-Some-get_mut.client.now c.get.new.client c.in-Ok.ensures.cases (p.who, p.told, p.context)),
     )

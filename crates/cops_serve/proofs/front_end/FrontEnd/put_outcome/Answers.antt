@@ -1,33 +1,21 @@
 use Rattle.std.proofs.Common.{refl}
-use Rattle.cops_serve.proofs.Changes.{there, set_there, put_of, no_put}
+use Rattle.cops_serve.proofs.Changes.{changed, put_of, no_put}
 use Rattle.cops_serve.proofs.front_end.FrontEnd.put_outcome.Goals as goal
 
 pub returns-in_default-clone-clause-done : goal.returns-in_default-clone-clause-done
 returns-in_default-clone-clause-done g c =
-    let client = c.in-Some-get_mut.client.now in
     rw c.in-Some.is (
       (refl, refl, refl, refl, refl),
-      (
-        client,
-        client,
-        there _ _ _ _ c.from.ensures c.in-Some-get_mut.ensures.item.3,
-        set_there _ _ _ _ c.from.ensures,
-        no_put c.args.self.now.cluster c.args.key.now c.args.value.now client,
-      ),
+      changed _ _ _ _ _ _ c.from.ensures c.in-Some-get_mut.ensures.item.3
+          (no_put c.args.self.now.cluster c.args.key.now c.args.value.now c.in-Some-get_mut.client.now),
     )
 
 pub returns-in_default-clone-2-clause-done : goal.returns-in_default-clone-2-clause-done
 returns-in_default-clone-2-clause-done g c =
-    let client = c.in-Some-get_mut.client.now in
     rw c.in-Some.is (
       (refl, refl, refl, refl, refl),
-      (
-        client,
-        client,
-        there _ _ _ _ c.from.ensures c.in-Some-get_mut.ensures.item.3,
-        set_there _ _ _ _ c.from.ensures,
-        no_put c.args.self.now.cluster c.args.key.now c.args.value.now client,
-      ),
+      changed _ _ _ _ _ _ c.from.ensures c.in-Some-get_mut.ensures.item.3
+          (no_put c.args.self.now.cluster c.args.key.now c.args.value.now c.in-Some-get_mut.client.now),
     )
 
 pub returns-clause-done : goal.returns-clause-done
@@ -35,12 +23,6 @@ returns-clause-done g c =
     let p = c.in-Ok-put.ensures in
     rw c.in-Some.is (
       (refl, refl, refl, refl, refl),
-      (
-        c.in-Some-get_mut.client.now,
-        c.put.new.client,
-        there _ _ _ _ c.from.ensures c.in-Some-get_mut.ensures.item.3,
-        set_there _ _ _ _ c.from.ensures,
-        put_of c.args.self.now.cluster c.args.key.now c.args.value.now c.in-Ok.key c.in-Ok-clone.value c.in-Ok-put.outcome c.in-Some-get_mut.client.now c.put.new.client
-            c.in-Ok.ensures.cases c.in-Ok-clone.ensures.cases (p.who, p.told, p.context),
-      ),
+      changed _ _ _ _ _ _ c.from.ensures c.in-Some-get_mut.ensures.item.3
+          (put_of c.args.self.now.cluster c.args.key.now c.args.value.now c.in-Ok.key c.in-Ok-clone.value c.in-Ok-put.outcome c.in-Some-get_mut.client.now c.put.new.client c.in-Ok.ensures.cases c.in-Ok-clone.ensures.cases (p.who, p.told, p.context)),
     )
