@@ -20,10 +20,6 @@ numbers count = range_with_len 0 count
 abbrev pub IsFreshIn : ℕ → LinkIn → Type 0
 IsFreshIn capacity l = (sent l ≡ []) × (known_room l ≡ capacity)
 
--- a link from which nothing was taken
-abbrev pub IsFreshOut : LinkOut → Type 0
-IsFreshOut l = taken l ≡ []
-
 -- the same, and nothing is due on it
 abbrev pub IsFreshLane : ℕ → ALane → Type 0
 IsFreshLane capacity l = IsFreshIn capacity l.link × (l.due ≡ [])
@@ -31,6 +27,10 @@ IsFreshLane capacity l = IsFreshIn capacity l.link × (l.due ≡ [])
 -- a sender that has read nothing, with so many such links
 abbrev pub IsFreshSender : ℕ → ℕ → Sender → Type 0
 IsFreshSender links capacity s = (s.read ≡ unread) × (length (lanes s) ≡ links) × All (IsFreshLane capacity) (lanes s)
+
+-- a link from which nothing was taken
+abbrev pub IsFreshOut : LinkOut → Type 0
+IsFreshOut l = taken l ≡ []
 
 -- a receiver with so many such links
 abbrev pub IsFreshReceiver : ℕ → Receiver → Type 0
