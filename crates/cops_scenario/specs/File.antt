@@ -119,15 +119,17 @@ IsWrong root Events = TellsNoEvents root
 abbrev pub IsNumber : ℕ → ℕ → Option Data → Type 0
 IsNumber least most d = (n : ℕ) × (least ≤ n) × (n ≤ most) × (d ≡ Some (number_json n))
 
--- a file's field is of its form
+-- a file's field is of its form and within its limits
 abbrev pub IsRight : Data → Field → Type 0
 IsRight root Root = as_object root ≢ None
 IsRight root DataCentres = IsNumber 1 16 (get (name_of DataCentres) root)
-IsRight root Splits = (keys : List (List ℕ)) × IsListOrMissing (map text_json keys) (get (name_of Splits) root)
+IsRight root Splits = (splits : List (List ℕ)) × AreSplits splits × IsListOrMissing (map text_json splits) (get (name_of Splits) root)
 IsRight root Link = (get (name_of Link) root ≡ None) ⊎ IsNumber 1 1024 (get (name_of Link) root)
 IsRight root Turns = (get (name_of Turns) root ≡ None) ⊎ IsNumber 1 1000000000 (get (name_of Turns) root)
-IsRight root Clients = (ds : List Data) × (clients : List ScriptedClient) × (get (name_of Clients) root ≡ Some (list_json ds)) × TellClients ds clients
-IsRight root Events = (events : Option (List Event)) × TellsEvents (get (name_of Events) root) events
+IsRight root Clients =
+    (ds : List Data) × (clients : List ScriptedClient) × (get (name_of Clients) root ≡ Some (list_json ds)) × TellClients ds clients
+    × (length clients ≤ 64) × All (IsLegalClient (number_at root DataCentres 0)) clients
+IsRight root Events = (events : Option (List Event)) × TellsEvents (get (name_of Events) root) events × AreLegalEvents events
 
 -- the fields that are looked at before it
 abbrev pub before : Field → List Field

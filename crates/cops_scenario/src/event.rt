@@ -34,6 +34,7 @@ pub(crate) fn events(alloc: Global, json: &Json, most: usize) -> Result<Vec<Even
 pub(crate) fn script(alloc: Global, json: &Json, most: usize) -> Result<Vec<ScriptOp>, Unread>
     ensures few { IfOk result (λ script. length script.items ≤ most) }
     ensures json { IfOk result (λ script. view json.now ≡ list_json (map op_json script.items)) }
+    ensures legal { IfOk result (λ script. All IsLegalOp script.items) }
     ensures none { result ≡ Err Unread.Form → (ops : List AnOp) → length ops ≤ most → All IsLegalOp ops → view json.now ≢ list_json (map op_json ops) }
 {
     let mut script = Vec::new(alloc);
@@ -46,6 +47,7 @@ pub(crate) fn script(alloc: Global, json: &Json, most: usize) -> Result<Vec<Scri
 /// An operation of a script.
 fn script_op(alloc: Global, json: &Json) -> Result<ScriptOp, Unread>
     ensures json { IfOk result (λ op. view json.now ≡ op_json op) }
+    ensures legal { IfOk result IsLegalOp }
     ensures none { result ≡ Err Unread.Form → (op : AnOp) → IsLegalOp op → view json.now ≢ op_json op }
 {
     let (name, of) = only_member(json)?;
@@ -64,6 +66,7 @@ fn script_op(alloc: Global, json: &Json) -> Result<ScriptOp, Unread>
 /// A key and a value.
 fn pair(alloc: Global, parts: &[Json]) -> Result<(Key, Value), Unread>
     ensures json { IfOk result (λ p. map view parts.now ≡ text_json p.0 ∷ text_json p.1 ∷ []) }
+    ensures legal { IfOk result (λ p. IsKey p.0 × IsValue p.1) }
     ensures none { result ≡ Err Unread.Form → (key value : List ℕ) → IsKey key → IsValue value → map view parts.now ≢ text_json key ∷ text_json value ∷ [] }
 {
     match parts {

@@ -120,6 +120,7 @@ pub(crate) fn only_member(json: &Json) -> Result<(&str, &Json), Unread>
 /// A text as a key, 1 to 64 bytes.
 pub(crate) fn key(alloc: Global, json: &Json) -> Result<Key, Unread>
     ensures json { IfOk result (λ bytes. view json.now ≡ text_json bytes) }
+    ensures legal { IfOk result IsKey }
     ensures none { result ≡ Err Unread.Form → (bytes : List ℕ) → IsKey bytes → view json.now ≢ text_json bytes }
 {
     let text = json.as_str().ok_or(Unread::Form)?;
@@ -129,6 +130,7 @@ pub(crate) fn key(alloc: Global, json: &Json) -> Result<Key, Unread>
 /// A text as a value, at most 4,096 bytes.
 pub(crate) fn value(alloc: Global, json: &Json) -> Result<Value, Unread>
     ensures json { IfOk result (λ bytes. view json.now ≡ text_json bytes) }
+    ensures legal { IfOk result IsValue }
     ensures none { result ≡ Err Unread.Form → (bytes : List ℕ) → IsValue bytes → view json.now ≢ text_json bytes }
 {
     let text = json.as_str().ok_or(Unread::Form)?;

@@ -94,6 +94,7 @@ fn place(alloc: Global, dcs: u8, splits: Option<&Json>) -> Result<Place, Unread>
     requires { (1 ≤ dcs) × (dcs ≤ 16) }
     ensures dcs { IfOk result (λ place. place.dcs ≡ dcs) }
     ensures splits { IfOk result (λ place. IsListOrMissing (map text_json place.splits) (option_map (λ v. view v.now) splits.entry)) }
+    ensures legal { IfOk result (λ place. AreSplits place.splits) }
     ensures none { result ≡ Err Unread.Form → (keys : List (List ℕ)) → AreSplits keys → IsListOrMissing (map text_json keys) (option_map (λ v. view v.now) splits.entry) → ⊥ }
 {
     let Some(json) = splits else {
@@ -122,6 +123,7 @@ fn whole_place(alloc: Global, dcs: u8) -> Place
 fn clients(alloc: Global, dcs: u8, json: &Json) -> Result<Vec<ScriptedClient>, Unread>
     ensures few { IfOk result (λ clients. length clients.items ≤ 64) }
     ensures each { IfOk result (λ clients. All (IsClientOf dcs) clients.items) }
+    ensures legal { IfOk result (λ clients. All (IsLegalClient dcs) clients.items) }
     ensures told { IfOk result (λ clients. (ds : List Data) × (view json.now ≡ list_json ds) × TellClients ds clients.items) }
     ensures none { result ≡ Err Unread.Form → (ds : List Data) (cs : List AClient) → view json.now ≡ list_json ds → TellClients ds cs → length cs ≤ 64 → All (IsLegalClient dcs) cs → ⊥ }
 {
@@ -135,6 +137,7 @@ fn clients(alloc: Global, dcs: u8, json: &Json) -> Result<Vec<ScriptedClient>, U
 /// A client: an object with its data centre, and its script, empty where that is missing.
 fn client(alloc: Global, dcs: u8, json: &Json) -> Result<ScriptedClient, Unread>
     ensures limits { IfOk result (IsClientOf dcs) }
+    ensures legal { IfOk result (IsLegalClient dcs) }
     ensures told { IfOk result (TellsClient (view json.now)) }
     ensures none { result ≡ Err Unread.Form → (c : AClient) → IsLegalClient dcs c → TellsClient (view json.now) c → ⊥ }
 {

@@ -1,10 +1,14 @@
-use Rattle.std.proofs.Common.{◌≡◌, ◌∙◌, map, rules, sym}
+use Rattle.std.proofs.Common.{◌≡◌, ◌∙◌, arith, map, rules, sym}
+use Rattle.std.proofs.lemmas.Grind.{common_steps}
 use Rattle.serde_json.specs.View.{view}
 use Rattle.cops_scenario.specs.declared.scenario.ScriptOp.{ScriptOp}
 use Rattle.cops_scenario.specs.File.{op_json}
 use Rattle.cops_scenario.specs.Scenario.{IsLegalOp}
 use Rattle.cops_scenario.proofs.Forms.{no_such_item, same_list}
 use Rattle.cops_scenario.proofs.event.script.Goals as goal
+
+pub loop-item-preserved : goal.loop-item-preserved
+loop-item-preserved c = (grind (arith, common_steps), c.loop-item.invariant.1, grind (arith, common_steps), grind (arith, common_steps))
 
 pub returns-in_err-script_op-clause-none : goal.returns-in_err-script_op-clause-none
 returns-in_err-script_op-clause-none c = λ err told few each e.

@@ -14,7 +14,7 @@ loop-item-preserved c =
     let before = c.loop-item.invariant in
     let pushed = c.in_ok-push.ensures.items in
     let told = tell_next _ _ _ c.item-item.result _ before.3 c.loop-item-test.true c.item-item.is c.in_ok-client.ensures.told in
-    (grind (arith, common_steps), before.1, grind (arith, common_steps), rw (sym pushed) at told)
+    (grind (arith, common_steps), before.1, grind (arith, common_steps), rw (sym pushed) at told, grind (arith, common_steps))
 
 pub returns-in_err-item-items-clause-none : goal.returns-in_err-item-items-clause-none
 returns-in_err-item-items-clause-none c = λ err ds cs listed told few each. c.in_err-item-items.ensures.none ds (omega (arith, as_many ds cs told)) listed

@@ -1,6 +1,7 @@
 use Rattle.std.proofs.Common.{◌≡◌, ◌≢◌, ◌∙◌, ℕ, List, map, arith, refl, rules, sym}
 use Rattle.std.specs.Prelude.{◌↔◌, Result, Ok, Err, IsErrOf}
 use Rattle.std.specs.Result.{result_or}
+use Rattle.std.proofs.lemmas.Grind.{common_steps}
 use Rattle.std.proofs.lemmas.List.{take_all}
 use Rattle.serde_json.specs.View.{view}
 use Rattle.cops_place.specs.Place.{APlace, AreAscending, IsInRange}
@@ -19,6 +20,9 @@ placed dcs splits (Ok p) e range ascending bad_count not_ascending told = cc
 placed dcs splits (Err BadCount) e range ascending bad_count not_ascending told = bad_count.0 refl range
 placed dcs splits (Err SplitsNotAscending) e range ascending bad_count not_ascending told = (not_ascending.0 refl).1 ascending
 
+pub loop-item-preserved : goal.loop-item-preserved
+loop-item-preserved c = (grind (arith, common_steps), grind (arith, common_steps))
+
 pub returns-in_err-key-clause-none : goal.returns-in_err-key-clause-none
 returns-in_err-key-clause-none c = λ err keys are told.
     let items = c.in_ok-item-items.item-items.now in
@@ -33,7 +37,7 @@ returns-clause-none c = λ err keys are told.
     let read = c.loop-item.keys.items in
     let listed = rw c.in-Some.is at told in
     let whole = take_all c.loop-item.item-index items (omega arith) in
-    let all : map view items ≡ map text_json read = rw whole at c.loop-item.invariant in
+    let all : map view items ≡ map text_json read = rw whole at c.loop-item.invariant.0 in
     let same : keys ≡ read = same_texts keys read (sym (same_list (map view items) (map text_json keys) (sym c.in_ok-item-items.ensures.json ∙ listed)) ∙ all) in
     let range : IsInRange c.args.dcs keys = (c.requires.0, c.requires.1, are.0) in
     placed c.args.dcs read c.new.result _ (rw same at range) (rw same at are.1) c.new.ensures.bad_count c.new.ensures.not_ascending (sym c.or.ensures ∙ err)

@@ -24,7 +24,7 @@ pub returns-in_err-events-clause-first : goal.returns-in_err-events-clause-first
 returns-in_err-events-clause-first c = λ field e.
     let root = view c.args.root.now in
     let told : (ds : List Data) × (view c.in-Some.listed.now ≡ list_json ds) × TellClients ds c.in_ok-clients.clients.items = search rules in
-    let right : IsRight root Clients = (told.0, c.in_ok-clients.clients.items, search rules, told.2) in
+    let right : IsRight root Clients = (told.0, c.in_ok-clients.clients.items, search rules, told.2, search rules, search rules) in
     let whole : IsRight root Root = search rules in
     let dcs : IsRight root DataCentres = search rules in
     let splits : IsRight root Splits = search rules in
