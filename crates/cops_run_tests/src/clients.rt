@@ -1,5 +1,6 @@
 ghost use Rattle.std.specs.Prelude.{◌≡◌, IfOk, length, vec_len};
 
+use crate::meeting::Meeting;
 use cops_clients::*;
 use cops_node::Outcome;
 use cops_place::Place;
@@ -8,11 +9,8 @@ use cops_types::{
 };
 use std::alloc::Global;
 use std::sync::Wait;
-use std::sync::atomic::{AtomicBool, Ordering};
 use std::test::Fail;
 use std::thread;
-
-const TURNS: u32 = 10_000_000;
 
 fn key(alloc: Global, byte: u8) -> Result<Key, TypeFault> {
     Key::new(alloc, &[byte])
@@ -81,53 +79,6 @@ fn a_client_gets_what_it_put(rt: HostRuntime) -> Result<(), Fail> {
     assert!(rt; cluster.status(&rt, 0, 0).is_some());
     assert!(rt; cluster.status(&rt, 0, 1).is_none());
     Ok(())
-}
-
-/// Two points of calls, each of which is held until the other was reached.
-#[derive(Drop)]
-struct Meeting {
-    first: Point,
-    second: Point,
-    first_reached: AtomicBool,
-    second_reached: AtomicBool,
-}
-
-impl Meeting {
-    fn new(first: Point, second: Point) -> Meeting {
-        Meeting {
-            first,
-            second,
-            first_reached: AtomicBool::new(false),
-            second_reached: AtomicBool::new(false),
-        }
-    }
-}
-
-/// Waits for the flag, for a number of turns.
-fn waits_for(flag: &AtomicBool) -> Result<(), GateHeld> {
-    for _ in 0..TURNS {
-        if flag.load(Ordering::SeqCst) {
-            return Ok(());
-        }
-        thread::yield_now();
-    }
-    Err(GateHeld)
-}
-
-impl Gate for Meeting {
-    ghost may_hold = { λ _ _. Unit {0} };
-
-    fn pass<R: Wait>(&self, _rt: &R, point: Point) -> Result<(), GateHeld> {
-        if point == self.first {
-            self.first_reached.store(true, Ordering::SeqCst);
-            return waits_for(&self.second_reached);
-        }
-        if point == self.second {
-            self.second_reached.store(true, Ordering::SeqCst);
-            return waits_for(&self.first_reached);
-        }
-        Ok(())
-    }
 }
 
 /// Whether the client's put was done.

@@ -7,6 +7,8 @@ mod clients;
 #[cfg(test)]
 mod ending;
 #[cfg(test)]
+mod meeting;
+#[cfg(test)]
 mod replicating;
 #[cfg(test)]
 mod running;

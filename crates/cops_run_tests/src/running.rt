@@ -1,3 +1,4 @@
+use crate::meeting::{Meeting, TURNS, waits_for};
 use cops_node::Outcome;
 use cops_outcomes::*;
 use cops_run::*;
@@ -10,8 +11,6 @@ use std::sync::atomic::{AtomicBool, AtomicU64, Ordering};
 use std::test::Fail;
 use std::thread;
 use std::thread::Threads;
-
-const TURNS: u32 = 10_000_000;
 
 /// Two data centres, in each of which a client puts a key and gets it.
 const TWO: &str =
@@ -54,52 +53,14 @@ fn clients_get_what_they_put(rt: HostRuntime) -> Result<(), Fail> {
     Ok(())
 }
 
-/// Two points of calls, each of which is held until the other was reached.
-#[derive(Drop)]
-struct Meeting {
-    first: Point,
-    second: Point,
-    first_reached: AtomicBool,
-    second_reached: AtomicBool,
-}
-
-/// Waits for the flag, for a number of turns.
-fn waits_for(flag: &AtomicBool) -> Result<(), GateHeld> {
-    for _ in 0..TURNS {
-        if flag.load(Ordering::SeqCst) {
-            return Ok(());
-        }
-        thread::yield_now();
-    }
-    Err(GateHeld)
-}
-
-impl Gate for Meeting {
-    ghost may_hold = { λ _ _. Unit {0} };
-
-    fn pass<R: Wait>(&self, _rt: &R, point: Point) -> Result<(), GateHeld> {
-        if point == self.first {
-            self.first_reached.store(true, Ordering::SeqCst);
-            return waits_for(&self.second_reached);
-        }
-        if point == self.second {
-            self.second_reached.store(true, Ordering::SeqCst);
-            return waits_for(&self.first_reached);
-        }
-        Ok(())
-    }
-}
-
 /// One thread for both clients, or one lock round both nodes, would be held here.
 #[test]
 fn steps_of_two_nodes_stand_side_by_side(rt: HostRuntime) -> Result<(), Fail> {
     let alloc = rt.alloc();
-    let gate = Meeting {
-        first: Point::InStep { node: 0, client: 1 },
-        second: Point::InStep { node: 1, client: 2 },
-        first_reached: AtomicBool::new(false),
-        second_reached: AtomicBool::new(false),
-    };
+    let gate = Meeting::new(
+        Point::InStep { node: 0, client: 1 },
+        Point::InStep { node: 1, client: 2 },
+    );
     let run = run(&rt, alloc, scenario(alloc, SPLIT)?, &gate)?;
     assert_eq!(rt; run.outcomes.len(), 3);
     assert_eq!(rt; run.trace.len(), 2);
