@@ -8,7 +8,7 @@ use Rattle.cops_scenario.specs.Scenario.{AScenario}
 use Rattle.cops_scenario.specs.File.{IsTextOf}
 use Rattle.cops_stream.specs.declared.audit.Answer.{Answer}
 use Rattle.cops_stream.specs.declared.audit.Answer.TheVariants.{Accepted, Refused, Faulty}
-use Rattle.cops_stream.specs.Audit.{SpellsConvergent}
+use Rattle.cops_stream.specs.Audit.{AuditSays, SpellsConvergent}
 use Rattle.cops_run_stream.specs.Running.{IsLeft}
 use Rattle.cops_serve.specs.Serving.{IsServed}
 
@@ -36,3 +36,12 @@ EndsWell (Audit trace workers) bytes = SpellsConvergent bytes
 EndsWell (Show trace) bytes = TellsTrace bytes
 EndsWell (Run scenario trace) bytes = TellsRun bytes
 EndsWell (Serve port scenario sessions) bytes = TellsServed sessions bytes
+
+-- the bytes are those of a trace that is refused
+abbrev pub TellsRefused : List ℕ → Type 0
+TellsRefused bytes = (told : List ℕ) × AuditSays bytes Refused told
+
+-- what is so of them where it ends with the status 1, as audits alone do
+abbrev pub EndsRefused : Job → List ℕ → Type 0
+EndsRefused (Audit trace workers) bytes = TellsRefused bytes
+EndsRefused job bytes = ⊥

@@ -4,7 +4,7 @@
 
 ghost use Rattle.std.specs.Prelude.{◌≡◌, IfSome};
 ghost use Rattle.cops_stream.specs.Audit.{SpellsConvergent};
-ghost use Rattle.cops.specs.Status.{EndsWell, TellsRun, TellsServed, TellsTrace, status_of};
+ghost use Rattle.cops.specs.Status.{EndsRefused, EndsWell, TellsRefused, TellsRun, TellsServed, TellsTrace, status_of};
 
 use cops_line::{Job, LineFault, line};
 use cops_run_stream::run_stream;
@@ -56,7 +56,8 @@ fn audit<R, I>(rt: &R, input: I, workers: u8) -> u8
 where
     R: Print + Eprint + AllocGlobal + Threads + Wait + Sync,
     I: Read + Drop,
-    ensures { result ≡ 0 → IfSome (I.remaining input) SpellsConvergent }
+    ensures accepted { result ≡ 0 → IfSome (I.remaining input) SpellsConvergent }
+    ensures refused { result ≡ 1 → IfSome (I.remaining input) TellsRefused }
 {
     let mut reader = Counted::new(input);
     let mut writer = Counted::new(io::writer(rt));
@@ -76,7 +77,8 @@ where
     R: Print + Eprint + AllocGlobal,
     I: Read + Drop,
     E: Write + Drop,
-    ensures { result ≡ 0 → IfSome (I.remaining input) TellsTrace }
+    ensures shown { result ≡ 0 → IfSome (I.remaining input) TellsTrace }
+    ensures refused { result ≡ 1 → IfSome (I.remaining input) (λ _. ⊥) }
 {
     let mut reader = Counted::new(input);
     let mut out = Counted::new(io::writer(rt));
@@ -94,7 +96,8 @@ where
     R: Files + Print + Eprint + AllocGlobal + Threads + Wait + Sync,
     I: Read + Drop,
     E: Write + Drop,
-    ensures { result ≡ 0 → IfSome (I.remaining input) TellsRun }
+    ensures ran { result ≡ 0 → IfSome (I.remaining input) TellsRun }
+    ensures refused { result ≡ 1 → IfSome (I.remaining input) (λ _. ⊥) }
 {
     let Ok(file) = File::create(rt, trace) else {
         return failed(rt, "open", FAILED);
@@ -124,7 +127,8 @@ where
     R: Net<Listener = TcpListener, Stream = TcpStream> + Print + Eprint + AllocGlobal + Wait,
     I: Read + Drop,
     E: Write + Drop,
-    ensures { result ≡ 0 → IfSome (I.remaining input) (TellsServed sessions) }
+    ensures served { result ≡ 0 → IfSome (I.remaining input) (TellsServed sessions) }
+    ensures refused { result ≡ 1 → IfSome (I.remaining input) (λ _. ⊥) }
 {
     let mut reader = Counted::new(input);
     let mut out = Counted::new(io::writer(rt));
@@ -150,7 +154,8 @@ where
     R: Net<Listener = TcpListener, Stream = TcpStream>,
     I: Read + Drop,
     E: Write + Drop,
-    ensures { result ≡ 0 → IfSome (I.remaining input) (EndsWell job.entry) }
+    ensures well { result ≡ 0 → IfSome (I.remaining input) (EndsWell job.entry) }
+    ensures refused { result ≡ 1 → IfSome (I.remaining input) (EndsRefused job.entry) }
 {
     match job {
         Job::Audit { workers, .. } => audit(rt, input, workers),
