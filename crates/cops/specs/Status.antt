@@ -1,11 +1,13 @@
 -- The statuses that the program ends with, and what 0 says.
-use Rattle.std.specs.Prelude.{ℕ, List, Ok}
+use Rattle.std.specs.Prelude.{◌⊎◌, ℕ, List, Ok, Err}
 use Rattle.cops_line.specs.declared.job.Job.{Job}
 use Rattle.cops_line.specs.declared.job.Job.TheVariants.{Audit, Show, Run, Serve}
+use Rattle.cops_trace.specs.declared.fault.TraceFault.{TraceFault}
 use Rattle.cops_trace.specs.Text.{ATrace}
 use Rattle.cops_trace.specs.Answer.{Says}
 use Rattle.cops_scenario.specs.Scenario.{AScenario}
-use Rattle.cops_scenario.specs.File.{IsTextOf}
+use Rattle.cops_scenario.specs.declared.fault.Field.{Field}
+use Rattle.cops_scenario.specs.File.{IsTextOf, IsNoText, IsWrongText}
 use Rattle.cops_stream.specs.declared.audit.Answer.{Answer}
 use Rattle.cops_stream.specs.declared.audit.Answer.TheVariants.{Accepted, Refused, Faulty}
 use Rattle.cops_stream.specs.Audit.{AuditSays, SpellsConvergent}
@@ -45,3 +47,11 @@ TellsRefused bytes = (told : List ℕ) × AuditSays bytes Refused told
 abbrev pub EndsRefused : Job → List ℕ → Type 0
 EndsRefused (Audit trace workers) bytes = TellsRefused bytes
 EndsRefused job bytes = ⊥
+
+-- the bytes are no trace's text, by the fault that is told
+abbrev pub TellsNoTrace : List ℕ → Type 0
+TellsNoTrace bytes = (e : TraceFault) × Says bytes (Err e)
+
+-- they tell no scenario
+abbrev pub TellsNoScenario : List ℕ → Type 0
+TellsNoScenario bytes = IsNoText bytes ⊎ ((field : Field) × IsWrongText bytes field)

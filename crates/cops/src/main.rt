@@ -2,9 +2,9 @@
 //! with the command's status: 0 accepted, 1 refused, 2 faulty input or usage, 3 want of memory, 4 a device's fault.
 #![tactic(auto)]
 
-ghost use Rattle.std.specs.Prelude.{◌≡◌, IfSome};
+ghost use Rattle.std.specs.Prelude.{◌≡◌, ◌≤◌, IfSome};
 ghost use Rattle.cops_stream.specs.Audit.{SpellsConvergent};
-ghost use Rattle.cops.specs.Status.{EndsRefused, EndsWell, TellsRefused, TellsRun, TellsServed, TellsTrace, status_of};
+ghost use Rattle.cops.specs.Status.{EndsRefused, EndsWell, TellsNoScenario, TellsNoTrace, TellsRefused, TellsRun, TellsServed, TellsTrace, status_of};
 
 use cops_line::{Job, LineFault, line};
 use cops_run_stream::run_stream;
@@ -58,6 +58,7 @@ where
     I: Read + Drop,
     ensures accepted { result ≡ 0 → IfSome (I.remaining input) SpellsConvergent }
     ensures refused { result ≡ 1 → IfSome (I.remaining input) TellsRefused }
+    ensures faulty { result ≡ 2 → (1 ≤ workers) → (workers ≤ 64) → IfSome (I.remaining input) TellsNoTrace }
 {
     let mut reader = Counted::new(input);
     let mut writer = Counted::new(io::writer(rt));
@@ -79,6 +80,7 @@ where
     E: Write + Drop,
     ensures shown { result ≡ 0 → IfSome (I.remaining input) TellsTrace }
     ensures refused { result ≡ 1 → IfSome (I.remaining input) (λ _. ⊥) }
+    ensures faulty { result ≡ 2 → IfSome (I.remaining input) TellsNoTrace }
 {
     let mut reader = Counted::new(input);
     let mut out = Counted::new(io::writer(rt));
@@ -98,6 +100,7 @@ where
     E: Write + Drop,
     ensures ran { result ≡ 0 → IfSome (I.remaining input) TellsRun }
     ensures refused { result ≡ 1 → IfSome (I.remaining input) (λ _. ⊥) }
+    ensures faulty { result ≡ 2 → IfSome (I.remaining input) TellsNoScenario }
 {
     let Ok(file) = File::create(rt, trace) else {
         return failed(rt, "open", FAILED);
@@ -129,6 +132,7 @@ where
     E: Write + Drop,
     ensures served { result ≡ 0 → IfSome (I.remaining input) (TellsServed sessions) }
     ensures refused { result ≡ 1 → IfSome (I.remaining input) (λ _. ⊥) }
+    ensures faulty { result ≡ 2 → IfSome (I.remaining input) TellsNoScenario }
 {
     let mut reader = Counted::new(input);
     let mut out = Counted::new(io::writer(rt));
