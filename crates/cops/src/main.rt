@@ -169,6 +169,16 @@ where
     }
 }
 
+/// The name of the job's input.
+fn input_of<'a>(job: Job<'a>) -> &'a str {
+    match job {
+        Job::Audit { trace, .. } => trace,
+        Job::Show { trace } => trace,
+        Job::Run { scenario, .. } => scenario,
+        Job::Serve { scenario, .. } => scenario,
+    }
+}
+
 /// Runs the job over the file that it names, or over standard input where that is `-`.
 fn perform<R, E>(rt: &R, job: Job<'_>, errors: E) -> u8
 where
@@ -176,22 +186,28 @@ where
     R: Net<Listener = TcpListener, Stream = TcpStream>,
     E: Write + Drop,
 {
-    let (Job::Audit { trace: input, .. }
-    | Job::Show { trace: input }
-    | Job::Run {
-        scenario: input,
-        ..
-    }
-    | Job::Serve {
-        scenario: input,
-        ..
-    }) = job;
+    let input = input_of(job);
     if input == "-" {
         return command(rt, job, rt.reader(), errors);
     }
-    match File::open(rt, input) {
-        Ok(file) => command(rt, job, file, errors),
-        Err(_) => failed(rt, "open", FAILED),
+    let Ok(file) = File::open(rt, input) else {
+        return failed(rt, "open", FAILED);
+    };
+    command(rt, job, file, errors)
+}
+
+/// Prints the help, the version or the usage, and gives the status.
+fn no_job<R: Print + Eprint>(rt: &R, fault: LineFault) -> u8 {
+    match fault {
+        LineFault::Help(text) | LineFault::Version(text) => {
+            let _ = print!(rt; "{text}");
+            ACCEPTED
+        }
+        LineFault::Usage(text) => {
+            let _ = eprint!(rt; "{text}");
+            FAULTY
+        }
+        LineFault::Memory => failed(rt, "memory", NO_MEMORY),
     }
 }
 
@@ -209,15 +225,7 @@ where
         .collect(rt.alloc())?;
     Ok(match line(rt.alloc(), words.as_slice()) {
         Ok(job) => perform(rt, job, errors),
-        Err(LineFault::Help(text)) => {
-            let _ = print!(rt; "{text}");
-            ACCEPTED
-        }
-        Err(LineFault::Usage(text)) => {
-            let _ = eprint!(rt; "{text}");
-            FAULTY
-        }
-        Err(LineFault::Memory) => failed(rt, "memory", NO_MEMORY),
+        Err(fault) => no_job(rt, fault),
     })
 }
 

@@ -4,13 +4,13 @@ use Rattle.std.specs.Prelude.{◌==◌}
 use Rattle.std.specs.Borrow.{Bor}
 use Rattle.clap.specs.Words.{App, Row, Text, fault_of, is_simple, is_simple_and_free, subcommand_of, IsAmong}
 use Rattle.clap.specs.declared.error.kind.ErrorKind.{ErrorKind}
-use Rattle.clap.specs.declared.error.kind.ErrorKind.TheVariants.{DisplayHelp, OutOfMemory}
+use Rattle.clap.specs.declared.error.kind.ErrorKind.TheVariants.{DisplayHelp, DisplayVersion, OutOfMemory}
 use Rattle.clap.proofs.OnLiterals.{clap_on_literals}
 use Rattle.cops_line.specs.declared.job.Job.{Job}
 use Rattle.cops_line.specs.declared.fault.LineFault.{LineFault}
-use Rattle.cops_line.specs.declared.fault.LineFault.TheVariants.{Memory, Usage, Help}
+use Rattle.cops_line.specs.declared.fault.LineFault.TheVariants.{Memory, Usage, Help, Version}
 use Rattle.cops_line.specs.Commands.{cops_app}
-use Rattle.cops_line.specs.Line.{IsJobIn, HasNoJobIn, IsRead, OnlyAsksForHelp, Tells, TellsNone, Explains, Reports}
+use Rattle.cops_line.specs.Line.{IsJobIn, HasNoJobIn, IsRead, AsksFor, OnlyAsksFor, Tells, TellsNone, Explains, Reports}
 
 -- the command is one of which clap says the matches and the faults
 pub simple_command : is_simple_and_free cops_app ≡ true
@@ -52,13 +52,13 @@ not_read words app met same matches none job read =
 pub faulty_words : (words : List Text) (kind : ErrorKind) → IsAmong kind (fault_of cops_app words) → (job : Job) → ¬ IsRead words job
 faulty_words words kind among job read = subst (IsAmong kind) read.0 among
 
--- a kind that is not help is no answer to words that only ask for help
-pub other_kind : (words : List Text) (kind : ErrorKind) → IsAmong kind (fault_of cops_app words) → kind ≢ DisplayHelp → ¬ OnlyAsksForHelp words
-other_kind words kind among other only = ⊎_elim other (λ none. none) (subst (IsAmong kind) only among)
+-- another kind is no answer to words that only ask for one
+pub other_kind : (words : List Text) (asked : ErrorKind) (kind : ErrorKind) → AsksFor kind words → kind ≢ asked → ¬ OnlyAsksFor asked words
+other_kind words asked kind among other only = ⊎_elim other (λ none. none) (subst (IsAmong kind) only among)
 
--- words that were taken ask for no help
-pub no_help : (words : List Text) (app : App) → app ≡ cops_app → (is_simple_and_free app ≡ true → fault_of app words ≡ []) → ¬ OnlyAsksForHelp words
-no_help words app same kinds only =
+-- words that were taken ask for no text
+pub asks_for_none : (words : List Text) (asked : ErrorKind) (app : App) → app ≡ cops_app → (is_simple_and_free app ≡ true → fault_of app words ≡ []) → ¬ OnlyAsksFor asked words
+asks_for_none words asked app same kinds only =
     let Taken : App → Type 0 = λ a. is_simple_and_free a ≡ true → fault_of a words ≡ [] in
     let none = subst Taken same kinds simple_command in cc
 
@@ -76,11 +76,14 @@ explained words app kind fault some same kinds report = go fault report
     go : (f : LineFault) → Reports kind f → Explains words f
     go Memory r = tt
     go (Usage text) r =
-        let among : IsAmong kind (fault_of cops_app words) = ⊎_elim (λ m. absurd (r.0 m)) (λ a. a) why in
-        (untold words some (faulty_words words kind among), other_kind words kind among r.1)
+        let among : AsksFor kind words = ⊎_elim (λ m. absurd (r.0 m)) (λ a. a) why in
+        (untold words some (faulty_words words kind among), other_kind words DisplayHelp kind among r.1, other_kind words DisplayVersion kind among r.2)
     go (Help text) r =
-        let among : IsAmong DisplayHelp (fault_of cops_app words) = ⊎_elim (λ m. cc) (λ a. subst (λ k. IsAmong k (fault_of cops_app words)) r a) why in
+        let among : AsksFor DisplayHelp words = ⊎_elim (λ m. cc) (λ a. subst (λ k. AsksFor k words) r a) why in
         (untold words some (faulty_words words DisplayHelp among), among)
+    go (Version text) r =
+        let among : AsksFor DisplayVersion words = ⊎_elim (λ m. cc) (λ a. subst (λ k. AsksFor k words) r a) why in
+        (untold words some (faulty_words words DisplayVersion among), among)
 
 -- words that are not empty
 pub some_words : (words : List (Bor Text)) → false ≡ (length words == 0) → 0 < length (map (λ s. s.now) words)

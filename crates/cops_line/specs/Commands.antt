@@ -47,10 +47,10 @@ run_app = with_rule (with_rule (new_app (codes "run")) (positional (codes "scena
 abbrev pub serve_app : App
 serve_app = with_rule (with_rule (with_rule (new_app (codes "serve")) port_argument) (positional (codes "scenario"))) sessions_option
 
--- the words of a subcommand alone
+-- the words of a subcommand alone, or `--version`
 abbrev pub cops_top : App
 cops_top = record {
-  top = record (new_shape (codes "cops")) { no_binary_name = true; subcommand_required = true };
+  top = record (new_shape (codes "cops")) { no_binary_name = true; subcommand_required = true; has_version = true };
   subs = [];
 }
 

@@ -3,11 +3,11 @@ use Rattle.std.specs.Prelude.{◌≡◌, ◌≢◌, ◌≤◌, ℕ, List, [], �
 use Rattle.std.specs.Str.Parse.{IsNumeral, digits_value, without_leading_plus}
 use Rattle.clap.specs.Words.{Row, Text, first_of, subcommand_of, fault_of, IsAmong}
 use Rattle.clap.specs.declared.error.kind.ErrorKind.{ErrorKind}
-use Rattle.clap.specs.declared.error.kind.ErrorKind.TheVariants.{DisplayHelp, OutOfMemory}
+use Rattle.clap.specs.declared.error.kind.ErrorKind.TheVariants.{DisplayHelp, DisplayVersion, OutOfMemory}
 use Rattle.cops_line.specs.declared.job.Job.{Job}
 use Rattle.cops_line.specs.declared.job.Job.TheVariants.{Audit, Show, Run, Serve}
 use Rattle.cops_line.specs.declared.fault.LineFault.{LineFault}
-use Rattle.cops_line.specs.declared.fault.LineFault.TheVariants.{Memory, Usage, Help}
+use Rattle.cops_line.specs.declared.fault.LineFault.TheVariants.{Memory, Usage, Help, Version}
 use Rattle.cops_line.specs.Commands.{cops_app}
 
 -- the number from 1 to some other that a text tells, in digits after a plus or without it
@@ -65,23 +65,25 @@ Tells (word ∷ words) job = IsRead (word ∷ words) job
 abbrev pub TellsNone : List Text → Type 0
 TellsNone words = (job : Job) → ¬ Tells words job
 
--- the words ask the program's command for help
-abbrev pub AsksForHelp : List Text → Type 0
-AsksForHelp words = IsAmong DisplayHelp (fault_of cops_app words)
+-- the words ask the program's command for such a text: its help, or its version
+abbrev pub AsksFor : ErrorKind → List Text → Type 0
+AsksFor kind words = IsAmong kind (fault_of cops_app words)
 
 -- they ask for it, and there is nothing else that they could be told
-abbrev pub OnlyAsksForHelp : List Text → Type 0
-OnlyAsksForHelp words = fault_of cops_app words ≡ DisplayHelp ∷ []
+abbrev pub OnlyAsksFor : ErrorKind → List Text → Type 0
+OnlyAsksFor kind words = fault_of cops_app words ≡ kind ∷ []
 
--- A fault is want of memory, or the words tell no job. Help is given only where they ask for it, and where they ask
--- for nothing else usage is not given in its place.
+-- A fault is want of memory, or the words tell no job. Help and version are given only where they ask for them, and
+-- where they ask for nothing else usage is not given in their place.
 abbrev pub Explains : List Text → LineFault → Type 0
 Explains words Memory = Unit {0}
-Explains words (Usage text) = TellsNone words × (¬ OnlyAsksForHelp words)
-Explains words (Help text) = TellsNone words × AsksForHelp words
+Explains words (Usage text) = TellsNone words × (¬ OnlyAsksFor DisplayHelp words) × (¬ OnlyAsksFor DisplayVersion words)
+Explains words (Help text) = TellsNone words × AsksFor DisplayHelp words
+Explains words (Version text) = TellsNone words × AsksFor DisplayVersion words
 
 -- the fault that is made of an error of this kind
 abbrev pub Reports : ErrorKind → LineFault → Type 0
 Reports kind Memory = Unit {0}
-Reports kind (Usage text) = (kind ≢ OutOfMemory) × (kind ≢ DisplayHelp)
+Reports kind (Usage text) = (kind ≢ OutOfMemory) × (kind ≢ DisplayHelp) × (kind ≢ DisplayVersion)
 Reports kind (Help text) = kind ≡ DisplayHelp
+Reports kind (Version text) = kind ≡ DisplayVersion

@@ -9,6 +9,9 @@ use std::alloc::{AllocError, Global};
 const ABOUT: &str =
     "A COPS cluster in one process, and an auditor of the histories that clients recorded";
 
+/// The version of the program, and the kit and its logic by which it is proved and built.
+const VERSION: &str = "0.1.0 (rattle-kit-13b, logic dac8208d650f15bf)";
+
 const LONG_ABOUT: &str = "\
 A COPS cluster in one process, and an auditor of the histories that clients recorded.
 
@@ -157,6 +160,7 @@ fn top_command<'a>(alloc: Global) -> Result<Command<'a>, AllocError>
     ensures local { IfOk result (λ c. (fields_of c).has_globals ≡ false) }
 {
     Command::new(alloc, "cops")
+        .version(VERSION)
         .about(ABOUT)
         .long_about(LONG_ABOUT)
         .no_binary_name(true)

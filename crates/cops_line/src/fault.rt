@@ -16,6 +16,9 @@ pub enum LineFault {
     /// The words ask for help, and this is its text.
     #[error("{0}")]
     Help(String),
+    /// The words ask for the version, and this is its line.
+    #[error("{0}")]
+    Version(String),
 }
 
 impl From<AllocError> for LineFault {

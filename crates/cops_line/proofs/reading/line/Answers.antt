@@ -1,7 +1,8 @@
 use Rattle.std.proofs.Common.{List, map}
 use Rattle.std.specs.Borrow.{Bor}
 use Rattle.clap.specs.Words.{Text, app_of, kind_of, subcommand_rows_of}
-use Rattle.cops_line.proofs.LineLemmas.{explained, no_help, not_read, read_as_met, some_words, told, untold}
+use Rattle.clap.specs.declared.error.kind.ErrorKind.TheVariants.{DisplayHelp, DisplayVersion}
+use Rattle.cops_line.proofs.LineLemmas.{asks_for_none, explained, not_read, read_as_met, some_words, told, untold}
 use Rattle.cops_line.proofs.reading.line.Goals as goal
 
 abbrev texts : List (Bor Text) → List Text
@@ -20,7 +21,8 @@ returns-in-Ok-clause-fault c =
       untold (texts c.args.words.now) (some_words c.args.words.now c.if-is_empty.ensures)
           (not_read (texts c.args.words.now) (app_of c.in_ok-command.command) (subcommand_rows_of c.in-Ok.matches) c.in_ok-command.ensures
           (λ s. (matches s).1) c.in-None.ensures.none),
-      no_help (texts c.args.words.now) (app_of c.in_ok-command.command) c.in_ok-command.ensures c.in-Ok.ensures.kinds,
+      asks_for_none (texts c.args.words.now) DisplayHelp (app_of c.in_ok-command.command) c.in_ok-command.ensures c.in-Ok.ensures.kinds,
+      asks_for_none (texts c.args.words.now) DisplayVersion (app_of c.in_ok-command.command) c.in_ok-command.ensures c.in-Ok.ensures.kinds,
     )
 
 pub returns-clause-fault : goal.returns-clause-fault
