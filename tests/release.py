@@ -1,0 +1,156 @@
+#!/usr/bin/env python3
+"""The tests of the release, on a machine with nothing but a shell: release/cops is the program that was proved and built here, it is run where
+the sources are those that it was made of, and where they are not, or it is not that program, it is not run.
+
+Prints a line for each test that fails, and at the end `N passed, M failed`.
+"""
+import filecmp
+import os
+import shutil
+import subprocess
+import sys
+import tempfile
+
+ROOT = os.path.dirname(os.path.dirname(os.path.abspath(__file__)))
+TOOLS = ("sh", "dirname", "find", "sed", "sha256sum", "sort", "touch")
+ANSWER = (0, b"accepted: 2 operations, 1 puts\n", b"")
+NOT_OF_THESE = b"cops: release/cops is not the program of these sources: it is proved and built anew, in minutes at the first time\n"
+NO_KIT = (4, b"", NOT_OF_THESE + b"cops: the command rt of the Rattle kit is not on PATH\n")
+BUILD = """#!/bin/sh
+mkdir -p "$(dirname "$0")/crates/cops/out" && cp "$(dirname "$0")/release/cops" "$(dirname "$0")/crates/cops/out/cops"
+"""
+passed, failed = 0, 0
+
+
+def check(name, got, wanted):
+    global passed, failed
+    if got == wanted:
+        passed += 1
+    else:
+        failed += 1
+        print(f"FAILED {name}\n  got    {str(got)[:500]}\n  wanted {str(wanted)[:500]}")
+
+
+def written(path, text):
+    with open(path, "w", encoding="utf-8") as file:
+        file.write(text)
+    os.chmod(path, 0o755)
+
+
+def one_byte_changed(path):
+    with open(path, "r+b") as file:
+        file.seek(1000)
+        byte = file.read(1)[0]
+        file.seek(1000)
+        file.write(bytes([byte ^ 1]))
+
+
+class Copy:
+    """A copy of the tree as it is cloned, and a PATH of the shell's tools alone."""
+
+    def __init__(self, folder):
+        self.root, self.path = os.path.join(folder, "tree"), os.path.join(folder, "tools")
+        made_here = shutil.ignore_patterns("out", ".git", "stamp", "__pycache__")
+        shutil.copytree(ROOT, self.root, ignore=made_here)
+        os.mkdir(self.path)
+        self.add(*TOOLS)
+
+    def add(self, *tools):
+        for tool in tools:
+            os.symlink(shutil.which(tool), os.path.join(self.path, tool))
+
+    def file(self, *names):
+        return os.path.join(self.root, *names)
+
+    def answer(self):
+        """Status, output and errors of an audit."""
+        trace = self.file("examples", "put_and_get.trace")
+        ran = subprocess.run([self.file("cops"), "audit", trace], env={"PATH": self.path}, capture_output=True)
+        return ran.returncode, ran.stdout, ran.stderr
+
+
+def on_a_copy(test):
+    with tempfile.TemporaryDirectory() as folder:
+        test(Copy(folder))
+
+
+def differences(root, program, kit):
+    """What does not hold of a tree's release, where this program was built of the tree by this kit."""
+    release, listed = os.path.join(root, "release", "cops"), os.path.join(root, "release", "SOURCES")
+    with open(listed, encoding="utf-8") as file:
+        names_kit = kit in file.read()
+    hashes = subprocess.run(["sha256sum", "-c", "--status", "release/SOURCES"], cwd=root)
+    if not filecmp.cmp(program, release, shallow=False):
+        yield "release/cops is not the program that was proved: after a change of what it is made of, release/make makes it anew"
+    if hashes.returncode:
+        yield "release/SOURCES names other files than are there: release/make makes it anew"
+    if not names_kit:
+        yield "release/SOURCES names another kit"
+
+
+def is_what_was_proved():
+    program = os.path.join(ROOT, "crates", "cops", "out", "cops")
+    kit = subprocess.run(["rt", "version"], stdout=subprocess.PIPE, text=True).stdout.strip()
+    check("the release", list(differences(ROOT, program, kit)), [])
+    told = subprocess.run([program, "--version"], stdout=subprocess.PIPE, text=True).stdout
+    check("the version names the kit and the logic", told, f"cops 0.1.0 ({kit.replace(' logic', ', logic')})\n")
+
+    def changed(copy):
+        one_byte_changed(copy.file("release", "cops"))
+        check("a changed byte is told", len(list(differences(copy.root, program, kit))), 2)
+
+    def other_kit(copy):
+        check("another kit is told", len(list(differences(copy.root, program, "rattle-kit-0"))), 1)
+
+    on_a_copy(changed)
+    on_a_copy(other_kit)
+
+
+def is_run(copy):
+    check("the first command", copy.answer(), ANSWER)
+    check("the stamp", os.path.exists(copy.file("release", "stamp")), True)
+    check("the second command", copy.answer(), ANSWER)
+
+
+def is_not_run_when_changed(copy):
+    check("a command before", copy.answer(), ANSWER)
+    one_byte_changed(copy.file("release", "cops"))
+    check("the program is changed", copy.answer(), NO_KIT)
+
+
+def is_not_run_of_other_sources(copy):
+    source = copy.file("crates", "cops_line", "src", "lib.rt")
+    with open(source, encoding="utf-8") as file:
+        text = file.read()
+    check("a command before an edit", copy.answer(), ANSWER)
+    written(source, text + "\n")
+    check("a source is edited", copy.answer(), NO_KIT)
+    written(source, text)
+    check("it is as it was", copy.answer(), ANSWER)
+    written(copy.file("crates", "cops_line", "src", "more.rt"), "")
+    check("a source is added", copy.answer(), NO_KIT)
+    os.remove(copy.file("crates", "cops_line", "src", "more.rt"))
+    check("it is removed", copy.answer(), ANSWER)
+    os.remove(copy.file("crates", "cops_types", "specs", "Lib.antt"))
+    check("a definition is removed", copy.answer(), NO_KIT)
+
+
+def is_built_of_other_sources(copy):
+    """Whoever has the kit gets the program of the edited sources. (The kit's command and the build stand here for those that take minutes.)"""
+    copy.add("cp", "mkdir")
+    written(os.path.join(copy.path, "rt"), "#!/bin/sh\n")
+    written(copy.file("build"), BUILD)
+    written(copy.file("crates", "cops_line", "src", "more.rt"), "")
+    check("it is built", copy.answer(), (0, ANSWER[1], NOT_OF_THESE + b"cops: built\n"))
+    check("once", copy.answer(), ANSWER)
+    written(copy.file("build"), "#!/bin/sh\nexit 1\n")
+    check("until a source is edited again", copy.answer(), ANSWER)
+    written(copy.file("crates", "cops_line", "src", "more.rt"), "\n")
+    check("where it is not built", copy.answer(), (4, b"", NOT_OF_THESE + b"cops: the program was not built: see above\n"))
+
+
+is_what_was_proved()
+for tests in (is_run, is_not_run_when_changed, is_not_run_of_other_sources, is_built_of_other_sources):
+    on_a_copy(tests)
+print(f"{passed} passed, {failed} failed")
+sys.exit(1 if failed else 0)
