@@ -565,6 +565,9 @@ def words():
     for given in (["--help"], ["audit", "--help"], ["show", "--help"], ["run", "--help"], ["serve", "--help"], ["help"]):
         status, out, err = cops(*given)
         check(f"help of {given}", (status, b"Usage: cops" in out, err), (0, True, b""))
+    for given in ("--version", "-V"):
+        status, out, err = cops(given)
+        check(f"version, {given}", (status, out.startswith(b"cops 0.1.0 (rattle-kit-"), err), (0, True, b""))
 
 
 def devices():
