@@ -14,40 +14,11 @@ import sys
 import tempfile
 import time
 
-ROOT = os.path.dirname(os.path.dirname(os.path.abspath(__file__)))
 sys.dont_write_bytecode = True
-sys.path[:0] = [os.path.join(ROOT, "examples"), os.path.join(ROOT, "bench")]
+import plain  # noqa: E402
+from traces import ROOT, check, cops, counts, example, trace  # noqa: E402
 from client import message, talk  # noqa: E402
 from events import scenario  # noqa: E402
-from write_trace import trace  # noqa: E402
-
-passed, failed = 0, 0
-
-
-def cops(*words, stdin=b"", stdout=subprocess.PIPE, limit=None):
-    """Status, output and errors of a run, within so many bytes of memory where a limit is given."""
-
-    def limited():
-        resource.setrlimit(resource.RLIMIT_AS, (limit, limit))
-
-    command = os.path.join(ROOT, "crates", "cops", "out", "cops") if limit else os.path.join(ROOT, "cops")
-    before = limited if limit else None
-    ran = subprocess.run([command, *words], input=stdin, stdout=stdout, stderr=subprocess.PIPE, preexec_fn=before)
-    return ran.returncode, ran.stdout, ran.stderr
-
-
-def check(name, got, wanted):
-    global passed, failed
-    if got == wanted:
-        passed += 1
-    else:
-        failed += 1
-        print(f"FAILED {name}\n  got    {str(got)[:500]}\n  wanted {str(wanted)[:500]}")
-
-
-def example(name):
-    with open(os.path.join(ROOT, "examples", name), "rb") as file:
-        return file.read()
 
 
 def audited(name, data, text, status):
@@ -648,8 +619,8 @@ def definition_files():
 
 for tests in (
     examples, long_chain, faults, shown, scenarios, refusals, faulty_scenarios, scripts, mixed_scripts, random_scenarios, many_workers, served,
-    strange_peers, words, devices, generated, little_memory, no_thread, definition_files,
+    strange_peers, words, devices, generated, little_memory, no_thread, definition_files, plain.rows, plain.random_histories,
 ):
     tests()
-print(f"{passed} passed, {failed} failed")
-sys.exit(1 if failed else 0)
+print(f"{counts['passed']} passed, {counts['failed']} failed")
+sys.exit(1 if counts["failed"] else 0)

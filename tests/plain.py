@@ -1,0 +1,224 @@
+"""A plain auditor of small histories, by the words of docs/DEFINITIONS.md, and the comparison of the program with it.
+
+It works with sets of names and pairs of names, and its past is a closure by brute force. The program walks
+the operations as they come, so that the two have nothing in common but the definitions.
+"""
+import glob
+import os
+import random
+from collections import Counter, namedtuple
+from concurrent.futures import ThreadPoolExecutor
+
+from traces import ROOT, check, cops, row, status_of, trace
+
+Operation = namedtuple("Operation", "kind key value version")
+HISTORIES = 2000
+WORKERS = ("1", "2", "3", "64")
+LEAST_OF_A_KIND = 20
+
+
+def history_of(lines):
+    """The operations by name, of the lines from which a trace is written."""
+    words = [line.split() for line in lines if line.strip() and not line.startswith("#")]
+    history, lengths = {}, Counter()
+    for client, kind, key, *rest in words[1:]:
+        value, version = rest if rest else (None, None)
+        number = tuple(map(int, version.split("."))) if version else None
+        history[int(client), lengths[client]] = Operation(kind, key, value, number)
+        lengths[client] += 1
+    return history
+
+
+def of_kind(history, kind):
+    return [name for name in sorted(history) if history[name].kind == kind]
+
+
+def sources(history, get):
+    """The puts that have the key, the value and the version that a get returned."""
+    return [put for put in of_kind(history, "put") if history[put][1:] == history[get][1:]]
+
+
+def steps(history):
+    """The pairs of names of which the second is a session step or a source step on from the first."""
+    session = {(a, b) for a in history for b in history if a[0] == b[0] and a[1] < b[1]}
+    return session | {(put, get) for get in of_kind(history, "got") for put in sources(history, get)}
+
+
+def closure(pairs):
+    """The pairs, and all that follow from them by going on."""
+    while True:
+        longer = pairs | {(a, d) for a, b in pairs for c, d in pairs if b == c}
+        if longer == pairs:
+            return pairs
+        pairs = longer
+
+
+def doubled(history):
+    puts = of_kind(history, "put")
+    return [a for a in puts if any(a != b and history[a].version == history[b].version for b in puts)]
+
+
+def without_source(history):
+    return [get for get in of_kind(history, "got") if not sources(history, get)]
+
+
+def not_above(history):
+    """Each put that is not above an earlier put or get of its session, with the first of these."""
+    found = []
+    for put in of_kind(history, "put"):
+        before = [a for a in sorted(history) if a[0] == put[0] and a[1] < put[1] and history[a].kind != "missed"]
+        higher = [a for a in before if not history[a].version < history[put].version]
+        found += [(put, higher[0])] if higher else []
+    return found
+
+
+def stale(history):
+    """Each get that has in its past a put on its key that is newer than what it returned, with the newest of these."""
+    past, found = closure(steps(history)), []
+    for get in sorted(of_kind(history, "got") + of_kind(history, "missed")):
+        known = [put for put in of_kind(history, "put") if (put, get) in past and history[put].key == history[get].key]
+        newer = [put for put in known if history[get].kind == "missed" or history[put].version > history[get].version]
+        found += [(get, max(newer, key=lambda put: history[put].version))] if newer else []
+    return found
+
+
+def chain(history, first, last):
+    """Of the shortest chains from a name to another the first in order of names."""
+    pairs, chains = steps(history), [(first,)]
+    while not any(names[-1] == last for names in chains):
+        chains = [names + (b,) for names in chains for a, b in pairs if a == names[-1]]
+    return min(names for names in chains if names[-1] == last)
+
+
+def converges(history):
+    """Whether the past is a causal order that explains each get, with the version order as the arbitration."""
+    past = closure(steps(history))
+    puts = sorted(of_kind(history, "put"), key=lambda put: history[put].version)
+    if any(a == b for a, b in past) or any((b, a) in past for at, a in enumerate(puts) for b in puts[at:]):
+        return False
+
+    def explained(get):
+        known = [put for put in puts if (put, get) in past and history[put].key == history[get].key]
+        if history[get].kind == "missed":
+            return not known
+        return any(all(puts.index(put) <= puts.index(source) for put in known) for source in sources(history, get))
+
+    return all(explained(name) for name in history if history[name].kind != "put")
+
+
+def name_text(name):
+    return f"({name[0]},{name[1]})"
+
+
+def version_text(version):
+    return f"{version[0]}.{version[1]}"
+
+
+def told(history, name):
+    """A name with the version of its operation."""
+    return f"{name_text(name)} at {version_text(history[name].version)}"
+
+
+def stale_line(history, get, newer):
+    returned = version_text(history[get].version) if history[get].version else "nothing"
+    names = " ".join(map(name_text, chain(history, newer, get)))
+    return f"stale {name_text(get)} returned {returned}, newer {told(history, newer)}, chain {names}"
+
+
+def fault_lines(history):
+    """The lines of the first class that has a fault, or none."""
+    classes = (
+        lambda: [f"doubled {told(history, put)}" for put in doubled(history)],
+        lambda: [f"no source {told(history, get)}" for get in without_source(history)],
+        lambda: [f"not above {told(history, a)}, earlier {told(history, first)}" for a, first in not_above(history)],
+        lambda: [stale_line(history, get, newer) for get, newer in stale(history)],
+    )
+    for lines in classes:
+        found = lines()
+        if found:
+            return found
+    return []
+
+
+def report(history):
+    """The text of the audit of a history."""
+    faults, size = fault_lines(history), f"{len(history)} operations, {len(of_kind(history, 'put'))} puts"
+    if not faults:
+        return f"accepted: {size}\n"
+    return "".join(line + "\n" for line in [f"refused: {size}, {len(faults)} faults", *faults])
+
+
+def kind_of(text):
+    """Which kind of verdict a report tells: that it is accepted, or the class of its faults."""
+    if text.startswith("accepted: "):
+        return "accepted"
+    line = text.split("\n")[1]
+    return "stale, returned nothing" if " returned nothing, " in line else line.split(" (")[0]
+
+
+KINDS = ("accepted", "doubled", "no source", "not above", "stale", "stale, returned nothing")
+
+
+def some_put(pick, time):
+    """Mostly at a version above all that were given."""
+    clock = pick.randint(1, 8) if pick.random() < 0.08 else time
+    return "put", pick.choice("xy"), str(pick.randrange(2)), f"{clock}.{pick.choice((0, 1, 64))}"
+
+
+def some_operation(pick, puts, time):
+    """A put, or a get: mostly of what was put, half of these of the newest, and rarely of any key and value."""
+    dice = pick.random()
+    if dice < 0.4 or not puts:
+        puts.append(some_put(pick, time))
+        return puts[-1]
+    if dice < 0.48:
+        return "missed", pick.choice("xyz")
+    seen = puts[-1] if pick.random() < 0.5 else pick.choice(puts)
+    if dice < 0.52:
+        return "got", pick.choice("xy"), str(pick.randrange(2)), pick.choice((seen[3], "9.0"))
+    return "got", *seen[1:]
+
+
+def some_lines(seed):
+    """The lines of a history of at most four clients and twelve operations, its sessions mixed anyhow."""
+    pick = random.Random(seed)
+    clients, puts = pick.randint(1, 4), []
+    sessions = [[] for _ in range(clients)]
+    for time in range(1, 1 + pick.randrange(13)):
+        pick.choice(sessions).append(some_operation(pick, puts, time))
+    order = [client for client, session in enumerate(sessions) for _ in session]
+    pick.shuffle(order)
+    return [f"clients {clients}"] + [" ".join([str(client), *sessions[client].pop(0)]) for client in order]
+
+
+def random_histories():
+    """The program says of many small histories what the plain auditor says, and each kind of verdict comes often."""
+    met, made = Counter(), [some_lines(seed) for seed in range(HISTORIES)]
+
+    def audited(seed):
+        return cops("audit", "-", "--workers", WORKERS[seed % len(WORKERS)], stdin=trace(made[seed]))
+
+    with ThreadPoolExecutor(os.cpu_count() or 2) as pool:
+        answers = list(pool.map(audited, range(HISTORIES)))
+    for seed, (lines, answer) in enumerate(zip(made, answers)):
+        history = history_of(lines)
+        text = report(history)
+        met[kind_of(text)] += 1
+        check(f"a small history, {seed}", answer, (status_of(text), text.encode(), b""))
+        wanted = not doubled(history) and converges(history)
+        check(f"its verdict by the definition, {seed}", kind_of(text) == "accepted", wanted)
+    for kind in KINDS:
+        check(f"small histories that are {kind}: {met[kind]}", met[kind] >= LEAST_OF_A_KIND, True)
+
+
+def rows():
+    """Of each worked row the program, with few workers and many, and the plain auditor say what stands there."""
+    paths = sorted(glob.glob(os.path.join(ROOT, "tests", "rows", "*.ops")))
+    check("there are rows", len(paths) > 0, True)
+    for path in paths:
+        lines, text = row(path)
+        name = os.path.basename(path)
+        check(f"{name}, by the plain auditor", report(history_of(lines)), text)
+        for workers in WORKERS:
+            answer = cops("audit", "-", "--workers", workers, stdin=trace(lines))
+            check(f"{name} by {workers} workers", answer, (status_of(text), text.encode(), b""))

@@ -1,0 +1,49 @@
+"""What the tests of the running program share: running it, comparing, and traces."""
+import os
+import resource
+import subprocess
+import sys
+
+ROOT = os.path.dirname(os.path.dirname(os.path.abspath(__file__)))
+sys.dont_write_bytecode = True
+sys.path[:0] = [os.path.join(ROOT, "examples"), os.path.join(ROOT, "bench")]
+from write_trace import trace  # noqa: E402, F401
+
+counts = {"passed": 0, "failed": 0}
+
+
+def cops(*words, stdin=b"", stdout=subprocess.PIPE, limit=None):
+    """Status, output and errors of a run, within so many bytes of memory where a limit is given."""
+
+    def limited():
+        resource.setrlimit(resource.RLIMIT_AS, (limit, limit))
+
+    command = os.path.join(ROOT, "crates", "cops", "out", "cops") if limit else os.path.join(ROOT, "cops")
+    before = limited if limit else None
+    ran = subprocess.run([command, *words], input=stdin, stdout=stdout, stderr=subprocess.PIPE, preexec_fn=before)
+    return ran.returncode, ran.stdout, ran.stderr
+
+
+def check(name, got, wanted):
+    if got == wanted:
+        counts["passed"] += 1
+    else:
+        counts["failed"] += 1
+        print(f"FAILED {name}\n  got    {str(got)[:500]}\n  wanted {str(wanted)[:500]}")
+
+
+def example(name):
+    with open(os.path.join(ROOT, "examples", name), "rb") as file:
+        return file.read()
+
+
+def row(path):
+    """The lines of a row's operations, and the text that the audit of them says, which stands behind the line `says`."""
+    with open(path, encoding="utf-8") as file:
+        operations, text = file.read().split("\nsays\n")
+    return operations.split("\n"), text
+
+
+def status_of(text):
+    """The status with which an audit ends that says this of a trace."""
+    return 0 if text.startswith("accepted: ") else 1
