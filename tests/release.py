@@ -11,7 +11,9 @@ import subprocess
 import sys
 import tempfile
 
-ROOT = os.path.dirname(os.path.dirname(os.path.abspath(__file__)))
+sys.dont_write_bytecode = True
+from traces import ROOT, check, counts  # noqa: E402
+
 TOOLS = ("sh", "dirname", "find", "sed", "sha256sum", "sort", "touch")
 ANSWER = (0, b"accepted: 2 operations, 1 puts\n", b"")
 NOT_OF_THESE = b"cops: release/cops is not the program of these sources: it is proved and built anew, in minutes at the first time\n"
@@ -19,16 +21,6 @@ NO_KIT = (4, b"", NOT_OF_THESE + b"cops: the command rt of the Rattle kit is not
 BUILD = """#!/bin/sh
 mkdir -p "$(dirname "$0")/crates/cops/out" && cp "$(dirname "$0")/release/cops" "$(dirname "$0")/crates/cops/out/cops"
 """
-passed, failed = 0, 0
-
-
-def check(name, got, wanted):
-    global passed, failed
-    if got == wanted:
-        passed += 1
-    else:
-        failed += 1
-        print(f"FAILED {name}\n  got    {str(got)[:500]}\n  wanted {str(wanted)[:500]}")
 
 
 def written(path, text):
@@ -152,5 +144,5 @@ def is_built_of_other_sources(copy):
 is_what_was_proved()
 for tests in (is_run, is_not_run_when_changed, is_not_run_of_other_sources, is_built_of_other_sources):
     on_a_copy(tests)
-print(f"{passed} passed, {failed} failed")
-sys.exit(1 if failed else 0)
+print(f"{counts['passed']} passed, {counts['failed']} failed")
+sys.exit(1 if counts["failed"] else 0)
