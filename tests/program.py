@@ -3,6 +3,7 @@
 
 Prints a line for each test that fails, and at the end `N passed, M failed`.
 """
+import glob
 import json
 import os
 import random
@@ -617,9 +618,27 @@ def definition_files():
             check(f"the lines of {name}", sum(1 for _ in file), int(lines))
 
 
+def tried_edits():
+    """Each edit that the gate does not try could be tried: what it replaces is in its file, once."""
+    paths = sorted(glob.glob(os.path.join(ROOT, "crates", "*", "tried", "*.edit")))
+    check("there are edits", len(paths) > 0, True)
+    for path in paths:
+        crate, source = os.path.dirname(os.path.dirname(path)), ""
+        with open(path, encoding="utf-8") as file:
+            lines = file.read().split("\n")
+        for line in lines:
+            word, _, text = line.partition(": ")
+            if word == "file":
+                with open(os.path.join(crate, text), encoding="utf-8") as file:
+                    source = file.read()
+            elif word == "old":
+                check(f"{os.path.relpath(path, ROOT)} finds its place", source.count(text), 1)
+                source = source.replace(text, "")
+
+
 for tests in (
     examples, long_chain, faults, shown, scenarios, refusals, faulty_scenarios, scripts, mixed_scripts, random_scenarios, many_workers, served,
-    strange_peers, words, devices, generated, little_memory, no_thread, definition_files, plain.rows, plain.random_histories,
+    strange_peers, words, devices, generated, little_memory, no_thread, definition_files, tried_edits, plain.rows, plain.random_histories,
 ):
     tests()
 print(f"{counts['passed']} passed, {counts['failed']} failed")

@@ -1,5 +1,6 @@
 //! A client's put and get, and the one way in which all steps go to a node.
 ghost use Rattle.std.specs.Prelude.{◌≡◌, IfOk, OnErr};
+ghost use Rattle.cops_node.specs.declared.event.NodeEvent.TheVariants.{Put};
 ghost use Rattle.cops_clients.specs.Replies.{IsReplyOf, IsVersionOf, WasHeld};
 
 use crate::client::Client;
@@ -11,7 +12,7 @@ use crate::spot::Spot;
 use cops_node::{MEMORY, NodeEvent, Outcome};
 use cops_record::Slot;
 use cops_tie::{Book, Told};
-use cops_types::{Dep, Gate, GateHeld, Key, Op, Point, Value, Version};
+use cops_types::{Dep, Gate, GateHeld, Key, Memory, Op, Point, Value, Version};
 use std::sync::Wait;
 use std::sync::atomic::Ordering;
 
@@ -35,6 +36,38 @@ pub(crate) struct Answer {
 pub(crate) struct Reply {
     pub(crate) outcome: Outcome,
     pub(crate) node: u16,
+}
+
+/// What a node is told of a put, and copies for what the client notes of it.
+#[derive(Drop)]
+struct PutTold {
+    event: NodeEvent,
+    pair_key: Key,
+    seen_key: Key,
+    seen_value: Value,
+}
+
+/// What a node is told of a client's put.
+fn put_told(client: &Client, key: Key, value: Value) -> Result<PutTold, Memory>
+    ensures event { IfOk result (λ t. t.event ≡ Put client.now.number key value client.now.context.pairs) }
+    ensures copies { IfOk result (λ t. (t.pair_key ≡ key) × (t.seen_key ≡ key) × (t.seen_value ≡ value)) }
+{
+    let deps = client.context.deps()?;
+    let pair_key = key.clone()?;
+    let seen_key = key.clone()?;
+    let seen_value = value.clone()?;
+    let event = NodeEvent::Put {
+        client: client.number,
+        key,
+        value,
+        deps,
+    };
+    Ok(PutTold {
+        event,
+        pair_key,
+        seen_key,
+        seen_value,
+    })
 }
 
 impl Cluster {
@@ -125,19 +158,10 @@ impl Cluster {
         let Some(spot) = self.spot_of(client.dc, &key) else {
             return Err(Stop::Refused(UNKNOWN_CLIENT));
         };
-        let deps = client.context.deps()?;
-        let pair_key = key.clone()?;
-        let seen_key = key.clone()?;
-        let seen_value = value.clone()?;
         let number = client.number;
-        let event = NodeEvent::Put {
-            client: number,
-            key,
-            value,
-            deps,
-        };
-        let told = self.step(rt, &mut client.share, gate, number, spot, event)?;
-        let op = client.wrote(pair_key, seen_key, seen_value, &told.seen);
+        let put = put_told(client, key, value)?;
+        let told = self.step(rt, &mut client.share, gate, number, spot, put.event)?;
+        let op = client.wrote(put.pair_key, put.seen_key, put.seen_value, &told.seen);
         Ok(Answer {
             outcome: told.outcome,
             node: spot.number(),

@@ -1,6 +1,9 @@
-ghost use Rattle.std.specs.Prelude.{◌≡◌, ◌≢◌, ◌≤◌, ◌<◌, ℕ, length, take, OnOk, IfOk, IfErr, IsErrOf};
+ghost use Rattle.std.specs.Prelude.{◌≡◌, ◌≢◌, ◌≤◌, ◌<◌, ◌++◌, ℕ, length, take, OnOk, IfOk, IfErr, IsErrOf};
 ghost use Rattle.std.specs.Io.KnownBytes.{Appends, Keeps};
-ghost use Rattle.cops_trace.specs.Text.{text};
+ghost use Rattle.cops_wire.specs.Grammar.{grammar, IsMessage};
+ghost use Rattle.cops_wire.specs.Message.{parts};
+ghost use Rattle.cops_types.specs.declared.format.Format.TheVariants.{One};
+ghost use Rattle.cops_trace.specs.Text.{spelled, text};
 ghost use Rattle.cops_types.specs.Failures.{Failed};
 ghost use Rattle.cops_types.specs.Counted.{failures, inner};
 
@@ -14,6 +17,16 @@ use std::io::Write;
 /// The number of the format that is written.
 const FORMAT: u16 = 1;
 
+/// Appends the frame of a legal message.
+fn append(message: Message, out: &mut Vec<u8>) -> Result<(), Memory>
+    requires { IsMessage (grammar One) (parts message) }
+    ensures { OnOk result (out.new.items ≡ out.old.items ++ spelled message) }
+{
+    let appended = encode(&message, out);
+    drop(message);
+    appended
+}
+
 /// A trace's text: the head, the records in order of arrival, and the end.
 fn text_of(alloc: Global, trace: &Trace) -> Result<Vec<u8>, Memory>
     ensures { IfOk result (λ out. out.items ≡ text trace.now) }
@@ -23,12 +36,12 @@ fn text_of(alloc: Global, trace: &Trace) -> Result<Vec<u8>, Memory>
         format: FORMAT,
         clients: trace.clients(),
     };
-    encode(&head, &mut out)?;
+    append(head, &mut out)?;
     trace.append_records(alloc, &mut out)?;
     let end = Message::TraceEnd {
         ops: trace.len() as u32,
     };
-    encode(&end, &mut out)?;
+    append(end, &mut out)?;
     Ok(out)
 }
 

@@ -8,8 +8,8 @@ pub returns : goal.returns
 unfolding spelled beginning
 returns c =
     let t = c.args.trace.now in
-    let one : c.encode.new.out.items ≡ c.new-out.result.items ++ spelled (TraceHead 1 c.clients.result) = c.in_ok-encode.ensures.ok in
-    let two : c.append_records.new.out.items ≡ c.encode.new.out.items ++ records_text [] t.records = c.in_ok-append_records.ensures in
-    let three : c.encode-2.new.out.items ≡ c.append_records.new.out.items ++ spelled (TraceEnd c.len.result) = c.in_ok-encode-2.ensures.ok in
+    let one : c.append.new.out.items ≡ c.new-out.result.items ++ spelled (TraceHead 1 c.clients.result) = c.in_ok-append.ensures in
+    let two : c.append_records.new.out.items ≡ c.append.new.out.items ++ records_text [] t.records = c.in_ok-append_records.ensures in
+    let three : c.append-2.new.out.items ≡ c.append_records.new.out.items ++ spelled (TraceEnd c.len.result) = c.in_ok-append-2.ensures in
     three ∙ ap (λ n. c.append_records.new.out.items ++ spelled (TraceEnd n)) c.len.ensures.count
     ∙ ap (λ x. x ++ spelled (TraceEnd (length t.records))) (two ∙ ap (λ x. x ++ records_text [] t.records) (one ∙ ap (λ x. x ++ spelled (TraceHead 1 c.clients.result)) c.new-out.ensures.items ∙ ap head_text c.clients.ensures))
