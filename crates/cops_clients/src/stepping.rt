@@ -12,7 +12,7 @@ use crate::spot::Spot;
 use cops_node::{MEMORY, NodeEvent, Outcome};
 use cops_record::Slot;
 use cops_tie::{Book, Told};
-use cops_types::{Dep, Gate, GateHeld, Key, Memory, Op, Point, Value, Version};
+use cops_types::{Dep, Deps, Gate, GateHeld, Key, Memory, Op, Point, Value, Version};
 use std::sync::Wait;
 use std::sync::atomic::Ordering;
 
@@ -38,7 +38,16 @@ pub(crate) struct Reply {
     pub(crate) node: u16,
 }
 
-/// What a node is told of a put, and copies for what the client notes of it.
+/// What is copied for a client's put: its dependencies, and what it notes of the put.
+#[derive(Drop)]
+struct PutCopies {
+    deps: Deps,
+    pair_key: Key,
+    seen_key: Key,
+    seen_value: Value,
+}
+
+/// What a node is told of a put, and what the client notes of it.
 #[derive(Drop)]
 struct PutTold {
     event: NodeEvent,
@@ -47,26 +56,41 @@ struct PutTold {
     seen_value: Value,
 }
 
-/// What a node is told of a client's put.
+fn put_copies(client: &Client, key: &Key, value: &Value) -> Result<PutCopies, Memory>
+    ensures deps { IfOk result (λ c. c.deps ≡ client.now.context.pairs) }
+    ensures noted { IfOk result (λ c. (c.pair_key ≡ key.now) × (c.seen_key ≡ key.now) × (c.seen_value ≡ value.now)) }
+{
+    Ok(PutCopies {
+        deps: client.context.deps()?,
+        pair_key: key.clone()?,
+        seen_key: key.clone()?,
+        seen_value: value.clone()?,
+    })
+}
+
 fn put_told(client: &Client, key: Key, value: Value) -> Result<PutTold, Memory>
     ensures event { IfOk result (λ t. t.event ≡ Put client.now.number key value client.now.context.pairs) }
-    ensures copies { IfOk result (λ t. (t.pair_key ≡ key) × (t.seen_key ≡ key) × (t.seen_value ≡ value)) }
+    ensures noted { IfOk result (λ t. (t.pair_key ≡ key) × (t.seen_key ≡ key) × (t.seen_value ≡ value)) }
 {
-    let deps = client.context.deps()?;
-    let pair_key = key.clone()?;
-    let seen_key = key.clone()?;
-    let seen_value = value.clone()?;
+    let copies = match put_copies(client, &key, &value) {
+        Ok(copies) => copies,
+        Err(fault) => {
+            drop(key);
+            drop(value);
+            return Err(fault);
+        }
+    };
     let event = NodeEvent::Put {
         client: client.number,
         key,
         value,
-        deps,
+        deps: copies.deps,
     };
     Ok(PutTold {
         event,
-        pair_key,
-        seen_key,
-        seen_value,
+        pair_key: copies.pair_key,
+        seen_key: copies.seen_key,
+        seen_value: copies.seen_value,
     })
 }
 
