@@ -1,0 +1,53 @@
+//! Rows of a node's settled puts.
+
+use crate::words::{key, value, version, yes_or_no};
+use anyhow::{Error, bail};
+use cops_store::Store;
+use std::alloc::Global;
+
+/// How many keys there are, and how many pairs.
+fn counts(alloc: Global, store: &Store) -> Result<String, Error> {
+    Ok(format!(in alloc; "{} keys, {} pairs", store.keys(), store.settled())?)
+}
+
+fn settle(
+    alloc: Global,
+    store: &mut Store,
+    name: &str,
+    bytes: &str,
+    at: &str,
+) -> Result<String, Error> {
+    let settled = store.settle(key(alloc, name)?, value(alloc, bytes)?, version(at)?)?;
+    Ok(format!(in alloc; "{settled:?}")?)
+}
+
+fn has(alloc: Global, store: &Store, name: &str, at: &str) -> Result<String, Error> {
+    let key = key(alloc, name)?;
+    yes_or_no(alloc, store.has(&key, version(at)?))
+}
+
+fn get(alloc: Global, store: &Store, name: &str) -> Result<String, Error> {
+    let key = key(alloc, name)?;
+    match store.get(&key) {
+        Some((value, version)) => {
+            let text = String::from_utf8_lossy(alloc, value.as_bytes())?;
+            Ok(format!(in alloc; "{text} at {version}")?)
+        }
+        None => Ok(String::from_str(alloc, "nothing")?),
+    }
+}
+
+/// The answer to a row's words.
+pub fn answer(alloc: Global, store: &mut Store, words: &[&str]) -> Result<String, Error> {
+    match words {
+        [_, "new"] => {
+            *store = Store::new(alloc);
+            counts(alloc, store)
+        }
+        [_, "counts"] => counts(alloc, store),
+        [_, "settle", name, bytes, at] => settle(alloc, store, name, bytes, at),
+        [_, "has", name, at] => has(alloc, store, name, at),
+        [_, "get", name] => get(alloc, store, name),
+        _ => bail!("not a row"),
+    }
+}
