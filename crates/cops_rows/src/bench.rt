@@ -1,8 +1,11 @@
 //! What the rows of a file act on.
 
-use crate::{context, place, store};
+use crate::{context, held, node, place, store, world};
 use anyhow::{Error, bail};
 use cops_context::Context;
+use cops_core::World;
+use cops_held::Held;
+use cops_node::Node;
 use cops_place::Place;
 use cops_store::Store;
 use std::alloc::Global;
@@ -11,8 +14,11 @@ use std::alloc::Global;
 #[derive(Drop)]
 pub struct Bench {
     context: Context,
+    held: Held,
+    node: Node,
     place: Option<Place>,
     store: Store,
+    world: Option<World>,
 }
 
 impl Bench {
@@ -20,8 +26,11 @@ impl Bench {
     pub fn new(alloc: Global) -> Self {
         Bench {
             context: Context::new(alloc),
+            held: Held::new(alloc),
+            node: Node::open(alloc, 0),
             place: None,
             store: Store::new(alloc),
+            world: None,
         }
     }
 
@@ -30,8 +39,11 @@ impl Bench {
         let words: Vec<&str> = call.split(' ').collect(alloc)?;
         match words.first().copied() {
             Some("context") => context::answer(alloc, &mut self.context, &words),
+            Some("held") => held::answer(alloc, &mut self.held, &words),
+            Some("node") => node::answer(alloc, &mut self.node, &words),
             Some("place") => place::answer(alloc, &mut self.place, &words),
             Some("store") => store::answer(alloc, &mut self.store, &words),
+            Some("world") => world::answer(alloc, &mut self.world, &words),
             _ => bail!("not a row"),
         }
     }

@@ -1,22 +1,14 @@
 //! Rows of a client's context.
 
-use crate::words::{key, version};
+use crate::words::{pair, pair_text, yes_or_no};
 use anyhow::{Error, bail};
 use cops_context::Context;
-use cops_types::Dep;
 use std::alloc::Global;
 
 /// How many pairs there are, and whether one more has room.
 fn counts(alloc: Global, context: &Context) -> Result<String, Error> {
     let room = if context.has_room() { "room" } else { "full" };
     Ok(format!(in alloc; "{} pairs, {room}", context.len())?)
-}
-
-fn pair(alloc: Global, name: &str, at: &str) -> Result<Dep, Error> {
-    Ok(Dep {
-        key: key(alloc, name)?,
-        version: version(at)?,
-    })
 }
 
 /// The pairs in their order, `KEY@VERSION KEY@VERSION..`.
@@ -27,8 +19,7 @@ fn deps(alloc: Global, context: &Context) -> Result<String, Error> {
         if !text.is_empty() {
             text.push_str(" ")?;
         }
-        let name = String::from_utf8_lossy(alloc, pair.key.as_bytes())?;
-        let one = format!(in alloc; "{name}@{}", pair.version)?;
+        let one = pair_text(alloc, pair)?;
         text.push_str(&one)?;
     }
     Ok(text)
@@ -53,6 +44,7 @@ pub fn answer(alloc: Global, context: &mut Context, words: &[&str]) -> Result<St
             counts(alloc, context)
         }
         [_, "counts"] => counts(alloc, context),
+        [_, "empty"] => yes_or_no(alloc, context.is_empty()),
         [_, "deps"] => deps(alloc, context),
         [_, "reserve"] => reserve(alloc, context),
         [_, "add", name, at] => add(alloc, context, name, at),

@@ -4,9 +4,13 @@
 
 mod bench;
 mod context;
+mod held;
+mod node;
+mod outcome;
 mod place;
 mod store;
 mod words;
+mod world;
 
 use crate::bench::Bench;
 use anyhow::{Error, bail};

@@ -1,6 +1,6 @@
 //! Rows of a node's settled puts.
 
-use crate::words::{key, value, version, yes_or_no};
+use crate::words::{key, value, value_at, version, yes_or_no};
 use anyhow::{Error, bail};
 use cops_store::Store;
 use std::alloc::Global;
@@ -29,10 +29,7 @@ fn has(alloc: Global, store: &Store, name: &str, at: &str) -> Result<String, Err
 fn get(alloc: Global, store: &Store, name: &str) -> Result<String, Error> {
     let key = key(alloc, name)?;
     match store.get(&key) {
-        Some((value, version)) => {
-            let text = String::from_utf8_lossy(alloc, value.as_bytes())?;
-            Ok(format!(in alloc; "{text} at {version}")?)
-        }
+        Some((value, version)) => value_at(alloc, value, version),
         None => Ok(String::from_str(alloc, "nothing")?),
     }
 }

@@ -1,7 +1,7 @@
 //! What a row's words stand for.
 
 use anyhow::{Context, Error};
-use cops_types::{Key, Value, Version};
+use cops_types::{Dep, Deps, Key, PutRecord, Value, Version};
 use std::alloc::Global;
 
 /// The key of these bytes.
@@ -31,8 +31,61 @@ pub fn keys(alloc: Global, word: &str) -> Result<Vec<Key>, Error> {
     Ok(keys)
 }
 
+/// The pair of a key and a version.
+pub fn pair(alloc: Global, name: &str, at: &str) -> Result<Dep, Error> {
+    Ok(Dep {
+        key: key(alloc, name)?,
+        version: version(at)?,
+    })
+}
+
+/// The pair `KEY@VERSION`.
+fn told_pair(alloc: Global, word: &str) -> Result<Dep, Error> {
+    let (name, at) = word.split_once('@').context("not a row")?;
+    pair(alloc, name, at)
+}
+
+/// The pairs `KEY@VERSION,KEY@VERSION..`, or none where the word is `-`.
+fn pairs(alloc: Global, word: &str) -> Result<Vec<Dep>, Error> {
+    let mut pairs = Vec::new(alloc);
+    if word != "-" {
+        for told in word.split(',') {
+            pairs.push(told_pair(alloc, told)?)?;
+        }
+    }
+    Ok(pairs)
+}
+
+/// The dependencies `KEY@VERSION,KEY@VERSION..`, or none where the word is `-`.
+pub fn deps(alloc: Global, word: &str) -> Result<Deps, Error> {
+    Ok(Deps::new(pairs(alloc, word)?)?)
+}
+
+/// The put of a key, a value, a version and dependencies.
+pub fn put(alloc: Global, words: &[&str; 4]) -> Result<PutRecord, Error> {
+    let [name, bytes, at, pairs] = words;
+    Ok(PutRecord {
+        key: key(alloc, name)?,
+        value: value(alloc, bytes)?,
+        version: version(at)?,
+        deps: deps(alloc, pairs)?,
+    })
+}
+
 /// `yes` or `no`.
 pub fn yes_or_no(alloc: Global, is: bool) -> Result<String, Error> {
     let word = if is { "yes" } else { "no" };
     Ok(String::from_str(alloc, word)?)
+}
+
+/// `VALUE at VERSION`.
+pub fn value_at(alloc: Global, value: &Value, version: Version) -> Result<String, Error> {
+    let text = String::from_utf8_lossy(alloc, value.as_bytes())?;
+    Ok(format!(in alloc; "{text} at {version}")?)
+}
+
+/// `KEY@VERSION`.
+pub fn pair_text(alloc: Global, pair: &Dep) -> Result<String, Error> {
+    let name = String::from_utf8_lossy(alloc, pair.key.as_bytes())?;
+    Ok(format!(in alloc; "{name}@{}", pair.version)?)
 }
