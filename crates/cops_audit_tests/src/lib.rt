@@ -1,4 +1,4 @@
-//! Tests of what no contract says, of the auditor, its workers, the plain auditor and the reports, through their public calls
+//! Tests of what no contract says, of the auditor, its workers and the reports, through their public calls
 //! alone. They stand in a crate above all others, so that each crate is proved once and not with its tests again.
 #![tactic(auto)]
 
@@ -6,7 +6,5 @@
 mod audit;
 #[cfg(test)]
 mod batch;
-#[cfg(test)]
-mod plain;
 #[cfg(test)]
 mod report;

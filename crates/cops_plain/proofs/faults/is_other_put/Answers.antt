@@ -1,4 +1,0 @@
-use Rattle.cops_plain.proofs.faults.is_other_put.Goals as goal
-
-pub returns-in-None : goal.returns-in-None
-returns-in-None c = (λ e. absurd cc, λ w. absurd (c.in-None.ensures.none c.args.version w.1))
