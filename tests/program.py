@@ -82,6 +82,20 @@ def long_chain():
     audited("long chain", trace(lines), text, 1)
 
 
+def many_rounds():
+    """Ten clients with a hundred rounds each: a put on the client's own key, and a get of what the next client puts."""
+    lines = ["clients 10"]
+    for client in range(10):
+        other = (client + 1) % 10
+        for clock in range(1, 101):
+            lines.append(f"{client} put k{client} {clock} {clock}.{client}")
+            lines.append(f"{client} got k{other} {clock} {clock}.{other}")
+    audited("many rounds", trace(lines), "accepted: 2000 operations, 1000 puts\n", 0)
+    text = "refused: 2001 operations, 1000 puts, 1 faults\n"
+    text += "stale (0,200) returned 7.1, newer (1,198) at 100.1, chain (1,198) (0,199) (0,200)\n"
+    audited("a stale get after many rounds", trace([*lines, "0 got k1 7 7.1"]), text, 1)
+
+
 def faults():
     whole = example("put_and_get.trace")
     head, put, got, end = whole[:9], whole[9:33], whole[33:57], whole[57:]
@@ -637,7 +651,7 @@ def tried_edits():
 
 
 for tests in (
-    examples, long_chain, faults, shown, scenarios, refusals, faulty_scenarios, scripts, mixed_scripts, random_scenarios, many_workers, served,
+    examples, long_chain, many_rounds, faults, shown, scenarios, refusals, faulty_scenarios, scripts, mixed_scripts, random_scenarios, many_workers, served,
     strange_peers, words, devices, generated, little_memory, no_thread, definition_files, tried_edits, plain.rows, plain.random_histories,
 ):
     tests()
