@@ -1,150 +1,57 @@
-use cops_audit::{Faults, Stale, Verdict, judge};
+use crate::building::*;
+use cops_audit::{Verdict, judge};
 use cops_batch::*;
-use cops_types::{Gate, GateHeld, History, Key, Op, OpName, OpenGate, Point, Value, Version};
-use std::alloc::Global;
+use cops_types::{Gate, GateHeld, History, OpenGate, Point};
 use std::sync::Wait;
 use std::sync::atomic::{AtomicBool, Ordering};
 use std::test::Fail;
 use std::thread;
 use std::thread::Threads;
 
-/// An operation with a key and a value of one byte, and a version's clock on node 0.
-#[derive(Clone, Copy)]
-enum Did {
-    Put(u8, u8, u64),
-    Got(u8, u8, u64),
-    Missed(u8),
-}
-
-fn op(alloc: Global, did: Did) -> Result<Op, Fail> {
-    match did {
-        Did::Put(key, value, clock) => Ok(Op::Put {
-            key: Key::new(alloc, &[key])?,
-            value: Value::new(alloc, &[value])?,
-            version: Version::new(clock, 0)?,
-        }),
-        Did::Got(key, value, clock) => Ok(Op::Got {
-            key: Key::new(alloc, &[key])?,
-            value: Value::new(alloc, &[value])?,
-            version: Version::new(clock, 0)?,
-        }),
-        Did::Missed(key) => Ok(Op::Missed {
-            key: Key::new(alloc, &[key])?,
-        }),
-    }
-}
-
-/// A history in which each client did what its entries say, in their order.
-fn history(alloc: Global, clients: u16, entries: &[(u16, Did)]) -> Result<History, Fail> {
-    let mut history = History::new(alloc, clients)?;
-    for (client, did) in entries {
-        history.push(*client, op(alloc, *did)?)?;
-    }
-    Ok(history)
-}
-
-/// One get is stale: the second of client 1, whose past has the put of x at 2.
-const STALE: [(u16, Did); 5] = [
-    (0, Did::Put(b'x', 1, 1)),
-    (0, Did::Put(b'x', 2, 2)),
-    (0, Did::Put(b'y', 3, 3)),
-    (1, Did::Got(b'y', 3, 3)),
-    (1, Did::Got(b'x', 1, 1)),
-];
-
-/// Faults of all classes but doubled puts.
-const SOURCELESS: [(u16, Did); 7] = [
-    (0, Did::Put(b'x', 1, 1)),
-    (0, Did::Put(b'x', 2, 2)),
-    (1, Did::Got(b'x', 2, 2)),
-    (1, Did::Got(b'x', 1, 1)),
-    (1, Did::Got(b'y', 9, 9)),
-    (2, Did::Put(b'z', 5, 5)),
-    (2, Did::Put(b'z', 4, 4)),
-];
-
-/// Two puts that are not above what their sessions saw.
-const NOT_ABOVE: [(u16, Did); 5] = [
-    (0, Did::Put(b'x', 1, 5)),
-    (0, Did::Put(b'y', 1, 4)),
-    (1, Did::Got(b'x', 1, 5)),
-    (1, Did::Put(b'x', 3, 3)),
-    (2, Did::Missed(b'w')),
-];
-
 /// One version of three puts.
 const DOUBLED: [(u16, Did); 5] = [
-    (0, Did::Put(b'x', 1, 1)),
-    (1, Did::Put(b'y', 1, 1)),
-    (1, Did::Got(b'q', 9, 9)),
-    (2, Did::Put(b'x', 2, 2)),
-    (2, Did::Put(b'x', 3, 1)),
+    (0, Did::Put(b'x', 1, 1, 0)),
+    (1, Did::Put(b'y', 1, 1, 0)),
+    (1, Did::Got(b'q', 9, 9, 0)),
+    (2, Did::Put(b'x', 2, 2, 0)),
+    (2, Did::Put(b'x', 3, 1, 0)),
 ];
 
-/// A history without a fault.
-const CLEAN: [(u16, Did); 4] = [
-    (0, Did::Put(b'x', 1, 1)),
-    (1, Did::Missed(b'x')),
-    (1, Did::Got(b'x', 1, 1)),
-    (1, Did::Put(b'y', 2, 2)),
-];
-
-/// Whether 1, 2, 3 and 64 workers say what one does.
-fn all_agree<R: Threads + Wait + Sync + AllocGlobal>(
+/// Whether so many workers give this verdict.
+fn gives<R: Threads + Wait + Sync + AllocGlobal, G: Gate>(
     rt: &R,
+    gate: &G,
+    workers: u8,
+    history: &History,
+    wanted: &Verdict,
+) -> Result<bool, BatchFault> {
+    let verdict = judge_with(rt, rt.alloc(), history, workers, gate)?;
+    Ok(same(&verdict, wanted))
+}
+
+/// Whether so many workers say what one does, or the fault with which they end.
+fn answer<R: Threads + Wait + Sync + AllocGlobal, G: Gate>(
+    rt: &R,
+    gate: &G,
+    workers: u8,
     entries: &[(u16, Did)],
-) -> Result<bool, Fail> {
-    let alloc = rt.alloc();
-    let history = history(alloc, 3, entries)?;
-    let plain = judge(alloc, &history)?;
-    for workers in [1u8, 2, 3, 64] {
-        let verdict = judge_with(rt, alloc, &history, workers, &OpenGate)?;
-        if verdict != plain {
-            return Ok(false);
-        }
-    }
-    Ok(true)
+) -> Result<Result<bool, BatchFault>, Fail> {
+    let history = history(rt.alloc(), 3, entries)?;
+    let wanted = judge(rt.alloc(), &history)?;
+    Ok(gives(rt, gate, workers, &history, &wanted))
 }
 
 #[test]
-fn many_workers_say_what_one_does(rt: HostRuntime) -> Result<(), Fail> {
-    assert!(rt; all_agree(&rt, &[])?);
-    assert!(rt; all_agree(&rt, &STALE)?);
-    assert!(rt; all_agree(&rt, &SOURCELESS)?);
-    assert!(rt; all_agree(&rt, &NOT_ABOVE)?);
-    assert!(rt; all_agree(&rt, &DOUBLED)?);
-    assert!(rt; all_agree(&rt, &CLEAN)?);
-    Ok(())
-}
-
-fn name(client: u16, index: u32) -> OpName {
-    OpName { client, index }
-}
-
-#[test]
-fn one_stale_get(rt: HostRuntime) -> Result<(), Fail> {
-    let alloc = rt.alloc();
-    let history = history(alloc, 2, &STALE)?;
-    let fault = Stale {
-        op: name(1, 1),
-        newer: name(0, 1),
-    };
-    let faults = Vec::from_slice(alloc, &[fault])?;
-    let expected = Ok(Verdict::Refused(Faults::Stale(faults)));
-    let verdict = judge_with(&rt, alloc, &history, 2, &OpenGate);
-    let same = verdict == expected;
-    assert!(rt; same);
+fn two_workers_say_what_one_does(rt: HostRuntime) -> Result<(), Fail> {
+    assert!(rt; answer(&rt, &OpenGate, 2, &STALE)? == Ok(true));
     Ok(())
 }
 
 #[test]
 fn too_few_and_too_many_workers(rt: HostRuntime) -> Result<(), Fail> {
-    let alloc = rt.alloc();
-    let history = history(alloc, 2, &STALE)?;
     for workers in [0u8, 65, 255] {
-        let verdict = judge_with(&rt, alloc, &history, workers, &OpenGate);
-        let same = verdict == Err(BatchFault::BadWorkers);
-        assert!(rt; same, "{workers}");
+        let answer = answer(&rt, &OpenGate, workers, &STALE)?;
+        assert!(rt; answer == Err(BatchFault::BadWorkers), "{workers}");
     }
     Ok(())
 }
@@ -188,25 +95,21 @@ impl Gate for Meeting {
 /// Whether the pieces meet and the verdict is that of one worker.
 fn meets<R: Threads + Wait + Sync + AllocGlobal>(
     rt: &R,
-    entries: &[(u16, Did)],
     workers: u8,
+    entries: &[(u16, Did)],
 ) -> Result<bool, Fail> {
-    let alloc = rt.alloc();
-    let history = history(alloc, 3, entries)?;
-    let plain = judge(alloc, &history)?;
     let gate = Meeting {
         first: AtomicBool::new(false),
         second: AtomicBool::new(false),
     };
-    let verdict = judge_with(rt, alloc, &history, workers, &gate)?;
-    Ok(verdict == plain)
+    Ok(answer(rt, &gate, workers, entries)? == Ok(true))
 }
 
 #[test]
 fn pieces_stand_side_by_side(rt: HostRuntime) -> Result<(), Fail> {
-    assert!(rt; meets(&rt, &STALE, 2)?);
-    assert!(rt; meets(&rt, &DOUBLED, 2)?);
-    assert!(rt; meets(&rt, &CLEAN, 64)?);
+    for (workers, entries) in [(2, &STALE[..]), (2, &DOUBLED[..]), (64, &STALE[..4])] {
+        assert!(rt; meets(&rt, workers, entries)?);
+    }
     Ok(())
 }
 
@@ -233,17 +136,15 @@ fn is_held<R: Threads + Wait + Sync + AllocGlobal>(
     entries: &[(u16, Did)],
     point: Point,
 ) -> Result<bool, Fail> {
-    let alloc = rt.alloc();
-    let history = history(alloc, 3, entries)?;
-    let verdict = judge_with(rt, alloc, &history, 3, &HoldsAt { point });
-    Ok(verdict == Err(BatchFault::Held))
+    Ok(answer(rt, &HoldsAt { point }, 3, entries)? == Err(BatchFault::Held))
 }
 
 #[test]
 fn a_held_worker_is_told(rt: HostRuntime) -> Result<(), Fail> {
+    let sourceless = &DOUBLED[1..3];
     for i in 0..3 {
         assert!(rt; is_held(&rt, &STALE, Point::PieceStart(i))?, "{i}");
-        assert!(rt; is_held(&rt, &SOURCELESS, Point::PieceDone(i))?, "{i}");
+        assert!(rt; is_held(&rt, sourceless, Point::PieceDone(i))?, "{i}");
         assert!(rt; is_held(&rt, &DOUBLED, Point::PieceDone(i))?, "{i}");
     }
     assert!(rt; !is_held(&rt, &STALE, Point::PieceDone(3))?);

@@ -1,10 +1,15 @@
-//! Tests of what no contract says, of the auditor, its workers and the reports, through their public calls
-//! alone. They stand in a crate above all others, so that each crate is proved once and not with its tests again.
+//! Tests of what no contract and no text of an audit says, of the auditor, its workers and the reports, through their
+//! public calls alone. They stand in a crate above all others, so that each crate is proved once and not with its
+//! tests again. What an audit says of a whole trace stands as rows beside the tests of the program.
 #![tactic(auto)]
 
 #[cfg(test)]
 mod audit;
 #[cfg(test)]
 mod batch;
+#[cfg(test)]
+mod building;
+#[cfg(test)]
+mod online;
 #[cfg(test)]
 mod report;

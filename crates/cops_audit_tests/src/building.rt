@@ -1,0 +1,90 @@
+use cops_audit::{Verdict, judge};
+use cops_types::{History, Key, Op, OpName, Value, Version};
+use std::alloc::Global;
+use std::test::Fail;
+
+/// An operation with a key and a value of one byte, and a version's clock and node.
+#[derive(Clone, Copy)]
+pub enum Did {
+    Put(u8, u8, u64, u16),
+    Got(u8, u8, u64, u16),
+    Missed(u8),
+}
+
+/// One get is stale: the second of client 1, whose past has the put of x at 2.
+pub const STALE: [(u16, Did); 5] = [
+    (0, Did::Put(b'x', 1, 1, 0)),
+    (0, Did::Put(b'x', 2, 2, 0)),
+    (0, Did::Put(b'y', 3, 3, 0)),
+    (1, Did::Got(b'y', 3, 3, 0)),
+    (1, Did::Got(b'x', 1, 1, 0)),
+];
+
+/// A key and a value of one byte each, and a version.
+fn versioned(
+    alloc: Global,
+    key: u8,
+    value: u8,
+    clock: u64,
+    node: u16,
+) -> Result<(Key, Value, Version), Fail> {
+    let version = Version::new(clock, node)?;
+    let key = Key::new(alloc, &[key])?;
+    let value = Value::new(alloc, &[value])?;
+    Ok((key, value, version))
+}
+
+pub fn op(alloc: Global, did: Did) -> Result<Op, Fail> {
+    match did {
+        Did::Put(key, value, clock, node) => {
+            let (key, value, version) = versioned(alloc, key, value, clock, node)?;
+            Ok(Op::Put {
+                key,
+                value,
+                version,
+            })
+        }
+        Did::Got(key, value, clock, node) => {
+            let (key, value, version) = versioned(alloc, key, value, clock, node)?;
+            Ok(Op::Got {
+                key,
+                value,
+                version,
+            })
+        }
+        Did::Missed(key) => Ok(Op::Missed {
+            key: Key::new(alloc, &[key])?,
+        }),
+    }
+}
+
+/// A history in which each client did what its entries say, in their order.
+pub fn history(alloc: Global, clients: u16, entries: &[(u16, Did)]) -> Result<History, Fail> {
+    let mut history = History::new(alloc, clients)?;
+    for (client, did) in entries {
+        history.push(*client, op(alloc, *did)?)?;
+    }
+    Ok(history)
+}
+
+/// The verdict of `judge` on such a history.
+pub fn judged(alloc: Global, clients: u16, entries: &[(u16, Did)]) -> Result<Verdict, Fail> {
+    let history = history(alloc, clients, entries)?;
+    Ok(judge(alloc, &history)?)
+}
+
+pub fn name(client: u16, index: u32) -> OpName {
+    OpName { client, index }
+}
+
+/// Whether a verdict accepts just these puts, in this order.
+pub fn accepts(verdict: &Verdict, puts: &[OpName]) -> bool {
+    match verdict {
+        Verdict::Accepted(accepted) => accepted.as_slice() == puts,
+        Verdict::Refused(_) => false,
+    }
+}
+
+pub fn same(verdict: &Verdict, other: &Verdict) -> bool {
+    verdict == other
+}

@@ -1,0 +1,188 @@
+use crate::building::*;
+use cops_audit::SoFar::{Clean, Refused, Waiting};
+use cops_audit::{Online, SoFar};
+use cops_types::{OpName, TypeFault};
+use std::alloc::Global;
+use std::test::Fail;
+
+fn feed(alloc: Global, online: &mut Online, client: u16, did: Did) -> Result<(), Fail> {
+    let op = op(alloc, did)?;
+    online.feed(client, op)?;
+    Ok(())
+}
+
+/// Whether just this is said so far, asked twice.
+fn is_said(online: &mut Online, wanted: SoFar) -> bool {
+    let first = online.so_far();
+    let second = online.so_far();
+    first == wanted && second == wanted
+}
+
+/// Whether just this is said after each of these operations.
+fn says(
+    alloc: Global,
+    online: &mut Online,
+    entries: &[(u16, Did)],
+    wanted: &[SoFar],
+) -> Result<bool, Fail> {
+    for ((client, did), so_far) in entries.iter().zip(wanted) {
+        feed(alloc, online, *client, *did)?;
+        if !is_said(online, *so_far) {
+            return Ok(false);
+        }
+    }
+    Ok(entries.len() == wanted.len())
+}
+
+/// Whether the verdict is the one of `judge` on these operations.
+fn ends(alloc: Global, online: Online, clients: u16, entries: &[(u16, Did)]) -> Result<bool, Fail> {
+    let verdict = online.finish()?;
+    let wanted = judged(alloc, clients, entries)?;
+    Ok(same(&verdict, &wanted))
+}
+
+/// Whether just this is said after each of these operations, and in the end what `judge` says.
+fn fed(
+    alloc: Global,
+    clients: u16,
+    entries: &[(u16, Did)],
+    wanted: &[SoFar],
+) -> Result<bool, Fail> {
+    let mut online = Online::new(alloc, clients)?;
+    let said = says(alloc, &mut online, entries, wanted)?;
+    let ended = ends(alloc, online, clients, entries)?;
+    Ok(said && ended)
+}
+
+#[test]
+fn a_put_and_another_operation(rt: HostRuntime) -> Result<(), Fail> {
+    let put = (0, Did::Put(b'x', 1, 1, 0));
+    let got = (1, Did::Got(b'x', 1, 1, 0));
+    let other_put = (1, Did::Put(b'x', 2, 1, 0));
+    let other_value = (1, Did::Got(b'x', 2, 1, 0));
+    let newer = (0, Did::Got(b'y', 2, 2, 0));
+    for (first, second, wanted) in [
+        (put, got, [Clean, Clean]),
+        (got, put, [Waiting(1), Clean]),
+        (put, other_put, [Clean, Refused]),
+        (put, other_value, [Clean, Refused]),
+        (newer, put, [Waiting(1), Refused]),
+    ] {
+        assert!(rt; fed(rt.alloc(), 2, &[first, second], &wanted)?);
+    }
+    assert!(rt; fed(rt.alloc(), 2, &[got], &[Waiting(1)])?);
+    Ok(())
+}
+
+#[test]
+fn refused_while_a_get_waits(rt: HostRuntime) -> Result<(), Fail> {
+    let entries = [
+        (0, Did::Put(b'x', 1, 1, 0)),
+        (0, Did::Put(b'x', 2, 2, 0)),
+        (1, Did::Got(b'y', 9, 9, 0)),
+        (1, Did::Got(b'x', 2, 2, 0)),
+        (1, Did::Got(b'x', 1, 1, 0)),
+    ];
+    let wanted = [Clean, Clean, Waiting(1), Waiting(1), Refused];
+    assert!(rt; fed(rt.alloc(), 2, &entries, &wanted)?);
+    assert!(rt; fed(rt.alloc(), 2, &entries[..4], &wanted[..4])?);
+    Ok(())
+}
+
+#[test]
+fn refused_from_then_on(rt: HostRuntime) -> Result<(), Fail> {
+    let entries = [
+        (0, Did::Put(b'x', 1, 1, 0)),
+        (1, Did::Got(b'y', 9, 9, 0)),
+        (0, Did::Put(b'x', 2, 2, 0)),
+        (1, Did::Got(b'x', 2, 2, 0)),
+        (1, Did::Got(b'x', 1, 1, 0)),
+        (0, Did::Put(b'y', 9, 9, 0)),
+        (1, Did::Missed(b'z')),
+    ];
+    let wait = Waiting(1);
+    let wanted = [Clean, wait, wait, wait, Refused, Refused, Refused];
+    assert!(rt; fed(rt.alloc(), 2, &entries, &wanted)?);
+    Ok(())
+}
+
+/// Feeds a client's rounds: in each it puts on its own key, and gets what the next client puts in the same round.
+fn feed_rounds(alloc: Global, online: &mut Online, client: u8, next: u8) -> Result<(), Fail> {
+    let node = u16::from(client);
+    let next_node = u16::from(next);
+    for round in 1..101u8 {
+        let clock = u64::from(round);
+        feed(alloc, online, node, Did::Put(client, round, clock, node))?;
+        feed(alloc, online, node, Did::Got(next, round, clock, next_node))?;
+    }
+    Ok(())
+}
+
+/// Feeds the rounds of ten clients, one after the other, and tells whether the gets of each wait for the puts of the next.
+fn all_wait(alloc: Global, online: &mut Online) -> Result<bool, Fail> {
+    for client in 0..9u8 {
+        feed_rounds(alloc, online, client, client + 1)?;
+        if !is_said(online, Waiting(100)) {
+            return Ok(false);
+        }
+    }
+    feed_rounds(alloc, online, 9, 0)?;
+    Ok(is_said(online, Clean))
+}
+
+/// The puts of ten clients in a hundred rounds, in order of versions.
+fn puts_of_rounds(alloc: Global) -> Result<Vec<OpName>, Fail> {
+    let mut puts = Vec::new(alloc);
+    for round in 0..100u32 {
+        for client in 0..10u16 {
+            puts.push(name(client, 2 * round))?;
+        }
+    }
+    Ok(puts)
+}
+
+#[test]
+fn many_gets_before_their_puts(rt: HostRuntime) -> Result<(), Fail> {
+    let a = rt.alloc();
+    let puts = puts_of_rounds(a)?;
+    let mut online = Online::new(a, 10)?;
+    assert!(rt; all_wait(a, &mut online)?);
+    assert!(rt; accepts(&online.finish()?, &puts));
+    Ok(())
+}
+
+#[test]
+fn a_stale_get_after_many(rt: HostRuntime) -> Result<(), Fail> {
+    let a = rt.alloc();
+    let mut online = Online::new(a, 10)?;
+    assert!(rt; all_wait(a, &mut online)?);
+    feed(a, &mut online, 0, Did::Got(1, 7, 7, 1))?;
+    assert!(rt; is_said(&mut online, Refused));
+    Ok(())
+}
+
+/// The fault with which an operation is refused, if it is.
+fn fault(
+    alloc: Global,
+    online: &mut Online,
+    client: u16,
+    did: Did,
+) -> Result<Option<TypeFault>, Fail> {
+    let op = op(alloc, did)?;
+    Ok(online.feed(client, op).err())
+}
+
+/// What a client that is not there did is refused, and changes nothing.
+#[test]
+fn clients_that_are_not_there(rt: HostRuntime) -> Result<(), Fail> {
+    let a = rt.alloc();
+    let got = Did::Got(b'x', 1, 1, 0);
+    let mut online = Online::new(a, 1)?;
+    feed(a, &mut online, 0, got)?;
+    let fault = fault(a, &mut online, 1, Did::Put(b'x', 1, 1, 0))?;
+    let said = is_said(&mut online, Waiting(1));
+    assert!(rt; ends(a, online, 1, &[(0, got)])?);
+    assert!(rt; said);
+    assert!(rt; fault == Some(TypeFault::UnknownClient));
+    Ok(())
+}
