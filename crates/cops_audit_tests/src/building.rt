@@ -1,5 +1,5 @@
 use cops_audit::{Verdict, judge};
-use cops_types::{History, Key, Op, OpName, Value, Version};
+use cops_types::{History, Key, Op, OpName, TypeFault, Value, Version};
 use std::alloc::Global;
 use std::test::Fail;
 
@@ -27,14 +27,14 @@ fn versioned(
     value: u8,
     clock: u64,
     node: u16,
-) -> Result<(Key, Value, Version), Fail> {
+) -> Result<(Key, Value, Version), TypeFault> {
     let version = Version::new(clock, node)?;
     let key = Key::new(alloc, &[key])?;
     let value = Value::new(alloc, &[value])?;
     Ok((key, value, version))
 }
 
-pub fn op(alloc: Global, did: Did) -> Result<Op, Fail> {
+pub fn op(alloc: Global, did: Did) -> Result<Op, TypeFault> {
     match did {
         Did::Put(key, value, clock, node) => {
             let (key, value, version) = versioned(alloc, key, value, clock, node)?;

@@ -5,10 +5,9 @@ use cops_types::{OpName, TypeFault};
 use std::alloc::Global;
 use std::test::Fail;
 
-fn feed(alloc: Global, online: &mut Online, client: u16, did: Did) -> Result<(), Fail> {
+fn feed(alloc: Global, online: &mut Online, client: u16, did: Did) -> Result<(), TypeFault> {
     let op = op(alloc, did)?;
-    online.feed(client, op)?;
-    Ok(())
+    online.feed(client, op)
 }
 
 /// Whether just this is said so far, asked twice.
@@ -107,7 +106,7 @@ fn refused_from_then_on(rt: HostRuntime) -> Result<(), Fail> {
 }
 
 /// Feeds a client's rounds: in each it puts on its own key, and gets what the next client puts in the same round.
-fn feed_rounds(alloc: Global, online: &mut Online, client: u8, next: u8) -> Result<(), Fail> {
+fn feed_rounds(alloc: Global, online: &mut Online, client: u8, next: u8) -> Result<(), TypeFault> {
     let node = u16::from(client);
     let next_node = u16::from(next);
     for round in 1..101u8 {
@@ -161,17 +160,6 @@ fn a_stale_get_after_many(rt: HostRuntime) -> Result<(), Fail> {
     Ok(())
 }
 
-/// The fault with which an operation is refused, if it is.
-fn fault(
-    alloc: Global,
-    online: &mut Online,
-    client: u16,
-    did: Did,
-) -> Result<Option<TypeFault>, Fail> {
-    let op = op(alloc, did)?;
-    Ok(online.feed(client, op).err())
-}
-
 /// What a client that is not there did is refused, and changes nothing.
 #[test]
 fn clients_that_are_not_there(rt: HostRuntime) -> Result<(), Fail> {
@@ -179,10 +167,10 @@ fn clients_that_are_not_there(rt: HostRuntime) -> Result<(), Fail> {
     let got = Did::Got(b'x', 1, 1, 0);
     let mut online = Online::new(a, 1)?;
     feed(a, &mut online, 0, got)?;
-    let fault = fault(a, &mut online, 1, Did::Put(b'x', 1, 1, 0))?;
+    let refused = feed(a, &mut online, 1, Did::Put(b'x', 1, 1, 0));
     let said = is_said(&mut online, Waiting(1));
     assert!(rt; ends(a, online, 1, &[(0, got)])?);
     assert!(rt; said);
-    assert!(rt; fault == Some(TypeFault::UnknownClient));
+    assert!(rt; refused == Err(TypeFault::UnknownClient));
     Ok(())
 }
