@@ -117,7 +117,7 @@ fn feed_rounds(alloc: Global, online: &mut Online, client: u8, next: u8) -> Resu
     Ok(())
 }
 
-/// Feeds the rounds of ten clients, one after the other, and tells whether the gets of each wait for the puts of the next.
+/// Feeds the rounds of ten clients in turn, and tells whether the gets of each wait for the puts of the next.
 fn all_wait(alloc: Global, online: &mut Online) -> Result<bool, Fail> {
     for client in 0..9u8 {
         feed_rounds(alloc, online, client, client + 1)?;
