@@ -14,7 +14,7 @@ import tempfile
 sys.dont_write_bytecode = True
 from traces import ROOT, check, counts  # noqa: E402
 
-TOOLS = ("sh", "dirname", "find", "sed", "sha256sum", "sort", "touch")
+TOOLS = ("sh", "dirname", "find", "mv", "rm", "sed", "sha256sum", "sort", "touch")
 ANSWER = (0, b"accepted: 2 operations, 1 puts\n", b"")
 NOT_OF_THESE = b"cops: release/cops is not the program of these sources: it is proved and built anew, in minutes at the first time\n"
 NO_KIT = (4, b"", NOT_OF_THESE + b"cops: the command rt of the Rattle kit is not on PATH\n")
@@ -42,7 +42,7 @@ class Copy:
 
     def __init__(self, folder):
         self.root, self.path = os.path.join(folder, "tree"), os.path.join(folder, "tools")
-        made_here = shutil.ignore_patterns("out", ".git", "stamp", "__pycache__")
+        made_here = shutil.ignore_patterns("out", ".git", "stamp*", "__pycache__")
         shutil.copytree(ROOT, self.root, ignore=made_here)
         os.mkdir(self.path)
         self.add(*TOOLS)
