@@ -3,12 +3,21 @@
 #![tactic(auto)]
 
 mod bench;
+mod book;
+mod clock;
 mod context;
 mod held;
+mod hex;
+mod history;
 mod node;
 mod outcome;
 mod place;
+mod scenario;
 mod store;
+mod tie;
+mod trace;
+mod types;
+mod wire;
 mod words;
 mod world;
 

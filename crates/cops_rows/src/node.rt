@@ -96,9 +96,10 @@ fn call(alloc: Global, node: &mut Node, words: &[&str]) -> Result<String, Error>
 fn status(alloc: Global, node: &Node) -> Result<String, Error> {
     let status = node.status();
     let (clock, keys) = (status.clock, status.keys);
-    Ok(
-        format!(in alloc; "clock {clock}, keys {keys}, settled {}, held {}", status.settled, status.held)?,
-    )
+    Ok(format!(in alloc;
+        "clock {clock}, keys {keys}, settled {}, held {}",
+        status.settled, status.held
+    )?)
 }
 
 fn shown(alloc: Global, node: &Node, name: &str) -> Result<String, Error> {

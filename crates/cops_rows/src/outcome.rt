@@ -1,7 +1,7 @@
 //! The words that tell a node's outcome.
 
-use crate::words::value_at;
-use anyhow::Error;
+use crate::words::{value, value_at, version};
+use anyhow::{Error, bail};
 use cops_node::Outcome;
 use cops_types::{Value, Version};
 use std::alloc::Global;
@@ -24,5 +24,26 @@ pub fn outcome_text(alloc: Global, outcome: &Outcome) -> Result<String, Error> {
         Outcome::Wait => Ok(String::from_str(alloc, "wait")?),
         Outcome::Marked => Ok(String::from_str(alloc, "marked")?),
         Outcome::Settled => Ok(String::from_str(alloc, "settled")?),
+    }
+}
+
+fn found(alloc: Global, bytes: &str, at: &str) -> Result<Outcome, Error> {
+    Ok(Outcome::Got(value(alloc, bytes)?, version(at)?))
+}
+
+/// The outcome that such words tell.
+pub fn outcome(alloc: Global, words: &[&str]) -> Result<Outcome, Error> {
+    match words {
+        ["done", at] => Ok(Outcome::PutDone(version(at)?)),
+        ["got", bytes, "at", at] => found(alloc, bytes, at),
+        ["refused", code] => Ok(Outcome::Refused(code.parse::<u8>()?)),
+        ["missed"] => Ok(Outcome::Missed),
+        ["held"] => Ok(Outcome::Held),
+        ["repeat"] => Ok(Outcome::Repeat),
+        ["yes"] => Ok(Outcome::Yes),
+        ["wait"] => Ok(Outcome::Wait),
+        ["marked"] => Ok(Outcome::Marked),
+        ["settled"] => Ok(Outcome::Settled),
+        _ => bail!("not a row"),
     }
 }

@@ -1,7 +1,7 @@
 //! What a row's words stand for.
 
-use anyhow::{Context, Error};
-use cops_types::{Dep, Deps, Key, PutRecord, Value, Version};
+use anyhow::{Context, Error, bail};
+use cops_types::{Dep, Deps, Key, Op, PutRecord, Value, Version};
 use std::alloc::Global;
 
 /// The key of these bytes.
@@ -88,4 +88,67 @@ pub fn value_at(alloc: Global, value: &Value, version: Version) -> Result<String
 pub fn pair_text(alloc: Global, pair: &Dep) -> Result<String, Error> {
     let name = String::from_utf8_lossy(alloc, pair.key.as_bytes())?;
     Ok(format!(in alloc; "{name}@{}", pair.version)?)
+}
+
+fn put_op(alloc: Global, name: &str, bytes: &str, at: &str) -> Result<Op, Error> {
+    Ok(Op::Put {
+        key: key(alloc, name)?,
+        value: value(alloc, bytes)?,
+        version: version(at)?,
+    })
+}
+
+fn got_op(alloc: Global, name: &str, bytes: &str, at: &str) -> Result<Op, Error> {
+    Ok(Op::Got {
+        key: key(alloc, name)?,
+        value: value(alloc, bytes)?,
+        version: version(at)?,
+    })
+}
+
+/// What a client did.
+pub fn op(alloc: Global, words: &[&str]) -> Result<Op, Error> {
+    match words {
+        ["put", name, bytes, at] => put_op(alloc, name, bytes, at),
+        ["got", name, bytes, at] => got_op(alloc, name, bytes, at),
+        ["missed", name] => Ok(Op::Missed {
+            key: key(alloc, name)?,
+        }),
+        _ => bail!("not a row"),
+    }
+}
+
+/// `KEY=VALUE at VERSION`.
+fn pair_at(alloc: Global, key: &Key, value: &Value, version: Version) -> Result<String, Error> {
+    let key = String::from_utf8_lossy(alloc, key.as_bytes())?;
+    let value = value_at(alloc, value, version)?;
+    Ok(format!(in alloc; "{key}={value}")?)
+}
+
+fn missed_text(alloc: Global, key: &Key) -> Result<String, Error> {
+    let key = String::from_utf8_lossy(alloc, key.as_bytes())?;
+    Ok(format!(in alloc; "missed {key}")?)
+}
+
+/// The text of what a client did.
+pub fn op_text(alloc: Global, op: &Op) -> Result<String, Error> {
+    match op {
+        Op::Put {
+            key,
+            value,
+            version,
+        } => {
+            let put = pair_at(alloc, key, value, *version)?;
+            Ok(format!(in alloc; "put {put}")?)
+        }
+        Op::Got {
+            key,
+            value,
+            version,
+        } => {
+            let got = pair_at(alloc, key, value, *version)?;
+            Ok(format!(in alloc; "got {got}")?)
+        }
+        Op::Missed { key } => missed_text(alloc, key),
+    }
 }
