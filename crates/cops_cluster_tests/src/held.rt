@@ -135,10 +135,3 @@ fn puts_without_dependencies_are_ready(rt: HostRuntime) -> Result<(), Fail> {
     assert!(rt; held.len() == 0);
     Ok(())
 }
-
-#[test]
-fn codes_of_faults(rt: HostRuntime) {
-    assert!(rt; HeldFault::NotHeld as u8 == 1);
-    assert!(rt; HeldFault::NoSuchDep as u8 == 2);
-    assert!(rt; HeldFault::DepsOpen as u8 == 3);
-}

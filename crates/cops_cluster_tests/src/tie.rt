@@ -16,33 +16,6 @@ fn put(alloc: Global, value: &[u8]) -> Result<NodeEvent, TypeFault> {
     })
 }
 
-fn get(alloc: Global) -> Result<NodeEvent, TypeFault> {
-    Ok(NodeEvent::Get {
-        client: 1,
-        key: Key::new(alloc, b"x")?,
-    })
-}
-
-#[test]
-fn a_book_keeps_what_was_answered(rt: HostRuntime) -> Result<(), Fail> {
-    let alloc = rt.alloc();
-    let mut book = Book::open(alloc, 64);
-    let first = Version::new(1, 64)?;
-    assert!(rt; book.step(7, put(alloc, b"1")?) == Outcome::PutDone(first));
-    assert!(rt; book.step(9, get(alloc)?) == Outcome::Got(Value::new(alloc, b"1")?, first));
-    let settle = NodeEvent::Settle { version: first };
-    assert!(rt; book.step(10, settle) == Outcome::Refused(5));
-    let entries = book.entries();
-    assert_eq!(rt; entries.len(), 3);
-    assert_eq!(rt; entries[0].ticket, 7);
-    assert_eq!(rt; entries[1].ticket, 9);
-    assert!(rt; entries[1].outcome == Outcome::Got(Value::new(alloc, b"1")?, first));
-    assert!(rt; matches!(&entries[1].event, NodeEvent::Get { client: 1, .. }));
-    assert_eq!(rt; book.node().status().settled, 1);
-    assert_eq!(rt; book.into_entries().len(), 3);
-    Ok(())
-}
-
 /// The event, also where one growth was refused.
 fn surely(
     made: Result<NodeEvent, TypeFault>,
@@ -194,32 +167,5 @@ fn pair_tied(
 fn books_that_are_one_run(rt: HostRuntime) -> Result<(), Fail> {
     assert!(rt; pair_tied(rt.alloc(), 0, 1, true, 2)? == (2, None));
     assert!(rt; pair_tied(rt.alloc(), 0, 7, true, 2)? == (2, None));
-    Ok(())
-}
-
-#[test]
-fn books_that_are_not(rt: HostRuntime) -> Result<(), Fail> {
-    assert!(rt; pair_tied(rt.alloc(), 0, 1, false, 2)? == (0, Some(1)));
-    assert!(rt; pair_tied(rt.alloc(), 0, 0, true, 2)? == (0, Some(0)));
-    assert!(rt; pair_tied(rt.alloc(), 1, 0, true, 2)? == (0, Some(0)));
-    assert!(rt; pair_tied(rt.alloc(), 0, 1, true, 1)? == (0, Some(2)));
-    assert!(rt; pair_tied(rt.alloc(), 0, u64::MAX, true, 1)? == (0, Some(u64::MAX)));
-    Ok(())
-}
-
-/// What the tie tells of a put that depends on the put of a clock, or of no entry.
-fn put_tied(alloc: Global, clock: Option<u64>) -> Result<(usize, Option<u64>), Fail> {
-    let mut entries = Vec::new(alloc);
-    if let Some(clock) = clock {
-        entries.push(put_entry(alloc, 0, clock)?)?;
-    }
-    tied(alloc, entries, 2)
-}
-
-#[test]
-fn entries_that_are_not_there(rt: HostRuntime) -> Result<(), Fail> {
-    assert!(rt; put_tied(rt.alloc(), Some(1))? == (0, Some(0)));
-    assert!(rt; put_tied(rt.alloc(), Some(0))? == (0, Some(1)));
-    assert!(rt; put_tied(rt.alloc(), None)? == (0, Some(0)));
     Ok(())
 }

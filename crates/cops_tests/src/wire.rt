@@ -1,4 +1,3 @@
-use cops_types::{Deps, Format, Key, Value, Version};
 use cops_wire::*;
 use std::alloc::{AllocError, Global};
 use std::test::Fail;
@@ -52,10 +51,6 @@ const SAMPLES: [(&str, &str); 21] = [
     ("000000051500000002", "TraceEnd ops=2"),
 ];
 
-/// The PutAfter among the samples.
-const PUT_AFTER: &str =
-    "0000002409017000013600000000000300000002016b0000000000020000016b0000000000020040";
-
 fn digit(c: u8) -> u8 {
     match c {
         b'0'..=b'9' => c - b'0',
@@ -101,96 +96,6 @@ fn each_kind(rt: HostRuntime) -> Result<(), Fail> {
         show(rt.alloc(), &decoded.message, &mut line)?;
         assert_eq!(rt; line.as_slice(), text.as_bytes(), "{text}");
     }
-    Ok(())
-}
-
-#[test]
-fn pieces(rt: HostRuntime) -> Result<(), Fail> {
-    let mut feeder = Feeder::new(rt.alloc());
-    for (frame, text) in SAMPLES {
-        let bytes = from_hex(rt.alloc(), frame)?;
-        let mut found = 0u32;
-        for byte in bytes.as_slice() {
-            assert_eq!(rt; found, 0, "{text}");
-            feeder.feed(&[*byte])?;
-            if let Some(message) = feeder.next()? {
-                found = found.wrapping_add(1);
-                let mut out = Vec::new(rt.alloc());
-                assert!(rt; legal(&message));
-                encode(&message, &mut out)?;
-                assert_eq!(rt; out.as_slice(), bytes.as_slice(), "{text}");
-            }
-        }
-        assert_eq!(rt; found, 1, "{text}");
-    }
-    assert!(rt; feeder.next()?.is_none());
-    Ok(())
-}
-
-#[test]
-fn faults(rt: HostRuntime) -> Result<(), Fail> {
-    for (place, byte, fault) in [
-        (39, 0, WireFault::BadField { offset: 18 }),
-        (4, 0, WireFault::UnknownKind),
-        (3, 0x25, WireFault::TrailingBytes),
-        (3, 0x26, WireFault::Short),
-        (0, 1, WireFault::BadLength),
-    ] {
-        let mut bytes = from_hex(rt.alloc(), PUT_AFTER)?;
-        bytes.push(0)?;
-        if let Some(at) = bytes.get_mut(place) {
-            *at = byte;
-        }
-        let answer = decode(rt.alloc(), &bytes).map(|decoded| decoded.used);
-        assert_eq!(rt; answer, Err(fault));
-    }
-    for (head, fault) in [
-        ("", WireFault::Short),
-        ("000000", WireFault::Short),
-        ("00000000", WireFault::BadLength),
-        ("00008000", WireFault::Short),
-        ("00008001", WireFault::BadLength),
-    ] {
-        let bytes = from_hex(rt.alloc(), head)?;
-        let answer = decode_in(Format::One, rt.alloc(), &bytes).map(|decoded| decoded.used);
-        assert_eq!(rt; answer, Err(fault), "{head}");
-    }
-    Ok(())
-}
-
-#[test]
-fn ranges(rt: HostRuntime) {
-    for message in [
-        Message::HelloOk { dc: 16, nodes: 1 },
-        Message::HelloOk { dc: 15, nodes: 0 },
-        Message::HelloOk { dc: 15, nodes: 65 },
-        Message::Refused { seq: 1, code: 0 },
-        Message::Status { seq: 1, node: 64 },
-        Message::StatusIs {
-            seq: 1,
-            clock: 281_474_976_710_656,
-            keys: 1,
-            settled: 1,
-            held: 1,
-        },
-    ] {
-        assert!(rt; !legal(&message), "{message:?}");
-    }
-    assert!(rt; legal_in(Format::One, &Message::HelloOk { dc: 15, nodes: 64 }));
-}
-
-#[test]
-fn lines(rt: HostRuntime) -> Result<(), Fail> {
-    let message = Message::PutAfter {
-        key: Key::new(rt.alloc(), b"a Z%\xff")?,
-        value: Value::new(rt.alloc(), b"0-9._\n")?,
-        version: Version::new(281_474_976_710_655, 64)?,
-        deps: Deps::new(Vec::new(rt.alloc()))?,
-    };
-    let mut out = Vec::new(rt.alloc());
-    show(rt.alloc(), &message, &mut out)?;
-    let text = "PutAfter key=a%20Z%25%ff value=0-9._%0a version=281474976710655.64 deps=[]";
-    assert_eq!(rt; out.as_slice(), text.as_bytes());
     Ok(())
 }
 
