@@ -13,8 +13,9 @@ from collections import deque
 class Cluster:
     """As much of a cluster as is needed to know the versions: one node in each data centre."""
 
-    def __init__(self, data_centres, clients, keys, seed):
+    def __init__(self, data_centres, clients, keys, seed, puts):
         self.pick = random.Random(seed)
+        self.puts = puts
         self.homes = [n % data_centres for n in range(clients)]
         self.keys = [f"k{n}" for n in range(keys)]
         self.clocks = [0] * data_centres
@@ -63,22 +64,22 @@ class Cluster:
         client = self.pick.randrange(len(self.homes))
         if len(self.waiting[dc]) > 20:
             self.replicate(dc)
-        elif self.pick.random() < 0.3:
+        elif self.pick.random() < self.puts:
             self.put(client)
         else:
             self.get(client)
 
 
-def made(count, data_centres, clients, keys, seed):
-    cluster = Cluster(data_centres, clients, keys, seed)
+def made(count, data_centres, clients, keys, seed, puts=0.3):
+    cluster = Cluster(data_centres, clients, keys, seed, puts)
     while len(cluster.events) < count:
         cluster.step()
     return cluster.homes, cluster.events[:count]
 
 
-def lines(count, data_centres=3, clients=6, keys=100, seed=1):
-    """The events, a line for each: its name, and what it is about."""
-    _, events = made(count, data_centres, clients, keys, seed)
+def lines(count, data_centres=3, clients=6, keys=100, seed=1, puts=0.3):
+    """The events, a line for each: its name, and what it is about. That share of what clients do is puts."""
+    _, events = made(count, data_centres, clients, keys, seed, puts)
     return "".join(" ".join([name, *map(str, of)]) + "\n" for event in events for name, of in event.items())
 
 

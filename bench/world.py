@@ -12,13 +12,15 @@ import tempfile
 from building import build, seconds
 from events import lines
 
+DATA_CENTRES, CLIENTS = 3, 6
+
 
 def rate(program, count, folder):
     path = os.path.join(folder, "events.txt")
     with open(path, "w") as file:
-        file.write(lines(count))
-    took = seconds(program, "world", path, "run") - seconds(program, "world", path, "read")
-    return count / max(1e-9, took)
+        file.write(lines(count, DATA_CENTRES, CLIENTS))
+    took = [seconds(program, "world", path, mode, str(DATA_CENTRES), str(CLIENTS)) for mode in ("run", "read")]
+    return count / max(1e-9, took[0] - took[1])
 
 
 def main():

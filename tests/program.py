@@ -502,6 +502,54 @@ def served():
     check("their report", server.ended(), (0, b"accepted: 8 operations, 4 puts\n", b""))
 
 
+def replies():
+    """What the front door answers to each message, before a greeting and after it, to garbage, and to a session that is cut anywhere."""
+    hello, put, bye = "000000050100010000", "0000000a03000000010178000131", "000000010f"
+    welcome, done, goodbye = "00000003020001", "0000000d05000000010000000000010000", "0000000110"
+    get, later = "0000000704000000020178", "0000000f0a0000000501780000000000090000"
+    before = [
+        (put, "00000006080000000110"),
+        (get, "00000006080000000210"),
+        (later, "00000006080000000510"),
+        ("000000060d0000000300", "00000006080000000310"),
+        ("000000050100020000", "00000006080000000011"),
+        ("000000050100010001", "00000006080000000003"),
+        ("000000050b00000007", "00000006080000000712"),
+        ("000000050c00000008", "00000006080000000812"),
+        (welcome, "00000006080000000012"),
+        (done, "00000006080000000112"),
+        ("0000002409017000013600000000000300000002016b0000000000020000016b0000000000020040", "00000006080000000012"),
+        ("000000051500000002", "00000006080000000012"),
+        (bye, goodbye),
+        ("000000050100020000" + put + hello, "00000006080000000011" + "00000006080000000110" + welcome),
+    ]
+    after = [
+        (get, "000000050700000002"),
+        (later, "000000050c00000005"),
+        (hello, "00000006080000000012"),
+        ("000000050100020000", "00000006080000000012"),
+        ("000000050b00000007", "00000006080000000712"),
+        ("000000060d0000000300", "000000190e000000030000000000000000000000000000000000000000"),
+        ("000000060d0000000401", "00000006080000000413"),
+        (bye, goodbye),
+        (put, done),
+    ]
+    sessions = [*before, *((hello + given, welcome + wanted) for given, wanted in after)]
+    garbage = ("00000000", "00008001", "ffffffffff", "000000011c", "000000020f00", "0000000704000000010078")
+    whole = bytes.fromhex(hello + put + bye)
+    server = Server(one_client(), len(sessions) + len(garbage) + len(whole))
+    for given, wanted in sessions:
+        check(f"replies to {given}", server.bytes(bytes.fromhex(given)).hex(), wanted)
+    for given in garbage:
+        got = server.bytes(bytes.fromhex(hello + given + bye))
+        check(f"replies to {given}", got in (bytes.fromhex(welcome), b"reset"), True)
+    for length in range(len(whole)):
+        got = server.bytes(whole[:length])
+        check(f"replies to a session of {length} bytes", (got[:7], len(got)), (bytes.fromhex(welcome)[: len(got)], (length >= 9) * 7 + (length >= 23) * 17))
+    status, out, err = server.ended()
+    check("the report after them", (status, out, err), (0, b"accepted: 7 operations, 6 puts\n", b""))
+
+
 def strange_peers():
     """Whatever a peer sends, its session alone ends, and the next is served."""
     hello, bye = message(["hello", "0"], 0), message(["bye"], 0)
@@ -652,7 +700,7 @@ def tried_edits():
 
 for tests in (
     examples, long_chain, many_rounds, faults, shown, scenarios, refusals, faulty_scenarios, scripts, mixed_scripts, random_scenarios, many_workers, served,
-    strange_peers, words, devices, generated, little_memory, no_thread, definition_files, tried_edits, plain.rows, plain.random_histories,
+    replies, strange_peers, words, devices, generated, little_memory, no_thread, definition_files, tried_edits, plain.rows, plain.random_histories,
 ):
     tests()
 print(f"{counts['passed']} passed, {counts['failed']} failed")

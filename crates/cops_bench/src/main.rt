@@ -1,10 +1,9 @@
-//! What the benchmarks of a node, of a world, of the tie, of the auditor that is fed and of scripted clients run, for the scripts in
-//! `bench/`: `node PAIRS TURNS AMONG`, `world FILE MODE`, `tie FILE MODE`, `online TRACE MODE`, or `scripts FILE WORLDS`. With no words it does nothing.
+//! What the benchmarks of a node, of a world, of the tie and of the auditor that is fed run, for the scripts in `bench/`:
+//! `node PAIRS TURNS AMONG`, `world FILE MODE DATA_CENTRES CLIENTS`, `tie FILE MODE`, or `online TRACE MODE`. With no words it does nothing.
 #![tactic(auto)]
 
 mod node;
 mod online;
-mod scripts;
 mod tie;
 mod world;
 
@@ -21,11 +20,10 @@ fn main(rt: HostRuntime) -> Result<(), Error> {
             turns.parse()?,
             among.parse()?,
         ),
-        [what, path, mode] if what.as_str() == "world" => world::happen(&rt, path, mode),
+        [what, path, mode, dcs, clients] if what.as_str() == "world" => {
+            world::happen(&rt, path, mode, (dcs.parse()?, clients.parse()?))
+        }
         [what, path, mode] if what.as_str() == "tie" => tie::tie_up(&rt, path, mode),
-        [what, path, worlds] if what.as_str() == "scripts" => scripts::run_scripts(
-            &rt, path, worlds,
-        ),
         [what, path, mode] if what.as_str() == "online" => online::say(&rt, path, mode),
         _ => Ok(()),
     }

@@ -88,20 +88,33 @@ pub fn events_of(alloc: Global, text: &str) -> Result<Vec<Event>, Error> {
     Ok(events)
 }
 
-/// Lets the events happen in a world of three data centres and six clients, and counts the operations that it records.
-fn run(alloc: Global, events: &[Event]) -> Result<usize, Error> {
-    let homes = Vec::from_slice(alloc, &[0, 1, 2, 0, 1, 2])?;
-    let mut world = World::open(alloc, Place::new(3, Vec::new(alloc))?, homes)?;
+/// A world of so many data centres, and of so many clients who live at them in turn.
+fn open(alloc: Global, dcs: u8, clients: u16) -> Result<World, Error> {
+    let mut homes = Vec::new(alloc);
+    for client in 0..clients {
+        homes.push((client % u16::from(dcs.max(1))) as u8)?;
+    }
+    Ok(World::open(alloc, Place::new(dcs, Vec::new(alloc))?, homes)?)
+}
+
+/// Lets the events happen in a world, and counts the operations that it records.
+fn run(mut world: World, events: &[Event]) -> Result<usize, Error> {
     let _outcomes = world.run(events)?;
     Ok(world.history().len())
 }
 
-/// Reads the events of a file and, where the mode is `run`, lets them happen.
-pub fn happen<R: Files + Print + AllocGlobal>(rt: &R, path: &str, mode: &str) -> Result<(), Error> {
+/// Reads the events of a file and, where the mode is `run`, lets them happen in a world of so many data centres and clients.
+pub fn happen<R: Files + Print + AllocGlobal>(
+    rt: &R,
+    path: &str,
+    mode: &str,
+    of: (u8, u16),
+) -> Result<(), Error> {
     let text = fs::read_to_string(rt, path)?;
     let events = events_of(rt.alloc(), &text)?;
     if mode == "run" {
-        let operations = run(rt.alloc(), &events)?;
+        let (dcs, clients) = of;
+        let operations = run(open(rt.alloc(), dcs, clients)?, &events)?;
         println!(rt; "{} operations of {} events", operations, events.len())?;
     }
     Ok(())

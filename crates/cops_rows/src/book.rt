@@ -2,6 +2,7 @@
 
 use crate::node::node_event;
 use crate::outcome::outcome_text;
+use crate::subject::Subject;
 use anyhow::{Context, Error, bail};
 use cops_node::NodeEvent;
 use cops_tie::Book;
@@ -64,15 +65,20 @@ fn close(alloc: Global, book: &mut Book) -> Result<String, Error> {
     Ok(format!(in alloc; "{} entries", entries.len())?)
 }
 
-/// The answer to a row's words.
-pub fn answer(alloc: Global, book: &mut Book, words: &[&str]) -> Result<String, Error> {
-    match words {
-        [_, "new", number] => begin(alloc, book, number),
-        [_, "step", ticket, event @ ..] => step(alloc, book, ticket, event),
-        [_, "counts"] => counts(alloc, book),
-        [_, "entry", index] => entry(alloc, book, index),
-        [_, "node"] => node(alloc, book),
-        [_, "close"] => close(alloc, book),
-        _ => bail!("not a row"),
+impl Subject for Book {
+    fn begin(alloc: Global) -> Self {
+        Book::open(alloc, 0)
+    }
+
+    fn answer(&mut self, alloc: Global, words: &[&str]) -> Result<String, Error> {
+        match words {
+            [_, "new", number] => begin(alloc, self, number),
+            [_, "step", ticket, event @ ..] => step(alloc, self, ticket, event),
+            [_, "counts"] => counts(alloc, self),
+            [_, "entry", index] => entry(alloc, self, index),
+            [_, "node"] => node(alloc, self),
+            [_, "close"] => close(alloc, self),
+            _ => bail!("not a row"),
+        }
     }
 }

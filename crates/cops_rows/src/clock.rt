@@ -1,5 +1,6 @@
 //! Rows of a node's clock.
 
+use crate::subject::Subject;
 use crate::words::version;
 use anyhow::{Error, bail};
 use cops_types::{Clock, MAX_NODE};
@@ -25,16 +26,21 @@ fn next(alloc: Global, clock: &mut Clock) -> Result<String, Error> {
     Ok(format!(in alloc; "{version}")?)
 }
 
-/// The answer to a row's words.
-pub fn answer(alloc: Global, clock: &mut Clock, words: &[&str]) -> Result<String, Error> {
-    match words {
-        [_, "new", number] => begin(alloc, clock, number),
-        [_, "next"] => next(alloc, clock),
-        [_, "raise", at] => {
-            clock.raise(version(at)?);
-            told(alloc, clock)
+impl Subject for Clock {
+    fn begin(_: Global) -> Self {
+        Clock::new(0)
+    }
+
+    fn answer(&mut self, alloc: Global, words: &[&str]) -> Result<String, Error> {
+        match words {
+            [_, "new", number] => begin(alloc, self, number),
+            [_, "next"] => next(alloc, self),
+            [_, "raise", at] => {
+                self.raise(version(at)?);
+                told(alloc, self)
+            }
+            [_, "told"] => told(alloc, self),
+            _ => bail!("not a row"),
         }
-        [_, "told"] => told(alloc, clock),
-        _ => bail!("not a row"),
     }
 }

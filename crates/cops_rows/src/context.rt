@@ -1,5 +1,6 @@
 //! Rows of a client's context.
 
+use crate::subject::Subject;
 use crate::words::{pair, pair_text, yes_or_no};
 use anyhow::{Error, bail};
 use cops_context::Context;
@@ -36,22 +37,27 @@ fn reserve(alloc: Global, context: &mut Context) -> Result<String, Error> {
     counts(alloc, context)
 }
 
-/// The answer to a row's words.
-pub fn answer(alloc: Global, context: &mut Context, words: &[&str]) -> Result<String, Error> {
-    match words {
-        [_, "new"] => {
-            *context = Context::new(alloc);
-            counts(alloc, context)
+impl Subject for Context {
+    fn begin(alloc: Global) -> Self {
+        Context::new(alloc)
+    }
+
+    fn answer(&mut self, alloc: Global, words: &[&str]) -> Result<String, Error> {
+        match words {
+            [_, "new"] => {
+                *self = Context::new(alloc);
+                counts(alloc, self)
+            }
+            [_, "counts"] => counts(alloc, self),
+            [_, "empty"] => yes_or_no(alloc, self.is_empty()),
+            [_, "deps"] => deps(alloc, self),
+            [_, "reserve"] => reserve(alloc, self),
+            [_, "add", name, at] => add(alloc, self, name, at),
+            [_, "replace", name, at] => {
+                self.replace(pair(alloc, name, at)?);
+                counts(alloc, self)
+            }
+            _ => bail!("not a row"),
         }
-        [_, "counts"] => counts(alloc, context),
-        [_, "empty"] => yes_or_no(alloc, context.is_empty()),
-        [_, "deps"] => deps(alloc, context),
-        [_, "reserve"] => reserve(alloc, context),
-        [_, "add", name, at] => add(alloc, context, name, at),
-        [_, "replace", name, at] => {
-            context.replace(pair(alloc, name, at)?);
-            counts(alloc, context)
-        }
-        _ => bail!("not a row"),
     }
 }

@@ -1,5 +1,6 @@
 //! Rows of the puts that wait at a node.
 
+use crate::subject::Subject;
 use crate::words::{put, version, yes_or_no};
 use anyhow::{Error, bail};
 use cops_held::{Held, HeldFault};
@@ -44,19 +45,24 @@ fn take(alloc: Global, held: &mut Held, at: &str) -> Result<String, Error> {
     }
 }
 
-/// The answer to a row's words.
-pub fn answer(alloc: Global, held: &mut Held, words: &[&str]) -> Result<String, Error> {
-    match words {
-        [_, "new"] => {
-            *held = Held::new(alloc);
-            counts(alloc, held)
+impl Subject for Held {
+    fn begin(alloc: Global) -> Self {
+        Held::new(alloc)
+    }
+
+    fn answer(&mut self, alloc: Global, words: &[&str]) -> Result<String, Error> {
+        match words {
+            [_, "new"] => {
+                *self = Held::new(alloc);
+                counts(alloc, self)
+            }
+            [_, "counts"] => counts(alloc, self),
+            [_, "hold", name, bytes, at, pairs] => hold(alloc, self, &[name, bytes, at, pairs]),
+            [_, "open", at] => open(alloc, self, at),
+            [_, "has", at] => yes_or_no(alloc, self.record(version(at)?).is_some()),
+            [_, "mark", at, dep] => mark(alloc, self, at, dep),
+            [_, "take", at] => take(alloc, self, at),
+            _ => bail!("not a row"),
         }
-        [_, "counts"] => counts(alloc, held),
-        [_, "hold", name, bytes, at, pairs] => hold(alloc, held, &[name, bytes, at, pairs]),
-        [_, "open", at] => open(alloc, held, at),
-        [_, "has", at] => yes_or_no(alloc, held.record(version(at)?).is_some()),
-        [_, "mark", at, dep] => mark(alloc, held, at, dep),
-        [_, "take", at] => take(alloc, held, at),
-        _ => bail!("not a row"),
     }
 }

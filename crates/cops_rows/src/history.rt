@@ -1,6 +1,7 @@
 //! Rows of histories.
 
-use crate::words::{op, op_text};
+use crate::subject::Subject;
+use crate::words::{op, op_text, yes_or_no};
 use anyhow::{Context, Error, bail};
 use cops_types::{History, OpName};
 use std::alloc::Global;
@@ -62,24 +63,22 @@ fn ask(alloc: Global, history: &mut History, words: &[&str]) -> Result<String, E
         [_, "reserve", client] => reserve(alloc, history, client),
         [_, "push", client, rest @ ..] => push(alloc, history, client, rest),
         [_, "counts"] => counts(alloc, history),
+        [_, "empty"] => yes_or_no(alloc, history.is_empty()),
         [_, "session", client] => session(alloc, history, client),
         [_, "op", client, index] => op_at(alloc, history, client, index),
         _ => bail!("not a row"),
     }
 }
 
-/// The answer to a row's words.
-pub fn answer(
-    alloc: Global,
-    history: &mut Option<History>,
-    words: &[&str],
-) -> Result<String, Error> {
-    match words {
-        [_, "new", clients] => begin(alloc, history, clients),
-        _ => ask(
-            alloc,
-            history.as_mut().context("there is no history")?,
-            words,
-        ),
+impl Subject for Option<History> {
+    fn begin(_: Global) -> Self {
+        None
+    }
+
+    fn answer(&mut self, alloc: Global, words: &[&str]) -> Result<String, Error> {
+        match words {
+            [_, "new", clients] => begin(alloc, self, clients),
+            _ => ask(alloc, self.as_mut().context("there is no history")?, words),
+        }
     }
 }

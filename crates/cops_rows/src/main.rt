@@ -2,7 +2,6 @@
 //! each file it prints that all is as wanted, or each row that differs, and then it fails.
 #![tactic(auto)]
 
-mod bench;
 mod book;
 mod clock;
 mod context;
@@ -14,6 +13,7 @@ mod outcome;
 mod place;
 mod scenario;
 mod store;
+mod subject;
 mod tie;
 mod trace;
 mod types;
@@ -21,8 +21,20 @@ mod wire;
 mod words;
 mod world;
 
-use crate::bench::Bench;
+use crate::subject::Subject;
+use crate::types::Types;
 use anyhow::{Error, bail};
+use cops_context::Context;
+use cops_core::World;
+use cops_held::Held;
+use cops_node::Node;
+use cops_place::Place;
+use cops_scenario::Scenario;
+use cops_store::Store;
+use cops_tie::Book;
+use cops_trace::Trace;
+use cops_types::{Clock, History};
+use cops_wire::Feeder;
 use std::alloc::Global;
 use std::rt::Files;
 use std::{env, fs};
@@ -33,19 +45,24 @@ fn is_heading(line: &str) -> bool {
 }
 
 /// The answer to a row's call, or the text of its error.
-fn told(alloc: Global, bench: &mut Bench, call: &str) -> Result<String, Error> {
-    match bench.answer(alloc, call) {
+fn told<S: Subject>(alloc: Global, subject: &mut S, call: &str) -> Result<String, Error> {
+    let words: Vec<&str> = call.split(' ').collect(alloc)?;
+    match subject.answer(alloc, &words) {
         Ok(text) => Ok(text),
         Err(error) => Ok(format!(in alloc; "error: {error}")?),
     }
 }
 
 /// What differs in a row, if anything does.
-fn difference(alloc: Global, bench: &mut Bench, row: &str) -> Result<Option<String>, Error> {
+fn difference<S: Subject>(
+    alloc: Global,
+    subject: &mut S,
+    row: &str,
+) -> Result<Option<String>, Error> {
     let Some((call, wanted)) = row.split_once(" = ") else {
         return Ok(Some(format!(in alloc; "got: not a row")?));
     };
-    let got = told(alloc, bench, call)?;
+    let got = told(alloc, subject, call)?;
     if got.as_str() == wanted {
         return Ok(None);
     }
@@ -53,14 +70,14 @@ fn difference(alloc: Global, bench: &mut Bench, row: &str) -> Result<Option<Stri
 }
 
 /// Prints what differs in a row, and counts it.
-fn say_row<R: Print + AllocGlobal>(
+fn say_row<S: Subject, R: Print + AllocGlobal>(
     rt: &R,
-    bench: &mut Bench,
+    subject: &mut S,
     place: (&str, usize),
     row: &str,
 ) -> Result<u64, Error> {
     let (name, number) = place;
-    match difference(rt.alloc(), bench, row)? {
+    match difference(rt.alloc(), subject, row)? {
         Some(what) => {
             println!(rt; "{name}:{number}: {what}")?;
             Ok(1)
@@ -69,13 +86,13 @@ fn say_row<R: Print + AllocGlobal>(
     }
 }
 
-/// Makes the calls of a text's rows, and counts the rows and those that differ.
-fn say_rows<R: Print + AllocGlobal>(
+/// Makes the calls of a text's rows on a subject to which nothing has happened, and counts the rows and those that differ.
+fn say_rows<S: Subject, R: Print + AllocGlobal>(
     rt: &R,
-    bench: &mut Bench,
     name: &str,
     text: &str,
 ) -> Result<(u64, u64), Error> {
+    let mut subject = S::begin(rt.alloc());
     let mut number = 0usize;
     let mut rows = 0u64;
     let mut differing = 0u64;
@@ -83,10 +100,32 @@ fn say_rows<R: Print + AllocGlobal>(
         number = number.saturating_add(1);
         if !is_heading(line) {
             rows = rows.saturating_add(1);
-            differing = differing.saturating_add(say_row(rt, bench, (name, number), line)?);
+            differing = differing.saturating_add(say_row(rt, &mut subject, (name, number), line)?);
         }
     }
     Ok((rows, differing))
+}
+
+/// Makes the calls of a text's rows on the subject that the file is named after.
+fn say_text<R: Print + AllocGlobal>(rt: &R, name: &str, text: &str) -> Result<(u64, u64), Error> {
+    let file = name.rsplit_once('/').map_or(name, |(_, file)| file);
+    match file {
+        "book.rows" => say_rows::<Book, R>(rt, name, text),
+        "clock.rows" => say_rows::<Clock, R>(rt, name, text),
+        "context.rows" => say_rows::<Context, R>(rt, name, text),
+        "held.rows" => say_rows::<Held, R>(rt, name, text),
+        "history.rows" => say_rows::<Option<History>, R>(rt, name, text),
+        "node.rows" => say_rows::<Node, R>(rt, name, text),
+        "place.rows" => say_rows::<Option<Place>, R>(rt, name, text),
+        "scenario.rows" => say_rows::<Option<Scenario>, R>(rt, name, text),
+        "store.rows" => say_rows::<Store, R>(rt, name, text),
+        "tie.rows" => say_rows::<Option<tie::Run>, R>(rt, name, text),
+        "trace.rows" => say_rows::<Option<Trace>, R>(rt, name, text),
+        "types.rows" => say_rows::<Types, R>(rt, name, text),
+        "wire.rows" => say_rows::<Feeder, R>(rt, name, text),
+        "world.rows" => say_rows::<Option<World>, R>(rt, name, text),
+        _ => bail!("{name}: no rows are named so"),
+    }
 }
 
 /// Prints that a file's rows are as wanted, where none differs. A file without rows differs.
@@ -102,12 +141,6 @@ fn say_count<R: Print>(rt: &R, name: &str, counts: (u64, u64)) -> Result<u64, Er
         }
         (_, differing) => Ok(differing),
     }
-}
-
-/// Makes the calls of a text's rows, on what nothing has happened to.
-fn say_text<R: Print + AllocGlobal>(rt: &R, name: &str, text: &str) -> Result<(u64, u64), Error> {
-    let mut bench = Bench::new(rt.alloc());
-    say_rows(rt, &mut bench, name, text)
 }
 
 /// Reads the rows of a file, and counts those that differ.

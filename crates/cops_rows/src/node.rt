@@ -1,6 +1,7 @@
 //! Rows of one node.
 
 use crate::outcome::outcome_text;
+use crate::subject::Subject;
 use crate::words::{deps, key, pair_text, put, value, value_at, version};
 use anyhow::{Error, bail};
 use cops_node::{Node, NodeEvent, Outcome};
@@ -117,15 +118,20 @@ fn dep_of(alloc: Global, node: &Node, at: &str, dep: &str) -> Result<String, Err
     }
 }
 
-/// The answer to a row's words.
-pub fn answer(alloc: Global, node: &mut Node, words: &[&str]) -> Result<String, Error> {
-    match words {
-        [_, "new", number] => begin(alloc, node, number),
-        [_, "status"] => status(alloc, node),
-        [_, "shown", name] => shown(alloc, node, name),
-        [_, "dep", at, dep] => dep_of(alloc, node, at, dep),
-        [_, "step", event @ ..] => step(alloc, node, event),
-        [_, event @ ..] => call(alloc, node, event),
-        _ => bail!("not a row"),
+impl Subject for Node {
+    fn begin(alloc: Global) -> Self {
+        Node::open(alloc, 0)
+    }
+
+    fn answer(&mut self, alloc: Global, words: &[&str]) -> Result<String, Error> {
+        match words {
+            [_, "new", number] => begin(alloc, self, number),
+            [_, "status"] => status(alloc, self),
+            [_, "shown", name] => shown(alloc, self, name),
+            [_, "dep", at, dep] => dep_of(alloc, self, at, dep),
+            [_, "step", event @ ..] => step(alloc, self, event),
+            [_, event @ ..] => call(alloc, self, event),
+            _ => bail!("not a row"),
+        }
     }
 }

@@ -1,5 +1,6 @@
 //! Rows of where keys live.
 
+use crate::subject::Subject;
 use crate::words::{key, keys};
 use anyhow::{Context, Error, bail};
 use cops_place::Place;
@@ -50,10 +51,15 @@ fn ask(alloc: Global, place: &Place, words: &[&str]) -> Result<String, Error> {
     }
 }
 
-/// The answer to a row's words.
-pub fn answer(alloc: Global, place: &mut Option<Place>, words: &[&str]) -> Result<String, Error> {
-    match words {
-        [_, "new", dcs, splits] => begin(alloc, place, dcs, splits),
-        _ => ask(alloc, place.as_ref().context("there is no place")?, words),
+impl Subject for Option<Place> {
+    fn begin(_: Global) -> Self {
+        None
+    }
+
+    fn answer(&mut self, alloc: Global, words: &[&str]) -> Result<String, Error> {
+        match words {
+            [_, "new", dcs, splits] => begin(alloc, self, dcs, splits),
+            _ => ask(alloc, self.as_ref().context("there is no place")?, words),
+        }
     }
 }

@@ -1,6 +1,7 @@
 //! Rows of scenario files.
 
 use crate::outcome::outcome;
+use crate::subject::Subject;
 use anyhow::{Context, Error, bail};
 use cops_core::Event;
 use cops_scenario::{Scenario, ScriptOp, outcome_line};
@@ -124,19 +125,16 @@ fn ask(alloc: Global, scenario: &Scenario, words: &[&str]) -> Result<String, Err
     }
 }
 
-/// The answer to a row's words.
-pub fn answer(
-    alloc: Global,
-    scenario: &mut Option<Scenario>,
-    words: &[&str],
-) -> Result<String, Error> {
-    match words {
-        [_, "new", text] => begin(alloc, scenario, text),
-        [_, "line", number, outcome @ ..] => line(alloc, number, outcome),
-        _ => ask(
-            alloc,
-            scenario.as_ref().context("there is no scenario")?,
-            words,
-        ),
+impl Subject for Option<Scenario> {
+    fn begin(_: Global) -> Self {
+        None
+    }
+
+    fn answer(&mut self, alloc: Global, words: &[&str]) -> Result<String, Error> {
+        match words {
+            [_, "new", text] => begin(alloc, self, text),
+            [_, "line", number, outcome @ ..] => line(alloc, number, outcome),
+            _ => ask(alloc, self.as_ref().context("there is no scenario")?, words),
+        }
     }
 }

@@ -1,5 +1,6 @@
 //! Rows of a node's settled puts.
 
+use crate::subject::Subject;
 use crate::words::{key, value, value_at, version, yes_or_no};
 use anyhow::{Error, bail};
 use cops_store::Store;
@@ -34,17 +35,22 @@ fn get(alloc: Global, store: &Store, name: &str) -> Result<String, Error> {
     }
 }
 
-/// The answer to a row's words.
-pub fn answer(alloc: Global, store: &mut Store, words: &[&str]) -> Result<String, Error> {
-    match words {
-        [_, "new"] => {
-            *store = Store::new(alloc);
-            counts(alloc, store)
+impl Subject for Store {
+    fn begin(alloc: Global) -> Self {
+        Store::new(alloc)
+    }
+
+    fn answer(&mut self, alloc: Global, words: &[&str]) -> Result<String, Error> {
+        match words {
+            [_, "new"] => {
+                *self = Store::new(alloc);
+                counts(alloc, self)
+            }
+            [_, "counts"] => counts(alloc, self),
+            [_, "settle", name, bytes, at] => settle(alloc, self, name, bytes, at),
+            [_, "has", name, at] => has(alloc, self, name, at),
+            [_, "get", name] => get(alloc, self, name),
+            _ => bail!("not a row"),
         }
-        [_, "counts"] => counts(alloc, store),
-        [_, "settle", name, bytes, at] => settle(alloc, store, name, bytes, at),
-        [_, "has", name, at] => has(alloc, store, name, at),
-        [_, "get", name] => get(alloc, store, name),
-        _ => bail!("not a row"),
     }
 }

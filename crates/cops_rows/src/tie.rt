@@ -2,6 +2,7 @@
 
 use crate::node::node_event;
 use crate::outcome::outcome;
+use crate::subject::Subject;
 use crate::words::op;
 use anyhow::{Context, Error, bail};
 use cops_scenario::Scenario;
@@ -81,10 +82,15 @@ fn ask(alloc: Global, run: &mut Run, words: &[&str]) -> Result<String, Error> {
     }
 }
 
-/// The answer to a row's words.
-pub fn answer(alloc: Global, run: &mut Option<Run>, words: &[&str]) -> Result<String, Error> {
-    match words {
-        [_, "new", text] => begin(alloc, run, text),
-        _ => ask(alloc, run.as_mut().context("there is no run")?, words),
+impl Subject for Option<Run> {
+    fn begin(_: Global) -> Self {
+        None
+    }
+
+    fn answer(&mut self, alloc: Global, words: &[&str]) -> Result<String, Error> {
+        match words {
+            [_, "new", text] => begin(alloc, self, text),
+            _ => ask(alloc, self.as_mut().context("there is no run")?, words),
+        }
     }
 }

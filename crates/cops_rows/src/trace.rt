@@ -1,10 +1,11 @@
 //! Rows of traces.
 
 use crate::hex::{bytes, digits};
-use crate::words::{op, op_text};
+use crate::subject::Subject;
+use crate::words::{op, op_text, yes_or_no};
 use anyhow::{Context, Error, bail};
 use cops_trace::{Trace, TraceFault, fault_line, read_so_far, read_trace, write_trace};
-use cops_types::{Counted, FailingReader, OpName};
+use cops_types::{Counted, FailingReader, FailingWriter, OpName};
 use std::alloc::Global;
 
 /// How many clients there are, and how many records.
@@ -53,6 +54,24 @@ fn read(
     }
 }
 
+/// The first fault of bytes, of which only so many pieces of so many come.
+fn failing(alloc: Global, front: bool, words: &[&str; 3]) -> Result<String, Error> {
+    let [reads, piece, word] = words;
+    let bytes = bytes(alloc, word)?;
+    let (reads, piece) = (reads.parse::<u64>()?, piece.parse::<usize>()?);
+    let reader = FailingReader::new(bytes.as_slice(), reads, 1_000_000, piece);
+    let mut reader = Counted::new(reader);
+    let fault = if front {
+        read_so_far(alloc, &mut reader).err()
+    } else {
+        read_trace(alloc, &mut reader).err()
+    };
+    match fault {
+        Some(fault) => Ok(format!(in alloc; "{fault}")?),
+        None => Ok(String::from_str(alloc, "whole")?),
+    }
+}
+
 /// What stands whole before a cut.
 fn front(alloc: Global, word: &str) -> Result<String, Error> {
     let bytes = bytes(alloc, word)?;
@@ -70,6 +89,18 @@ fn write(alloc: Global, trace: &Trace) -> Result<String, Error> {
     let mut writer = Counted::new(Vec::new(alloc));
     write_trace(alloc, &mut writer, trace)?;
     digits(alloc, writer.into_inner().as_slice())
+}
+
+/// The bytes that a device takes which fails once it has so many, and what is told then.
+fn short(alloc: Global, trace: &Trace, bytes: &str) -> Result<String, Error> {
+    let device = FailingWriter::new(Vec::new(alloc), 100, bytes.parse::<u64>()?, 5);
+    let mut writer = Counted::new(device);
+    let fault = write_trace(alloc, &mut writer, trace).err();
+    let taken = digits(alloc, writer.into_inner().into_inner().as_slice())?;
+    match fault {
+        Some(fault) => Ok(format!(in alloc; "{fault}: {taken}")?),
+        None => Ok(taken),
+    }
 }
 
 fn push(alloc: Global, trace: &mut Trace, client: &str, words: &[&str]) -> Result<String, Error> {
@@ -95,18 +126,31 @@ fn ask(alloc: Global, trace: &mut Trace, words: &[&str]) -> Result<String, Error
     match words {
         [_, "push", client, rest @ ..] => push(alloc, trace, client, rest),
         [_, "counts"] => counts(alloc, trace),
+        [_, "empty"] => yes_or_no(alloc, trace.is_empty()),
         [_, "write"] => write(alloc, trace),
+        [_, "short", bytes] => short(alloc, trace, bytes),
         [_, "op", client, index] => op_at(alloc, trace, client, index),
         _ => bail!("not a row"),
     }
 }
 
-/// The answer to a row's words.
-pub fn answer(alloc: Global, trace: &mut Option<Trace>, words: &[&str]) -> Result<String, Error> {
-    match words {
-        [_, "new", clients] => begin(alloc, trace, clients),
-        [_, "read", piece, word] => read(alloc, trace, piece, word),
-        [_, "front", word] => front(alloc, word),
-        _ => ask(alloc, trace.as_mut().context("there is no trace")?, words),
+impl Subject for Option<Trace> {
+    fn begin(_: Global) -> Self {
+        None
+    }
+
+    fn answer(&mut self, alloc: Global, words: &[&str]) -> Result<String, Error> {
+        match words {
+            [_, "new", clients] => begin(alloc, self, clients),
+            [_, "read", piece, word] => read(alloc, self, piece, word),
+            [_, "front", word] => front(alloc, word),
+            [_, "failing", "read", reads, piece, word] => {
+                failing(alloc, false, &[reads, piece, word])
+            }
+            [_, "failing", "front", reads, piece, word] => {
+                failing(alloc, true, &[reads, piece, word])
+            }
+            _ => ask(alloc, self.as_mut().context("there is no trace")?, words),
+        }
     }
 }

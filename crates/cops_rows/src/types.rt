@@ -1,9 +1,14 @@
 //! Rows of keys, values, versions and dependencies.
 
-use crate::words::{deps, key, version, yes_or_no};
+use crate::subject::Subject;
+use crate::words::{deps, key, op, op_text, pair, pair_text, version, yes_or_no};
 use anyhow::{Error, bail};
 use cops_types::{Format, Key, OpName, Value, Version};
 use std::alloc::Global;
+
+/// Keys, values, versions and dependencies, of which each row makes its own.
+#[derive(Drop)]
+pub struct Types;
 
 /// So many bytes.
 fn letters(alloc: Global, count: &str) -> Result<Vec<u8>, Error> {
@@ -63,25 +68,43 @@ fn pairs(alloc: Global, word: &str) -> Result<String, Error> {
     Ok(format!(in alloc; "{} pairs", deps.as_slice().len())?)
 }
 
+/// The copy of what a client did.
+fn op_copy(alloc: Global, words: &[&str]) -> Result<String, Error> {
+    let copy = op(alloc, words)?.clone()?;
+    op_text(alloc, &copy)
+}
+
+fn pair_copy(alloc: Global, name: &str, at: &str) -> Result<String, Error> {
+    let copy = pair(alloc, name, at)?.clone()?;
+    pair_text(alloc, &copy)
+}
+
 /// The limits of the first format.
 fn limits(alloc: Global) -> Result<String, Error> {
     let (body, deps) = (Format::One.longest_body(), Format::One.most_deps());
     Ok(format!(in alloc; "bodies of {body} bytes, {deps} pairs")?)
 }
 
-/// The answer to a row's words.
-pub fn answer(alloc: Global, words: &[&str]) -> Result<String, Error> {
-    match words {
-        [_, "key", count] => key_of(alloc, count),
-        [_, "value", count] => value_of(alloc, count),
-        [_, "keys", one, "is", other] => same_keys(alloc, one, other),
-        [_, "keys", one, "before", other] => before(alloc, one, other),
-        [_, "values", one, "is", other] => same_values(alloc, one, other),
-        [_, "version", clock, node] => number(alloc, clock, node),
-        [_, "number", raw] => numbered(alloc, raw),
-        [_, "name", client, index, at] => name(alloc, client, index, at),
-        [_, "deps", word] => pairs(alloc, word),
-        [_, "limits"] => limits(alloc),
-        _ => bail!("not a row"),
+impl Subject for Types {
+    fn begin(_: Global) -> Self {
+        Types
+    }
+
+    fn answer(&mut self, alloc: Global, words: &[&str]) -> Result<String, Error> {
+        match words {
+            [_, "key", count] => key_of(alloc, count),
+            [_, "value", count] => value_of(alloc, count),
+            [_, "keys", one, "is", other] => same_keys(alloc, one, other),
+            [_, "keys", one, "before", other] => before(alloc, one, other),
+            [_, "values", one, "is", other] => same_values(alloc, one, other),
+            [_, "version", clock, node] => number(alloc, clock, node),
+            [_, "number", raw] => numbered(alloc, raw),
+            [_, "name", client, index, at] => name(alloc, client, index, at),
+            [_, "deps", word] => pairs(alloc, word),
+            [_, "copy", "pair", name, at] => pair_copy(alloc, name, at),
+            [_, "copy", rest @ ..] => op_copy(alloc, rest),
+            [_, "limits"] => limits(alloc),
+            _ => bail!("not a row"),
+        }
     }
 }

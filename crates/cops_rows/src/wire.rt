@@ -1,6 +1,7 @@
 //! Rows of frames.
 
 use crate::hex::{bytes, digits};
+use crate::subject::Subject;
 use crate::words::yes_or_no;
 use anyhow::{Error, bail};
 use cops_wire::{Feeder, Message, body_len, decode, encode, kind, legal, show};
@@ -66,6 +67,21 @@ fn feed(alloc: Global, feeder: &mut Feeder, word: &str) -> Result<String, Error>
     Ok(text)
 }
 
+/// So many pieces of a thousand like bytes come: how many leave a frame that is not whole, and how many a faulty one.
+fn flood(alloc: Global, feeder: &mut Feeder, count: &str, byte: &str) -> Result<String, Error> {
+    let piece = [byte.parse::<u8>()?; 1000];
+    let (mut waiting, mut faulty) = (0u32, 0u32);
+    for _ in 0..count.parse::<u32>()? {
+        feeder.feed(&piece)?;
+        match feeder.next() {
+            Ok(None) => waiting = waiting.saturating_add(1),
+            Ok(Some(_)) => bail!("a message"),
+            Err(_) => faulty = faulty.saturating_add(1),
+        }
+    }
+    Ok(format!(in alloc; "{waiting} not whole, {faulty} faulty")?)
+}
+
 /// A message of two numbers.
 fn pair_message(name: &str, first: &str, second: &str) -> Result<Message, Error> {
     match name {
@@ -100,19 +116,28 @@ fn is_legal(alloc: Global, message: &Message) -> Result<String, Error> {
     yes_or_no(alloc, legal(message))
 }
 
-/// The answer to a row's words.
-pub fn answer(alloc: Global, feeder: &mut Feeder, words: &[&str]) -> Result<String, Error> {
-    match words {
-        [_, "new"] => {
-            *feeder = Feeder::new(alloc);
-            Ok(String::from_str(alloc, "opened")?)
+impl Subject for Feeder {
+    fn begin(alloc: Global) -> Self {
+        Feeder::new(alloc)
+    }
+
+    fn answer(&mut self, alloc: Global, words: &[&str]) -> Result<String, Error> {
+        match words {
+            [_, "new"] => {
+                *self = Feeder::new(alloc);
+                Ok(String::from_str(alloc, "opened")?)
+            }
+            [_, "feed", frame] => feed(alloc, self, frame),
+            [_, "flood", count, byte] => flood(alloc, self, count, byte),
+            [_, "show", frame] => show_frame(alloc, frame),
+            [_, "decode", frame] => measures(alloc, frame),
+            [_, "spell", frame] => spell(alloc, frame),
+            [_, "legal", "StatusIs", clock] => is_legal(alloc, &status_message(clock)?),
+            [_, "legal", name, first, second] => is_legal(
+                alloc,
+                &pair_message(name, first, second)?,
+            ),
+            _ => bail!("not a row"),
         }
-        [_, "feed", frame] => feed(alloc, feeder, frame),
-        [_, "show", frame] => show_frame(alloc, frame),
-        [_, "decode", frame] => measures(alloc, frame),
-        [_, "spell", frame] => spell(alloc, frame),
-        [_, "legal", "StatusIs", clock] => is_legal(alloc, &status_message(clock)?),
-        [_, "legal", name, first, second] => is_legal(alloc, &pair_message(name, first, second)?),
-        _ => bail!("not a row"),
     }
 }

@@ -1,6 +1,7 @@
 //! Rows of the world.
 
 use crate::outcome::outcome_text;
+use crate::subject::Subject;
 use crate::words::{key, keys, value, version};
 use anyhow::{Context, Error, bail};
 use cops_core::{Event, World};
@@ -165,10 +166,15 @@ fn ask_world(alloc: Global, world: &mut World, words: &[&str]) -> Result<String,
     }
 }
 
-/// The answer to a row's words.
-pub fn answer(alloc: Global, world: &mut Option<World>, words: &[&str]) -> Result<String, Error> {
-    match words {
-        [_, "open", dcs, splits, clients] => begin(alloc, world, &[dcs, splits, clients]),
-        _ => ask_world(alloc, world.as_mut().context("there is no world")?, words),
+impl Subject for Option<World> {
+    fn begin(_: Global) -> Self {
+        None
+    }
+
+    fn answer(&mut self, alloc: Global, words: &[&str]) -> Result<String, Error> {
+        match words {
+            [_, "open", dcs, splits, clients] => begin(alloc, self, &[dcs, splits, clients]),
+            _ => ask_world(alloc, self.as_mut().context("there is no world")?, words),
+        }
     }
 }

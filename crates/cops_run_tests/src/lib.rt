@@ -1,5 +1,6 @@
-//! Tests of what no contract says, of the crates that replicate and run a cluster, through their public calls alone. They stand
-//! in one crate above all others, so that each crate is proved once and not with its tests again.
+//! Tests of what no contract says, of the crates that replicate, run and serve a cluster, through their public calls alone: threads that meet,
+//! gates that hold, turn by turn what replicates, altered books. They stand in one crate above all others, so that each crate is proved once
+//! and not with its tests again.
 #![tactic(auto)]
 
 #[cfg(test)]
@@ -12,5 +13,7 @@ mod meeting;
 mod replicating;
 #[cfg(test)]
 mod running;
+#[cfg(test)]
+mod serving;
 #[cfg(test)]
 mod streaming;

@@ -1,5 +1,4 @@
 use crate::meeting::{Meeting, TURNS, waits_for};
-use cops_node::Outcome;
 use cops_outcomes::*;
 use cops_run::*;
 use cops_scenario::{Scenario, ScenarioFault};
@@ -26,31 +25,6 @@ const LIMITED: &str =
 
 fn scenario(alloc: Global, text: &str) -> Result<Scenario, ScenarioFault> {
     Scenario::from_json(alloc, text.as_bytes())
-}
-
-/// How many entries of all books were answered so.
-fn count(run: &Run, outcome: &Outcome) -> usize {
-    let mut count = 0usize;
-    for book in &run.entries {
-        for entry in book {
-            if entry.outcome == *outcome {
-                count = count.saturating_add(1);
-            }
-        }
-    }
-    count
-}
-
-#[test]
-fn clients_get_what_they_put(rt: HostRuntime) -> Result<(), Fail> {
-    let alloc = rt.alloc();
-    let run = run(&rt, alloc, scenario(alloc, TWO)?, &OpenGate)?;
-    assert!(rt; run.outcomes.as_slice() == [ClientOutcome::Done, ClientOutcome::Done].as_slice());
-    assert_eq!(rt; run.trace.len(), 4);
-    assert_eq!(rt; run.entries.len(), 2);
-    assert_eq!(rt; count(&run, &Outcome::Settled), 2);
-    assert_eq!(rt; count(&run, &Outcome::Missed), 0);
-    Ok(())
 }
 
 /// One thread for both clients, or one lock round both nodes, would be held here.

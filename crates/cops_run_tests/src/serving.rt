@@ -1,0 +1,67 @@
+//! A scenario's cluster behind the front door.
+use cops_net::{NetFault, Served, serve_session};
+use cops_scenario::Scenario;
+use cops_serve::{FrontEnd, ServeFault};
+use cops_types::{Counted, FailingReader, FailingWriter};
+use std::alloc::Global;
+use std::sync::Wait;
+use std::test::Fail;
+
+/// One data centre with one node and one client.
+const ONE: &[u8] = b"{\"data_centres\":1,\"clients\":[{\"at\":0}]}";
+
+/// Two data centres, each with a client.
+const TWO: &[u8] = b"{\"data_centres\":2,\"clients\":[{\"at\":0},{\"at\":1}]}";
+
+/// A greeting of client 0, its put of 1 at x, and its goodbye; the replies have 29 bytes.
+const MESSAGES: [u8; 28] = [
+    0, 0, 0, 5, 1, 0, 1, 0, 0, //
+    0, 0, 0, 10, 3, 0, 0, 0, 1, 1, 120, 0, 1, 49, //
+    0, 0, 0, 1, 15,
+];
+
+fn front_end(alloc: Global) -> Result<FrontEnd, Fail> {
+    Ok(FrontEnd::open(alloc, &Scenario::from_json(alloc, ONE)?)?)
+}
+
+/// How the session ends where the first reads and the first bytes of writes alone go through, and how much was written.
+fn served<R: Wait>(
+    rt: &R,
+    alloc: Global,
+    reads: u64,
+    writes: u64,
+) -> Result<(Result<Served, NetFault>, usize), Fail> {
+    let mut front_end = front_end(alloc)?;
+    let reader = FailingReader::new(MESSAGES.as_slice(), reads, 1000, 5);
+    let writer = FailingWriter::new(Vec::new(alloc), 1000, writes, 3);
+    let (mut reader, mut writer) = (Counted::new(reader), Counted::new(writer));
+    let ended = serve_session(rt, alloc, &mut reader, &mut writer, &mut front_end);
+    let written = writer.into_inner().into_inner();
+    Ok((ended, written.len()))
+}
+
+#[test]
+fn a_device_fails(rt: HostRuntime) -> Result<(), Fail> {
+    for (reads, writes, ended, written) in [
+        (100, 100, Ok(Served { answered: 3 }), 29),
+        (0, 100, Err(NetFault::ReadFailed), 0),
+        (3, 100, Err(NetFault::ReadFailed), 7),
+        (100, 0, Err(NetFault::WriteFailed), 0),
+        (100, 6, Err(NetFault::WriteFailed), 6),
+        (100, 25, Err(NetFault::WriteFailed), 25),
+    ] {
+        assert!(rt;
+            served(&rt, rt.alloc(), reads, writes)? == (ended, written),
+            "{reads} {writes}"
+        );
+    }
+    Ok(())
+}
+
+#[test]
+fn another_scenario_ends_no_front_end(rt: HostRuntime) -> Result<(), Fail> {
+    let other = Scenario::from_json(rt.alloc(), TWO)?;
+    let ended = front_end(rt.alloc())?.finish(&other);
+    assert!(rt; matches!(ended, Err(ServeFault::Untied { ticket: 0 })));
+    Ok(())
+}

@@ -1,0 +1,104 @@
+use cops_core::*;
+use cops_node::{MEMORY, Outcome};
+use cops_place::Place;
+use cops_types::{Key, TypeFault, Value, Version};
+use std::alloc::Global;
+use std::test::Fail;
+
+fn put(alloc: Global) -> Result<Event, TypeFault> {
+    Ok(Event::Put {
+        client: 0,
+        key: Key::new(alloc, b"k")?,
+        value: Value::new(alloc, b"1")?,
+    })
+}
+
+/// A put and one that depends on it, which then come to another data centre, where a client gets the second.
+fn nth(alloc: Global, i: u32) -> Result<Event, TypeFault> {
+    let (dc, first, second) = (1, Version::new(1, 0)?, Version::new(2, 0)?);
+    match i {
+        0 | 1 => put(alloc),
+        2 => Ok(Event::Deliver { dc, version: first }),
+        3 => Ok(Event::Settle { dc, version: first }),
+        4 => Ok(Event::Deliver {
+            dc,
+            version: second,
+        }),
+        5 => Ok(Event::Ask {
+            dc,
+            key: Key::new(alloc, b"k")?,
+            version: first,
+        }),
+        6 => Ok(Event::Mark {
+            dc,
+            version: second,
+            dep: 0,
+        }),
+        7 => Ok(Event::Settle {
+            dc,
+            version: second,
+        }),
+        _ => Ok(Event::Get {
+            client: 1,
+            key: Key::new(alloc, b"k")?,
+        }),
+    }
+}
+
+/// The event, also where one growth was refused.
+fn surely(alloc: Global, i: u32) -> Result<Event, TypeFault> {
+    match nth(alloc, i) {
+        Err(TypeFault::Memory) => nth(alloc, i),
+        answer => answer,
+    }
+}
+
+/// Whether the event is answered as wanted, or, where a growth was refused, as such.
+fn is_wanted(i: u32, outcome: Outcome) -> Option<bool> {
+    match outcome {
+        Outcome::Refused(MEMORY) => None,
+        Outcome::PutDone(version) => Some(i < 2 && version.clock() == u64::from(i) + 1),
+        Outcome::Held => Some(i == 2 || i == 4),
+        Outcome::Settled => Some(i == 3 || i == 7),
+        Outcome::Yes => Some(i == 5),
+        Outcome::Marked => Some(i == 6),
+        Outcome::Got(_, version) => Some(i == 8 && version.clock() == 2),
+        _ => Some(false),
+    }
+}
+
+/// A world of two data centres with a client each, or none where a growth was refused.
+fn open(alloc: Global) -> Option<World> {
+    let place = Place::new(2, Vec::new(alloc)).ok()?;
+    let homes = Vec::from_slice(alloc, &[0, 1]).ok()?;
+    World::open(alloc, place, homes).ok()
+}
+
+/// Whether an event is answered as wanted; where a growth is refused nothing changes, and the event may happen again.
+fn happens(alloc: Global, world: &mut World, i: u32) -> Result<bool, TypeFault> {
+    let before = world.history().len();
+    if let Some(is) = is_wanted(i, world.apply(surely(alloc, i)?)) {
+        return Ok(is);
+    }
+    let is_same = world.history().len() == before;
+    Ok(is_same && is_wanted(i, world.apply(surely(alloc, i)?)) == Some(true))
+}
+
+/// Whether all nine events are answered as wanted.
+fn all_happen(alloc: Global, mut world: World) -> Result<bool, TypeFault> {
+    for i in 0..9 {
+        if !happens(alloc, &mut world, i)? {
+            return Ok(false);
+        }
+    }
+    Ok(world.history().len() == 3)
+}
+
+/// Holds for every one growth that is refused, of the world, its nodes, stores, held puts, contexts and history.
+#[test]
+fn a_refused_growth_changes_nothing(rt: HostRuntime) -> Result<(), Fail> {
+    let alloc = rt.alloc();
+    let world = open(alloc).or_else(|| open(alloc));
+    assert!(rt; all_happen(alloc, world.ok_or("no world")?)?);
+    Ok(())
+}
