@@ -63,13 +63,11 @@ def world_round(program, events, *of):
 
 
 def row(program, folder, clients, data_centres, operations):
-    names = [os.path.join(folder, name) for name in ("scripts.json", "cut.json", "run.trace", "events.txt")]
-    text = scripts(clients, data_centres, operations)
-    for name, content in zip(names[::3] + names[1:2], (text, lines(EVENTS, data_centres, clients, KEYS, 1, PUTS), text[:-1])):
-        with open(name, "w") as file:
+    scenario, cut, trace, events = (os.path.join(folder, name) for name in ("scripts.json", "cut.json", "run.trace", "events.txt"))
+    text, of = scripts(clients, data_centres, operations), (str(data_centres), str(clients))
+    for path, content in ((scenario, text), (cut, text[:-1]), (events, lines(EVENTS, data_centres, clients, KEYS, 1, PUTS))):
+        with open(path, "w") as file:
             file.write(content)
-    scenario, cut, trace, events = names
-    of = str(data_centres), str(clients)
     rounds = [(*run_round(scenario, cut, trace, clients * operations), *world_round(program, events, *of)) for _ in range(ROUNDS)]
     rate, cores, world, its_events = map(statistics.median, zip(*rounds))
     ratio = statistics.median(one[0] / one[2] for one in rounds)

@@ -17,7 +17,8 @@ import time
 
 sys.dont_write_bytecode = True
 import plain  # noqa: E402
-from traces import ROOT, check, cops, counts, example, trace  # noqa: E402
+import plain_cluster  # noqa: E402
+from traces import ROOT, check, cops, counts, example, ran, trace  # noqa: E402
 from client import message, talk  # noqa: E402
 from events import scenario  # noqa: E402
 
@@ -170,13 +171,6 @@ SCENARIOS = [
         "accepted: 9 operations, 5 puts\n",
     ),
 ]
-
-
-def ran(text):
-    """What `cops run` of the scenario answers, and the trace that it writes."""
-    with tempfile.NamedTemporaryFile(suffix=".trace") as file:
-        answer = cops("run", "-", file.name, stdin=text)
-        return answer, file.read()
 
 
 def scenarios():
@@ -371,33 +365,8 @@ def scripts():
         check("a script's trace to a full device", cops("run", file.name, "/dev/full"), (4, b"", b"failed: write\n"))
 
 
-def random_events(seed, count, data_centres=3, clients=6):
-    """So many events that a cluster could meet, in an order of no sense."""
-    pick = random.Random(seed)
-    keys, versions = [f"k{n}" for n in range(5)], ["1.0"]
-    made, clocks = [], [0] * data_centres
-    for _ in range(count):
-        dc, client = pick.randrange(data_centres), pick.randrange(clients)
-        kind = pick.randrange(6)
-        if kind == 0:
-            made.append({"put": [client, pick.choice(keys), str(len(made))]})
-            clocks[client % data_centres] += 1
-            versions.append(f"{max(clocks)}.{64 * (client % data_centres)}")
-        elif kind == 1:
-            made.append({"get": [client, pick.choice(keys)]})
-        else:
-            version = pick.choice(versions[-12:])
-            made.append([{"deliver": [dc, version]}, {"ask": [dc, pick.choice(keys), version]}, {"mark": [dc, version, pick.randrange(3)]}, {"settle": [dc, version]}][kind - 2])
-    return events(*made, data_centres=data_centres, clients=[{"at": n % data_centres} for n in range(clients)])
-
-
-def random_scenarios():
-    """Event lists of no sense, and event lists of a working cluster, where nothing is refused: all are accepted."""
-    for seed in range(100):
-        (status, out, err), recorded = ran(random_events(seed, 300))
-        report = out.decode().split("\n")[-2]
-        check(f"random events {seed}", (status, report.split(":")[0], err), (0, "accepted", b""))
-        check(f"their trace {seed}", cops("audit", "-", stdin=recorded), (0, report.encode() + b"\n", b""))
+def working_clusters():
+    """Of event lists of a working cluster nothing is refused, and all are accepted."""
     for seed in range(20):
         (status, out, err), recorded = ran(scenario(500, keys=4, seed=seed).encode())
         report = out.decode().split("\n")[-2]
@@ -541,8 +510,7 @@ def replies():
     for given, wanted in sessions:
         check(f"replies to {given}", server.bytes(bytes.fromhex(given)).hex(), wanted)
     for given in garbage:
-        got = server.bytes(bytes.fromhex(hello + given + bye))
-        check(f"replies to {given}", got in (bytes.fromhex(welcome), b"reset"), True)
+        check(f"replies to {given}", server.bytes(bytes.fromhex(hello + given)).hex(), welcome)
     for length in range(len(whole)):
         got = server.bytes(whole[:length])
         check(f"replies to a session of {length} bytes", (got[:7], len(got)), (bytes.fromhex(welcome)[: len(got)], (length >= 9) * 7 + (length >= 23) * 17))
@@ -557,14 +525,14 @@ def strange_peers():
     welcome, refused = bytes.fromhex("00000003020001"), "000000060800000007"
     peers = [
         ("nothing", b"", b"", b""),
-        ("garbage", bytes(range(256)) * 20, b"", b""),
+        ("garbage", bytes(range(256)), b"", b""),
         ("half a frame", hello[:5], b"", b""),
         ("half a frame after a greeting", hello + put[:-1], b"", welcome),
         ("a put before a greeting", put + bye, b"", bytes.fromhex(refused + "10" + "0000000110")),
         ("two greetings", hello + hello + bye, b"", welcome + bytes.fromhex("00000006080000000012" + "0000000110")),
         ("another profile", bytes.fromhex("000000050100020000") + bye, b"", bytes.fromhex("00000006080000000011" + "0000000110")),
         ("a reply", bytes.fromhex("000000050b00000007") + bye, b"", bytes.fromhex(refused + "12" + "0000000110")),
-        ("messages behind the goodbye", hello + bye + put, b"", None),
+        ("messages behind the goodbye", hello + bye + put, b"", welcome + bytes.fromhex("0000000110")),
         ("the longest frame by single bytes", hello, bytes.fromhex("00008000") + bytes([3]) + bytes(32_767), welcome),
         ("an announced length alone", hello + bytes.fromhex("00008000"), b"", welcome),
         ("a length that is too long", hello + bytes.fromhex("00008001"), b"", welcome),
@@ -572,7 +540,7 @@ def strange_peers():
     server = Server(one_client(), len(peers) + 2)
     for name, given, rest, wanted in peers:
         got = server.bytes(given, rest)
-        check(f"peer: {name}", wanted is None or got in (wanted, b"reset"), True)
+        check(f"peer: {name}", got.hex(), wanted.hex())
     server.bytes(hello + put * 5000, reads=False)
     got = server.lines("hello 0", "put y 2", "get y", "bye")
     check("a peer after all of them", (got[0], got[2].split()[:2], got[3]), ("hello from data centre 0, 1 nodes", ["got", "2"], "bye"))
@@ -699,7 +667,7 @@ def tried_edits():
 
 
 for tests in (
-    examples, long_chain, many_rounds, faults, shown, scenarios, refusals, faulty_scenarios, scripts, mixed_scripts, random_scenarios, many_workers, served,
+    examples, long_chain, many_rounds, faults, shown, scenarios, refusals, faulty_scenarios, scripts, mixed_scripts, working_clusters, plain_cluster.random_worlds, many_workers, served,
     replies, strange_peers, words, devices, generated, little_memory, no_thread, definition_files, tried_edits, plain.rows, plain.random_histories,
 ):
     tests()

@@ -3,6 +3,7 @@ import os
 import resource
 import subprocess
 import sys
+import tempfile
 
 ROOT = os.path.dirname(os.path.dirname(os.path.abspath(__file__)))
 sys.dont_write_bytecode = True
@@ -22,6 +23,13 @@ def cops(*words, stdin=b"", stdout=subprocess.PIPE, limit=None):
     before = limited if limit else None
     ran = subprocess.run([command, *words], input=stdin, stdout=stdout, stderr=subprocess.PIPE, preexec_fn=before)
     return ran.returncode, ran.stdout, ran.stderr
+
+
+def ran(text):
+    """What `cops run` of the scenario answers, and the trace that it writes."""
+    with tempfile.NamedTemporaryFile(suffix=".trace") as file:
+        answer = cops("run", "-", file.name, stdin=text)
+        return answer, file.read()
 
 
 def check(name, got, wanted):

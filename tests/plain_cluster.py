@@ -1,0 +1,206 @@
+"""A plain cluster of small worlds, by the words of docs/DEFINITIONS.md and docs/FORMATS.md, and the comparison of the program with it.
+
+It keeps each data centre's nodes as sets of pairs, and looks a refusal up in the order of the table. Lists of random events, in which much
+is late, lost, repeated or out of order, are given to the program and to it.
+"""
+import json
+import os
+import random
+from collections import Counter, defaultdict
+from concurrent.futures import ThreadPoolExecutor
+
+from traces import check, ran, trace
+
+WORLDS, EVENTS, LEAST_OF_A_KIND = 300, 200, 20
+MOST_PAIRS = 256
+NO_CLIENT, NO_DATA_CENTRE, NEVER_SENT, NOT_HELD, NO_SUCH_DEP, NOT_ASKED, DEPS_OPEN, CONTEXT_FULL = 3, 10, 4, 5, 6, 7, 8, 2
+
+
+class Node:
+    """A clock, the settled pairs, and the puts that wait, each with the indexes of its marked dependencies."""
+
+    def __init__(self):
+        self.clock, self.settled, self.held = 0, set(), {}
+
+    def settle(self, key, version):
+        self.settled.add((key, version))
+        self.clock = max(self.clock, version[0])
+
+    def shown(self, key):
+        return max((version for name, version in self.settled if name == key), default=None)
+
+
+class World:
+    """All nodes, the issued puts, the answers yes, and of each client its data centre, its context and what it saw."""
+
+    def __init__(self, data_centres, splits, homes):
+        self.data_centres, self.splits, self.homes = data_centres, [split.encode() for split in splits], homes
+        self.nodes = defaultdict(Node)
+        self.issued, self.values, self.yes = {}, {}, set()
+        self.contexts, self.seen = [[] for _ in homes], [f"clients {len(homes)}"]
+
+    def number(self, dc, key):
+        return 64 * dc + sum(split <= key.encode() for split in self.splits)
+
+    def node(self, dc, key):
+        return self.nodes[self.number(dc, key)]
+
+    def saw(self, client, kind, key, version=None):
+        rest = [self.values[version], text_of(version)] if version else []
+        self.seen.append(" ".join([str(client), kind, key, *rest]))
+
+    def put(self, client, key, value):
+        if client >= len(self.homes):
+            return f"refused {NO_CLIENT}"
+        number, deps = self.number(self.homes[client], key), self.contexts[client]
+        node = self.nodes[number]
+        version = max([node.clock, *(clock for _, (clock, _) in deps)]) + 1, number
+        self.issued[version], self.values[version] = (key, deps), value
+        node.settle(key, version)
+        self.contexts[client] = [(key, version)]
+        self.saw(client, "put", key, version)
+        return f"done {text_of(version)}"
+
+    def get(self, client, key):
+        if client >= len(self.homes):
+            return f"refused {NO_CLIENT}"
+        if len(self.contexts[client]) == MOST_PAIRS:
+            return f"refused {CONTEXT_FULL}"
+        version = self.node(self.homes[client], key).shown(key)
+        self.saw(client, "got" if version else "missed", key, version)
+        if not version:
+            return "missed"
+        if (key, version) not in self.contexts[client]:
+            self.contexts[client] = [*self.contexts[client], (key, version)]
+        return f"got {text_of(version)}"
+
+    def deliver(self, dc, version):
+        if dc >= self.data_centres:
+            return f"refused {NO_DATA_CENTRE}"
+        if version not in self.issued:
+            return f"refused {NEVER_SENT}"
+        key, _ = self.issued[version]
+        node = self.node(dc, key)
+        if version in node.held or (key, version) in node.settled:
+            return "repeat"
+        node.held[version] = set()
+        return "held"
+
+    def ask(self, dc, key, version):
+        if dc >= self.data_centres:
+            return f"refused {NO_DATA_CENTRE}"
+        if (key, version) not in self.node(dc, key).settled:
+            return "wait"
+        self.yes.add((dc, key, version))
+        return "yes"
+
+    def waiting(self, dc, version):
+        """The node at which the put of a version waits in a data centre, and its dependencies; or none."""
+        if version not in self.issued:
+            return None
+        key, deps = self.issued[version]
+        node = self.node(dc, key)
+        return (node, key, deps) if version in node.held else None
+
+    def mark(self, dc, version, dep):
+        if dc >= self.data_centres:
+            return f"refused {NO_DATA_CENTRE}"
+        if not self.waiting(dc, version):
+            return f"refused {NOT_HELD}"
+        node, _, deps = self.waiting(dc, version)
+        if dep >= len(deps):
+            return f"refused {NO_SUCH_DEP}"
+        if (dc, *deps[dep]) not in self.yes:
+            return f"refused {NOT_ASKED}"
+        node.held[version].add(dep)
+        return "marked"
+
+    def settle(self, dc, version):
+        if dc >= self.data_centres:
+            return f"refused {NO_DATA_CENTRE}"
+        if not self.waiting(dc, version):
+            return f"refused {NOT_HELD}"
+        node, key, deps = self.waiting(dc, version)
+        if len(node.held[version]) < len(deps):
+            return f"refused {DEPS_OPEN}"
+        del node.held[version]
+        node.settle(key, version)
+        return "settled"
+
+
+def text_of(version):
+    return f"{version[0]}.{version[1]}"
+
+
+def some_event(pick, world, keys):
+    """An event that names what there is, mostly, and mostly what waits."""
+    client, dc = pick.randrange(len(world.homes) + (pick.random() < 0.05)), pick.randrange(world.data_centres + (pick.random() < 0.05))
+    key, versions = pick.choice(keys), [*world.issued] or [(1, 0)]
+    held = [(number // 64, version) for number, node in world.nodes.items() for version in node.held]
+    dice = pick.random()
+    if dice < 0.15:
+        return "put", client, key, f"v{len(world.issued)}"
+    if dice < 0.35:
+        return "get", client, key
+    if dice < 0.5 or not held:
+        return "deliver", dc, pick.choice(versions) if pick.random() < 0.9 else (pick.randrange(1, 99), 0)
+    if pick.random() < 0.9:
+        dc, version = pick.choice(held)
+    else:
+        version = pick.choice(versions)
+    _, deps = world.issued.get(version, (key, []))
+    if dice < 0.65:
+        return ("ask", dc, *pick.choice(deps)) if deps and pick.random() < 0.9 else ("ask", dc, key, version)
+    if dice < 0.85:
+        return "mark", dc, version, pick.randrange(len(deps) + (pick.random() < 0.2 or not deps))
+    return "settle", dc, version
+
+
+def some_world(seed):
+    """A scenario of random events, the lines that it is to print, and what its clients saw."""
+    pick = random.Random(seed)
+    data_centres, splits = pick.randint(1, 4), sorted(pick.sample(["b", "k2", "m", "é"], pick.randrange(4)))
+    world = World(data_centres, splits, [pick.randrange(data_centres) for _ in range(pick.randint(1, 6))])
+    keys, events, outcomes = ["a", "b", "k1", "k2", "z", "éa"], [], []
+    for _ in range(EVENTS):
+        name, *of = some_event(pick, world, keys)
+        outcomes.append(getattr(world, name)(*of))
+        events.append({name: [text_of(it) if isinstance(it, tuple) else it for it in of]})
+    return scenario_of(world, events), outcomes, world.seen
+
+
+def scenario_of(world, events):
+    splits = [split.decode() for split in world.splits]
+    clients = [{"at": home} for home in world.homes]
+    return json.dumps({"data_centres": world.data_centres, "splits": splits, "clients": clients, "events": events}).encode()
+
+
+def full_context():
+    """One client puts 300 keys, and another gets them: at 256 pairs its gets are refused, and it may put."""
+    world, events = World(1, [], [0, 0]), []
+    events += [{"put": [0, f"k{n}", "1"]} for n in range(300)] + [{"get": [1, f"k{n}"]} for n in range(300)]
+    events += [{"put": [1, "k0", "2"]}, {"get": [1, "k299"]}]
+    outcomes = [getattr(world, name)(*of) for event in events for name, of in event.items()]
+    return scenario_of(world, events), outcomes, world.seen
+
+
+def kind_of(outcome):
+    return outcome if outcome.startswith("refused") else outcome.split()[0]
+
+
+def random_worlds():
+    """The program prints of many lists of random events what the plain cluster answers, and records what its clients saw."""
+    made, met = [full_context(), *map(some_world, range(WORLDS))], Counter()
+    with ThreadPoolExecutor(os.cpu_count() or 2) as pool:
+        answers = list(pool.map(ran, (scenario for scenario, _, _ in made)))
+    for seed, ((_, outcomes, seen), (answer, recorded)) in enumerate(zip(made, answers)):
+        puts = sum(line.split()[1] == "put" for line in seen[1:])
+        report = f"accepted: {len(seen) - 1} operations, {puts} puts\n"
+        lines = "".join(f"{n} {outcome}\n" for n, outcome in enumerate(outcomes)) + report
+        check(f"a small world, {seed}", answer, (0, lines.encode(), b""))
+        check(f"its trace, {seed}", recorded, trace(seen))
+        met.update(map(kind_of, outcomes))
+    refusals = (NO_CLIENT, NO_DATA_CENTRE, NEVER_SENT, NOT_HELD, NO_SUCH_DEP, NOT_ASKED, DEPS_OPEN, CONTEXT_FULL)
+    kinds = ["done", "got", "missed", "held", "repeat", "yes", "wait", "marked", "settled", *(f"refused {code}" for code in refusals)]
+    for kind in kinds:
+        check(f"outcomes that are {kind}: {met[kind]}", met[kind] >= LEAST_OF_A_KIND, True)
