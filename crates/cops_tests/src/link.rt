@@ -9,19 +9,26 @@ use std::test::Fail;
 use std::thread;
 use std::thread::Threads;
 
-fn put(alloc: Global, clock: u64) -> Result<PutRecord, TypeFault> {
+/// The pair of the clock before, or none for the first clock.
+fn deps(alloc: Global, clock: u64) -> Result<Deps, TypeFault> {
     let mut deps = Vec::new(alloc);
     if clock > 1 {
-        deps.push(Dep {
-            key: Key::new(alloc, b"k")?,
-            version: Version::new(clock - 1, 64)?,
-        })?;
+        let version = Version::new(clock - 1, 64)?;
+        let key = Key::new(alloc, b"k")?;
+        deps.push(Dep { key, version })?;
     }
+    Deps::new(deps)
+}
+
+fn put(alloc: Global, clock: u64) -> Result<PutRecord, TypeFault> {
+    let version = Version::new(clock, 0)?;
+    let deps = deps(alloc, clock)?;
+    let key = Key::new(alloc, b"p")?;
     Ok(PutRecord {
-        key: Key::new(alloc, b"p")?,
+        key,
         value: Value::new(alloc, b"6")?,
-        version: Version::new(clock, 0)?,
-        deps: Deps::new(deps)?,
+        version,
+        deps,
     })
 }
 

@@ -53,17 +53,15 @@ fn surely(alloc: Global, i: u32) -> Result<Event, TypeFault> {
     }
 }
 
-/// Whether the event is answered as wanted, or, where a growth was refused, as such.
-fn is_wanted(i: u32, outcome: Outcome) -> Option<bool> {
+fn is_wanted(i: u32, outcome: &Outcome) -> bool {
     match outcome {
-        Outcome::Refused(MEMORY) => None,
-        Outcome::PutDone(version) => Some(i < 2 && version.clock() == u64::from(i) + 1),
-        Outcome::Held => Some(i == 2 || i == 4),
-        Outcome::Settled => Some(i == 3 || i == 7),
-        Outcome::Yes => Some(i == 5),
-        Outcome::Marked => Some(i == 6),
-        Outcome::Got(_, version) => Some(i == 8 && version.clock() == 2),
-        _ => Some(false),
+        Outcome::PutDone(version) => i < 2 && version.clock() == u64::from(i) + 1,
+        Outcome::Held => i == 2 || i == 4,
+        Outcome::Settled => i == 3 || i == 7,
+        Outcome::Yes => i == 5,
+        Outcome::Marked => i == 6,
+        Outcome::Got(_, version) => i == 8 && version.clock() == 2,
+        _ => false,
     }
 }
 
@@ -77,11 +75,12 @@ fn open(alloc: Global) -> Option<World> {
 /// Whether an event is answered as wanted; where a growth is refused nothing changes, and the event may happen again.
 fn happens(alloc: Global, world: &mut World, i: u32) -> Result<bool, TypeFault> {
     let before = world.history().len();
-    if let Some(is) = is_wanted(i, world.apply(surely(alloc, i)?)) {
-        return Ok(is);
+    let answer = world.apply(surely(alloc, i)?);
+    if answer != Outcome::Refused(MEMORY) {
+        return Ok(is_wanted(i, &answer));
     }
     let is_same = world.history().len() == before;
-    Ok(is_same && is_wanted(i, world.apply(surely(alloc, i)?)) == Some(true))
+    Ok(is_same && is_wanted(i, &world.apply(surely(alloc, i)?)))
 }
 
 /// Whether all nine events are answered as wanted.
