@@ -9,22 +9,24 @@ mod world;
 
 use anyhow::Error;
 use std::env;
+use std::rt::Files;
 
-fn main(rt: HostRuntime) -> Result<(), Error> {
-    let alloc = rt.alloc();
-    let words: Vec<String> = env::args(&rt)?.skip(1).collect(alloc)?;
-    match words.as_slice() {
-        [what, pairs, turns, among] if what.as_str() == "node" => node::answer(
-            &rt,
-            pairs.parse()?,
-            turns.parse()?,
-            among.parse()?,
-        ),
-        [what, path, mode, dcs, clients] if what.as_str() == "world" => {
-            world::happen(&rt, path, mode, (dcs.parse()?, clients.parse()?))
+/// Runs what the words name.
+fn perform<R: Files + Print + AllocGlobal>(rt: &R, words: &[String]) -> Result<(), Error> {
+    match words {
+        [what, pairs, turns, among] if what.as_str() == "node" => {
+            node::answer(rt, pairs.parse()?, turns.parse()?, among.parse()?)
         }
-        [what, path, mode] if what.as_str() == "tie" => tie::tie_up(&rt, path, mode),
-        [what, path, mode] if what.as_str() == "online" => online::say(&rt, path, mode),
+        [what, path, mode, dcs, clients] if what.as_str() == "world" => {
+            world::happen(rt, path, mode, (dcs.parse()?, clients.parse()?))
+        }
+        [what, path, mode] if what.as_str() == "tie" => tie::tie_up(rt, path, mode),
+        [what, path, mode] if what.as_str() == "online" => online::say(rt, path, mode),
         _ => Ok(()),
     }
+}
+
+fn main(rt: HostRuntime) -> Result<(), Error> {
+    let words: Vec<String> = env::args(&rt)?.skip(1).collect(rt.alloc())?;
+    perform(&rt, &words)
 }

@@ -150,14 +150,19 @@ fn say_file<R: Files + Print + AllocGlobal>(rt: &R, name: &str) -> Result<u64, E
     say_count(rt, name, counts)
 }
 
+/// Reads the rows of all files, and counts those that differ.
+fn say_files<R: Files + Print + AllocGlobal>(rt: &R, names: &[String]) -> Result<u64, Error> {
+    let mut differing = 0u64;
+    for name in names {
+        differing = differing.saturating_add(say_file(rt, name)?);
+    }
+    Ok(differing)
+}
+
 fn main(rt: HostRuntime) -> Result<(), Error> {
     let names: Vec<String> = env::args(&rt)?.skip(1).collect(rt.alloc())?;
-    let mut differing = 0u64;
-    for name in &names {
-        differing = differing.saturating_add(say_file(&rt, name)?);
+    match say_files(&rt, &names)? {
+        0 => Ok(()),
+        differing => bail!("{differing} rows differ"),
     }
-    if differing > 0 {
-        bail!("{differing} rows differ");
-    }
-    Ok(())
 }

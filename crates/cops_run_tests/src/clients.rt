@@ -81,6 +81,10 @@ fn a_client_gets_what_it_put(rt: HostRuntime) -> Result<(), Fail> {
     Ok(())
 }
 
+fn is_done(outcome: &Outcome) -> bool {
+    matches!(outcome, Outcome::PutDone(_))
+}
+
 /// Whether the client's put was done.
 fn puts<R: Wait, G: Gate>(
     rt: &R,
@@ -96,10 +100,10 @@ fn puts<R: Wait, G: Gate>(
     let Ok(value) = value(alloc) else {
         return false;
     };
-    matches!(
-        cluster.put(rt, client, gate, key, value),
-        Ok(Outcome::PutDone(_))
-    )
+    match cluster.put(rt, client, gate, key, value) {
+        Ok(outcome) => is_done(&outcome),
+        Err(_) => false,
+    }
 }
 
 #[test]
@@ -156,11 +160,14 @@ fn a_held_step_changes_nothing(rt: HostRuntime) -> Result<(), Fail> {
 
 /// A put of 1 at a key and a version, with these dependencies.
 fn put_of(alloc: Global, byte: u8, clock: u64, deps: Vec<Dep>) -> Result<PutRecord, TypeFault> {
+    let version = Version::new(clock, 0)?;
+    let deps = Deps::new(deps)?;
+    let key = key(alloc, byte)?;
     Ok(PutRecord {
-        key: key(alloc, byte)?,
+        key,
         value: value(alloc)?,
-        version: Version::new(clock, 0)?,
-        deps: Deps::new(deps)?,
+        version,
+        deps,
     })
 }
 
@@ -203,6 +210,13 @@ fn a_put_comes_into_another_data_centre(rt: HostRuntime) -> Result<(), Fail> {
     Ok(())
 }
 
+fn yes_of(asked: Asked) -> Result<Yes, Fail> {
+    match asked {
+        Asked::Yes(yes) => Ok(yes),
+        Asked::Other(_) => Err(Fail::new("it is not settled")),
+    }
+}
+
 /// A put comes into data centre 1 and is settled, and the node says so.
 fn settled<R: Wait>(
     rt: &R,
@@ -212,12 +226,9 @@ fn settled<R: Wait>(
     put: PutRecord,
 ) -> Result<Yes, Fail> {
     let (key, version) = (put.key.clone()?, put.version);
-    let _held = cluster.deliver(rt, share, &OpenGate, 1, put)?;
-    let _settled = cluster.settle(rt, share, &OpenGate, 1, version)?;
-    match cluster.ask(rt, share, &OpenGate, 1, &key, version)? {
-        Asked::Yes(yes) => Ok(yes),
-        Asked::Other(_) => Err(Fail::new("it is not settled")),
-    }
+    drop(cluster.deliver(rt, share, &OpenGate, 1, put)?);
+    drop(cluster.settle(rt, share, &OpenGate, 1, version)?);
+    yes_of(cluster.ask(rt, share, &OpenGate, 1, &key, version)?)
 }
 
 #[test]
