@@ -8,6 +8,7 @@ use cops_types::{
     Dep, Deps, Gate, GateHeld, Key, OpenGate, Point, PutRecord, TypeFault, Value, Version,
 };
 use std::alloc::Global;
+use std::process::Abort;
 use std::sync::Wait;
 use std::test::Fail;
 use std::thread;
@@ -196,17 +197,28 @@ fn a_put_comes_into_another_data_centre(rt: HostRuntime) -> Result<(), Fail> {
         mut clients,
         mut shares,
     } = opened(alloc, 2, false, &[0, 1])?;
-    let version = Version::new(1, 0)?;
     let share = &mut shares[1];
     assert!(rt; puts(&rt, alloc, &cluster, &mut clients[0], &OpenGate, b'x'));
     assert!(rt; get(&rt, alloc, &cluster, &mut clients[1], b'x')? == Outcome::Missed);
-    assert!(rt; cluster.deliver(&rt, share, &OpenGate, 1, sent(alloc)?)? == Outcome::Held);
-    assert!(rt; cluster.deliver(&rt, share, &OpenGate, 1, sent(alloc)?)? == Outcome::Repeat);
-    assert!(rt; !is_settled(&rt, alloc, &cluster, share)?);
-    assert!(rt; cluster.settle(&rt, share, &OpenGate, 1, version)? == Outcome::Settled);
-    assert!(rt; is_settled(&rt, alloc, &cluster, share)?);
-    assert!(rt; cluster.settle(&rt, share, &OpenGate, 2, version)? == Outcome::Refused(10));
+    comes_once(&rt, alloc, &cluster, share)?;
     assert_eq!(rt; share.entries.len(), 5);
+    Ok(())
+}
+
+/// The put of x comes into data centre 1 twice, and is settled there.
+fn comes_once<R: Wait + Abort>(
+    rt: &R,
+    alloc: Global,
+    cluster: &Cluster,
+    share: &mut Share,
+) -> Result<(), Fail> {
+    let version = Version::new(1, 0)?;
+    assert!(*rt; cluster.deliver(rt, share, &OpenGate, 1, sent(alloc)?)? == Outcome::Held);
+    assert!(*rt; cluster.deliver(rt, share, &OpenGate, 1, sent(alloc)?)? == Outcome::Repeat);
+    assert!(*rt; !is_settled(rt, alloc, cluster, share)?);
+    assert!(*rt; cluster.settle(rt, share, &OpenGate, 1, version)? == Outcome::Settled);
+    assert!(*rt; is_settled(rt, alloc, cluster, share)?);
+    assert!(*rt; cluster.settle(rt, share, &OpenGate, 2, version)? == Outcome::Refused(10));
     Ok(())
 }
 
@@ -231,6 +243,51 @@ fn settled<R: Wait>(
     yes_of(cluster.ask(rt, share, &OpenGate, 1, &key, version)?)
 }
 
+/// A put of y that depends on x comes into data centre 1.
+fn deliver_y<R: Wait>(
+    rt: &R,
+    alloc: Global,
+    cluster: &Cluster,
+    share: &mut Share,
+) -> Result<Outcome, Fail> {
+    let pair = Dep {
+        version: Version::new(1, 0)?,
+        key: key(alloc, b'x')?,
+    };
+    let mut deps = Vec::new(alloc);
+    deps.push(pair)?;
+    let put = put_of(alloc, b'y', 2, deps)?;
+    Ok(cluster.deliver(rt, share, &OpenGate, 1, put)?)
+}
+
+/// A put is settled in data centre 1, and then the Yes for it marks the one dependency of y there.
+fn mark_y<R: Wait>(
+    rt: &R,
+    alloc: Global,
+    cluster: &Cluster,
+    share: &mut Share,
+    put: PutRecord,
+) -> Result<Outcome, Fail> {
+    let yes = settled(rt, alloc, cluster, share, put)?;
+    Ok(cluster.mark(rt, share, &OpenGate, 1, Version::new(2, 0)?, 0, &yes)?)
+}
+
+/// A put of y waits for x: the Yes for z marks nothing, and that for x does.
+fn waits_for_x<R: Wait + Abort>(
+    rt: &R,
+    alloc: Global,
+    cluster: &Cluster,
+    share: &mut Share,
+) -> Result<(), Fail> {
+    assert!(*rt; deliver_y(rt, alloc, cluster, share)? == Outcome::Held);
+    let put = put_of(alloc, b'z', 3, Vec::new(alloc))?;
+    assert!(*rt; mark_y(rt, alloc, cluster, share, put)? == Outcome::Refused(7));
+    assert!(*rt; mark_y(rt, alloc, cluster, share, sent(alloc)?)? == Outcome::Marked);
+    let version = Version::new(2, 0)?;
+    assert!(*rt; cluster.settle(rt, share, &OpenGate, 1, version)? == Outcome::Settled);
+    Ok(())
+}
+
 #[test]
 fn a_yes_for_another_pair_marks_nothing(rt: HostRuntime) -> Result<(), Fail> {
     let alloc = rt.alloc();
@@ -239,29 +296,7 @@ fn a_yes_for_another_pair_marks_nothing(rt: HostRuntime) -> Result<(), Fail> {
         mut shares,
         ..
     } = opened(alloc, 2, false, &[])?;
-    let share = &mut shares[1];
-    let right = settled(&rt, alloc, &cluster, share, sent(alloc)?)?;
-    let other = settled(
-        &rt,
-        alloc,
-        &cluster,
-        share,
-        put_of(alloc, b'z', 3, Vec::new(alloc))?,
-    )?;
-    let mut deps = Vec::new(alloc);
-    deps.push(Dep {
-        key: key(alloc, b'x')?,
-        version: Version::new(1, 0)?,
-    })?;
-    let put = put_of(alloc, b'y', 2, deps)?;
-    let version = put.version;
-    assert!(rt; cluster.deliver(&rt, share, &OpenGate, 1, put)? == Outcome::Held);
-    let marked = cluster.mark(&rt, share, &OpenGate, 1, version, 0, &other)?;
-    assert!(rt; marked == Outcome::Refused(7));
-    let marked = cluster.mark(&rt, share, &OpenGate, 1, version, 0, &right)?;
-    assert!(rt; marked == Outcome::Marked);
-    assert!(rt; cluster.settle(&rt, share, &OpenGate, 1, version)? == Outcome::Settled);
-    Ok(())
+    waits_for_x(&rt, alloc, &cluster, &mut shares[1])
 }
 
 /// The shares of the clients, and then of the receivers.

@@ -169,6 +169,19 @@ impl Scene {
         }
         Ok(())
     }
+
+    /// The writer puts at these keys, and the puts are sent, the last one first.
+    fn put_backwards<R: Wait>(
+        &mut self,
+        rt: &R,
+        alloc: Global,
+        keys: &[u8],
+        link: &mut LinkIn,
+    ) -> Result<(), Fail> {
+        self.put_all(rt, alloc, keys)?;
+        self.send_backwards(rt, alloc, link)?;
+        Ok(())
+    }
 }
 
 impl Both {
@@ -210,8 +223,7 @@ impl Both {
 fn backwards<R: Wait>(rt: &R, alloc: Global, keys: &[u8]) -> Result<Scene, Fail> {
     let (mut link_in, link_out) = link(alloc, MAX_CAPACITY)?;
     let mut scene = set_up(alloc, link_out)?;
-    scene.put_all(rt, alloc, keys)?;
-    scene.send_backwards(rt, alloc, &mut link_in)?;
+    scene.put_backwards(rt, alloc, keys, &mut link_in)?;
     Ok(scene)
 }
 
