@@ -3,3 +3,4 @@ pub mod Lists
 pub mod Shuffles
 pub mod Differences
 pub mod Joins
+pub mod Clients

@@ -7,9 +7,9 @@ ghost use Rattle.cops_clients.specs.Replies.{IsReplyOfSeen};
 use crate::cluster::Cluster;
 use crate::fault::Stop;
 use crate::refusal::{NO_YES, UNKNOWN_DC};
-use crate::share::{Made, Share};
+use crate::share::Share;
 use crate::spot::Spot;
-use crate::stepping::{Reply, Seen, passed};
+use crate::stepping::{Reply, Seen, gained, passed};
 use cops_node::{MEMORY, NOT_HELD, NodeEvent, Outcome};
 use cops_tie::{Book, Told};
 use cops_types::{Dep, Gate, GateHeld, Key, PutRecord, Version};
@@ -237,14 +237,7 @@ impl Cluster {
         let mut book = self.lock_of(spot).lock(rt);
         let told = self.marked(rt, gate, spot, &mut book, version, dep, yes)?;
         drop(book);
-        let Told {
-            outcome,
-            seen,
-            entry,
-        } = told;
-        let node = spot.number();
-        share.entries.push_reserved(Made { entry, node });
-        Ok(Seen { outcome, seen })
+        Ok(gained(share, spot.number(), told))
     }
 
     /// A mark at a node whose lock is held.

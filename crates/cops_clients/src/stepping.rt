@@ -1,7 +1,8 @@
 //! A client's put and get, and the one way in which all steps go to a node.
-ghost use Rattle.std.specs.Prelude.{◌≡◌, IfOk, OnErr};
-ghost use Rattle.cops_node.specs.declared.event.NodeEvent.TheVariants.{Put};
+ghost use Rattle.std.specs.Prelude.{◌≡◌, ◌<◌, ◌++◌, [], ◌∷◌, IfOk, OnErr, vec_capacity, vec_len};
+ghost use Rattle.cops_node.specs.declared.event.NodeEvent.TheVariants.{Get, Put};
 ghost use Rattle.cops_clients.specs.Replies.{IsReplyOf, IsVersionOf, WasHeld};
+ghost use Rattle.cops_clients.specs.Shares.{made};
 
 use crate::client::Client;
 use crate::cluster::Cluster;
@@ -13,6 +14,7 @@ use cops_node::{MEMORY, NodeEvent, Outcome};
 use cops_record::Slot;
 use cops_tie::{Book, Told};
 use cops_types::{Dep, Deps, Gate, GateHeld, Key, Memory, Op, Point, Value, Version};
+use std::alloc::AllocError;
 use std::sync::Wait;
 use std::sync::atomic::Ordering;
 
@@ -42,37 +44,67 @@ pub(crate) struct Reply {
 #[derive(Drop)]
 struct PutCopies {
     deps: Deps,
+    notes: PutNotes,
+}
+
+/// What a client notes of a put: the key for its context, and what it saw.
+#[derive(Drop)]
+struct PutNotes {
     pair_key: Key,
-    seen_key: Key,
-    seen_value: Value,
+    key: Key,
+    value: Value,
 }
 
 /// What a node is told of a put, and what the client notes of it.
 #[derive(Drop)]
 struct PutTold {
     event: NodeEvent,
+    notes: PutNotes,
+}
+
+/// What a client notes of a get: the key for its context, and what it saw.
+#[derive(Drop)]
+struct GetNotes {
     pair_key: Key,
-    seen_key: Key,
-    seen_value: Value,
+    key: Key,
+}
+
+/// What a node is told of a get, and what the client notes of it.
+#[derive(Drop)]
+struct GetTold {
+    event: NodeEvent,
+    notes: GetNotes,
 }
 
 fn put_copies(client: &Client, key: &Key, value: &Value) -> Result<PutCopies, Memory>
     ensures deps { IfOk result (λ c. c.deps ≡ client.now.context.pairs) }
-    ensures noted { IfOk result (λ c. (c.pair_key ≡ key.now) × (c.seen_key ≡ key.now) × (c.seen_value ≡ value.now)) }
+    ensures noted { IfOk result (λ c. (c.notes.pair_key ≡ key.now) × (c.notes.key ≡ key.now) × (c.notes.value ≡ value.now)) }
 {
-    Ok(PutCopies {
-        deps: client.context.deps()?,
+    let deps = client.context.deps()?;
+    match put_notes(key, value) {
+        Ok(notes) => Ok(PutCopies { deps, notes }),
+        Err(fault) => {
+            drop(deps);
+            Err(Memory::from(fault))
+        }
+    }
+}
+
+fn put_notes(key: &Key, value: &Value) -> Result<PutNotes, AllocError>
+    ensures { IfOk result (λ notes. (notes.pair_key ≡ key.now) × (notes.key ≡ key.now) × (notes.value ≡ value.now)) }
+{
+    Ok(PutNotes {
         pair_key: key.clone()?,
-        seen_key: key.clone()?,
-        seen_value: value.clone()?,
+        key: key.clone()?,
+        value: value.clone()?,
     })
 }
 
 fn put_told(client: &Client, key: Key, value: Value) -> Result<PutTold, Memory>
     ensures event { IfOk result (λ t. t.event ≡ Put client.now.number key value client.now.context.pairs) }
-    ensures noted { IfOk result (λ t. (t.pair_key ≡ key) × (t.seen_key ≡ key) × (t.seen_value ≡ value)) }
+    ensures noted { IfOk result (λ t. (t.notes.pair_key ≡ key) × (t.notes.key ≡ key) × (t.notes.value ≡ value)) }
 {
-    let copies = match put_copies(client, &key, &value) {
+    let PutCopies { deps, notes } = match put_copies(client, &key, &value) {
         Ok(copies) => copies,
         Err(fault) => {
             drop(key);
@@ -84,23 +116,44 @@ fn put_told(client: &Client, key: Key, value: Value) -> Result<PutTold, Memory>
         client: client.number,
         key,
         value,
-        deps: copies.deps,
+        deps,
     };
-    Ok(PutTold {
-        event,
-        pair_key: copies.pair_key,
-        seen_key: copies.seen_key,
-        seen_value: copies.seen_value,
+    Ok(PutTold { event, notes })
+}
+
+fn get_notes(key: &Key) -> Result<GetNotes, AllocError>
+    ensures { IfOk result (λ notes. (notes.pair_key ≡ key.now) × (notes.key ≡ key.now)) }
+{
+    Ok(GetNotes {
+        pair_key: key.clone()?,
+        key: key.clone()?,
     })
 }
 
+fn get_told(client: u16, key: Key) -> Result<GetTold, AllocError>
+    ensures event { IfOk result (λ t. t.event ≡ Get client key) }
+    ensures noted { IfOk result (λ t. (t.notes.pair_key ≡ key) × (t.notes.key ≡ key)) }
+{
+    match get_notes(&key) {
+        Ok(notes) => {
+            let event = NodeEvent::Get { client, key };
+            Ok(GetTold { event, notes })
+        }
+        Err(fault) => {
+            drop(key);
+            Err(fault)
+        }
+    }
+}
+
 impl Cluster {
-    ghost use Rattle.std.specs.Prelude.{◌≡◌, ◌++◌, [], ◌∷◌, ℕ, true, length, IfOk, IfErr, OnOk, OnErr};
+    ghost use Rattle.std.specs.Prelude.{◌≡◌, ◌<◌, ◌++◌, [], ◌∷◌, ℕ, true, false, length, IfOk, IfErr, OnOk, OnErr};
     ghost use Rattle.cops_node.specs.declared.event.NodeEvent.TheVariants.{Put, Get};
+    ghost use Rattle.cops_node.specs.declared.outcome.Outcome.TheVariants.{Refused as RefusedWith};
     ghost use Rattle.cops_node.specs.Node.{node_step};
-    ghost use Rattle.cops_place.specs.Place.{node_at};
+    ghost use Rattle.cops_place.specs.Place.{node_at, primary};
     ghost use Rattle.cops_tie.specs.Book.{entry};
-    ghost use Rattle.cops_clients.specs.Shares.{Adds, AddsAtMostOne, AddsEntry, is_of_node};
+    ghost use Rattle.cops_clients.specs.Shares.{Adds, AddsAtMostOne, AddsEntry, is_code_of_node, is_of_node};
     ghost use Rattle.cops_clients.specs.Cluster.{IsNode, IsSameClient, IsStop, MayHoldStep, after_get, after_put, get_seen, node_of, put_seen};
     ghost use Rattle.cops_clients.specs.Outcomes.{IsGetOutcome, IsNodeAnswer, IsPutOutcome, IsWant, StopsWith};
     ghost use Rattle.cops_clients.specs.Replies.{IsSpent};
@@ -180,17 +233,24 @@ impl Cluster {
         ensures stop { IfErr result (IsStop (G.may_hold gate.now) (node_of self.now client.old.dc key) client.old.number) }
     {
         let Some(spot) = self.spot_of(client.dc, &key) else {
+            drop(key);
+            drop(value);
             return Err(Stop::Refused(UNKNOWN_CLIENT));
         };
         let number = client.number;
-        let put = put_told(client, key, value)?;
-        let told = self.step(rt, &mut client.share, gate, number, spot, put.event)?;
-        let op = client.wrote(put.pair_key, put.seen_key, put.seen_value, &told.seen);
-        Ok(Answer {
-            outcome: told.outcome,
-            node: spot.number(),
-            op,
-        })
+        let PutTold { event, notes } = put_told(client, key, value)?;
+        match self.step(rt, &mut client.share, gate, number, spot, event) {
+            Ok(Seen { outcome, seen }) => {
+                let op = client.wrote(notes, &seen);
+                drop(seen);
+                let node = spot.number();
+                Ok(Answer { outcome, node, op })
+            }
+            Err(stop) => {
+                drop(notes);
+                Err(stop)
+            }
+        }
     }
 
     /// A get while a slot is reserved for it.
@@ -213,27 +273,47 @@ impl Cluster {
         ensures kept { OnErr result (client.new.context.pairs ≡ client.old.context.pairs) }
         ensures stop { IfErr result (IsStop (G.may_hold gate.now) (node_of self.now client.old.dc key) client.old.number) }
     {
-        let Some(spot) = self.spot_of(client.dc, &key) else {
-            return Err(Stop::Refused(UNKNOWN_CLIENT));
+        let spot = match self.spot_with_room(client, &key) {
+            Ok(spot) => spot,
+            Err(code) => {
+                drop(key);
+                return Err(Stop::Refused(code));
+            }
+        };
+        let number = client.number;
+        let GetTold { event, notes } = get_told(number, key)?;
+        match self.step(rt, &mut client.share, gate, number, spot, event) {
+            Ok(Seen { outcome, seen }) => {
+                let op = client.saw(notes.pair_key, notes.key, seen);
+                let node = spot.number();
+                Ok(Answer { outcome, node, op })
+            }
+            Err(stop) => {
+                drop(notes);
+                Err(stop)
+            }
+        }
+    }
+
+    /// The key's node in the client's data centre, where the client's context has room for one more pair: else the code of why
+    /// the get is refused.
+    fn spot_with_room(&self, client: &mut Client, key: &Key) -> Result<Spot, u8>
+        ensures spot { IfOk result (λ spot. (spot.dc ≡ client.old.dc) × (spot.place ≡ primary self.now.place.splits key.now) × IsNode self.now spot.dc spot.place) }
+        ensures room { OnOk result ((length client.old.context.pairs < 256) × (client.new.context.room ≡ true)) }
+        ensures same { (client.new.number ≡ client.old.number) × (client.new.dc ≡ client.old.dc) × (client.new.share ≡ client.old.share) }
+        ensures pairs { client.new.context.pairs ≡ client.old.context.pairs }
+        ensures code { IfErr result (λ code. (is_code_of_node code ≡ false) × IsGetOutcome (RefusedWith code)) }
+    {
+        let Some(spot) = self.spot_of(client.dc, key) else {
+            return Err(UNKNOWN_CLIENT);
         };
         if !client.context.has_room() {
-            return Err(Stop::Refused(CONTEXT_FULL));
+            return Err(CONTEXT_FULL);
         }
-        client.context.reserve()?;
-        let pair_key = key.clone()?;
-        let seen_key = key.clone()?;
-        let number = client.number;
-        let event = NodeEvent::Get {
-            client: number,
-            key,
-        };
-        let told = self.step(rt, &mut client.share, gate, number, spot, event)?;
-        let op = client.saw(pair_key, seen_key, told.seen);
-        Ok(Answer {
-            outcome: told.outcome,
-            node: spot.number(),
-            op,
-        })
+        match client.context.reserve() {
+            Ok(()) => Ok(spot),
+            Err(_) => Err(MEMORY),
+        }
     }
 
     /// Spends a slot: what the client saw fills it, and where that is no operation it is cancelled.
@@ -280,19 +360,13 @@ impl Cluster {
         ensures stop { IfErr result (IsStop (G.may_hold gate.now) (node_at spot.dc spot.place) client) }
     {
         if share.entries.reserve(1).is_err() {
+            drop(event);
             return Err(Stop::Refused(MEMORY));
         }
         let mut book = self.lock_of(spot).lock(rt);
         let told = self.asked(rt, gate, client, spot, &mut book, event)?;
         drop(book);
-        let Told {
-            outcome,
-            seen,
-            entry,
-        } = told;
-        let node = spot.number();
-        share.entries.push_reserved(Made { entry, node });
-        Ok(Seen { outcome, seen })
+        Ok(gained(share, spot.number(), told))
     }
 
     /// One step of a node whose lock is held: its book gains the entry.
@@ -315,6 +389,7 @@ impl Cluster {
     {
         let node = spot.number();
         if gate.pass(rt, Point::InStep { node, client }).is_err() {
+            drop(event);
             return Err(Stop::Held);
         }
         let ticket = self.tickets.fetch_add(1, Ordering::SeqCst);
@@ -330,13 +405,21 @@ impl Client {
     ghost use Rattle.cops_clients.specs.Cluster.{after_get, after_put, get_seen, put_seen};
 
     /// The client's put was answered: what it saw, which its context then has alone.
-    fn wrote(&mut self, pair_key: Key, key: Key, value: Value, answer: &Outcome) -> Option<Op>
-        requires { pair_key ≡ key }
-        ensures context { self.new.context.pairs ≡ after_put self.old.context.pairs key answer.now }
-        ensures seen { result ≡ put_seen key value answer.now }
+    fn wrote(&mut self, notes: PutNotes, answer: &Outcome) -> Option<Op>
+        requires { notes.pair_key ≡ notes.key }
+        ensures context { self.new.context.pairs ≡ after_put self.old.context.pairs notes.key answer.now }
+        ensures seen { result ≡ put_seen notes.key notes.value answer.now }
         ensures same { (self.new.number ≡ self.old.number) × (self.new.dc ≡ self.old.dc) × (self.new.share ≡ self.old.share) }
     {
-        let version = version_of(answer)?;
+        let Some(version) = version_of(answer) else {
+            drop(notes);
+            return None;
+        };
+        let PutNotes {
+            pair_key,
+            key,
+            value,
+        } = notes;
         self.context.replace(Dep {
             key: pair_key,
             version,
@@ -375,6 +458,22 @@ impl Client {
             _ => None,
         }
     }
+}
+
+/// The share gains the entry of a step of the node with this number.
+pub(crate) fn gained(share: &mut Share, node: u16, told: Told) -> Seen
+    requires { vec_len share.old.entries < vec_capacity share.old.entries }
+    ensures who { share.new.holder ≡ share.old.holder }
+    ensures entries { share.new.entries.items ≡ share.old.entries.items ++ made node told.entry ∷ [] }
+    ensures answer { (result.outcome ≡ told.outcome) × (result.seen ≡ told.seen) }
+{
+    let Told {
+        outcome,
+        seen,
+        entry,
+    } = told;
+    share.entries.push_reserved(Made { entry, node });
+    Seen { outcome, seen }
 }
 
 /// The version that a put was given.

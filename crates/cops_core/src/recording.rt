@@ -1,13 +1,15 @@
 //! What the world keeps of its clients' operations: copies, and a place in the history.
-ghost use Rattle.std.specs.Prelude.{◌≡◌, ◌<◌, ◌⊎◌, ◌∷◌, [], None, Some, nat_lt, ◌&&◌, length, slice_index_or, IfOk, IfErr, OnOk};
+ghost use Rattle.std.specs.Prelude.{◌≡◌, ◌<◌, ◌⊎◌, ◌∷◌, ◌++◌, [], true, None, Some, nat_lt, ◌&&◌, length, slice_index_or, slice_set, IfOk, IfErr, OnOk};
 ghost use Rattle.cops_types.specs.Recorded.{count_of, with_op};
+ghost use Rattle.cops_types.specs.declared.op.Op.TheVariants.{Put as Wrote};
 ghost use Rattle.cops_core.specs.Parts.{MayRecord};
-ghost use Rattle.cops_core.specs.World.{refusal};
+ghost use Rattle.cops_core.specs.World.{refusal, sent};
 
 use crate::client_contexts::ClientContexts;
+use crate::issued::Issued;
 use crate::refusal::{SESSION_FULL, UNKNOWN_CLIENT};
 use cops_node::MEMORY;
-use cops_types::{Dep, Deps, History, Key, Memory, Op, PutRecord, TypeFault, Value};
+use cops_types::{Dep, Deps, History, Key, Memory, Op, PutRecord, TypeFault, Value, Version};
 use std::alloc::{AllocError, Global};
 
 /// Whether a client may have one more operation, else the code of the refusal. What was recorded stays. Want of memory is
@@ -57,6 +59,75 @@ pub fn drafted(
         value: value.clone()?,
         deps: contexts.deps(client)?,
     })
+}
+
+/// What a put leaves once it has its version: the issued put, its key in the client's context, and what the session tells.
+#[derive(Drop)]
+pub struct Copies {
+    pub issued: Draft,
+    pub pair_key: Key,
+    pub op_key: Key,
+    pub op_value: Value,
+}
+
+/// Copies of what a client puts for each place where it is kept.
+pub fn copies_of(
+    contexts: &ClientContexts,
+    client: u16,
+    key: &Key,
+    value: &Value,
+) -> Result<Copies, Memory>
+    requires { client < length contexts.now.pairs }
+    ensures { IfOk result (λ copies. copies ≡ record { issued = record { key = key.now; value = value.now; deps = slice_index_or contexts.now.pairs client [] }; pair_key = key.now; op_key = key.now; op_value = value.now }) }
+{
+    Ok(Copies {
+        issued: drafted(contexts, client, key, value)?,
+        pair_key: key.clone()?,
+        op_key: key.clone()?,
+        op_value: value.clone()?,
+    })
+}
+
+/// Keeps a put under its version: among the issued ones, as its client's context and in its client's session.
+pub fn keep_put(
+    issued: &mut Issued,
+    contexts: &mut ClientContexts,
+    history: &mut History,
+    client: u16,
+    version: Version,
+    copies: Copies,
+)
+    requires room { issued.old.room ≡ true }
+    requires new { sent issued.old.puts version ≡ None }
+    requires client { client < length contexts.old.pairs }
+    requires may { MayRecord history.old client }
+    ensures issued { issued.new.puts ≡ issued.old.puts ++ record { key = copies.issued.key; value = copies.issued.value; version = version; deps = copies.issued.deps } ∷ [] }
+    ensures context { contexts.new.pairs ≡ slice_set contexts.old.pairs client (record { key = copies.pair_key; version = version } ∷ []) }
+    ensures session { history.new.sessions ≡ with_op history.old.sessions client (Wrote copies.op_key copies.op_value version) }
+{
+    let Copies {
+        issued: put,
+        pair_key,
+        op_key,
+        op_value,
+    } = copies;
+    issued.push(PutRecord {
+        version,
+        deps: put.deps,
+        key: put.key,
+        value: put.value,
+    });
+    let pair = Dep {
+        version,
+        key: pair_key,
+    };
+    contexts.replace(client, pair);
+    let op = Op::Put {
+        version,
+        key: op_key,
+        value: op_value,
+    };
+    record(history, client, op)
 }
 
 /// A copy of a put with its dependencies.

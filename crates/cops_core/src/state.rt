@@ -6,7 +6,7 @@ use crate::client_contexts::ClientContexts;
 use crate::data_centres::DataCentres;
 use crate::event::{Event, Said};
 use crate::issued::Issued;
-use crate::recording::{admit, copied, drafted, record};
+use crate::recording::{admit, copied, copies_of, drafted, keep_put, record};
 use crate::refusal::{CONTEXT_FULL, NEVER_SENT, NO_YES, UNKNOWN_DC};
 use crate::setting::Setting;
 use crate::table::{answer, events};
@@ -55,11 +55,11 @@ impl State {
         let clients = setting.clients() as u16;
         Ok(State {
             alloc,
+            contexts: ClientContexts::new(alloc, clients)?,
+            history: History::new(alloc, clients)?,
             centres: DataCentres::open(alloc, setting.dcs(), setting.nodes())?,
             issued: Issued::new(alloc),
             said: Answers::new(alloc),
-            contexts: ClientContexts::new(alloc, clients)?,
-            history: History::new(alloc, clients)?,
         })
     }
 
@@ -156,31 +156,18 @@ impl State {
         }
         self.issued.reserve()?;
         let own = drafted(&self.contexts, client, key, value)?;
-        let kept = drafted(&self.contexts, client, key, value)?;
-        let (op_key, op_value, pair_key) = (key.clone()?, value.clone()?, key.clone()?);
+        let copies = copies_of(&self.contexts, client, key, value)?;
         let node = self.centres.node(setting.home(client), place);
         match node.put(client, own.key, own.value, own.deps) {
             Outcome::PutDone(version) => {
-                self.issued.push(PutRecord {
-                    key: kept.key,
-                    value: kept.value,
-                    version,
-                    deps: kept.deps,
-                });
-                let pair = Dep {
-                    key: pair_key,
-                    version,
-                };
-                self.contexts.replace(client, pair);
-                let op = Op::Put {
-                    key: op_key,
-                    value: op_value,
-                    version,
-                };
-                record(&mut self.history, client, op);
+                let (issued, contexts) = (&mut self.issued, &mut self.contexts);
+                keep_put(issued, contexts, &mut self.history, client, version, copies);
                 Ok(Outcome::PutDone(version))
             }
-            other => Ok(other),
+            other => {
+                drop(copies);
+                Ok(other)
+            }
         }
     }
 

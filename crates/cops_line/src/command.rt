@@ -1,5 +1,5 @@
 ghost use Rattle.std.specs.Prelude.{◌≡◌, IfOk, codes, false};
-ghost use Rattle.clap.specs.Words.{app_of, rule_of};
+ghost use Rattle.clap.specs.Words.{app_of, rule_of, with_subcommand};
 ghost use Rattle.clap.specs.declared.builder.command.Command.TheViews.{out-Command as fields_of};
 ghost use Rattle.cops_line.specs.Commands.{positional, port_argument, sessions_option, workers_option, cops_top, cops_app, audit_app, show_app, run_app, serve_app};
 
@@ -168,17 +168,22 @@ fn top_command<'a>(alloc: Global) -> Result<Command<'a>, AllocError>
         .bin_name("cops")
 }
 
+/// The program's command with the subcommands that read a trace alone.
+fn reading_command<'a>(alloc: Global) -> Result<Command<'a>, AllocError>
+    ensures { IfOk result (λ c. app_of c ≡ with_subcommand (with_subcommand cops_top audit_app.top) show_app.top) }
+{
+    let audit = audit_command(alloc)?;
+    let command = top_command(alloc)?.subcommand(audit)?;
+    let show = show_command(alloc)?;
+    command.subcommand(show)
+}
+
 /// The program's command: a subcommand has to be there, and each takes the words of its own job.
 pub fn cops_command<'a>(alloc: Global) -> Result<Command<'a>, AllocError>
     ensures { IfOk result (λ c. app_of c ≡ cops_app) }
 {
-    let audit = audit_command(alloc)?;
-    let show = show_command(alloc)?;
     let run = run_command(alloc)?;
+    let command = reading_command(alloc)?.subcommand(run)?;
     let serve = serve_command(alloc)?;
-    top_command(alloc)?
-        .subcommand(audit)?
-        .subcommand(show)?
-        .subcommand(run)?
-        .subcommand(serve)
+    command.subcommand(serve)
 }

@@ -121,8 +121,15 @@ pub(crate) fn answer<R: Wait, S: Session>(
     ensures legal { IfOk result (λ reply. IsMessage (grammar One) (parts reply)) }
 {
     if !is_handed(greeted, &message) {
-        return Ok(own_reply(greeted, &message));
+        let reply = own_reply(greeted, &message);
+        drop(message);
+        return Ok(reply);
     }
-    session.room()?;
-    Ok(ask(rt, session, greeted, message))
+    match session.room() {
+        Ok(()) => Ok(ask(rt, session, greeted, message)),
+        Err(fault) => {
+            drop(message);
+            Err(fault)
+        }
+    }
 }

@@ -3,9 +3,13 @@ ghost use Rattle.std.specs.Prelude.{◌≡◌, ◌++◌, ◌⊎◌, List, ℕ, I
 ghost use Rattle.std.specs.Io.KnownBytes.{Appends, Consumes, IsAtEnd};
 ghost use Rattle.cops_types.specs.Failures.{Failed};
 ghost use Rattle.cops_types.specs.Counted.{failures, inner};
+ghost use Rattle.cops_types.specs.declared.format.Format.TheVariants.{One};
+ghost use Rattle.cops_wire.specs.declared.message.Message.{Message as AMessage};
+ghost use Rattle.cops_wire.specs.Grammar.{grammar, IsMessage};
+ghost use Rattle.cops_wire.specs.Message.{parts};
 ghost use Rattle.cops_net.specs.declared.reply.Call.{Call};
 ghost use Rattle.cops_net.specs.Sessions.{Serves};
-ghost use Rattle.cops_net.specs.Turns.{IsAnswered};
+ghost use Rattle.cops_net.specs.Turns.{IsTurn, IsAnswered};
 
 use crate::answering::answer;
 use crate::fault::NetFault;
@@ -32,6 +36,28 @@ pub struct Served {
     pub answered: u32,
 }
 
+/// Writes a reply, which is put together in `out`. It tells whether the session was greeted by then.
+fn write_reply<W: Write>(
+    writer: &mut Counted<W>,
+    out: &mut Vec<u8>,
+    greeted: bool,
+    reply: &Message,
+) -> Result<bool, NetFault>
+    requires { IsMessage (grammar One) (parts reply.now) }
+    ensures answered { (message : AMessage) (gained : List Call) → IsTurn greeted message gained reply.now
+        → (written : List ℕ) × Appends (W.contents (inner writer.old)) (W.contents (inner writer.new)) written
+        × IsAnswered greeted message gained written result }
+    ensures failed { IsErrOf result NetFault.WriteFailed → Failed (failures writer.old) (failures writer.new) }
+    ensures heard { IsErrOf result NetFault.WriteFailed ⊎ (failures writer.new ≡ failures writer.old) }
+{
+    out.clear();
+    encode(reply, out)?;
+    match write_text(writer, out) {
+        Ok(()) => Ok(greeted | is_welcome(reply)),
+        Err(_) => Err(NetFault::WriteFailed),
+    }
+}
+
 /// Answers a message and writes its reply, which is put together in `out`. It tells whether the session was greeted by
 /// then.
 fn turn<R: Wait, W: Write, S: Session>(
@@ -49,12 +75,13 @@ fn turn<R: Wait, W: Write, S: Session>(
     ensures failed { IsErrOf result NetFault.WriteFailed → Failed (failures writer.old) (failures writer.new) }
     ensures heard { IsErrOf result NetFault.WriteFailed ⊎ (failures writer.new ≡ failures writer.old) }
 {
-    out.clear();
-    let reply = answer(rt, session, greeted, message)?;
-    encode(&reply, out)?;
-    match write_text(writer, out) {
-        Ok(()) => Ok(greeted | is_welcome(&reply)),
-        Err(_) => Err(NetFault::WriteFailed),
+    match answer(rt, session, greeted, message) {
+        Ok(reply) => {
+            let written = write_reply(writer, out, greeted, &reply);
+            drop(reply);
+            written
+        }
+        Err(_) => Err(NetFault::Memory),
     }
 }
 
@@ -101,7 +128,10 @@ pub fn serve_session<R: Wait, I: Read, W: Write, S: Session>(
         }
     }
     match incoming.next(reader)? {
-        Some(_) => Err(NetFault::TurnLimit),
+        Some(message) => {
+            drop(message);
+            Err(NetFault::TurnLimit)
+        }
         None => Ok(Served {
             answered: MAX_MESSAGES,
         }),

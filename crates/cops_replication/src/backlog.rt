@@ -86,10 +86,16 @@ impl Backlog {
             return Ok(());
         }
         let waiting = Waiting::of(put)?;
-        let mut questions = waiting.questions(self.alloc)?;
-        let _none = self.waiting.insert(put.version, waiting)?;
+        let mut questions = match waiting.questions(self.alloc) {
+            Ok(questions) => questions,
+            Err(_) => {
+                drop(waiting);
+                return Err(Memory);
+            }
+        };
+        drop(self.waiting.insert(put.version, waiting)?);
         if self.questions.append(&mut questions).is_err() {
-            let _waiting = self.waiting.swap_remove(&put.version);
+            drop(self.waiting.swap_remove(&put.version));
             return Err(Memory);
         }
         Ok(())
@@ -121,9 +127,9 @@ impl Backlog {
         if let Some(parked) = self.parked.get_mut(pair) {
             parked.push(question)?;
         } else {
-            let mut parked = Vec::new(self.alloc);
-            parked.push(question)?;
-            let _none = self.parked.insert(pair.clone()?, parked)?;
+            let parked = only(self.alloc, question)?;
+            let pair = pair.clone()?;
+            drop(self.parked.insert(pair, parked)?);
         }
         let _question = self.questions.pop();
         Ok(())
@@ -168,6 +174,13 @@ impl Backlog {
             let _parked = self.parked.swap_remove(&waiting.pair);
         }
     }
+}
+
+/// One question alone.
+fn only(alloc: Global, question: Question) -> Result<Vec<Question>, Memory> {
+    let mut questions = Vec::new(alloc);
+    questions.push(question)?;
+    Ok(questions)
 }
 
 /// The pair that a question about one of these puts is about.

@@ -4,7 +4,7 @@ use crate::backlog::{Backlog, Question};
 use crate::turn::{Turn, TurnFault};
 use cops_clients::{Asked, Cluster, Share, Yes};
 use cops_link::LinkOut;
-use cops_node::{MEMORY, Outcome};
+use cops_node::Outcome;
 use cops_types::{Gate, Memory, PutRecord, Version};
 use cops_wire::Message;
 use std::alloc::Global;
@@ -19,6 +19,16 @@ enum Stage {
     Unknown,
     /// Its node holds it.
     Held,
+}
+
+/// What a node answered, as far as a receiver heeds it.
+#[derive(Clone, Copy)]
+enum Answer {
+    Held,
+    Repeat,
+    Marked,
+    Settled,
+    Other,
 }
 
 /// A put that was taken from a link.
@@ -145,7 +155,7 @@ impl Receiver {
             let Some(arrival) = next_arrival(&mut self.links[k])? else {
                 continue;
             };
-            self.arrival = Some(arrival);
+            drop(self.arrival.replace(arrival));
             let more = self.arrive(rt, cluster, gate)?;
             delivered = more.saturating_add(delivered);
         }
@@ -171,12 +181,12 @@ impl Receiver {
             return self.keep();
         }
         let copy = arrival.put.clone()?;
-        let outcome = self.deliver(rt, cluster, gate, copy)?;
-        if is_held(&outcome, stage) {
+        let answer = self.deliver(rt, cluster, gate, copy)?;
+        if is_held(answer, stage) {
             self.set_stage(Stage::Held);
             return self.keep();
         }
-        self.arrival = None;
+        self.forget();
         Ok(1)
     }
 
@@ -187,7 +197,7 @@ impl Receiver {
         cluster: &Cluster,
         gate: &G,
         copy: PutRecord,
-    ) -> Result<Outcome, TurnFault>
+    ) -> Result<Answer, TurnFault>
         ensures same { IsSame self.old self.new }
         ensures share { Gains self.old.share self.new.share }
         ensures fault { IfErr result (IsFaultAt (G.may_hold gate.now) cluster.now self.old.dc) }
@@ -196,10 +206,8 @@ impl Receiver {
             self.set_stage(Stage::Unknown);
             return Err(TurnFault::Held);
         };
-        if outcome.is_memory() {
-            return Err(TurnFault::Memory);
-        }
-        Ok(outcome)
+        let answer = Answer::of(outcome)?;
+        Ok(answer)
     }
 
     fn set_stage(&mut self, stage: Stage)
@@ -220,8 +228,16 @@ impl Receiver {
         if let Some(arrival) = &self.arrival {
             self.backlog.add(&arrival.put)?;
         }
-        self.arrival = None;
+        self.forget();
         Ok(1)
+    }
+
+    /// Lets go of the put that was taken.
+    fn forget(&mut self)
+        ensures same { IsSame self.old self.new }
+        ensures share { self.new.share ≡ self.old.share }
+    {
+        drop(self.arrival.take());
     }
 
     /// Asks, marks and settles until there is nothing to be asked and to be settled, and says how often it marked and settled.
@@ -267,9 +283,13 @@ impl Receiver {
         let version = pair.version;
         let asked = cluster.ask(rt, &mut self.share, gate, self.dc, &pair.key, version)?;
         match asked {
-            Asked::Yes(yes) => self.mark(rt, cluster, gate, &yes),
-            Asked::Other(Outcome::Refused(MEMORY)) => Err(TurnFault::Memory),
-            Asked::Other(_) => {
+            Asked::Yes(yes) => {
+                let marked = self.mark(rt, cluster, gate, &yes);
+                drop(yes);
+                marked
+            }
+            Asked::Other(outcome) => {
+                Answer::of(outcome)?;
                 self.backlog.park()?;
                 Ok(0)
             }
@@ -292,11 +312,9 @@ impl Receiver {
             return Ok(0);
         };
         let outcome = cluster.mark(rt, &mut self.share, gate, self.dc, version, dep, yes)?;
-        if outcome.is_memory() {
-            return Err(TurnFault::Memory);
-        }
+        let answer = Answer::of(outcome)?;
         self.backlog.mark();
-        Ok(usize::from(matches!(outcome, Outcome::Marked)))
+        Ok(usize::from(matches!(answer, Answer::Marked)))
     }
 
     /// Settles a put whose dependencies are all marked, and has those asked again that wait for it.
@@ -313,19 +331,33 @@ impl Receiver {
     {
         self.backlog.wake(version)?;
         let outcome = cluster.settle(rt, &mut self.share, gate, self.dc, version)?;
-        if outcome.is_memory() {
-            return Err(TurnFault::Memory);
-        }
+        let answer = Answer::of(outcome)?;
         self.backlog.settle(version);
-        Ok(usize::from(matches!(outcome, Outcome::Settled)))
+        Ok(usize::from(matches!(answer, Answer::Settled)))
+    }
+}
+
+impl Answer {
+    /// The answer in short: `Memory` where it is want of memory.
+    fn of(outcome: Outcome) -> Result<Self, Memory> {
+        let is_memory = outcome.is_memory();
+        let answer = match &outcome {
+            Outcome::Held => Answer::Held,
+            Outcome::Repeat => Answer::Repeat,
+            Outcome::Marked => Answer::Marked,
+            Outcome::Settled => Answer::Settled,
+            _ => Answer::Other,
+        };
+        drop(outcome);
+        if is_memory { Err(Memory) } else { Ok(answer) }
     }
 }
 
 /// Whether this answer to a delivery says that the node holds the put, which was at this stage before.
-fn is_held(outcome: &Outcome, stage: Stage) -> bool {
-    match outcome {
-        Outcome::Held => true,
-        Outcome::Repeat => stage == Stage::Unknown,
+fn is_held(answer: Answer, stage: Stage) -> bool {
+    match answer {
+        Answer::Held => true,
+        Answer::Repeat => stage == Stage::Unknown,
         _ => false,
     }
 }
@@ -357,6 +389,9 @@ fn arrival_of(message: Message) -> Option<Arrival> {
             },
             stage: Stage::Taken,
         }),
-        _ => None,
+        other => {
+            drop(other);
+            None
+        }
     }
 }

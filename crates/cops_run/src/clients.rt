@@ -56,15 +56,29 @@ fn follow<R: Wait, G: Gate>(
         if stage.is_broken() {
             return Ok(End::Broken);
         }
-        if let Some(code) = refusal(&perform(rt, stage.cluster(), gate, client, op)?) {
+        if let Some(code) = perform(rt, stage.cluster(), gate, client, op)? {
             return Ok(End::Client(ClientOutcome::Stopped(code)));
         }
     }
     Ok(End::Client(ClientOutcome::Done))
 }
 
-/// One operation of a script.
+/// One operation of a script: the code where it is refused.
 fn perform<R: Wait, G: Gate>(
+    rt: &R,
+    cluster: &Cluster,
+    gate: &G,
+    client: &mut Client,
+    op: &ScriptOp,
+) -> Result<Option<u8>, GateHeld>
+    ensures { OnErr result (MayHold (G.may_hold gate.now)) }
+{
+    let outcome = outcome_of(rt, cluster, gate, client, op)?;
+    Ok(refusal(&outcome))
+}
+
+/// The outcome of one operation of a script.
+fn outcome_of<R: Wait, G: Gate>(
     rt: &R,
     cluster: &Cluster,
     gate: &G,

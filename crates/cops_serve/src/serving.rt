@@ -1,8 +1,9 @@
 //! The front door of a scenario's cluster, from the scenario's text to the report.
-ghost use Rattle.std.specs.Prelude.{◌≡◌, ◌⊎◌, Ok, IfOk, IfSome};
+ghost use Rattle.std.specs.Prelude.{◌≡◌, ◌⊎◌, ◌++◌, List, ℕ, Ok, IfOk, IfSome};
 ghost use Rattle.std.specs.Io.KnownBytes.{Appends};
 ghost use Rattle.cops_types.specs.Counted.{failures, inner};
 ghost use Rattle.cops_net.specs.Listening.{AreSessions};
+ghost use Rattle.cops_net.specs.declared.reply.Call.{Call};
 ghost use Rattle.cops_serve.specs.Serving.{EndsAs, IsServed};
 
 use crate::fault::ServeFault;
@@ -43,24 +44,52 @@ where
     let Some(bytes) = read_all(alloc, reader)? else {
         return Ok(failed(errors, b"failed: read\n"));
     };
-    let scenario = match Scenario::from_json(alloc, &bytes) {
-        Ok(scenario) => scenario,
-        Err(ScenarioFault::Memory) => return Err(Memory),
-        Err(ScenarioFault::NotJson) => {
-            return Ok(faulty(alloc, ScenarioFault::NotJson, out, errors)?);
-        }
+    match Scenario::from_json(alloc, &bytes) {
+        Ok(scenario) => serve_scenario(rt, alloc, &scenario, port, sessions, out, errors),
+        Err(ScenarioFault::Memory) => Err(Memory),
+        Err(ScenarioFault::NotJson) => faulty(alloc, ScenarioFault::NotJson, out, errors),
         Err(ScenarioFault::BadField(field)) => {
-            return Ok(faulty(alloc, ScenarioFault::BadField(field), out, errors)?);
-        }
-    };
-    match served(rt, alloc, &scenario, port, sessions) {
-        Ok(report) => Ok(printed(&report, ACCEPTED, out, errors)),
-        Err(ServeFault::Memory) => Err(Memory),
-        Err(fault) => {
-            let line = format!(in alloc; "failed: {fault}\n")?;
-            Ok(failed(errors, line.as_bytes()))
+            faulty(alloc, ScenarioFault::BadField(field), out, errors)
         }
     }
+}
+
+/// Serves the sessions of a scenario's cluster, prints the report, and gives the status.
+fn serve_scenario<R, W, E>(
+    rt: &R,
+    alloc: Global,
+    scenario: &Scenario,
+    port: u16,
+    sessions: u16,
+    out: &mut Counted<W>,
+    errors: &mut Counted<E>,
+) -> Result<u8, Memory>
+where
+    R: Net<Listener = TcpListener, Stream = TcpStream> + Wait,
+    W: Write,
+    E: Write,
+    ensures status { IfOk result (λ status. (status ≡ 0) ⊎ (status ≡ 4)) }
+    ensures served { IfOk result (λ status. (status ≡ 4) ⊎ ((text : List ℕ) × IsServed sessions scenario.now text
+        × Appends (W.contents (inner out.old)) (W.contents (inner out.new)) text)) }
+    ensures heard { (result ≡ Ok 4) ⊎ (failures out.new ≡ failures out.old) }
+{
+    match served(rt, alloc, scenario, port, sessions) {
+        Ok(report) => Ok(printed(&report, ACCEPTED, out, errors)),
+        Err(ServeFault::Memory) => Err(Memory),
+        Err(fault) => unserved(alloc, fault, errors),
+    }
+}
+
+/// Prints why nothing was served, and gives the status.
+fn unserved<E: Write>(
+    alloc: Global,
+    fault: ServeFault,
+    errors: &mut Counted<E>,
+) -> Result<u8, Memory>
+    ensures { IfOk result (λ status. status ≡ 4) }
+{
+    let line = format!(in alloc; "failed: {fault}\n")?;
+    Ok(failed(errors, line.as_bytes()))
 }
 
 /// Serves the sessions, and gives the report.
@@ -88,8 +117,22 @@ fn attended<R: Net<Listener = TcpListener, Stream = TcpStream> + Wait>(
     ensures { IfOk result (λ f. AreSessions sessions f.calls.items) }
 {
     let mut front_end = FrontEnd::open(alloc, scenario)?;
-    match listen(rt, alloc, port, &mut front_end, sessions) {
-        Ok(()) => Ok(front_end),
+    attend(rt, alloc, port, &mut front_end, sessions)?;
+    Ok(front_end)
+}
+
+/// Serves so many sessions.
+fn attend<R: Net<Listener = TcpListener, Stream = TcpStream> + Wait>(
+    rt: &R,
+    alloc: Global,
+    port: u16,
+    front_end: &mut FrontEnd,
+    sessions: u16,
+) -> Result<(), ServeFault>
+    ensures { IfOk result (λ _. (gained : List Call) × (front_end.new.calls.items ≡ front_end.old.calls.items ++ gained) × AreSessions sessions gained) }
+{
+    match listen(rt, alloc, port, front_end, sessions) {
+        Ok(()) => Ok(()),
         Err(NetFault::BindFailed) => Err(ServeFault::BindFailed),
         Err(NetFault::AcceptFailed) => Err(ServeFault::AcceptFailed),
         Err(NetFault::Memory) => Err(ServeFault::Memory),

@@ -1,10 +1,11 @@
 -- The frames at the front of some bytes, one after the other, and what was written of their lines.
-use Rattle.std.proofs.Common.{◌≡◌, ℕ, ◌+◌, ◌-◌, ◌<◌, ◌≤◌, List, [], ◌∷◌, ◌++◌, length, drop, Option, Some, None, Result, Ok, Err, refl, sym, ap, ◌∙◌, append_assoc, arith}
+use Rattle.std.proofs.Common.{◌≡◌, ℕ, ◌+◌, ◌-◌, ◌<◌, ◌≤◌, List, [], ◌∷◌, ◌++◌, length, drop, Option, Some, None, Result, Ok, Err, IfOk, IfSome, refl, sym, subst, ap, ◌∙◌, append_assoc, arith}
 use Rattle.std.specs.Io.KnownBytes.{Appends}
 use Rattle.std.proofs.lemmas.Grind.{flat_map-append}
 use Rattle.std.proofs.lemmas.List.{length-append, append-nil, append_cancel_left}
 use Rattle.std.proofs.Math.Seq.{drop-append_seam}
 use Rattle.cops_types.specs.declared.format.Format.TheVariants.{One}
+use Rattle.cops_types.specs.declared.fault.Memory.{Memory}
 use Rattle.cops_wire.specs.declared.fault.WireFault.{WireFault}
 use Rattle.cops_wire.specs.declared.fault.WireFault.TheVariants as wire
 use Rattle.cops_wire.specs.declared.message.Message.{Message}
@@ -163,3 +164,12 @@ it_stands bytes end d old new a within lines = (
   a.length_is,
   lines,
 )
+
+-- so where the frame's line is appended unless it ends behind the place
+pub it_ends : (bytes : List ℕ) (end : ℕ) (d : Decoded) (old new : List ℕ) (r : Result (Option ℕ) Memory)
+    → (r ≡ Ok None → (end < d.used) × (new ≡ old)) → IfOk r (λ next. IfSome next (λ used. (used ≡ d.used) × (d.used ≤ end) × (new ≡ old ++ line_of d.message)))
+    → IsAnswer (grammar One) bytes (Ok (parts d.message, d.used)) → ((a : Result (Parts × ℕ) WireFault) → IsAnswer (grammar One) bytes a → Answers (Ok d) (λ b. b ≡ a))
+    → IfOk r (AppendsNext bytes end old new)
+it_ends _ _ _ _ _ (Err _) _ _ _ _ = tt
+it_ends bytes end d _ _ (Ok None) late _ _ only = ((late refl).1, too_long bytes end d (late refl).0 only)
+it_ends bytes end d old new (Ok (Some _)) _ line a _ = subst (λ used. AppendsNext bytes end old new (Some used)) (sym line.0) (it_stands bytes end d old new a line.1 line.2)

@@ -1,5 +1,5 @@
 //! The lines of a trace's frames.
-ghost use Rattle.std.specs.Prelude.{◌≡◌, ◌++◌, ◌⊎◌, ◌<◌, ◌≤◌, List, ℕ, length, true, false, Ok, OnOk, IfOk, IfSome};
+ghost use Rattle.std.specs.Prelude.{◌≡◌, ◌++◌, ◌⊎◌, ◌<◌, ◌≤◌, List, ℕ, length, true, false, Ok, None, OnOk, IfOk, IfSome};
 ghost use Rattle.std.specs.Io.KnownBytes.{Appends};
 ghost use Rattle.cops_types.specs.Failures.{Failed};
 ghost use Rattle.cops_types.specs.Counted.{failures, inner};
@@ -126,20 +126,30 @@ fn append_next(
     ensures next { IfOk result (AppendsNext bytes.now end text.old.items text.new.items) }
     ensures used { IfOk result (λ next. IfSome next (λ used. (0 < used) × (used ≤ length bytes.now) × (used ≤ end))) }
 {
-    let Decoded { message, used } = match decode(alloc, bytes) {
-        Ok(decoded) => decoded,
-        Err(fault) => {
-            return match fault {
-                WireFault::Memory => Err(Memory),
-                _ => Ok(None),
-            };
-        }
-    };
-    if used as u64 > end {
+    match decode(alloc, bytes) {
+        Ok(decoded) => append_ending(alloc, &decoded, end, text),
+        Err(fault) => match fault {
+            WireFault::Memory => Err(Memory),
+            _ => Ok(None),
+        },
+    }
+}
+
+/// Appends the line of a frame that ends at or before this place, and tells its length.
+fn append_ending(
+    alloc: Global,
+    frame: &Decoded,
+    end: u64,
+    text: &mut Vec<u8>,
+) -> Result<Option<usize>, Memory>
+    ensures late { result ≡ Ok None → (end < frame.now.used) × (text.new.items ≡ text.old.items) }
+    ensures line { IfOk result (λ next. IfSome next (λ used. (used ≡ frame.now.used) × (frame.now.used ≤ end) × (text.new.items ≡ text.old.items ++ line_of frame.now.message))) }
+{
+    if frame.used as u64 > end {
         return Ok(None);
     }
-    append_line(alloc, &message, text)?;
-    Ok(Some(used))
+    append_line(alloc, &frame.message, text)?;
+    Ok(Some(frame.used))
 }
 
 /// Appends the line of a message, with its end.

@@ -6,44 +6,43 @@ use Rattle.cops_node.specs.declared.event.NodeEvent.TheVariants.{Put, Get, Deliv
 use Rattle.cops_node.specs.declared.outcome.Outcome.{Outcome}
 use Rattle.cops_node.specs.declared.outcome.Outcome.TheVariants.{Yes, Wait, Refused}
 use Rattle.cops_store.specs.Store.{Stored, has_pair, shown}
-use Rattle.cops_node.specs.Outcomes.{IsGot}
 use Rattle.cops_node.specs.Node.{Node, opened, node_step, mark_at, settle_at, answer}
 use Rattle.cops_tie.specs.declared.entry.Entry.{Entry}
-use Rattle.cops_tie.specs.Book.{ABook, Replays, entry}
+use Rattle.cops_tie.specs.Book.{Replays, entry}
 
 -- refused for want of memory
 abbrev is_memory : Outcome → Bool
 is_memory (Refused code) = code == 9
 is_memory _ = false
 
--- a step of this node: its number stays, where it returns a value nothing changes, and it is never refused for want of memory
+-- a step of this node: its number stays, and it is never refused for want of memory
 abbrev IsTame : Node → Outcome × Node → Type 0
-IsTame n x = (x.1.number ≡ n.number) × (IsGot x.0 → x.1 ≡ n) × (is_memory x.0 ≡ false)
+IsTame n x = (x.1.number ≡ n.number) × (is_memory x.0 ≡ false)
 
 if_tame : (n : Node) (b : Bool) (x y : Outcome × Node) → IsTame n x → IsTame n y → IsTame n (if b then x else y)
 if_tame n true x y p q = p
 if_tame n false x y p q = q
 
 mark_tame : (n : Node) (version dep : ℕ) (w : Option Waiting) → IsTame n (mark_at n version dep w)
-mark_tame n version dep None = (refl, (λ g. absurd g), refl)
-mark_tame n version dep (Some w) = if_tame n _ _ _ (refl, (λ g. absurd g), refl) (refl, (λ g. absurd g), refl)
+mark_tame n version dep None = (refl, refl)
+mark_tame n version dep (Some w) = if_tame n _ _ _ (refl, refl) (refl, refl)
 
 settle_tame : (n : Node) (w : Option Waiting) → IsTame n (settle_at n w)
-settle_tame n None = (refl, (λ g. absurd g), refl)
-settle_tame n (Some w) = if_tame n _ _ _ (refl, (λ g. absurd g), refl) (refl, (λ g. absurd g), refl)
+settle_tame n None = (refl, refl)
+settle_tame n (Some w) = if_tame n _ _ _ (refl, refl) (refl, refl)
 
 get_tame : (n : Node) (o : Option Stored) → IsTame n (answer o, n)
-get_tame n None = (refl, (λ g. refl), refl)
-get_tame n (Some s) = (refl, (λ g. refl), refl)
+get_tame n None = (refl, refl)
+get_tame n (Some s) = (refl, refl)
 
 ask_tame : (n : Node) (b : Bool) → IsTame n (if b then Yes else Wait, n)
-ask_tame n true = (refl, (λ g. refl), refl)
-ask_tame n false = (refl, (λ g. refl), refl)
+ask_tame n true = (refl, refl)
+ask_tame n false = (refl, refl)
 
 step_tame : (n : Node) (e : NodeEvent) → IsTame n (node_step n e)
-step_tame n (Put client key value deps) = if_tame n _ _ _ (refl, (λ g. absurd g), refl) (refl, (λ g. absurd g), refl)
+step_tame n (Put client key value deps) = if_tame n _ _ _ (refl, refl) (refl, refl)
 step_tame n (Get client key) = get_tame n (shown n.settled key)
-step_tame n (Deliver put) = if_tame n _ _ _ (refl, (λ g. absurd g), refl) (refl, (λ g. absurd g), refl)
+step_tame n (Deliver put) = if_tame n _ _ _ (refl, refl) (refl, refl)
 step_tame n (Ask key version) = ask_tame n (has_pair n.settled (record { key = key; version = version }))
 step_tame n (Mark version dep) = mark_tame n version dep (waiting n.held version)
 step_tame n (Settle version) = settle_tame n (waiting n.held version)
@@ -62,19 +61,10 @@ book_more es t u ticket e out r is =
     let number : u.number ≡ t.number = sym (ap (λ (x : Outcome × Node). x.1.number) is) ∙ (step_tame t e).0 in
     subst (λ n. Replays (opened n) (es ++ entry ticket e out ∷ []) u) (sym number) (replays_more (opened t.number) es t u ticket e out r is)
 
--- an event that returned a value leaves the node as it was
-pub got_keeps : (t u : Node) (e : NodeEvent) (out : Outcome) → (node_step t e ≡ (out, u)) ⊎ ((out ≡ Refused 9) × (u ≡ t)) → IsGot out → u ≡ t
-got_keeps t u e out (inl is) got =
-    sym (ap (λ (x : Outcome × Node). x.1) is) ∙ (step_tame t e).1 (subst IsGot (sym (ap (λ (x : Outcome × Node). x.0) is)) got)
-got_keeps t u e out (inr m) got = m.1
-
-abbrev pub book_of : Node → List Entry → ABook
-book_of node entries = record { node = node; entries = entries }
-
 -- where memory was refused the node is as it was
 pub memory_keeps : (t u : Node) (e : NodeEvent) (out : Outcome) → (node_step t e ≡ (out, u)) ⊎ ((out ≡ Refused 9) × (u ≡ t)) → out ≡ Refused 9 → u ≡ t
 memory_keeps t u e out (inl is) m =
     let yes : is_memory (node_step t e).0 ≡ true = ap (λ (x : Outcome × Node). is_memory x.0) is ∙ ap is_memory m in
-    let no : is_memory (node_step t e).0 ≡ false = (step_tame t e).2 in
+    let no : is_memory (node_step t e).0 ≡ false = (step_tame t e).1 in
     absurd (let f : true ≡ false = sym yes ∙ no in cc)
 memory_keeps t u e out (inr r) m = r.1

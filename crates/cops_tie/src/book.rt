@@ -1,5 +1,9 @@
+ghost use Rattle.std.specs.Prelude.{◌≡◌, IfOk, OnErr};
+ghost use Rattle.cops_node.specs.Node.{node_step};
+
 use crate::entry::Entry;
 use cops_node::{MEMORY, Node, NodeEvent, Outcome};
+use cops_types::Memory;
 use std::alloc::Global;
 use std::marker::Model;
 
@@ -8,6 +12,14 @@ use std::marker::Model;
 pub struct Book {
     pub(crate) node: Node,
     pub(crate) entries: Vec<Entry>,
+}
+
+/// What a node answered to an event.
+#[derive(Drop)]
+struct Answer {
+    outcome: Outcome,
+    /// A copy of the outcome.
+    copy: Outcome,
 }
 
 impl Model for Book {
@@ -51,13 +63,10 @@ impl Book {
         let Ok(kept) = event.clone() else {
             return Outcome::Refused(MEMORY);
         };
-        let outcome = self.node.step(event);
-        if outcome.is_memory() {
-            return outcome;
-        }
-        let Ok(copy) = outcome.copy() else {
+        let Ok(answer) = answered(&mut self.node, event) else {
             return Outcome::Refused(MEMORY);
         };
+        let Answer { outcome, copy } = answer;
         self.entries.push_reserved(Entry {
             ticket,
             event: kept,
@@ -89,4 +98,27 @@ impl Book {
         let Book { node: _, entries } = self;
         entries
     }
+}
+
+/// The node takes one event, and its answer is copied. Where memory runs out nothing changes.
+fn answered(node: &mut Node, event: NodeEvent) -> Result<Answer, Memory>
+    ensures memory { OnErr result (node.new ≡ node.old) }
+    ensures stepped { IfOk result (λ answer. node_step node.old event ≡ (answer.outcome, node.new)) }
+    ensures copied { IfOk result (λ answer. answer.copy ≡ answer.outcome) }
+{
+    let outcome = stepped(node, event)?;
+    let copy = outcome.copy()?;
+    Ok(Answer { outcome, copy })
+}
+
+/// The node takes one event. Where memory runs out nothing changes.
+pub(crate) fn stepped(node: &mut Node, event: NodeEvent) -> Result<Outcome, Memory>
+    ensures memory { OnErr result (node.new ≡ node.old) }
+    ensures stepped { IfOk result (λ outcome. node_step node.old event ≡ (outcome, node.new)) }
+{
+    let outcome = node.step(event);
+    if outcome.is_memory() {
+        return Err(Memory);
+    }
+    Ok(outcome)
 }

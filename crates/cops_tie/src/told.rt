@@ -1,13 +1,13 @@
 //! What a book tells of its steps beside their answers.
-ghost use Rattle.std.specs.Prelude.{◌≡◌, ◌≢◌, IfOk, OnErr};
+ghost use Rattle.std.specs.Prelude.{◌≡◌, ◌≢◌, [], IfOk, OnErr};
 ghost use Rattle.cops_node.specs.Outcomes.{IsGot};
-ghost use Rattle.cops_tie.specs.Book.{put_made};
+ghost use Rattle.cops_tie.specs.Book.{put_made, puts_in};
 
-use crate::book::Book;
+use crate::book::{Book, stepped};
 use crate::entry::Entry;
-use cops_node::{NodeEvent, Outcome};
+use cops_node::{Node, NodeEvent, Outcome};
 use cops_types::{Memory, PutRecord};
-use std::alloc::Global;
+use std::alloc::{AllocError, Global};
 
 /// What a step answered, for whoever keeps its entry and what was seen too.
 #[derive(Debug, Drop)]
@@ -26,6 +26,22 @@ pub struct Puts {
     pub puts: Vec<PutRecord>,
     /// How many entries there are in all.
     pub entries: usize,
+}
+
+/// Copies of an event.
+#[derive(Drop)]
+struct Events {
+    kept: NodeEvent,
+    shared: NodeEvent,
+}
+
+/// What a node answered to an event, and copies of it.
+#[derive(Drop)]
+struct Answers {
+    outcome: Outcome,
+    kept: Outcome,
+    shared: Outcome,
+    seen: Outcome,
 }
 
 /// Copies of an outcome.
@@ -50,27 +66,20 @@ impl Book {
         ensures told { IfOk result (λ told. (told.seen ≡ told.outcome) × (told.entry ≡ entry ticket event told.outcome)) }
     {
         self.entries.reserve(1)?;
-        let kept = event.clone()?;
-        let shared = event.clone()?;
-        let outcome = self.node.step(event);
-        if outcome.is_memory() {
-            return Err(Memory);
-        }
-        let Ok(copies) = Copies::of(&outcome) else {
-            return Err(Memory);
-        };
+        let events = Events::of(&event)?;
+        let answers = Answers::of(&mut self.node, event)?;
         self.entries.push_reserved(Entry {
             ticket,
-            event: kept,
-            outcome: copies.kept,
+            event: events.kept,
+            outcome: answers.kept,
         });
         Ok(Told {
-            outcome,
-            seen: copies.seen,
+            outcome: answers.outcome,
+            seen: answers.seen,
             entry: Entry {
                 ticket,
-                event: shared,
-                outcome: copies.shared,
+                event: events.shared,
+                outcome: answers.shared,
             },
         })
     }
@@ -84,13 +93,39 @@ impl Book {
     {
         let entries = self.entries.len();
         let rest = &self.entries[place.min(entries)..];
-        let mut puts = Vec::new(alloc);
-        for entry in rest {
-            if let Some(put) = put_of(entry)? {
-                puts.push(put)?;
-            }
-        }
+        let puts = puts_of(alloc, rest)?;
         Ok(Puts { puts, entries })
+    }
+}
+
+impl Events {
+    fn of(event: &NodeEvent) -> Result<Events, AllocError>
+        ensures { IfOk result (λ events. (events.kept ≡ event.now) × (events.shared ≡ event.now)) }
+    {
+        let kept = event.clone()?;
+        let shared = event.clone()?;
+        Ok(Events { kept, shared })
+    }
+}
+
+impl Answers {
+    ghost use Rattle.std.specs.Prelude.{◌≡◌, IfOk, OnErr};
+    ghost use Rattle.cops_node.specs.Node.{node_step};
+
+    /// The node takes one event, and its answer is copied. Where memory runs out nothing changes.
+    fn of(node: &mut Node, event: NodeEvent) -> Result<Answers, Memory>
+        ensures memory { OnErr result (node.new ≡ node.old) }
+        ensures stepped { IfOk result (λ answers. node_step node.old event ≡ (answers.outcome, node.new)) }
+        ensures copied { IfOk result (λ answers. (answers.kept ≡ answers.outcome) × (answers.shared ≡ answers.outcome) × (answers.seen ≡ answers.outcome)) }
+    {
+        let outcome = stepped(node, event)?;
+        let copies = Copies::of(&outcome)?;
+        Ok(Answers {
+            outcome,
+            kept: copies.kept,
+            shared: copies.shared,
+            seen: copies.seen,
+        })
     }
 }
 
@@ -108,6 +143,20 @@ impl Copies {
             seen: outcome.copy()?,
         })
     }
+}
+
+/// Copies of the puts that entries issued. It takes memory only where one was.
+fn puts_of(alloc: Global, entries: &[Entry]) -> Result<Vec<PutRecord>, Memory>
+    ensures puts { IfOk result (λ puts. puts.items ≡ puts_in entries.now) }
+    ensures err { OnErr result (puts_in entries.now ≢ []) }
+{
+    let mut puts = Vec::new(alloc);
+    for entry in entries {
+        if let Some(put) = put_of(entry)? {
+            puts.push(put)?;
+        }
+    }
+    Ok(puts)
 }
 
 /// A copy of the put that an entry issued, if it issued one. It takes memory only where it did.

@@ -1,6 +1,6 @@
 //! Whether the entries of all books are one run of the world in which the clients saw what a trace says.
 ghost use Rattle.std.specs.Prelude.{◌≡◌, ◌<◌, ◌≤◌, ◌*◌, ◌+◌, ◌∷◌, ◌↔◌, List, drop, AllPairs, length, map, IfOk, IfErr, IfSome, IfNone, IsTrue, OnOk, Some};
-ghost use Rattle.cops_core.specs.World.{World as AWorld, context_in, sent};
+ghost use Rattle.cops_core.specs.World.{Happens, World as AWorld, context_in, opening, sent};
 ghost use Rattle.cops_core.specs.Invariants.{HasAcceptedVerdict};
 ghost use Rattle.cops_trace.specs.Text.{sessions_of};
 ghost use Rattle.cops_tie.specs.Tie.{Placed, IsBelow, Continues, Follows, IsFrom, IsHomeOf, IsTied, IsTiedBefore, IsUntied, StopsAt, event_at, event_of, place_asked, ticket, ticket_after};
@@ -10,7 +10,7 @@ use crate::entry::Entry;
 use crate::fault::TieFault;
 use crate::order::{Turn, in_order};
 use cops_core::{Event, World};
-use cops_node::NodeEvent;
+use cops_node::{NodeEvent, Outcome};
 use cops_scenario::Scenario;
 use cops_trace::Trace;
 use cops_types::{Deps, History, Memory, PutRecord};
@@ -40,12 +40,22 @@ pub fn tie(
     ensures untied { IfErr result (WhereUntied (IsUntied (setting_of scenario.now) (map (λ b. b.items) books.now) (sessions_of trace.now))) }
 {
     match tied_run(alloc, scenario, books, trace) {
-        Ok(run) => {
-            let TiedRun { events, .. } = run;
-            Ok(events)
-        }
+        Ok(run) => Ok(events_of(run)),
         Err(fault) => Err(fault),
     }
+}
+
+/// The events of a run, for whom its world is no longer of use.
+fn events_of(run: TiedRun) -> Vec<Event>
+    ensures { result.items ≡ run.events.items }
+{
+    let TiedRun {
+        events,
+        world,
+        next: _,
+    } = run;
+    drop(world);
+    events
 }
 
 /// The same, with the world that the run ends in. What the clients of a tied run saw is accepted.
@@ -63,17 +73,36 @@ pub fn tied_run(
 {
     let place = scenario.place();
     let order = in_order(alloc, place.dcs(), place.nodes(), books)?;
-    let mut world = scenario.open_world(alloc)?;
-    let events = followed(alloc, scenario, &mut world, &order)?;
-    let next = next_ticket(&order);
-    if !is_same(world.history(), trace.history()) {
-        return Err(TieFault::Untied { ticket: next });
+    let run = run_of(alloc, scenario, &order)?;
+    if is_same(run.world.history(), trace.history()) {
+        return Ok(run);
     }
-    Ok(TiedRun {
-        events,
-        world,
-        next,
-    })
+    let ticket = run.next;
+    drop(run);
+    Err(TieFault::Untied { ticket })
+}
+
+/// The run that the entries are, whatever the clients saw.
+fn run_of(alloc: Global, scenario: &Scenario, order: &[Turn<'_>]) -> Result<TiedRun, TieFault>
+    requires { AllPairs (λ p q. ticket p ≤ ticket q) (map shown order.now) }
+    ensures setting { IfOk result (λ run. run.world.setting ≡ setting_of scenario.now) }
+    ensures follows { IfOk result (λ run. Follows (setting_of scenario.now) (opening (setting_of scenario.now)) (map shown order.now) run.world.world) }
+    ensures events { IfOk result (λ run. run.events.items ≡ map event_of (map shown order.now)) }
+    ensures next { IfOk result (λ run. run.next ≡ ticket_after (map shown order.now)) }
+    ensures stops { IfErr result (WhereUntied (StopsAt (setting_of scenario.now) (opening (setting_of scenario.now)) (map shown order.now))) }
+{
+    let mut world = scenario.open_world(alloc)?;
+    match followed(alloc, scenario, &mut world, order) {
+        Ok(events) => Ok(TiedRun {
+            events,
+            world,
+            next: next_ticket(order),
+        }),
+        Err(fault) => {
+            drop(world);
+            Err(fault)
+        }
+    }
 }
 
 /// Follows the entries, and gives the world's events.
@@ -131,17 +160,33 @@ fn continued(
         return Ok(None);
     }
     let event = world_event(turn.dc, &turn.entry.event)?;
-    if turn.entry.outcome.is_memory() {
-        return Ok(Some(event));
+    match is_answered(world, &event, &turn.entry.outcome) {
+        Ok(true) => Ok(Some(event)),
+        Ok(false) => {
+            drop(event);
+            Ok(None)
+        }
+        Err(memory) => {
+            drop(event);
+            Err(memory)
+        }
     }
-    let outcome = world.answer(&event);
+}
+
+/// Whether the world answers the event so, which it then has met.
+fn is_answered(world: &mut World, event: &Event, answer: &Outcome) -> Result<bool, Memory>
+    ensures setting { world.new.setting ≡ world.old.setting }
+    ensures yes { IfOk result (λ is. IsTrue is → Happens world.old.setting world.old.world event.now answer.now world.new.world) }
+    ensures no { IfOk result (λ is. ¬ IsTrue is → (mid : AWorld) → Happens world.old.setting world.old.world event.now answer.now mid → ⊥) }
+{
+    if answer.is_memory() {
+        return Ok(true);
+    }
+    let outcome = world.answer(event);
     if outcome.is_memory() {
         return Err(Memory);
     }
-    if outcome != turn.entry.outcome {
-        return Ok(None);
-    }
-    Ok(Some(event))
+    Ok(outcome == *answer)
 }
 
 /// Whether the entry stands with the node that its event belongs to, and the node was told what the world has.

@@ -1,5 +1,6 @@
 //! What stands next in a trace's text.
-ghost use Rattle.std.specs.Prelude.{◌≡◌, ◌≢◌, ◌<◌, ◌≤◌, ◌^◌, ◌+◌, ℕ, length, None, Some, IfOk};
+ghost use Rattle.std.specs.Prelude.{◌≡◌, ◌≢◌, ◌<◌, ◌≤◌, ◌^◌, ◌+◌, ℕ, length, None, Some, IfOk, IfNone, IfSome};
+ghost use Rattle.cops_types.specs.declared.op.Op.{Op as AnOp};
 ghost use Rattle.cops_trace.specs.Next.{Stands, unread, first_message, later_message, record_found, end_found};
 ghost use Rattle.cops_trace.specs.Parsing.{progress_with, IsWithin};
 
@@ -34,14 +35,15 @@ fn unread(at: u64, fault: WireFault) -> Result<Found, Memory>
 }
 
 /// What the first message means.
-fn first_message(message: Message, used: usize) -> Found
-    ensures { result ≡ first_message message used }
+fn first_message(message: &Message, used: usize) -> Found
+    ensures { result ≡ first_message message.now used }
 {
     match message {
-        Message::TraceHead { format: 1, clients } => Found::Gives {
-            item: Item::Head { clients },
-            used,
-        },
+        Message::TraceHead { format: 1, clients } => {
+            let clients = *clients;
+            let item = Item::Head { clients };
+            Found::Gives { item, used }
+        }
         Message::TraceHead { .. } => Found::Fails(TraceFault::BadFormat { offset: 0 }),
         _ => Found::Fails(TraceFault::NoHead { offset: 0 }),
     }
@@ -53,8 +55,31 @@ pub(crate) fn first_found(alloc: Global, bytes: &[u8]) -> Result<Found, Memory>
     ensures within { IfOk result (λ found. IsWithin found (length bytes.now)) }
 {
     match decode(alloc, bytes) {
-        Ok(decoded) => Ok(first_message(decoded.message, decoded.used)),
+        Ok(decoded) => {
+            let found = first_message(&decoded.message, decoded.used);
+            drop(decoded);
+            Ok(found)
+        }
         Err(fault) => unread(0, fault),
+    }
+}
+
+/// The fault of a client's record with this index after those of the trace, if it has one.
+fn record_fault(trace: &Trace, at: u64, client: u16, index: u32) -> Option<TraceFault>
+    ensures none { IfNone result ((op : AnOp) (used : ℕ) → record_found (progress_with at trace.now) (record { client = client; op = op }) index used ≡ Found.Gives (Item.Entry (record { client = client; op = op })) used) }
+    ensures some { IfSome result (λ fault. (op : AnOp) (used : ℕ) → record_found (progress_with at trace.now) (record { client = client; op = op }) index used ≡ Found.Fails fault) }
+{
+    let turn = trace.turn(client);
+    if client >= trace.clients() {
+        return Some(TraceFault::ClientOutOfRange { offset: at });
+    }
+    if index as usize != turn {
+        return Some(TraceFault::IndexOutOfTurn { offset: at });
+    }
+    if turn < CLIENT_LIMIT && trace.len() < TRACE_LIMIT {
+        None
+    } else {
+        Some(TraceFault::TooLong { offset: at })
     }
 }
 
@@ -62,18 +87,15 @@ pub(crate) fn first_found(alloc: Global, bytes: &[u8]) -> Result<Found, Memory>
 fn record_found(trace: &Trace, at: u64, entry: Record, index: u32, used: usize) -> Found
     ensures { result ≡ record_found (progress_with at trace.now) entry index used }
 {
-    let turn = trace.turn(entry.client);
-    if entry.client >= trace.clients() {
-        return Found::Fails(TraceFault::ClientOutOfRange { offset: at });
-    }
-    if index as usize != turn {
-        return Found::Fails(TraceFault::IndexOutOfTurn { offset: at });
-    }
-    if turn < CLIENT_LIMIT && trace.len() < TRACE_LIMIT {
-        let item = Item::Entry(entry);
-        Found::Gives { item, used }
-    } else {
-        Found::Fails(TraceFault::TooLong { offset: at })
+    match record_fault(trace, at, entry.client, index) {
+        Some(fault) => {
+            drop(entry);
+            Found::Fails(fault)
+        }
+        None => {
+            let item = Item::Entry(entry);
+            Found::Gives { item, used }
+        }
     }
 }
 
@@ -127,7 +149,10 @@ fn later_message(trace: &Trace, at: u64, message: Message, used: usize) -> Found
             record_found(trace, at, Record { client, op }, index, used)
         }
         Message::TraceEnd { ops } => end_found(trace, at, ops, used),
-        _ => Found::Fails(TraceFault::NotARecord { offset: at }),
+        other => {
+            drop(other);
+            Found::Fails(TraceFault::NotARecord { offset: at })
+        }
     }
 }
 

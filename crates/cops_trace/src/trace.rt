@@ -1,8 +1,8 @@
-ghost use Rattle.std.specs.Prelude.{◌≡◌, IfOk};
+ghost use Rattle.std.specs.Prelude.{◌≡◌, ◌++◌, IfOk, OnOk};
 ghost use Rattle.cops_types.specs.declared.format.Format.TheVariants.{One};
 ghost use Rattle.cops_wire.specs.Grammar.{grammar, IsMessage};
 ghost use Rattle.cops_wire.specs.Message.{parts};
-ghost use Rattle.cops_trace.specs.Text.{IsOp, op_message};
+ghost use Rattle.cops_trace.specs.Text.{IsOp, op_message, spelled};
 
 use cops_types::{History, Memory, Op, OpName, TypeFault};
 use cops_wire::{Message, encode};
@@ -102,7 +102,7 @@ impl Trace {
             let client = self.arrivals[at];
             let index = turns[client as usize];
             match self.history.op(OpName { client, index }) {
-                Some(op) => encode(&message(client, index, op)?, out)?,
+                Some(op) => append_record(client, index, op, out)?,
                 None => unreachable!(),
             }
             turns[client as usize] = index + 1;
@@ -124,6 +124,17 @@ impl Trace {
 pub struct Partial {
     pub trace: Trace,
     pub cut: Option<u64>,
+}
+
+/// Appends the spelling of an operation's record.
+#[tactic(auto, unfolding(crate::specs::Text::spelled))]
+fn append_record(client: u16, index: u32, op: &Op, out: &mut Vec<u8>) -> Result<(), Memory>
+    ensures { OnOk result (out.new.items ≡ out.old.items ++ spelled (op_message client index op.now)) }
+{
+    let message = message(client, index, op)?;
+    let appended = encode(&message, out);
+    drop(message);
+    appended
 }
 
 /// An operation's record, with this index in the client's session.

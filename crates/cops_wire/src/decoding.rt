@@ -101,6 +101,7 @@ fn body(format: Format, alloc: Global, text: &[u8]) -> Result<Decoded, WireFault
             if rest.bytes.is_empty() {
                 Ok(Decoded { message, used })
             } else {
+                drop(message);
                 Err(WireFault::TrailingBytes)
             }
         }

@@ -7,7 +7,7 @@ ghost use Rattle.cops_wire.specs.Message.{kind_of};
 ghost use Rattle.cops_wire.specs.Reading.{GivesField, GivesNumber, GivesContents, number_at, number_in_at, string_at, version_at, pair_at, pairs_at, deps_at, GivesPart};
 
 use crate::message::Message;
-use crate::table::kinds;
+use crate::table::{group, kinds};
 use cops_types::{Dep, Deps, Format, Key, TypeFault, Value, Version};
 use std::alloc::{AllocError, AllocFailed, Global};
 
@@ -45,25 +45,22 @@ impl<T: Drop> From<AllocFailed<T>> for ReadFault {
     }
 }
 
-/// The message of a kind of one group of the table.
-macro_rules! read_group {
-    (front, $kind:ident, $rest:ident; front { $($rows:tt)* } node { $($n:tt)* } trace { $($t:tt)* }) => {
-        read!($kind, $rest; $($rows)*)
-    };
-    (node, $kind:ident, $rest:ident; front { $($f:tt)* } node { $($rows:tt)* } trace { $($t:tt)* }) => {
-        read!($kind, $rest; $($rows)*)
-    };
-    (trace, $kind:ident, $rest:ident; front { $($f:tt)* } node { $($n:tt)* } trace { $($rows:tt)* }) => {
-        read!($kind, $rest; $($rows)*)
+/// A match on the kind, which reads the fields from left to right.
+macro_rules! read {
+    ($kind:ident $rest:ident; $($number:literal => $name:ident { $($field:ident: $type:ident($($arg:literal),*)),* }),*) => {
+        match $kind {
+            $($number => return Ok(Message::$name { $($field: taken!($rest.$type($($arg),*))),* }),)*
+            _ => return Err(ReadFault::UnknownKind),
+        }
     };
 }
 
-/// A match on the kind, which reads the fields from left to right.
-macro_rules! read {
-    ($kind:ident, $rest:ident; $($number:literal => $name:ident { $($field:ident: $type:ident($($arg:literal),*)),* }),*) => {
-        match $kind {
-            $($number => return Ok(Message::$name { $($field: $rest.$type($($arg),*)?),* }),)*
-            _ => return Err(ReadFault::UnknownKind),
+/// A field that was read; a fault is returned.
+macro_rules! taken {
+    ($read:expr) => {
+        match $read {
+            Ok(field) => field,
+            Err(fault) => return Err(fault),
         }
     };
 }
@@ -269,40 +266,132 @@ impl<'a> Rest<'a> {
         ensures contents { GivesContents (grammar self.old.format) kind self.old.bytes.now result self.new.bytes.now }
         ensures kind { IfOk result (λ m. kind_of m ≡ kind) }
     {
-        if kind < 9 {
-            self.front_message(kind)
+        if kind < 3 {
+            self.greeting_message(kind)
+        } else if kind < 5 {
+            self.asking_message(kind)
+        } else if kind < 7 {
+            self.found_message(kind)
+        } else if kind < 9 {
+            self.refused_message(kind)
+        } else if kind < 10 {
+            self.put_after_message(kind)
+        } else if kind < 13 {
+            self.checking_message(kind)
         } else if kind < 17 {
-            self.node_message(kind)
+            self.session_message(kind)
+        } else if kind < 18 {
+            self.trace_head_message(kind)
+        } else if kind < 19 {
+            self.trace_put_message(kind)
+        } else if kind < 20 {
+            self.trace_got_message(kind)
         } else {
-            self.trace_message(kind)
+            self.trace_end_message(kind)
         }
     }
 
-    fn front_message(&mut self, kind: u8) -> Result<Message, ReadFault>
-        requires { kind < 9 }
+    fn greeting_message(&mut self, kind: u8) -> Result<Message, ReadFault>
+        requires { kind < 3 }
         ensures contents { GivesContents (grammar self.old.format) kind self.old.bytes.now result self.new.bytes.now }
         ensures kind { IfOk result (λ m. kind_of m ≡ kind) }
     {
         let rest = self;
-        kinds!(read_group front, kind, rest)
+        kinds!(group greeting read kind rest)
     }
 
-    fn node_message(&mut self, kind: u8) -> Result<Message, ReadFault>
-        requires from { 9 ≤ kind }
+    fn asking_message(&mut self, kind: u8) -> Result<Message, ReadFault>
+        requires from { 3 ≤ kind }
+        requires to { kind < 5 }
+        ensures contents { GivesContents (grammar self.old.format) kind self.old.bytes.now result self.new.bytes.now }
+        ensures kind { IfOk result (λ m. kind_of m ≡ kind) }
+    {
+        let rest = self;
+        kinds!(group asking read kind rest)
+    }
+
+    fn found_message(&mut self, kind: u8) -> Result<Message, ReadFault>
+        requires from { 5 ≤ kind }
+        requires to { kind < 7 }
+        ensures contents { GivesContents (grammar self.old.format) kind self.old.bytes.now result self.new.bytes.now }
+        ensures kind { IfOk result (λ m. kind_of m ≡ kind) }
+    {
+        let rest = self;
+        kinds!(group found read kind rest)
+    }
+
+    fn refused_message(&mut self, kind: u8) -> Result<Message, ReadFault>
+        requires from { 7 ≤ kind }
+        requires to { kind < 9 }
+        ensures contents { GivesContents (grammar self.old.format) kind self.old.bytes.now result self.new.bytes.now }
+        ensures kind { IfOk result (λ m. kind_of m ≡ kind) }
+    {
+        let rest = self;
+        kinds!(group refused read kind rest)
+    }
+
+    fn put_after_message(&mut self, kind: u8) -> Result<Message, ReadFault>
+        requires { kind ≡ 9 }
+        ensures contents { GivesContents (grammar self.old.format) kind self.old.bytes.now result self.new.bytes.now }
+        ensures kind { IfOk result (λ m. kind_of m ≡ kind) }
+    {
+        let rest = self;
+        kinds!(group put_after read kind rest)
+    }
+
+    fn checking_message(&mut self, kind: u8) -> Result<Message, ReadFault>
+        requires from { 10 ≤ kind }
+        requires to { kind < 13 }
+        ensures contents { GivesContents (grammar self.old.format) kind self.old.bytes.now result self.new.bytes.now }
+        ensures kind { IfOk result (λ m. kind_of m ≡ kind) }
+    {
+        let rest = self;
+        kinds!(group checking read kind rest)
+    }
+
+    fn session_message(&mut self, kind: u8) -> Result<Message, ReadFault>
+        requires from { 13 ≤ kind }
         requires to { kind < 17 }
         ensures contents { GivesContents (grammar self.old.format) kind self.old.bytes.now result self.new.bytes.now }
         ensures kind { IfOk result (λ m. kind_of m ≡ kind) }
     {
         let rest = self;
-        kinds!(read_group node, kind, rest)
+        kinds!(group session read kind rest)
     }
 
-    fn trace_message(&mut self, kind: u8) -> Result<Message, ReadFault>
-        requires { 17 ≤ kind }
+    fn trace_head_message(&mut self, kind: u8) -> Result<Message, ReadFault>
+        requires { kind ≡ 17 }
         ensures contents { GivesContents (grammar self.old.format) kind self.old.bytes.now result self.new.bytes.now }
         ensures kind { IfOk result (λ m. kind_of m ≡ kind) }
     {
         let rest = self;
-        kinds!(read_group trace, kind, rest)
+        kinds!(group trace_head read kind rest)
+    }
+
+    fn trace_put_message(&mut self, kind: u8) -> Result<Message, ReadFault>
+        requires { kind ≡ 18 }
+        ensures contents { GivesContents (grammar self.old.format) kind self.old.bytes.now result self.new.bytes.now }
+        ensures kind { IfOk result (λ m. kind_of m ≡ kind) }
+    {
+        let rest = self;
+        kinds!(group trace_put read kind rest)
+    }
+
+    fn trace_got_message(&mut self, kind: u8) -> Result<Message, ReadFault>
+        requires { kind ≡ 19 }
+        ensures contents { GivesContents (grammar self.old.format) kind self.old.bytes.now result self.new.bytes.now }
+        ensures kind { IfOk result (λ m. kind_of m ≡ kind) }
+    {
+        let rest = self;
+        kinds!(group trace_got read kind rest)
+    }
+
+    fn trace_end_message(&mut self, kind: u8) -> Result<Message, ReadFault>
+        requires { 20 ≤ kind }
+        ensures contents { GivesContents (grammar self.old.format) kind self.old.bytes.now result self.new.bytes.now }
+        ensures kind { IfOk result (λ m. kind_of m ≡ kind) }
+    {
+        let rest = self;
+        kinds!(group trace_end read kind rest)
     }
 }

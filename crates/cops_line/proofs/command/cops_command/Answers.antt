@@ -8,11 +8,7 @@ use Rattle.cops_line.proofs.command.cops_command.Goals as goal
 pub returns : goal.returns
 unfolding cops_app
 returns c =
-    let audit_is = ap (λ (a : App). a.top) c.in_ok-audit.ensures.app in
-    let show_is = ap (λ (a : App). a.top) c.in_ok-show.ensures.app in
     let run_is = ap (λ (a : App). a.top) c.in_ok-run.ensures.app in
-    let with_audit = c.in_ok-subcommand.ensures.shape c.in_ok-audit.ensures.local ∙ ap₂ with_subcommand c.in_ok-top_command.ensures.app audit_is in
-    let with_show = c.in_ok-subcommand-2.ensures.shape c.in_ok-show.ensures.local ∙ ap₂ with_subcommand with_audit show_is in
     let serve_is = ap (λ (a : App). a.top) c.in_ok-serve.ensures.app in
-    let with_run = c.in_ok-subcommand-3.ensures.shape c.in_ok-run.ensures.local ∙ ap₂ with_subcommand with_show run_is in
-    IfOk-weaker c.subcommand-4.result _ _ (λ r h. h.shape c.in_ok-serve.ensures.local ∙ ap₂ with_subcommand with_run serve_is) c.subcommand-4.ensures
+    let with_run = c.in_ok-command.ensures.shape c.in_ok-run.ensures.local ∙ ap₂ with_subcommand c.in_ok-reading_command.ensures run_is in
+    IfOk-weaker c.subcommand-2.result _ _ (λ r h. h.shape c.in_ok-serve.ensures.local ∙ ap₂ with_subcommand with_run serve_is) c.subcommand-2.ensures

@@ -7,13 +7,13 @@ pub returns-then-not-is_handed-clause-ok : goal.returns-then-not-is_handed-claus
 returns-then-not-is_handed-clause-ok g c = (
   [],
   sym (append-nil _),
-  own_turn c.args.greeted c.args.message c.own_reply.result (sym c.is_handed.ensures ∙ c.if-not-is_handed.true) c.own_reply.ensures.reply c.own_reply.ensures.no_welcome,
+  own_turn c.args.greeted c.args.message c.own_reply-reply.result (sym c.is_handed.ensures ∙ c.if-not-is_handed.true) c.own_reply-reply.ensures.reply c.own_reply-reply.ensures.no_welcome,
 )
 
-pub returns-clause-ok : goal.returns-clause-ok
-returns-clause-ok g c =
+pub returns-in-Ok-clause-ok : goal.returns-in-Ok-clause-ok
+returns-in-Ok-clause-ok g c =
     let t = c.ask.ensures.told in (
       t.0 ∷ [],
-      t.1 ∙ ap (λ x. x ++ t.0 ∷ []) c.in_ok-room.ensures.kept,
+      t.1 ∙ ap (λ x. x ++ t.0 ∷ []) c.in-Ok.ensures.kept,
       handed_turn c.args.greeted c.args.message t.0 c.ask.result (sym c.is_handed.ensures ∙ c.if-not-is_handed.false) t.2 t.3 t.4,
     )

@@ -51,17 +51,17 @@ loop-answered-preserved g c = record {
   writes = heard_ok _ _ c.in_ok-greeted.ensures.heard ∙ c.loop-answered.invariant.writes;
 }
 
-pub returns-in_err-next-clause-serves : goal.returns-in_err-next-clause-serves
-returns-in_err-next-clause-serves g c =
-    let p = err_from_is_err_and c.from_residual-in_err-next.result c.from_residual-in_err-next.ensures.1 in
-    rw (p.1, p.2) (fails_reading c.loop-answered.invariant.going (g.I.Read.remaining (inner c.next-2.new.reader)) c.next-2.new.self.feeder.rest c.in_err-next.field-0.0 c.in_err-next.ensures.next)
+pub returns-in_err-message-2-clause-serves : goal.returns-in_err-message-2-clause-serves
+returns-in_err-message-2-clause-serves g c =
+    let p = err_from_is_err_and c.from_residual-in_err-message-2.result c.from_residual-in_err-message-2.ensures.1 in
+    rw (p.1, p.2) (fails_reading c.loop-answered.invariant.going (g.I.Read.remaining (inner c.next-2.new.reader)) c.next-2.new.self.feeder.rest c.in_err-message-2.field-0.0 c.in_err-message-2.ensures.next)
 
 pub returns-in-Some-2-clause-serves : goal.returns-in-Some-2-clause-serves
 returns-in-Some-2-clause-serves g c =
-    is_full c.loop-answered.invariant.going (g.I.Read.remaining (inner c.next-2.new.reader)) c.next-2.new.self.feeder.rest c.in-Some-2.field-0
-    (omega (arith, c.loop-answered-test.false, c.loop-answered.auto.answered-end)) (rw c.in-Some-2.is at c.in_ok-next.ensures.next)
+    is_full c.loop-answered.invariant.going (g.I.Read.remaining (inner c.next-2.new.reader)) c.next-2.new.self.feeder.rest c.in-Some-2.message
+    (omega (arith, c.loop-answered-test.false, c.loop-answered.auto.answered-end)) (rw c.in-Some-2.is at c.in_ok-message-2.ensures.next)
 
 pub returns-clause-serves : goal.returns-clause-serves
 returns-clause-serves g c =
     ends_there c.loop-answered.invariant.going (g.I.Read.remaining (inner c.next-2.new.reader)) c.next-2.new.self.feeder.rest 1000000
-    (omega (arith, c.loop-answered-test.false, c.loop-answered.auto.answered-end)) (rw c.in-None-2.is at c.in_ok-next.ensures.next)
+    (omega (arith, c.loop-answered-test.false, c.loop-answered.auto.answered-end)) (rw c.in-None-2.is at c.in_ok-message-2.ensures.next)

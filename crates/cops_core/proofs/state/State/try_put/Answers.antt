@@ -1,4 +1,4 @@
-use Rattle.std.proofs.Common.{rules, ◌≡◌, [], ◌∷◌, ◌++◌, slice_set, sym, ap, ◌∙◌}
+use Rattle.std.proofs.Common.{◌≡◌, [], ◌∷◌, ◌++◌, slice_set, sym, ap, ◌∙◌}
 use Rattle.cops_types.specs.declared.op.Op.TheVariants.{Put as Wrote}
 use Rattle.cops_types.specs.Recorded.{with_op}
 use Rattle.cops_node.specs.declared.outcome.Outcome.TheVariants.{PutDone}
@@ -12,8 +12,8 @@ pub drafted-requires : goal.drafted-requires
 drafted-requires c =
     client_there (entered c.primary-place.ensures.setting c.self.view_is c.requires (admitted c.in_default.ensures.same c.in_default.ensures.ok))
 
-pub drafted-requires-2 : goal.drafted-requires-2
-drafted-requires-2 c =
+pub copies_of-requires : goal.copies_of-requires
+copies_of-requires c =
     client_there (entered c.primary-place.ensures.setting c.self.view_is c.requires (admitted c.in_default.ensures.same c.in_default.ensures.ok))
 
 pub home-requires : goal.home-requires
@@ -28,15 +28,15 @@ pub node-node-requires-clause-place : goal.node-node-requires-clause-place
 node-node-requires-clause-place c =
     place_there (home_asked (entered c.primary-place.ensures.setting c.self.view_is c.requires (admitted c.in_default.ensures.same c.in_default.ensures.ok)) c.home.ensures) c.primary-place.ensures.range
 
-pub push-requires-clause-new : goal.push-requires-clause-new
-push-requires-clause-new c =
+pub keep_put-requires-clause-new : goal.keep_put-requires-clause-new
+keep_put-requires-clause-new c =
     let a = entered c.primary-place.ensures.setting c.self.view_is c.requires (admitted c.in_default.ensures.same c.in_default.ensures.ok) in
     ap (λ puts. sent puts c.in-PutDone.version) c.reserve.ensures.same
     ∙ new_version a c.args.key.now c.args.value.now c.home.result c.primary-place.result c.in-PutDone.version c.node-node.result.now c.put.new.self c.in_ok-own.own
     c.home.ensures c.primary-place.ensures.count c.node-node.ensures.value c.in_ok-own.ensures c.in-PutDone.ensures.happens
 
-pub replace-requires : goal.replace-requires
-replace-requires c =
+pub keep_put-requires-clause-client : goal.keep_put-requires-clause-client
+keep_put-requires-clause-client c =
     client_there (entered c.primary-place.ensures.setting c.self.view_is c.requires (admitted c.in_default.ensures.same c.in_default.ensures.ok))
 
 pub returns-in-PutDone-clause-ok : goal.returns-in-PutDone-clause-ok
@@ -46,12 +46,11 @@ returns-in-PutDone-clause-ok c =
     let client = c.args.client in
     let made = with_parts w c.home.result c.primary-place.result c.put.new.self in
     let version = c.in-PutDone.version in
-    let kept = c.in_ok-kept.ensures in
-    let issued = c.push.ensures ∙ (λ i. c.reserve.ensures.same i ++ record { key = (kept i).key; value = (kept i).value; version = version; deps = (kept i).deps } ∷ []) in
-    let contexts = c.replace.ensures ∙ (λ i. slice_set w.contexts client (record { key = c.in_ok-pair_key.ensures.cases i; version = version } ∷ [])) in
-    let recorded : c.record.new.history.sessions ≡ with_op c.admit.new.history.sessions client (Wrote c.in_ok-op_key-inside.field-0 c.in_ok-op_value-inside.field-0 version) = search rules in
-    let sessions = recorded ∙ (λ i. with_op (c.in_default.ensures.same i) client (Wrote (c.in_ok-op_key-inside.ensures.cases i) (c.in_ok-op_value-inside.ensures.cases i) version)) in
-    puts_at a c.args.key.now c.args.value.now c.home.result c.primary-place.result (PutDone version) c.node-node.result.now c.put.new.self c.in_ok-own.own (made c.push.new.self.puts c.replace.new.self.pairs c.record.new.history.sessions)
+    let kept = c.in_ok-copies.ensures in
+    let issued = c.keep_put.ensures.issued ∙ (λ i. c.reserve.ensures.same i ++ record { key = (kept i).issued.key; value = (kept i).issued.value; version = version; deps = (kept i).issued.deps } ∷ []) in
+    let contexts = c.keep_put.ensures.context ∙ (λ i. slice_set w.contexts client (record { key = (kept i).pair_key; version = version } ∷ [])) in
+    let sessions = c.keep_put.ensures.session ∙ (λ i. with_op (c.in_default.ensures.same i) client (Wrote (kept i).op_key (kept i).op_value version)) in
+    puts_at a c.args.key.now c.args.value.now c.home.result c.primary-place.result (PutDone version) c.node-node.result.now c.put.new.self c.in_ok-own.own (made c.keep_put.new.issued.puts c.keep_put.new.contexts.pairs c.keep_put.new.history.sessions)
     c.home.ensures c.primary-place.ensures.count c.node-node.ensures.value c.in_ok-own.ensures c.in-PutDone.ensures.happens
     (λ i. made (issued i) (contexts i) (sessions i))
 

@@ -51,11 +51,10 @@ loop-at-preserved c =
     let some : Some c.in-Some.op.now ≡ op_at h (record { client = d; index = n }) = c.in-Some.ensures.operation in
     let both : Some c.in-Some.op.now ≡ Some (op_in h d (times d (take at cs))) = some ∙ a.is_there ∙ ap (λ x. Some (op_in h d x)) index in
     let op : c.in-Some.op.now ≡ op_in h d (times d (take at cs)) = cc in
-    let m : c.in_ok-message-in-Some.field-0 ≡ op_message d n c.in-Some.op.now = c.in_ok-message-in-Some.ensures.value in
-    let e : c.encode.new.out.items ≡ c.loop-at.out.items ++ spelled c.in_ok-message-in-Some.field-0 = c.in_ok-encode-in-Some.ensures.ok in
+    let e : c.append_record.new.out.items ≡ c.loop-at.out.items ++ spelled (op_message d n c.in-Some.op.now) = c.in_ok-append_record-in-Some.ensures in
     let next : suc at ≡ at + 1 = omega arith in
-    let more : c.encode.new.out.items ≡ c.args.out.now.items ++ records_text [] (records_from h [] (take (suc at) cs)) =
-    e ∙ ap (λ x. c.loop-at.out.items ++ spelled x) (m ∙ ap (λ x. op_message d x c.in-Some.op.now) index ∙ ap (op_message d (times d (take at cs))) op)
+    let more : c.append_record.new.out.items ≡ c.args.out.now.items ++ records_text [] (records_from h [] (take (suc at) cs)) =
+    e ∙ ap (λ x. c.loop-at.out.items ++ spelled x) (ap (λ x. op_message d x c.in-Some.op.now) index ∙ ap (op_message d (times d (take at cs))) op)
     ∙ ap (λ x. x ++ spelled (op_message d (times d (take at cs)) (op_in h d (times d (take at cs))))) k.3
     ∙ append_assoc c.args.out.now.items (records_text [] (records_from h [] (take at cs))) (spelled (op_message d (times d (take at cs)) (op_in h d (times d (take at cs)))))
     ∙ ap (λ x. c.args.out.now.items ++ (records_text [] (records_from h [] (take at cs)) ++ spelled (op_message x (times x (take at cs)) (op_in h x (times x (take at cs)))))) client
@@ -66,5 +65,5 @@ loop-at-preserved c =
       k.0,
       length-set turns d (n + 1) ∙ k.1,
       λ x there. subst (λ l. get_or l x 0 ≡ times x (take (at + 1) cs)) same (subst (λ i. get_or (set turns (get_or cs at 0) (get_or turns (get_or cs at 0) 0 + 1)) x 0 ≡ times x (take i cs)) next (counts x (omega (arith, there, length-set turns d (n + 1))))),
-      subst (λ i. c.encode.new.out.items ≡ c.args.out.now.items ++ records_text [] (records_from h [] (take i cs))) next more,
+      subst (λ i. c.append_record.new.out.items ≡ c.args.out.now.items ++ records_text [] (records_from h [] (take i cs))) next more,
     )
