@@ -17,9 +17,12 @@ def kit():
     loader = importlib.machinery.SourceFileLoader("rt", os.path.realpath(command))
     module = importlib.util.module_from_spec(importlib.util.spec_from_loader("rt", loader))
     loader.exec_module(module)
+    # Crates as the kit's gate knows them: what each may do is held to the repository's HANDLES.
+    module.rtlib.Crate = module.Crate
+    module.Crate.allowed = module.handles_of(ROOT)
     return module
 
 
-def crate_of(library, name):
+def crate_of(module, name):
     """The crate of that name, or none."""
-    return next((it for it in library.crates_below(ROOT) if it.name == name), None)
+    return next((it for it in module.rtlib.crates_below(ROOT) if it.name == name), None)

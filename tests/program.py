@@ -648,9 +648,9 @@ def definition_files():
             check(f"the lines of {name}", sum(1 for _ in file), int(lines))
 
 
-def tried_edits():
-    """Each edit that the gate does not try could be tried: what it replaces is in its file, once."""
-    paths = sorted(glob.glob(os.path.join(ROOT, "crates", "*", "tried", "*.edit")))
+def wrong_edits():
+    """Each wrong edit, also one that the gate does not try, could be tried: what it replaces is in its file, once."""
+    paths = sorted(glob.glob(os.path.join(ROOT, "crates", "*", "wrong", "*.edit")) + glob.glob(os.path.join(ROOT, "crates", "*", "tried", "*.edit")))
     check("there are edits", len(paths) > 0, True)
     for path in paths:
         crate, source = os.path.dirname(os.path.dirname(path)), ""
@@ -668,7 +668,7 @@ def tried_edits():
 
 for tests in (
     examples, long_chain, many_rounds, faults, shown, scenarios, refusals, faulty_scenarios, scripts, mixed_scripts, working_clusters, plain_cluster.random_worlds, many_workers, served,
-    replies, strange_peers, words, devices, generated, little_memory, no_thread, definition_files, tried_edits, plain.rows, plain.random_histories,
+    replies, strange_peers, words, devices, generated, little_memory, no_thread, definition_files, wrong_edits, plain.rows, plain.random_histories,
 ):
     tests()
 print(f"{counts['passed']} passed, {counts['failed']} failed")

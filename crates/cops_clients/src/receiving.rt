@@ -85,6 +85,7 @@ impl Cluster {
         ensures held { OnErr result (MayHoldStep (G.may_hold gate.now) (node_of self.now dc put.key) 65535) }
     {
         let Some(spot) = self.spot_of(dc, &put.key) else {
+            drop(put);
             return Ok(Outcome::Refused(UNKNOWN_DC));
         };
         self.received(rt, share, gate, spot, NodeEvent::Deliver(put))
@@ -117,14 +118,20 @@ impl Cluster {
             return Ok(Asked::Other(Outcome::Refused(MEMORY)));
         };
         let Ok(named) = key.clone() else {
+            drop(asked);
             return Ok(Asked::Other(Outcome::Refused(MEMORY)));
         };
         let event = NodeEvent::Ask {
             key: asked,
             version,
         };
-        let outcome = self.received(rt, share, gate, spot, event)?;
-        Ok(asked_of(dc, named, version, outcome))
+        match self.received(rt, share, gate, spot, event) {
+            Ok(outcome) => Ok(asked_of(dc, named, version, outcome)),
+            Err(held) => {
+                drop(named);
+                Err(held)
+            }
+        }
     }
 
     /// Marks a dependency, by its index, of a put that waits at the node of its version in a data centre, for which this

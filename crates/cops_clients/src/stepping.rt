@@ -178,7 +178,11 @@ impl Cluster {
         let number = client.number;
         let slot = match self.recorder.reserve(rt, number) {
             Ok(slot) => slot,
-            Err(fault) => return Ok(Outcome::Refused(code_of(fault))),
+            Err(fault) => {
+                drop(key);
+                drop(value);
+                return Ok(Outcome::Refused(code_of(fault)));
+            }
         };
         let answered = self.put_step(rt, client, gate, key, value);
         let reply = self.spent(rt, slot, answered);
@@ -205,7 +209,10 @@ impl Cluster {
         let number = client.number;
         let slot = match self.recorder.reserve(rt, number) {
             Ok(slot) => slot,
-            Err(fault) => return Ok(Outcome::Refused(code_of(fault))),
+            Err(fault) => {
+                drop(key);
+                return Ok(Outcome::Refused(code_of(fault)));
+            }
         };
         let answered = self.get_step(rt, client, gate, key);
         let reply = self.spent(rt, slot, answered);
@@ -498,7 +505,10 @@ pub(crate) fn passed<R: Wait, G: Gate>(
 {
     match reply {
         Ok(Reply { outcome, node }) => {
-            gate.pass(rt, Point::Answered { node, client })?;
+            if gate.pass(rt, Point::Answered { node, client }).is_err() {
+                drop(outcome);
+                return Err(GateHeld);
+            }
             Ok(outcome)
         }
         Err(Stop::Refused(code)) => Ok(Outcome::Refused(code)),

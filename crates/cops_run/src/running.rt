@@ -65,12 +65,29 @@ pub fn run_counted<R: Threads + Wait + Sync, G: Gate>(
         clients,
         shares,
     } = Cluster::of_scenario(alloc, &scenario)?;
-    let jobs = jobs(alloc, &scenario, clients)?;
-    let replicas = wired(alloc, scenario.place().dcs(), scenario.link(), shares)?;
+    let jobs = match jobs(alloc, &scenario, clients) {
+        Ok(jobs) => jobs,
+        Err(fault) => {
+            drop(cluster);
+            drop(shares);
+            return Err(RunFault::from(fault));
+        }
+    };
+    let replicas = match wired(alloc, scenario.place().dcs(), scenario.link(), shares) {
+        Ok(replicas) => replicas,
+        Err(fault) => {
+            drop(cluster);
+            drop(jobs);
+            return Err(RunFault::from(fault));
+        }
+    };
     let stage = Stage::new(cluster, scenario.turns());
     let gathered = match drive(rt, alloc, &stage, gate, jobs, replicas) {
         Ok(gathered) => gathered,
-        Err(fault) => return Err(fault),
+        Err(fault) => {
+            drop(stage);
+            return Err(fault);
+        }
     };
     let turns = stage.turns_made();
     match tied(rt, alloc, &scenario, stage.into_cluster(), gathered) {
@@ -100,7 +117,10 @@ fn tied<R: Threads + Sync>(
     } = gathered;
     let Uncompared { closed, shares } = match closed(cluster, shares) {
         Ok(uncompared) => uncompared,
-        Err(fault) => return Err(fault),
+        Err(fault) => {
+            drop(outcomes);
+            return Err(fault);
+        }
     };
     let Closed { books, trace } = closed;
     let places = scenario.place().nodes();

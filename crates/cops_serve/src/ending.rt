@@ -24,6 +24,10 @@ impl FrontEnd {
     pub fn finish(self, scenario: &Scenario) -> Result<Vec<u8>, ServeFault>
         ensures { IfOk result (λ text. IsReportOn scenario.now self text.items) }
     {
+        if !is_of(&self.cluster, scenario) {
+            drop(self);
+            return Err(ServeFault::Untied { ticket: 0 });
+        }
         let FrontEnd {
             cluster,
             clients,
@@ -31,10 +35,14 @@ impl FrontEnd {
             alloc,
             ..
         } = self;
-        if !is_of(&cluster, scenario) {
-            return Err(ServeFault::Untied { ticket: 0 });
-        }
-        let closed = closed(cluster, shares(alloc, clients, receivers)?)?;
+        let shares = match shares(alloc, clients, receivers) {
+            Ok(shares) => shares,
+            Err(fault) => {
+                drop(cluster);
+                return Err(ServeFault::from(fault));
+            }
+        };
+        let closed = closed(cluster, shares)?;
         told(alloc, scenario, &closed)
     }
 }

@@ -118,6 +118,7 @@ pub(crate) fn stepped(node: &mut Node, event: NodeEvent) -> Result<Outcome, Memo
 {
     let outcome = node.step(event);
     if outcome.is_memory() {
+        drop(outcome);
         return Err(Memory);
     }
     Ok(outcome)

@@ -103,8 +103,13 @@ impl Events {
         ensures { IfOk result (λ events. (events.kept ≡ event.now) × (events.shared ≡ event.now)) }
     {
         let kept = event.clone()?;
-        let shared = event.clone()?;
-        Ok(Events { kept, shared })
+        match event.clone() {
+            Ok(shared) => Ok(Events { kept, shared }),
+            Err(error) => {
+                drop(kept);
+                Err(error)
+            }
+        }
     }
 }
 

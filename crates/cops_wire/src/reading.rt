@@ -221,8 +221,13 @@ impl<'a> Rest<'a> {
         ensures field { GivesPart (λ d. (d, self.new.bytes.now)) result (pair_at self.old.bytes.now) }
     {
         let key = self.key()?;
-        let version = self.version()?;
-        Ok(Dep { key, version })
+        match self.version() {
+            Ok(version) => Ok(Dep { key, version }),
+            Err(fault) => {
+                drop(key);
+                Err(fault)
+            }
+        }
     }
 
     /// So many pairs. No more room is made than for those that the bytes left can hold.

@@ -7,21 +7,21 @@ use Rattle.cops_clients.specs.Cluster.{node_of}
 use Rattle.cops_clients.proofs.Tellings.{adds_at, most_at}
 use Rattle.cops_clients.proofs.cluster.Cluster.ask.Goals as goal
 
-pub returns-in_err-outcome-clause-most : goal.returns-in_err-outcome-clause-most
-returns-in_err-outcome-clause-most g c =
+pub returns-in-Err-clause-most : goal.returns-in-Err-clause-most
+returns-in-Err-clause-most g c =
     let is : node_at c.in-Some.spot.dc c.in-Some.spot.place ≡ node_of c.args.self.now c.args.dc c.args.key.now = ap₂ node_at c.in-Some.ensures.some.0 c.in-Some.ensures.some.1 in
     let e : Ask c.in-Ok.asked c.args.version ≡ Ask c.args.key.now c.args.version = ap (λ (k : List ℕ). Ask k c.args.version) c.in-Ok.ensures.cases in
     most_at _ _ _ _ _ _ is e c.received.ensures.most
 
-pub returns-clause-told : goal.returns-clause-told
-returns-clause-told g c =
+pub returns-in-Ok-received-clause-told : goal.returns-in-Ok-received-clause-told
+returns-in-Ok-received-clause-told g c =
     let is : node_at c.in-Some.spot.dc c.in-Some.spot.place ≡ node_of c.args.self.now c.args.dc c.args.key.now = ap₂ node_at c.in-Some.ensures.some.0 c.in-Some.ensures.some.1 in
     let e : Ask c.in-Ok.asked c.args.version ≡ Ask c.args.key.now c.args.version = ap (λ (k : List ℕ). Ask k c.args.version) c.in-Ok.ensures.cases in
     subst (λ (o : Outcome). Adds c.args.share.now.entries.items c.received.new.share.entries.items (node_of c.args.self.now c.args.dc c.args.key.now) (Ask c.args.key.now c.args.version) o) (sym c.asked_of.ensures.told)
-    (adds_at _ _ _ _ _ _ _ is e c.in_ok-outcome.ensures.told)
+    (adds_at _ _ _ _ _ _ _ is e c.in-Ok-received.ensures.told)
 
-pub returns-clause-most : goal.returns-clause-most
-returns-clause-most g c =
+pub returns-in-Ok-received-clause-most : goal.returns-in-Ok-received-clause-most
+returns-in-Ok-received-clause-most g c =
     let is : node_at c.in-Some.spot.dc c.in-Some.spot.place ≡ node_of c.args.self.now c.args.dc c.args.key.now = ap₂ node_at c.in-Some.ensures.some.0 c.in-Some.ensures.some.1 in
     let e : Ask c.in-Ok.asked c.args.version ≡ Ask c.args.key.now c.args.version = ap (λ (k : List ℕ). Ask k c.args.version) c.in-Ok.ensures.cases in
     most_at _ _ _ _ _ _ is e c.received.ensures.most

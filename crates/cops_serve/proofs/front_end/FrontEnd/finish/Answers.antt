@@ -12,6 +12,6 @@ returns c =
     let books = c.in_ok-closed.closed.books.items in
     let same : IsPermutation (made_in (length c.args.scenario.now.place.splits + 1) 0 books) (told_to c.args.self) =
     subst (λ (n : ℕ). IsPermutation (made_in (n + 1) 0 books) (told_to c.args.self)) (c.if-not-is_of.ensures.0 refl).1
-    (subst (λ (shares : List Share). IsPermutation (made_in (length c.args.self.cluster.place.splits + 1) 0 books) (told shares)) c.in_ok-shares.ensures c.in_ok-closed.ensures.told) in
+    (subst (λ (shares : List Share). IsPermutation (made_in (length c.args.self.cluster.place.splits + 1) 0 books) (told shares)) c.in-Ok.ensures c.in_ok-closed.ensures.told) in
     IfOk-weaker c.told.result (λ text. IsTiedReport (setting_of c.args.scenario.now) books text.items) (λ text. IsReportOn c.args.scenario.now c.args.self text.items)
     (λ text report. record { books = books; same = same; report = report }) c.told.ensures
