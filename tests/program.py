@@ -650,7 +650,7 @@ def definition_files():
 
 def wrong_edits():
     """Each wrong edit, also one that the gate does not try, could be tried: what it replaces is in its file, once."""
-    paths = sorted(glob.glob(os.path.join(ROOT, "crates", "*", "wrong", "*.edit")) + glob.glob(os.path.join(ROOT, "crates", "*", "tried", "*.edit")))
+    paths = sorted(glob.glob(os.path.join(ROOT, "crates", "*", "must-fail", "*.edit")) + glob.glob(os.path.join(ROOT, "crates", "*", "tried", "*.edit")))
     check("there are edits", len(paths) > 0, True)
     for path in paths:
         crate, source = os.path.dirname(os.path.dirname(path)), ""
