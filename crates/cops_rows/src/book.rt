@@ -1,68 +1,124 @@
 //! Rows of a node's book.
 
 use crate::node::node_event;
-use crate::outcome::outcome_text;
+use crate::outcome::{outcome_text, told_outcome};
 use crate::subject::Subject;
-use anyhow::{Context, Error, bail};
+use crate::text::Part::{At, Count, Number, Word};
+use crate::text::text;
+use crate::words::{no_node, no_row, u16_of, u64_of, usize_of};
+use anyhow::{Error, bail};
 use cops_node::NodeEvent;
-use cops_tie::Book;
-use cops_types::MAX_NODE;
+use cops_tie::{Book, Entry};
+use cops_types::{MAX_NODE, Version};
 use std::alloc::Global;
 
-/// How many entries there are.
-fn counts(alloc: Global, book: &Book) -> Result<String, Error> {
-    Ok(format!(in alloc; "{} entries", book.entries().len())?)
+/// `COUNT entries`.
+pub fn entries_text(alloc: Global, count: usize) -> Result<String, Error> {
+    text(alloc, &[Count(count), Word(" entries")])
 }
 
 /// Begins a book anew.
 fn begin(alloc: Global, book: &mut Book, number: &str) -> Result<String, Error> {
-    let number = number.parse::<u16>()?;
+    let number = u16_of(number)?;
     if number > MAX_NODE {
-        bail!("there is no such node");
+        return Err(no_node());
     }
     *book = Book::open(alloc, number);
-    counts(alloc, book)
+    entries_text(alloc, book.entries().len())
 }
 
 fn step(alloc: Global, book: &mut Book, ticket: &str, words: &[&str]) -> Result<String, Error> {
+    let ticket = u64_of(ticket)?;
     let event = node_event(alloc, words)?;
-    let outcome = book.step(ticket.parse::<u64>()?, event);
-    outcome_text(alloc, &outcome)
+    told_outcome(alloc, book.step(ticket, event))
+}
+
+/// An event about a version.
+fn about(alloc: Global, event: &str, version: Version) -> Result<String, Error> {
+    text(alloc, &[Word(event), At(version)])
+}
+
+/// An event of a client.
+fn of_client(alloc: Global, event: &str, client: u16) -> Result<String, Error> {
+    text(alloc, &[Word(event), Number(u64::from(client))])
+}
+
+fn mark_text(alloc: Global, version: Version, dep: u16) -> Result<String, Error> {
+    text(
+        alloc,
+        &[
+            Word("mark "),
+            At(version),
+            Word(" "),
+            Number(u64::from(dep)),
+        ],
+    )
 }
 
 /// What a node's event is, and whose.
 fn event_text(alloc: Global, event: &NodeEvent) -> Result<String, Error> {
     match event {
-        NodeEvent::Put { client, .. } => Ok(format!(in alloc; "put of client {client}")?),
-        NodeEvent::Get { client, .. } => Ok(format!(in alloc; "get of client {client}")?),
-        NodeEvent::Deliver(put) => Ok(format!(in alloc; "deliver {}", put.version)?),
-        NodeEvent::Ask { version, .. } => Ok(format!(in alloc; "ask {version}")?),
-        NodeEvent::Mark { version, dep } => Ok(format!(in alloc; "mark {version} {dep}")?),
-        NodeEvent::Settle { version } => Ok(format!(in alloc; "settle {version}")?),
+        NodeEvent::Put { client, .. } => of_client(alloc, "put of client ", *client),
+        NodeEvent::Get { client, .. } => of_client(alloc, "get of client ", *client),
+        NodeEvent::Deliver(put) => about(alloc, "deliver ", put.version),
+        NodeEvent::Ask { version, .. } => about(alloc, "ask ", *version),
+        NodeEvent::Mark { version, dep } => mark_text(alloc, *version, *dep),
+        NodeEvent::Settle { version } => about(alloc, "settle ", *version),
     }
 }
 
-/// The entry at a place: its ticket, its event and its outcome.
-fn entry(alloc: Global, book: &Book, index: &str) -> Result<String, Error> {
-    let entries = book.entries();
-    let entry = entries
-        .get(index.parse::<usize>()?)
-        .context("there is no such entry")?;
+fn entry_line<'a>(
+    alloc: Global,
+    ticket: u64,
+    event: &'a str,
+    outcome: &'a str,
+) -> Result<String, Error> {
+    text(
+        alloc,
+        &[
+            Number(ticket),
+            Word(": "),
+            Word(event),
+            Word(": "),
+            Word(outcome),
+        ],
+    )
+}
+
+/// An entry: its ticket, its event and its outcome.
+fn entry_text(alloc: Global, entry: &Entry) -> Result<String, Error> {
     let event = event_text(alloc, &entry.event)?;
     let outcome = outcome_text(alloc, &entry.outcome)?;
-    Ok(format!(in alloc; "{}: {event}: {outcome}", entry.ticket)?)
+    entry_line(alloc, entry.ticket, &event, &outcome)
+}
+
+/// The entry at a place.
+fn entry(alloc: Global, book: &Book, index: &str) -> Result<String, Error> {
+    match book.entries().get(usize_of(index)?) {
+        Some(entry) => entry_text(alloc, entry),
+        None => bail!("there is no such entry"),
+    }
 }
 
 /// The node of the book.
 fn node(alloc: Global, book: &Book) -> Result<String, Error> {
     let status = book.node().status();
-    Ok(format!(in alloc; "clock {}, settled {}", status.clock, status.settled)?)
+    let (clock, settled) = (status.clock, status.settled);
+    text(
+        alloc,
+        &[
+            Word("clock "),
+            Number(clock),
+            Word(", settled "),
+            Number(settled),
+        ],
+    )
 }
 
 /// Closes the book, and begins that of node 0.
 fn close(alloc: Global, book: &mut Book) -> Result<String, Error> {
     let entries = std::mem::replace(book, Book::open(alloc, 0)).into_entries();
-    Ok(format!(in alloc; "{} entries", entries.len())?)
+    entries_text(alloc, entries.len())
 }
 
 impl Subject for Book {
@@ -74,11 +130,11 @@ impl Subject for Book {
         match words {
             [_, "new", number] => begin(alloc, self, number),
             [_, "step", ticket, event @ ..] => step(alloc, self, ticket, event),
-            [_, "counts"] => counts(alloc, self),
+            [_, "counts"] => entries_text(alloc, self.entries().len()),
             [_, "entry", index] => entry(alloc, self, index),
             [_, "node"] => node(alloc, self),
             [_, "close"] => close(alloc, self),
-            _ => bail!("not a row"),
+            _ => Err(no_row()),
         }
     }
 }

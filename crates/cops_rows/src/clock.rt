@@ -1,21 +1,23 @@
 //! Rows of a node's clock.
 
 use crate::subject::Subject;
-use crate::words::version;
-use anyhow::{Error, bail};
+use crate::text::Part::{At, Number, Word};
+use crate::text::text;
+use crate::words::{no_node, no_row, u16_of, version};
+use anyhow::Error;
 use cops_types::{Clock, MAX_NODE};
 use std::alloc::Global;
 
 /// Where the clock stands.
 fn told(alloc: Global, clock: &Clock) -> Result<String, Error> {
-    Ok(format!(in alloc; "at {}", clock.clock())?)
+    text(alloc, &[Word("at "), Number(clock.clock())])
 }
 
 /// Begins a clock anew.
 fn begin(alloc: Global, clock: &mut Clock, number: &str) -> Result<String, Error> {
-    let number = number.parse::<u16>()?;
+    let number = u16_of(number)?;
     if number > MAX_NODE {
-        bail!("there is no such node");
+        return Err(no_node());
     }
     *clock = Clock::new(number);
     told(alloc, clock)
@@ -23,7 +25,12 @@ fn begin(alloc: Global, clock: &mut Clock, number: &str) -> Result<String, Error
 
 fn next(alloc: Global, clock: &mut Clock) -> Result<String, Error> {
     let version = clock.next()?;
-    Ok(format!(in alloc; "{version}")?)
+    text(alloc, &[At(version)])
+}
+
+fn raise(alloc: Global, clock: &mut Clock, at: &str) -> Result<String, Error> {
+    clock.raise(version(at)?);
+    told(alloc, clock)
 }
 
 impl Subject for Clock {
@@ -35,12 +42,9 @@ impl Subject for Clock {
         match words {
             [_, "new", number] => begin(alloc, self, number),
             [_, "next"] => next(alloc, self),
-            [_, "raise", at] => {
-                self.raise(version(at)?);
-                told(alloc, self)
-            }
+            [_, "raise", at] => raise(alloc, self, at),
             [_, "told"] => told(alloc, self),
-            _ => bail!("not a row"),
+            _ => Err(no_row()),
         }
     }
 }

@@ -1,15 +1,21 @@
 //! Rows of a client's context.
 
 use crate::subject::Subject;
-use crate::words::{pair, pair_text, yes_or_no};
-use anyhow::{Error, bail};
+use crate::text::Part::{Count, Word};
+use crate::text::text;
+use crate::words::{no_row, pair, pair_text, yes_or_no};
+use anyhow::Error;
 use cops_context::Context;
 use std::alloc::Global;
 
 /// How many pairs there are, and whether one more has room.
 fn counts(alloc: Global, context: &Context) -> Result<String, Error> {
-    let room = if context.has_room() { "room" } else { "full" };
-    Ok(format!(in alloc; "{} pairs, {room}", context.len())?)
+    let pairs = Count(context.len());
+    if context.has_room() {
+        text(alloc, &[pairs, Word(" pairs, room")])
+    } else {
+        text(alloc, &[pairs, Word(" pairs, full")])
+    }
 }
 
 /// The pairs in their order, `KEY@VERSION KEY@VERSION..`.
@@ -32,8 +38,20 @@ fn add(alloc: Global, context: &mut Context, name: &str, at: &str) -> Result<Str
     counts(alloc, context)
 }
 
+/// Puts a pair in the place of all.
+fn replace(alloc: Global, context: &mut Context, name: &str, at: &str) -> Result<String, Error> {
+    context.replace(pair(alloc, name, at)?);
+    counts(alloc, context)
+}
+
 fn reserve(alloc: Global, context: &mut Context) -> Result<String, Error> {
     context.reserve()?;
+    counts(alloc, context)
+}
+
+/// Begins a context anew.
+fn begin(alloc: Global, context: &mut Context) -> Result<String, Error> {
+    *context = Context::new(alloc);
     counts(alloc, context)
 }
 
@@ -44,20 +62,14 @@ impl Subject for Context {
 
     fn answer(&mut self, alloc: Global, words: &[&str]) -> Result<String, Error> {
         match words {
-            [_, "new"] => {
-                *self = Context::new(alloc);
-                counts(alloc, self)
-            }
+            [_, "new"] => begin(alloc, self),
             [_, "counts"] => counts(alloc, self),
             [_, "empty"] => yes_or_no(alloc, self.is_empty()),
             [_, "deps"] => deps(alloc, self),
             [_, "reserve"] => reserve(alloc, self),
             [_, "add", name, at] => add(alloc, self, name, at),
-            [_, "replace", name, at] => {
-                self.replace(pair(alloc, name, at)?);
-                counts(alloc, self)
-            }
-            _ => bail!("not a row"),
+            [_, "replace", name, at] => replace(alloc, self, name, at),
+            _ => Err(no_row()),
         }
     }
 }

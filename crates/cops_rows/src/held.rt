@@ -1,24 +1,34 @@
 //! Rows of the puts that wait at a node.
 
 use crate::subject::Subject;
-use crate::words::{put, version, yes_or_no};
-use anyhow::{Error, bail};
-use cops_held::{Held, HeldFault};
+use crate::text::Part::{At, Bytes, Count, Number, Word};
+use crate::text::{text, word};
+use crate::words::{no_row, put, u16_of, version, yes_or_no};
+use anyhow::Error;
+use cops_held::{Held, HeldFault, Taken};
+use cops_types::PutRecord;
 use std::alloc::Global;
 
 /// How many puts wait.
 fn counts(alloc: Global, held: &Held) -> Result<String, Error> {
-    Ok(format!(in alloc; "{} puts", held.len())?)
+    text(alloc, &[Count(held.len()), Word(" puts")])
 }
 
 fn hold(alloc: Global, held: &mut Held, words: &[&str; 4]) -> Result<String, Error> {
-    let taken = held.hold(put(alloc, words)?)?;
-    Ok(format!(in alloc; "{taken:?}")?)
+    match held.hold(put(alloc, words)?)? {
+        Taken::New => word(alloc, "New"),
+        Taken::Repeat => word(alloc, "Repeat"),
+    }
 }
 
 /// A fault's code and its text.
 fn refused(alloc: Global, fault: HeldFault) -> Result<String, Error> {
-    Ok(format!(in alloc; "refused {}: {fault}", fault as u8)?)
+    let told = format!(in alloc; "{fault}")?;
+    let code = u64::from(fault as u8);
+    text(
+        alloc,
+        &[Word("refused "), Number(code), Word(": "), Word(&told)],
+    )
 }
 
 /// The indexes of the dependencies that are not marked.
@@ -28,21 +38,45 @@ fn open(alloc: Global, held: &Held, at: &str) -> Result<String, Error> {
 }
 
 fn mark(alloc: Global, held: &mut Held, at: &str, dep: &str) -> Result<String, Error> {
-    match held.mark(version(at)?, dep.parse::<u16>()?) {
-        Ok(()) => Ok(String::from_str(alloc, "marked")?),
+    let version = version(at)?;
+    let dep = u16_of(dep)?;
+    match held.mark(version, dep) {
+        Ok(()) => word(alloc, "marked"),
         Err(fault) => refused(alloc, fault),
     }
 }
 
+/// `KEY=VALUE at VERSION`.
+fn put_text(alloc: Global, put: &PutRecord) -> Result<String, Error> {
+    let (key, value) = (put.key.as_bytes(), put.value.as_bytes());
+    text(
+        alloc,
+        &[
+            Bytes(key),
+            Word("="),
+            Bytes(value),
+            Word(" at "),
+            At(put.version),
+        ],
+    )
+}
+
 fn take(alloc: Global, held: &mut Held, at: &str) -> Result<String, Error> {
     match held.take_ready(version(at)?) {
-        Ok(put) => {
-            let value = String::from_utf8_lossy(alloc, put.value.as_bytes())?;
-            let key = String::from_utf8_lossy(alloc, put.key.as_bytes())?;
-            Ok(format!(in alloc; "{key}={value} at {}", put.version)?)
-        }
+        Ok(put) => put_text(alloc, &put),
         Err(fault) => refused(alloc, fault),
     }
+}
+
+fn has(alloc: Global, held: &Held, at: &str) -> Result<String, Error> {
+    let version = version(at)?;
+    yes_or_no(alloc, held.record(version).is_some())
+}
+
+/// Begins a held table anew.
+fn begin(alloc: Global, held: &mut Held) -> Result<String, Error> {
+    *held = Held::new(alloc);
+    counts(alloc, held)
 }
 
 impl Subject for Held {
@@ -52,17 +86,14 @@ impl Subject for Held {
 
     fn answer(&mut self, alloc: Global, words: &[&str]) -> Result<String, Error> {
         match words {
-            [_, "new"] => {
-                *self = Held::new(alloc);
-                counts(alloc, self)
-            }
+            [_, "new"] => begin(alloc, self),
             [_, "counts"] => counts(alloc, self),
             [_, "hold", name, bytes, at, pairs] => hold(alloc, self, &[name, bytes, at, pairs]),
             [_, "open", at] => open(alloc, self, at),
-            [_, "has", at] => yes_or_no(alloc, self.record(version(at)?).is_some()),
+            [_, "has", at] => has(alloc, self, at),
             [_, "mark", at, dep] => mark(alloc, self, at, dep),
             [_, "take", at] => take(alloc, self, at),
-            _ => bail!("not a row"),
+            _ => Err(no_row()),
         }
     }
 }

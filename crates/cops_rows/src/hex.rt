@@ -1,6 +1,7 @@
 //! Bytes as hexadecimal digits.
 
-use anyhow::{Error, bail};
+use crate::words::no_row;
+use anyhow::Error;
 use std::alloc::Global;
 
 /// The number of a digit.
@@ -8,7 +9,7 @@ fn digit(c: u8) -> Result<u8, Error> {
     match c {
         b'0'..=b'9' => Ok(c - b'0'),
         b'a'..=b'f' => Ok(c - b'a' + 10),
-        _ => bail!("not a row"),
+        _ => Err(no_row()),
     }
 }
 
@@ -16,7 +17,7 @@ fn digit(c: u8) -> Result<u8, Error> {
 fn byte(digits: &[u8]) -> Result<u8, Error> {
     match digits {
         [high, low] => Ok(digit(*high)?.wrapping_mul(16) | digit(*low)?),
-        _ => bail!("not a row"),
+        _ => Err(no_row()),
     }
 }
 

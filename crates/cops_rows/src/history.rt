@@ -1,30 +1,33 @@
 //! Rows of histories.
 
 use crate::subject::Subject;
-use crate::words::{op, op_text, yes_or_no};
-use anyhow::{Context, Error, bail};
+use crate::text::Part::{Count, Word};
+use crate::text::{text, word};
+use crate::words::{no_row, op, op_text, u16_of, u32_of, yes_or_no};
+use anyhow::{Error, bail};
 use cops_types::{History, OpName};
 use std::alloc::Global;
 
 /// How many clients there are, and how many operations.
 fn counts(alloc: Global, history: &History) -> Result<String, Error> {
-    Ok(format!(in alloc;
-        "{} clients, {} operations",
-        history.clients(),
-        history.len()
-    )?)
+    let (clients, operations) = (Count(history.clients()), Count(history.len()));
+    text(
+        alloc,
+        &[clients, Word(" clients, "), operations, Word(" operations")],
+    )
 }
 
 /// Begins a history anew.
 fn begin(alloc: Global, history: &mut Option<History>, clients: &str) -> Result<String, Error> {
-    let opened = History::new(alloc, clients.parse::<u16>()?)?;
+    let opened = History::new(alloc, u16_of(clients)?)?;
     let told = counts(alloc, &opened)?;
     *history = Some(opened);
     Ok(told)
 }
 
 fn reserve(alloc: Global, history: &mut History, client: &str) -> Result<String, Error> {
-    history.reserve(client.parse::<u16>()?)?;
+    let client = u16_of(client)?;
+    history.reserve(client)?;
     counts(alloc, history)
 }
 
@@ -34,26 +37,30 @@ fn push(
     client: &str,
     words: &[&str],
 ) -> Result<String, Error> {
+    let client = u16_of(client)?;
     let op = op(alloc, words)?;
-    history.push(client.parse::<u16>()?, op)?;
+    history.push(client, op)?;
     counts(alloc, history)
 }
 
 /// How many operations a client has.
-fn session(alloc: Global, history: &History, client: &str) -> Result<String, Error> {
-    let session = history.session(client.parse::<u16>()?);
-    Ok(format!(in alloc; "{} operations", session.len())?)
+pub fn session(alloc: Global, history: &History, client: &str) -> Result<String, Error> {
+    let session = history.session(u16_of(client)?);
+    text(alloc, &[Count(session.len()), Word(" operations")])
+}
+
+/// The name of a client's operation at an index.
+pub fn name(client: &str, index: &str) -> Result<OpName, Error> {
+    let client = u16_of(client)?;
+    let index = u32_of(index)?;
+    Ok(OpName { client, index })
 }
 
 /// What a client did at an index.
-fn op_at(alloc: Global, history: &History, client: &str, index: &str) -> Result<String, Error> {
-    let name = OpName {
-        client: client.parse::<u16>()?,
-        index: index.parse::<u32>()?,
-    };
-    match history.op(name) {
+pub fn op_at(alloc: Global, history: &History, client: &str, index: &str) -> Result<String, Error> {
+    match history.op(name(client, index)?) {
         Some(op) => op_text(alloc, op),
-        None => Ok(String::from_str(alloc, "nothing")?),
+        None => word(alloc, "nothing"),
     }
 }
 
@@ -66,7 +73,15 @@ fn ask(alloc: Global, history: &mut History, words: &[&str]) -> Result<String, E
         [_, "empty"] => yes_or_no(alloc, history.is_empty()),
         [_, "session", client] => session(alloc, history, client),
         [_, "op", client, index] => op_at(alloc, history, client, index),
-        _ => bail!("not a row"),
+        _ => Err(no_row()),
+    }
+}
+
+/// The answer to a call that asks for a history.
+fn ask_any(alloc: Global, history: &mut Option<History>, words: &[&str]) -> Result<String, Error> {
+    match history {
+        Some(history) => ask(alloc, history, words),
+        None => bail!("there is no history"),
     }
 }
 
@@ -78,7 +93,7 @@ impl Subject for Option<History> {
     fn answer(&mut self, alloc: Global, words: &[&str]) -> Result<String, Error> {
         match words {
             [_, "new", clients] => begin(alloc, self, clients),
-            _ => ask(alloc, self.as_mut().context("there is no history")?, words),
+            _ => ask_any(alloc, self, words),
         }
     }
 }

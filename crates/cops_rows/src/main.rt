@@ -14,6 +14,7 @@ mod place;
 mod scenario;
 mod store;
 mod subject;
+mod text;
 mod tie;
 mod trace;
 mod types;
@@ -22,6 +23,8 @@ mod words;
 mod world;
 
 use crate::subject::Subject;
+use crate::text::Part::{Number, Word};
+use crate::text::{text, word};
 use crate::types::Types;
 use anyhow::{Error, bail};
 use cops_context::Context;
@@ -44,46 +47,79 @@ fn is_heading(line: &str) -> bool {
     line.is_empty() || line.starts_with('#')
 }
 
+/// The words of a call, between which one space stands.
+fn words_of<'a>(alloc: Global, call: &'a str) -> Result<Vec<&'a str>, Error> {
+    Ok(call.split(' ').collect(alloc)?)
+}
+
+/// The text of an error.
+fn refusal(alloc: Global, error: &Error) -> Result<String, Error> {
+    Ok(format!(in alloc; "error: {error}")?)
+}
+
 /// The answer to a row's call, or the text of its error.
 fn told<S: Subject>(alloc: Global, subject: &mut S, call: &str) -> Result<String, Error> {
-    let words: Vec<&str> = call.split(' ').collect(alloc)?;
+    let words = words_of(alloc, call)?;
     match subject.answer(alloc, &words) {
         Ok(text) => Ok(text),
-        Err(error) => Ok(format!(in alloc; "error: {error}")?),
+        Err(error) => refusal(alloc, &error),
     }
 }
 
-/// What differs in a row, if anything does.
-fn difference<S: Subject>(
-    alloc: Global,
-    subject: &mut S,
-    row: &str,
-) -> Result<Option<String>, Error> {
-    let Some((call, wanted)) = row.split_once(" = ") else {
-        return Ok(Some(format!(in alloc; "got: not a row")?));
-    };
-    let got = told(alloc, subject, call)?;
-    if got.as_str() == wanted {
-        return Ok(None);
+fn unlike<'a>(alloc: Global, got: &'a str, wanted: &'a str) -> Result<String, Error> {
+    if got == wanted {
+        return Ok(String::new(alloc));
     }
-    Ok(Some(format!(in alloc; "got {got}, wanted {wanted}")?))
+    text(
+        alloc,
+        &[Word("got "), Word(got), Word(", wanted "), Word(wanted)],
+    )
+}
+
+/// What differs in a row, or nothing.
+fn difference<S: Subject>(alloc: Global, subject: &mut S, row: &str) -> Result<String, Error> {
+    match row.split_once(" = ") {
+        Some((call, wanted)) => {
+            let got = told(alloc, subject, call)?;
+            unlike(alloc, &got, wanted)
+        }
+        None => word(alloc, "got: not a row"),
+    }
+}
+
+/// Prints a line.
+fn say<R: Print>(rt: &R, line: &str) -> Result<(), Error> {
+    Ok(println!(rt; "{line}")?)
+}
+
+fn row_line<'a>(alloc: Global, name: &'a str, number: u64, what: &'a str) -> Result<String, Error> {
+    text(
+        alloc,
+        &[
+            Word(name),
+            Word(":"),
+            Number(number),
+            Word(": "),
+            Word(what),
+        ],
+    )
 }
 
 /// Prints what differs in a row, and counts it.
 fn say_row<S: Subject, R: Print + AllocGlobal>(
     rt: &R,
     subject: &mut S,
-    place: (&str, usize),
+    place: (&str, u64),
     row: &str,
 ) -> Result<u64, Error> {
     let (name, number) = place;
-    match difference(rt.alloc(), subject, row)? {
-        Some(what) => {
-            println!(rt; "{name}:{number}: {what}")?;
-            Ok(1)
-        }
-        None => Ok(0),
+    let what = difference(rt.alloc(), subject, row)?;
+    if what.is_empty() {
+        return Ok(0);
     }
+    let line = row_line(rt.alloc(), name, number, &what)?;
+    say(rt, &line)?;
+    Ok(1)
 }
 
 /// Makes the calls of a text's rows on a subject to which nothing has happened, and counts the rows and those that differ.
@@ -93,7 +129,7 @@ fn say_rows<S: Subject, R: Print + AllocGlobal>(
     text: &str,
 ) -> Result<(u64, u64), Error> {
     let mut subject = S::begin(rt.alloc());
-    let mut number = 0usize;
+    let mut number = 0u64;
     let mut rows = 0u64;
     let mut differing = 0u64;
     for line in text.lines() {
@@ -106,10 +142,17 @@ fn say_rows<S: Subject, R: Print + AllocGlobal>(
     Ok((rows, differing))
 }
 
+/// What stands behind the last `/`.
+fn file_of(name: &str) -> &str {
+    match name.rsplit_once('/') {
+        Some((_, file)) => file,
+        None => name,
+    }
+}
+
 /// Makes the calls of a text's rows on the subject that the file is named after.
 fn say_text<R: Print + AllocGlobal>(rt: &R, name: &str, text: &str) -> Result<(u64, u64), Error> {
-    let file = name.rsplit_once('/').map_or(name, |(_, file)| file);
-    match file {
+    match file_of(name) {
         "book.rows" => say_rows::<Book, R>(rt, name, text),
         "clock.rows" => say_rows::<Clock, R>(rt, name, text),
         "context.rows" => say_rows::<Context, R>(rt, name, text),
@@ -129,14 +172,22 @@ fn say_text<R: Print + AllocGlobal>(rt: &R, name: &str, text: &str) -> Result<(u
 }
 
 /// Prints that a file's rows are as wanted, where none differs. A file without rows differs.
-fn say_count<R: Print>(rt: &R, name: &str, counts: (u64, u64)) -> Result<u64, Error> {
+fn say_count<R: Print + AllocGlobal>(rt: &R, name: &str, counts: (u64, u64)) -> Result<u64, Error> {
     match counts {
         (0, _) => {
-            println!(rt; "{name}: no rows")?;
+            let line = text(rt.alloc(), &[Word(name), Word(": no rows")])?;
+            say(rt, &line)?;
             Ok(1)
         }
         (rows, 0) => {
-            println!(rt; "{name}: {rows} rows as wanted")?;
+            let parts = [
+                Word(name),
+                Word(": "),
+                Number(rows),
+                Word(" rows as wanted"),
+            ];
+            let line = text(rt.alloc(), &parts)?;
+            say(rt, &line)?;
             Ok(0)
         }
         (_, differing) => Ok(differing),

@@ -1,52 +1,66 @@
 //! Rows of one node.
 
-use crate::outcome::outcome_text;
+use crate::outcome::told_outcome;
 use crate::subject::Subject;
-use crate::words::{deps, key, pair_text, put, value, value_at, version};
-use anyhow::{Error, bail};
+use crate::text::Part::{Number, Word};
+use crate::text::{text, word};
+use crate::words::{
+    deps, key, key_and_value, no_node, no_row, pair_text, put, u16_of, value_at, version,
+};
+use anyhow::Error;
 use cops_node::{Node, NodeEvent, Outcome};
 use cops_types::MAX_NODE;
 use std::alloc::Global;
 
 /// Begins a node anew.
 fn begin(alloc: Global, node: &mut Node, number: &str) -> Result<String, Error> {
-    let number = number.parse::<u16>()?;
+    let number = u16_of(number)?;
     if number > MAX_NODE {
-        bail!("there is no such node");
+        return Err(no_node());
     }
     *node = Node::open(alloc, number);
-    Ok(format!(in alloc; "node {}", node.number())?)
+    text(alloc, &[Word("node "), Number(u64::from(node.number()))])
 }
 
 fn put_event(alloc: Global, words: &[&str; 4]) -> Result<NodeEvent, Error> {
     let [client, name, bytes, pairs] = words;
+    let client = u16_of(client)?;
+    let deps = deps(alloc, pairs)?;
+    let (key, value) = key_and_value(alloc, name, bytes)?;
     Ok(NodeEvent::Put {
-        client: client.parse::<u16>()?,
-        key: key(alloc, name)?,
-        value: value(alloc, bytes)?,
-        deps: deps(alloc, pairs)?,
+        client,
+        key,
+        value,
+        deps,
     })
 }
 
 fn get_event(alloc: Global, client: &str, name: &str) -> Result<NodeEvent, Error> {
-    Ok(NodeEvent::Get {
-        client: client.parse::<u16>()?,
-        key: key(alloc, name)?,
-    })
+    let client = u16_of(client)?;
+    let key = key(alloc, name)?;
+    Ok(NodeEvent::Get { client, key })
+}
+
+fn deliver_event(alloc: Global, words: &[&str; 4]) -> Result<NodeEvent, Error> {
+    let put = put(alloc, words)?;
+    Ok(NodeEvent::Deliver(put))
 }
 
 fn ask_event(alloc: Global, name: &str, at: &str) -> Result<NodeEvent, Error> {
-    Ok(NodeEvent::Ask {
-        key: key(alloc, name)?,
-        version: version(at)?,
-    })
+    let version = version(at)?;
+    let key = key(alloc, name)?;
+    Ok(NodeEvent::Ask { key, version })
 }
 
 fn mark_event(at: &str, dep: &str) -> Result<NodeEvent, Error> {
-    Ok(NodeEvent::Mark {
-        version: version(at)?,
-        dep: dep.parse::<u16>()?,
-    })
+    let version = version(at)?;
+    let dep = u16_of(dep)?;
+    Ok(NodeEvent::Mark { version, dep })
+}
+
+fn settle_event(at: &str) -> Result<NodeEvent, Error> {
+    let version = version(at)?;
+    Ok(NodeEvent::Settle { version })
 }
 
 /// The event that a row's words tell.
@@ -54,15 +68,11 @@ pub fn node_event(alloc: Global, words: &[&str]) -> Result<NodeEvent, Error> {
     match words {
         ["put", client, name, bytes, pairs] => put_event(alloc, &[client, name, bytes, pairs]),
         ["get", client, name] => get_event(alloc, client, name),
-        ["deliver", name, bytes, at, pairs] => {
-            Ok(NodeEvent::Deliver(put(alloc, &[name, bytes, at, pairs])?))
-        }
+        ["deliver", name, bytes, at, pairs] => deliver_event(alloc, &[name, bytes, at, pairs]),
         ["ask", name, at] => ask_event(alloc, name, at),
         ["mark", at, dep] => mark_event(at, dep),
-        ["settle", at] => Ok(NodeEvent::Settle {
-            version: version(at)?,
-        }),
-        _ => bail!("not a row"),
+        ["settle", at] => settle_event(at),
+        _ => Err(no_row()),
     }
 }
 
@@ -84,37 +94,45 @@ fn taken(node: &mut Node, event: NodeEvent) -> Outcome {
 }
 
 fn step(alloc: Global, node: &mut Node, words: &[&str]) -> Result<String, Error> {
-    let outcome = node.step(node_event(alloc, words)?);
-    outcome_text(alloc, &outcome)
+    let event = node_event(alloc, words)?;
+    told_outcome(alloc, node.step(event))
 }
 
 fn call(alloc: Global, node: &mut Node, words: &[&str]) -> Result<String, Error> {
-    let outcome = taken(node, node_event(alloc, words)?);
-    outcome_text(alloc, &outcome)
+    let event = node_event(alloc, words)?;
+    told_outcome(alloc, taken(node, event))
 }
 
 /// The node's clock, and how much there is in it.
 fn status(alloc: Global, node: &Node) -> Result<String, Error> {
     let status = node.status();
-    let (clock, keys) = (status.clock, status.keys);
-    Ok(format!(in alloc;
-        "clock {clock}, keys {keys}, settled {}, held {}",
-        status.settled, status.held
-    )?)
+    let parts = [
+        Word("clock "),
+        Number(status.clock),
+        Word(", keys "),
+        Number(status.keys),
+        Word(", settled "),
+        Number(status.settled),
+        Word(", held "),
+        Number(status.held),
+    ];
+    text(alloc, &parts)
 }
 
 fn shown(alloc: Global, node: &Node, name: &str) -> Result<String, Error> {
     let key = key(alloc, name)?;
     match node.shown(&key) {
         Some((value, version)) => value_at(alloc, value, version),
-        None => Ok(String::from_str(alloc, "nothing")?),
+        None => word(alloc, "nothing"),
     }
 }
 
 fn dep_of(alloc: Global, node: &Node, at: &str, dep: &str) -> Result<String, Error> {
-    match node.dep_of(version(at)?, dep.parse::<u16>()?) {
+    let version = version(at)?;
+    let dep = u16_of(dep)?;
+    match node.dep_of(version, dep) {
         Some(pair) => pair_text(alloc, pair),
-        None => Ok(String::from_str(alloc, "nothing")?),
+        None => word(alloc, "nothing"),
     }
 }
 
@@ -131,7 +149,7 @@ impl Subject for Node {
             [_, "dep", at, dep] => dep_of(alloc, self, at, dep),
             [_, "step", event @ ..] => step(alloc, self, event),
             [_, event @ ..] => call(alloc, self, event),
-            _ => bail!("not a row"),
+            _ => Err(no_row()),
         }
     }
 }

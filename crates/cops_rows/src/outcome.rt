@@ -1,49 +1,85 @@
 //! The words that tell a node's outcome.
 
-use crate::words::{value, value_at, version};
-use anyhow::{Error, bail};
+use crate::text::Part::{At, Bytes, Number, Word};
+use crate::text::{text, word};
+use crate::words::{no_row, u8_of, value, version};
+use anyhow::Error;
 use cops_node::Outcome;
 use cops_types::{Value, Version};
 use std::alloc::Global;
 
 fn got(alloc: Global, value: &Value, version: Version) -> Result<String, Error> {
-    let found = value_at(alloc, value, version)?;
-    Ok(format!(in alloc; "got {found}")?)
+    text(
+        alloc,
+        &[
+            Word("got "),
+            Bytes(value.as_bytes()),
+            Word(" at "),
+            At(version),
+        ],
+    )
 }
 
 /// The words of an outcome, as a run prints them; what a get found stands there with its value.
 pub fn outcome_text(alloc: Global, outcome: &Outcome) -> Result<String, Error> {
     match outcome {
-        Outcome::PutDone(version) => Ok(format!(in alloc; "done {version}")?),
+        Outcome::PutDone(version) => text(alloc, &[Word("done "), At(*version)]),
         Outcome::Got(value, version) => got(alloc, value, *version),
-        Outcome::Refused(code) => Ok(format!(in alloc; "refused {code}")?),
-        Outcome::Missed => Ok(String::from_str(alloc, "missed")?),
-        Outcome::Held => Ok(String::from_str(alloc, "held")?),
-        Outcome::Repeat => Ok(String::from_str(alloc, "repeat")?),
-        Outcome::Yes => Ok(String::from_str(alloc, "yes")?),
-        Outcome::Wait => Ok(String::from_str(alloc, "wait")?),
-        Outcome::Marked => Ok(String::from_str(alloc, "marked")?),
-        Outcome::Settled => Ok(String::from_str(alloc, "settled")?),
+        Outcome::Refused(code) => text(alloc, &[Word("refused "), Number(u64::from(*code))]),
+        Outcome::Missed => word(alloc, "missed"),
+        Outcome::Held => word(alloc, "held"),
+        Outcome::Repeat => word(alloc, "repeat"),
+        Outcome::Yes => word(alloc, "yes"),
+        Outcome::Wait => word(alloc, "wait"),
+        Outcome::Marked => word(alloc, "marked"),
+        Outcome::Settled => word(alloc, "settled"),
     }
 }
 
+/// The words of an outcome, which is let go.
+pub fn told_outcome(alloc: Global, outcome: Outcome) -> Result<String, Error> {
+    let told = outcome_text(alloc, &outcome);
+    drop(outcome);
+    told
+}
+
+fn done(at: &str) -> Result<Outcome, Error> {
+    let version = version(at)?;
+    Ok(Outcome::PutDone(version))
+}
+
 fn found(alloc: Global, bytes: &str, at: &str) -> Result<Outcome, Error> {
-    Ok(Outcome::Got(value(alloc, bytes)?, version(at)?))
+    let version = version(at)?;
+    let value = value(alloc, bytes)?;
+    Ok(Outcome::Got(value, version))
+}
+
+fn refused(code: &str) -> Result<Outcome, Error> {
+    let code = u8_of(code)?;
+    Ok(Outcome::Refused(code))
+}
+
+/// The outcome of one word.
+fn plain(word: &str) -> Result<Outcome, Error> {
+    match word {
+        "missed" => Ok(Outcome::Missed),
+        "held" => Ok(Outcome::Held),
+        "repeat" => Ok(Outcome::Repeat),
+        "yes" => Ok(Outcome::Yes),
+        "wait" => Ok(Outcome::Wait),
+        "marked" => Ok(Outcome::Marked),
+        "settled" => Ok(Outcome::Settled),
+        _ => Err(no_row()),
+    }
 }
 
 /// The outcome that such words tell.
 pub fn outcome(alloc: Global, words: &[&str]) -> Result<Outcome, Error> {
     match words {
-        ["done", at] => Ok(Outcome::PutDone(version(at)?)),
+        ["done", at] => done(at),
         ["got", bytes, "at", at] => found(alloc, bytes, at),
-        ["refused", code] => Ok(Outcome::Refused(code.parse::<u8>()?)),
-        ["missed"] => Ok(Outcome::Missed),
-        ["held"] => Ok(Outcome::Held),
-        ["repeat"] => Ok(Outcome::Repeat),
-        ["yes"] => Ok(Outcome::Yes),
-        ["wait"] => Ok(Outcome::Wait),
-        ["marked"] => Ok(Outcome::Marked),
-        ["settled"] => Ok(Outcome::Settled),
-        _ => bail!("not a row"),
+        ["refused", code] => refused(code),
+        [word] => plain(word),
+        _ => Err(no_row()),
     }
 }

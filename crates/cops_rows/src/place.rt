@@ -1,31 +1,52 @@
 //! Rows of where keys live.
 
 use crate::subject::Subject;
-use crate::words::{key, keys};
-use anyhow::{Context, Error, bail};
+use crate::text::Part::{Number, Word};
+use crate::text::text;
+use crate::words::{key, keys, no_row, u8_of};
+use anyhow::{Error, bail};
 use cops_place::Place;
 use std::alloc::Global;
 
 /// How many data centres there are, and how many nodes each has.
 fn counts(alloc: Global, place: &Place) -> Result<String, Error> {
-    Ok(format!(in alloc; "{} data centres, {} nodes", place.dcs(), place.nodes())?)
+    let (dcs, nodes) = (u64::from(place.dcs()), u64::from(place.nodes()));
+    text(
+        alloc,
+        &[
+            Number(dcs),
+            Word(" data centres, "),
+            Number(nodes),
+            Word(" nodes"),
+        ],
+    )
 }
 
-fn open(alloc: Global, dcs: &str, splits: &str) -> Result<Place, Error> {
-    Ok(Place::new(dcs.parse::<u8>()?, keys(alloc, splits)?)?)
+/// The place of so many data centres and of split keys.
+pub fn open(alloc: Global, dcs: &str, splits: &str) -> Result<Place, Error> {
+    let dcs = u8_of(dcs)?;
+    let splits = keys(alloc, splits)?;
+    Ok(Place::new(dcs, splits)?)
 }
 
 fn primary(alloc: Global, place: &Place, name: &str) -> Result<String, Error> {
     let key = key(alloc, name)?;
-    Ok(format!(in alloc; "{}", place.primary(&key))?)
+    text(alloc, &[Number(u64::from(place.primary(&key)))])
 }
 
 fn node(alloc: Global, place: &Place, dc: &str, name: &str) -> Result<String, Error> {
-    let (dc, key) = (dc.parse::<u8>()?, key(alloc, name)?);
+    let dc = u8_of(dc)?;
+    let key = key(alloc, name)?;
     if dc >= place.dcs() {
         bail!("no such data centre");
     }
-    Ok(format!(in alloc; "{}", place.node(dc, &key))?)
+    text(alloc, &[Number(u64::from(place.node(dc, &key)))])
+}
+
+/// The node in a copy of the place.
+fn copy_node(alloc: Global, place: &Place, dc: &str, name: &str) -> Result<String, Error> {
+    let copy = place.clone()?;
+    node(alloc, &copy, dc, name)
 }
 
 /// Begins a place anew.
@@ -46,8 +67,16 @@ fn ask(alloc: Global, place: &Place, words: &[&str]) -> Result<String, Error> {
     match words {
         [_, "primary", name] => primary(alloc, place, name),
         [_, "node", dc, name] => node(alloc, place, dc, name),
-        [_, "copy", "node", dc, name] => node(alloc, &place.clone()?, dc, name),
-        _ => bail!("not a row"),
+        [_, "copy", "node", dc, name] => copy_node(alloc, place, dc, name),
+        _ => Err(no_row()),
+    }
+}
+
+/// The answer to a call that asks for a place.
+fn ask_any(alloc: Global, place: &Option<Place>, words: &[&str]) -> Result<String, Error> {
+    match place {
+        Some(place) => ask(alloc, place, words),
+        None => bail!("there is no place"),
     }
 }
 
@@ -59,7 +88,7 @@ impl Subject for Option<Place> {
     fn answer(&mut self, alloc: Global, words: &[&str]) -> Result<String, Error> {
         match words {
             [_, "new", dcs, splits] => begin(alloc, self, dcs, splits),
-            _ => ask(alloc, self.as_ref().context("there is no place")?, words),
+            _ => ask_any(alloc, self, words),
         }
     }
 }

@@ -2,21 +2,32 @@
 
 use crate::outcome::outcome;
 use crate::subject::Subject;
-use anyhow::{Context, Error, bail};
+use crate::text::Part::{At, Bytes, Count, Number, Word};
+use crate::text::{line_of, text, word};
+use crate::words::{no_row, usize_of};
+use anyhow::{Error, bail};
 use cops_core::Event;
-use cops_scenario::{Scenario, ScriptOp, outcome_line};
-use cops_types::{Key, Value};
+use cops_node::Outcome;
+use cops_scenario::{Scenario, ScriptOp, ScriptedClient, outcome_line};
+use cops_types::{Key, Value, Version};
 use std::alloc::Global;
 
 /// What a scenario is made of.
 fn counts(alloc: Global, scenario: &Scenario) -> Result<String, Error> {
     let place = scenario.place();
-    let (dcs, nodes) = (place.dcs(), place.nodes());
-    let (link, turns) = (scenario.link(), scenario.turns());
-    let clients = scenario.clients().len();
-    Ok(format!(in alloc;
-        "{dcs} data centres, {nodes} nodes, link {link}, turns {turns}, {clients} clients"
-    )?)
+    let parts = [
+        Number(u64::from(place.dcs())),
+        Word(" data centres, "),
+        Number(u64::from(place.nodes())),
+        Word(" nodes, link "),
+        Number(u64::from(scenario.link())),
+        Word(", turns "),
+        Number(u64::from(scenario.turns())),
+        Word(", "),
+        Count(scenario.clients().len()),
+        Word(" clients"),
+    ];
+    text(alloc, &parts)
 }
 
 /// Begins a scenario anew.
@@ -29,89 +40,147 @@ fn begin(alloc: Global, scenario: &mut Option<Scenario>, text: &str) -> Result<S
 
 /// Where a client lives, and how long its script is.
 fn client(alloc: Global, scenario: &Scenario, number: &str) -> Result<String, Error> {
-    match scenario.clients().get(number.parse::<usize>()?) {
+    match scenario.clients().get(usize_of(number)?) {
         Some(client) => {
-            Ok(format!(in alloc; "at {}, {} operations", client.at, client.script.len())?)
+            let (at, length) = (Number(u64::from(client.at)), Count(client.script.len()));
+            text(
+                alloc,
+                &[Word("at "), at, Word(", "), length, Word(" operations")],
+            )
         }
-        None => Ok(String::from_str(alloc, "nothing")?),
+        None => word(alloc, "nothing"),
     }
 }
 
-fn put_text(alloc: Global, key: &Key, value: &Value) -> Result<String, Error> {
-    let key = String::from_utf8_lossy(alloc, key.as_bytes())?;
-    let value = String::from_utf8_lossy(alloc, value.as_bytes())?;
-    Ok(format!(in alloc; "put {key}={value}")?)
-}
-
-fn get_text(alloc: Global, key: &Key) -> Result<String, Error> {
-    let key = String::from_utf8_lossy(alloc, key.as_bytes())?;
-    Ok(format!(in alloc; "get {key}")?)
+/// The text of an operation of a script.
+fn op_text(alloc: Global, op: &ScriptOp) -> Result<String, Error> {
+    match op {
+        ScriptOp::Put { key, value } => {
+            let (key, value) = (key.as_bytes(), value.as_bytes());
+            text(alloc, &[Word("put "), Bytes(key), Word("="), Bytes(value)])
+        }
+        ScriptOp::Get { key } => text(alloc, &[Word("get "), Bytes(key.as_bytes())]),
+    }
 }
 
 /// An operation of a client's script.
+fn scripted(alloc: Global, client: &ScriptedClient, index: usize) -> Result<String, Error> {
+    match client.script.get(index) {
+        Some(op) => op_text(alloc, op),
+        None => word(alloc, "nothing"),
+    }
+}
+
+/// An operation of a script, by its client and its place.
 fn script(alloc: Global, scenario: &Scenario, number: &str, index: &str) -> Result<String, Error> {
-    let clients = scenario.clients();
-    let client = clients
-        .get(number.parse::<usize>()?)
-        .context("there is no such client")?;
-    match client.script.get(index.parse::<usize>()?) {
-        Some(ScriptOp::Put { key, value }) => put_text(alloc, key, value),
-        Some(ScriptOp::Get { key }) => get_text(alloc, key),
-        None => Ok(String::from_str(alloc, "nothing")?),
+    match scenario.clients().get(usize_of(number)?) {
+        Some(client) => scripted(alloc, client, usize_of(index)?),
+        None => bail!("there is no such client"),
     }
 }
 
 /// How many events are listed.
 fn events(alloc: Global, scenario: &Scenario) -> Result<String, Error> {
     match scenario.events() {
-        Some(events) => Ok(format!(in alloc; "{} events", events.len())?),
-        None => Ok(String::from_str(alloc, "no list")?),
+        Some(events) => text(alloc, &[Count(events.len()), Word(" events")]),
+        None => word(alloc, "no list"),
     }
 }
 
-fn client_put(alloc: Global, client: u16, key: &Key, value: &Value) -> Result<String, Error> {
-    let put = put_text(alloc, key, value)?;
-    Ok(format!(in alloc; "client {client}: {put}")?)
+fn client_put<'a>(
+    alloc: Global,
+    client: u16,
+    key: &'a Key,
+    value: &'a Value,
+) -> Result<String, Error> {
+    let client = u64::from(client);
+    let (key, value) = (key.as_bytes(), value.as_bytes());
+    let parts = [
+        Word("client "),
+        Number(client),
+        Word(": put "),
+        Bytes(key),
+        Word("="),
+        Bytes(value),
+    ];
+    text(alloc, &parts)
 }
 
 fn client_get(alloc: Global, client: u16, key: &Key) -> Result<String, Error> {
-    let get = get_text(alloc, key)?;
-    Ok(format!(in alloc; "client {client}: {get}")?)
+    let client = u64::from(client);
+    text(
+        alloc,
+        &[
+            Word("client "),
+            Number(client),
+            Word(": get "),
+            Bytes(key.as_bytes()),
+        ],
+    )
+}
+
+/// An event about a version at a data centre.
+fn about(alloc: Global, event: &str, dc: u8, version: Version) -> Result<String, Error> {
+    text(
+        alloc,
+        &[Word(event), Number(u64::from(dc)), Word(" "), At(version)],
+    )
+}
+
+fn mark_text(alloc: Global, dc: u8, version: Version, dep: u16) -> Result<String, Error> {
+    let (dc, dep) = (u64::from(dc), u64::from(dep));
+    text(
+        alloc,
+        &[
+            Word("mark "),
+            Number(dc),
+            Word(" "),
+            At(version),
+            Word(" "),
+            Number(dep),
+        ],
+    )
 }
 
 /// The text of a world's event.
-pub fn event_text(alloc: Global, event: &Event) -> Result<String, Error> {
+fn event_text(alloc: Global, event: &Event) -> Result<String, Error> {
     match event {
         Event::Put { client, key, value } => client_put(alloc, *client, key, value),
         Event::Get { client, key } => client_get(alloc, *client, key),
-        Event::Deliver { dc, version } => Ok(format!(in alloc; "deliver {dc} {version}")?),
-        Event::Ask {
-            dc,
-            key: _,
-            version,
-        } => Ok(format!(in alloc; "ask {dc} {version}")?),
-        Event::Mark { dc, version, dep } => Ok(format!(in alloc; "mark {dc} {version} {dep}")?),
-        Event::Settle { dc, version } => Ok(format!(in alloc; "settle {dc} {version}")?),
+        Event::Deliver { dc, version } => about(alloc, "deliver ", *dc, *version),
+        Event::Ask { dc, version, .. } => about(alloc, "ask ", *dc, *version),
+        Event::Mark { dc, version, dep } => mark_text(alloc, *dc, *version, *dep),
+        Event::Settle { dc, version } => about(alloc, "settle ", *dc, *version),
+    }
+}
+
+/// The event at a place of a list.
+fn listed(alloc: Global, events: &[Event], index: &str) -> Result<String, Error> {
+    match events.get(usize_of(index)?) {
+        Some(event) => event_text(alloc, event),
+        None => word(alloc, "nothing"),
     }
 }
 
 /// The event at a place of the list.
 fn event(alloc: Global, scenario: &Scenario, index: &str) -> Result<String, Error> {
-    let events = scenario.events().context("no list")?;
-    match events.get(index.parse::<usize>()?) {
-        Some(event) => event_text(alloc, event),
-        None => Ok(String::from_str(alloc, "nothing")?),
+    match scenario.events() {
+        Some(events) => listed(alloc, events, index),
+        None => bail!("no list"),
     }
 }
 
 /// The line of an outcome, without its line feed.
-fn line(alloc: Global, number: &str, words: &[&str]) -> Result<String, Error> {
-    let outcome = outcome(alloc, words)?;
+fn told(alloc: Global, number: usize, outcome: &Outcome) -> Result<String, Error> {
     let mut bytes = Vec::new(alloc);
-    outcome_line(alloc, number.parse::<usize>()?, &outcome, &mut bytes)?;
-    let text = String::from_utf8_lossy(alloc, &bytes)?;
-    let line = text.strip_suffix('\n').context("no line feed")?;
-    Ok(String::from_str(alloc, line)?)
+    outcome_line(alloc, number, outcome, &mut bytes)?;
+    line_of(alloc, &bytes)
+}
+
+fn line(alloc: Global, number: &str, words: &[&str]) -> Result<String, Error> {
+    let number = usize_of(number)?;
+    let outcome = outcome(alloc, words)?;
+    told(alloc, number, &outcome)
 }
 
 /// The answer to a call of the scenario that there is.
@@ -121,7 +190,15 @@ fn ask(alloc: Global, scenario: &Scenario, words: &[&str]) -> Result<String, Err
         [_, "script", number, index] => script(alloc, scenario, number, index),
         [_, "events"] => events(alloc, scenario),
         [_, "event", index] => event(alloc, scenario, index),
-        _ => bail!("not a row"),
+        _ => Err(no_row()),
+    }
+}
+
+/// The answer to a call that asks for a scenario.
+fn ask_any(alloc: Global, scenario: &Option<Scenario>, words: &[&str]) -> Result<String, Error> {
+    match scenario {
+        Some(scenario) => ask(alloc, scenario, words),
+        None => bail!("there is no scenario"),
     }
 }
 
@@ -134,7 +211,7 @@ impl Subject for Option<Scenario> {
         match words {
             [_, "new", text] => begin(alloc, self, text),
             [_, "line", number, outcome @ ..] => line(alloc, number, outcome),
-            _ => ask(alloc, self.as_ref().context("there is no scenario")?, words),
+            _ => ask_any(alloc, self, words),
         }
     }
 }

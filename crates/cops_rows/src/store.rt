@@ -1,14 +1,17 @@
 //! Rows of a node's settled puts.
 
 use crate::subject::Subject;
-use crate::words::{key, value, value_at, version, yes_or_no};
-use anyhow::{Error, bail};
-use cops_store::Store;
+use crate::text::Part::{Count, Word};
+use crate::text::{text, word};
+use crate::words::{key, key_and_value, no_row, value_at, version, yes_or_no};
+use anyhow::Error;
+use cops_store::{Settled, Store};
 use std::alloc::Global;
 
 /// How many keys there are, and how many pairs.
 fn counts(alloc: Global, store: &Store) -> Result<String, Error> {
-    Ok(format!(in alloc; "{} keys, {} pairs", store.keys(), store.settled())?)
+    let (keys, pairs) = (Count(store.keys()), Count(store.settled()));
+    text(alloc, &[keys, Word(" keys, "), pairs, Word(" pairs")])
 }
 
 fn settle(
@@ -18,21 +21,33 @@ fn settle(
     bytes: &str,
     at: &str,
 ) -> Result<String, Error> {
-    let settled = store.settle(key(alloc, name)?, value(alloc, bytes)?, version(at)?)?;
-    Ok(format!(in alloc; "{settled:?}")?)
+    let version = version(at)?;
+    let (key, value) = key_and_value(alloc, name, bytes)?;
+    match store.settle(key, value, version)? {
+        Settled::Shown => word(alloc, "Shown"),
+        Settled::Older => word(alloc, "Older"),
+        Settled::Repeat => word(alloc, "Repeat"),
+    }
 }
 
 fn has(alloc: Global, store: &Store, name: &str, at: &str) -> Result<String, Error> {
+    let version = version(at)?;
     let key = key(alloc, name)?;
-    yes_or_no(alloc, store.has(&key, version(at)?))
+    yes_or_no(alloc, store.has(&key, version))
 }
 
 fn get(alloc: Global, store: &Store, name: &str) -> Result<String, Error> {
     let key = key(alloc, name)?;
     match store.get(&key) {
         Some((value, version)) => value_at(alloc, value, version),
-        None => Ok(String::from_str(alloc, "nothing")?),
+        None => word(alloc, "nothing"),
     }
+}
+
+/// Begins a store anew.
+fn begin(alloc: Global, store: &mut Store) -> Result<String, Error> {
+    *store = Store::new(alloc);
+    counts(alloc, store)
 }
 
 impl Subject for Store {
@@ -42,15 +57,12 @@ impl Subject for Store {
 
     fn answer(&mut self, alloc: Global, words: &[&str]) -> Result<String, Error> {
         match words {
-            [_, "new"] => {
-                *self = Store::new(alloc);
-                counts(alloc, self)
-            }
+            [_, "new"] => begin(alloc, self),
             [_, "counts"] => counts(alloc, self),
             [_, "settle", name, bytes, at] => settle(alloc, self, name, bytes, at),
             [_, "has", name, at] => has(alloc, self, name, at),
             [_, "get", name] => get(alloc, self, name),
-            _ => bail!("not a row"),
+            _ => Err(no_row()),
         }
     }
 }

@@ -1,10 +1,13 @@
 //! Rows of what the books of a run are told to be.
 
+use crate::book::entries_text;
 use crate::node::node_event;
 use crate::outcome::outcome;
 use crate::subject::Subject;
-use crate::words::op;
-use anyhow::{Context, Error, bail};
+use crate::text::Part::{Count, Word};
+use crate::text::{text, word};
+use crate::words::{no_row, op, parts, u16_of, u64_of};
+use anyhow::{Error, bail};
 use cops_scenario::Scenario;
 use cops_tie::{Entry, tie};
 use cops_trace::Trace;
@@ -18,12 +21,18 @@ pub struct Run {
     trace: Trace,
 }
 
+/// One book, without entries.
+fn one_book(alloc: Global) -> Result<Vec<Vec<Entry>>, Error> {
+    let mut books = Vec::new(alloc);
+    books.push(Vec::new(alloc))?;
+    Ok(books)
+}
+
 /// A run of a scenario, in which nothing has happened.
 fn open(alloc: Global, text: &str) -> Result<Run, Error> {
     let scenario = Scenario::from_json(alloc, text.as_bytes())?;
     let trace = Trace::new(alloc, scenario.clients().len() as u16)?;
-    let mut books = Vec::new(alloc);
-    books.push(Vec::new(alloc))?;
+    let books = one_book(alloc)?;
     Ok(Run {
         scenario,
         books,
@@ -34,32 +43,62 @@ fn open(alloc: Global, text: &str) -> Result<Run, Error> {
 /// Begins a run anew.
 fn begin(alloc: Global, run: &mut Option<Run>, text: &str) -> Result<String, Error> {
     *run = Some(open(alloc, text)?);
-    Ok(String::from_str(alloc, "opened")?)
+    word(alloc, "opened")
+}
+
+/// An entry of a ticket, of an event and of an outcome.
+fn made(alloc: Global, ticket: u64, event: &[&str], told: &[&str]) -> Result<Entry, Error> {
+    let event = node_event(alloc, event)?;
+    match outcome(alloc, told) {
+        Ok(outcome) => Ok(Entry {
+            ticket,
+            event,
+            outcome,
+        }),
+        Err(error) => {
+            drop(event);
+            Err(error)
+        }
+    }
 }
 
 /// An entry, whose event and outcome stand beside `->`.
-fn made(alloc: Global, ticket: &str, words: &[&str]) -> Result<Entry, Error> {
-    let mut parts = words.split(|word| *word == "->");
-    let event = node_event(alloc, parts.next().context("not a row")?)?;
-    let outcome = outcome(alloc, parts.next().context("not a row")?)?;
-    Ok(Entry {
-        ticket: ticket.parse::<u64>()?,
-        event,
-        outcome,
-    })
+fn entry(alloc: Global, ticket: &str, words: &[&str]) -> Result<Entry, Error> {
+    let ticket = u64_of(ticket)?;
+    let sides = parts(alloc, words, "->")?;
+    match sides.as_slice() {
+        [event, outcome, ..] => made(alloc, ticket, event, outcome),
+        _ => Err(no_row()),
+    }
+}
+
+/// Adds an entry to a book.
+fn add(alloc: Global, book: &mut Vec<Entry>, entry: Entry) -> Result<String, Error> {
+    book.push(entry)?;
+    entries_text(alloc, book.len())
+}
+
+/// Adds an entry to the one book.
+fn added(alloc: Global, books: &mut [Vec<Entry>], entry: Entry) -> Result<String, Error> {
+    match books.first_mut() {
+        Some(book) => add(alloc, book, entry),
+        None => {
+            drop(entry);
+            bail!("there is no book")
+        }
+    }
 }
 
 fn enter(alloc: Global, run: &mut Run, ticket: &str, words: &[&str]) -> Result<String, Error> {
-    let entry = made(alloc, ticket, words)?;
-    let book = run.books.first_mut().context("there is no book")?;
-    book.push(entry)?;
-    Ok(format!(in alloc; "{} entries", book.len())?)
+    let entry = entry(alloc, ticket, words)?;
+    added(alloc, &mut run.books, entry)
 }
 
 fn record(alloc: Global, run: &mut Run, client: &str, words: &[&str]) -> Result<String, Error> {
+    let client = u16_of(client)?;
     let op = op(alloc, words)?;
-    run.trace.push(client.parse::<u16>()?, op)?;
-    Ok(format!(in alloc; "{} records", run.trace.len())?)
+    run.trace.push(client, op)?;
+    text(alloc, &[Count(run.trace.len()), Word(" records")])
 }
 
 /// How many events the books tell.
@@ -69,7 +108,7 @@ fn tied(alloc: Global, run: &Run) -> Result<String, Error> {
         bail!("there is more than one node");
     }
     let events = tie(alloc, &run.scenario, &run.books, &run.trace)?;
-    Ok(format!(in alloc; "{} events", events.len())?)
+    text(alloc, &[Count(events.len()), Word(" events")])
 }
 
 /// The answer to a call of the run that there is.
@@ -78,7 +117,15 @@ fn ask(alloc: Global, run: &mut Run, words: &[&str]) -> Result<String, Error> {
         [_, "entry", ticket, rest @ ..] => enter(alloc, run, ticket, rest),
         [_, "record", client, rest @ ..] => record(alloc, run, client, rest),
         [_, "books"] => tied(alloc, run),
-        _ => bail!("not a row"),
+        _ => Err(no_row()),
+    }
+}
+
+/// The answer to a call that asks for a run.
+fn ask_any(alloc: Global, run: &mut Option<Run>, words: &[&str]) -> Result<String, Error> {
+    match run {
+        Some(run) => ask(alloc, run, words),
+        None => bail!("there is no run"),
     }
 }
 
@@ -90,7 +137,7 @@ impl Subject for Option<Run> {
     fn answer(&mut self, alloc: Global, words: &[&str]) -> Result<String, Error> {
         match words {
             [_, "new", text] => begin(alloc, self, text),
-            _ => ask(alloc, self.as_mut().context("there is no run")?, words),
+            _ => ask_any(alloc, self, words),
         }
     }
 }

@@ -1,9 +1,15 @@
 //! Rows of keys, values, versions and dependencies.
 
+use crate::history;
 use crate::subject::Subject;
-use crate::words::{deps, key, op, op_text, pair, pair_text, version, yes_or_no};
-use anyhow::{Error, bail};
-use cops_types::{Format, Key, OpName, Value, Version};
+use crate::text::Part::{At, Count, Number, Word};
+use crate::text::text;
+use crate::words::{
+    deps, key, no_row, op, op_text, pair, pair_text, u64_of, usize_of, value, version, version_of,
+    yes_or_no,
+};
+use anyhow::Error;
+use cops_types::{Format, Key, Value, Version};
 use std::alloc::Global;
 
 /// Keys, values, versions and dependencies, of which each row makes its own.
@@ -12,77 +18,108 @@ pub struct Types;
 
 /// So many bytes.
 fn letters(alloc: Global, count: &str) -> Result<Vec<u8>, Error> {
-    Ok(vec![in alloc; b'k'; count.parse::<usize>()?]?)
+    let count = usize_of(count)?;
+    Ok(vec![in alloc; b'k'; count]?)
+}
+
+/// How many bytes there are.
+fn length(alloc: Global, bytes: &[u8]) -> Result<String, Error> {
+    text(alloc, &[Count(bytes.len()), Word(" bytes")])
 }
 
 fn key_of(alloc: Global, count: &str) -> Result<String, Error> {
-    let key = Key::new(alloc, &letters(alloc, count)?)?;
-    Ok(format!(in alloc; "{} bytes", key.as_bytes().len())?)
+    let letters = letters(alloc, count)?;
+    let key = Key::new(alloc, &letters)?;
+    length(alloc, key.as_bytes())
 }
 
 fn value_of(alloc: Global, count: &str) -> Result<String, Error> {
-    let value = Value::new(alloc, &letters(alloc, count)?)?;
-    Ok(format!(in alloc; "{} bytes", value.as_bytes().len())?)
+    let letters = letters(alloc, count)?;
+    let value = Value::new(alloc, &letters)?;
+    length(alloc, value.as_bytes())
 }
 
 fn same_keys(alloc: Global, one: &str, other: &str) -> Result<String, Error> {
-    let key_there = key(alloc, one)?;
-    yes_or_no(alloc, key_there.is(&key(alloc, other)?))
+    let one = key(alloc, one)?;
+    let other = key(alloc, other)?;
+    yes_or_no(alloc, one.is(&other))
 }
 
 /// Whether one key stands before the other.
 fn before(alloc: Global, one: &str, other: &str) -> Result<String, Error> {
-    let is = key(alloc, one)? < key(alloc, other)?;
-    yes_or_no(alloc, is)
+    let one = key(alloc, one)?;
+    let other = key(alloc, other)?;
+    yes_or_no(alloc, one < other)
 }
 
 fn same_values(alloc: Global, one: &str, other: &str) -> Result<String, Error> {
-    let value = Value::new_in(Format::One, alloc, one.as_bytes())?;
-    yes_or_no(alloc, value.is(&Value::new(alloc, other.as_bytes())?))
+    let one = Value::new_in(Format::One, alloc, one.as_bytes())?;
+    let other = value(alloc, other)?;
+    yes_or_no(alloc, one.is(&other))
 }
 
 /// A version's number, and the data centre of its node.
 fn number(alloc: Global, clock: &str, node: &str) -> Result<String, Error> {
-    let version = Version::new(clock.parse::<u64>()?, node.parse::<u16>()?)?;
-    Ok(format!(in alloc; "{} of data centre {}", version.as_u64(), version.dc())?)
+    let version = version_of(clock, node)?;
+    let (number, dc) = (version.as_u64(), u64::from(version.dc()));
+    text(
+        alloc,
+        &[Number(number), Word(" of data centre "), Number(dc)],
+    )
 }
 
 /// The version of a number.
 fn numbered(alloc: Global, number: &str) -> Result<String, Error> {
-    let version = Version::from_u64(number.parse::<u64>()?)?;
-    Ok(format!(in alloc; "clock {}, node {}", version.clock(), version.node())?)
+    let version = Version::from_u64(u64_of(number)?)?;
+    let (clock, node) = (version.clock(), u64::from(version.node()));
+    text(
+        alloc,
+        &[Word("clock "), Number(clock), Word(", node "), Number(node)],
+    )
 }
 
 /// The text of an operation's name, and of its version.
 fn name(alloc: Global, client: &str, index: &str, at: &str) -> Result<String, Error> {
-    let name = OpName {
-        client: client.parse::<u16>()?,
-        index: index.parse::<u32>()?,
-    };
+    let name = history::name(client, index)?;
     let version = version(at)?;
-    Ok(format!(in alloc; "{name} at {version}")?)
+    let told = format!(in alloc; "{name}")?;
+    text(alloc, &[Word(&told), Word(" at "), At(version)])
 }
 
 fn pairs(alloc: Global, word: &str) -> Result<String, Error> {
     let deps = deps(alloc, word)?;
-    Ok(format!(in alloc; "{} pairs", deps.as_slice().len())?)
+    text(alloc, &[Count(deps.as_slice().len()), Word(" pairs")])
 }
 
 /// The copy of what a client did.
 fn op_copy(alloc: Global, words: &[&str]) -> Result<String, Error> {
-    let copy = op(alloc, words)?.clone()?;
+    let op = op(alloc, words)?;
+    let copy = op.clone()?;
     op_text(alloc, &copy)
 }
 
 fn pair_copy(alloc: Global, name: &str, at: &str) -> Result<String, Error> {
-    let copy = pair(alloc, name, at)?.clone()?;
+    let pair = pair(alloc, name, at)?;
+    let copy = pair.clone()?;
     pair_text(alloc, &copy)
 }
 
 /// The limits of the first format.
 fn limits(alloc: Global) -> Result<String, Error> {
-    let (body, deps) = (Format::One.longest_body(), Format::One.most_deps());
-    Ok(format!(in alloc; "bodies of {body} bytes, {deps} pairs")?)
+    let (body, deps) = (
+        Count(Format::One.longest_body()),
+        Count(Format::One.most_deps()),
+    );
+    text(
+        alloc,
+        &[
+            Word("bodies of "),
+            body,
+            Word(" bytes, "),
+            deps,
+            Word(" pairs"),
+        ],
+    )
 }
 
 impl Subject for Types {
@@ -104,7 +141,7 @@ impl Subject for Types {
             [_, "copy", "pair", name, at] => pair_copy(alloc, name, at),
             [_, "copy", rest @ ..] => op_copy(alloc, rest),
             [_, "limits"] => limits(alloc),
-            _ => bail!("not a row"),
+            _ => Err(no_row()),
         }
     }
 }

@@ -1,8 +1,70 @@
 //! What a row's words stand for.
 
-use anyhow::{Context, Error, bail};
+use crate::text::Part::{At, Bytes, Word};
+use crate::text::{text, word};
+use anyhow::{Error, anyhow};
 use cops_types::{Dep, Deps, Key, Op, PutRecord, Value, Version};
 use std::alloc::Global;
+
+/// The fault of words that are no row.
+pub fn no_row() -> Error {
+    anyhow!("not a row")
+}
+
+/// The fault of a node's number that is too great.
+pub fn no_node() -> Error {
+    anyhow!("there is no such node")
+}
+
+/// The fault of a number that its type has not, in the words of the types themselves.
+fn too_large() -> Error {
+    anyhow!("number too large to fit in target type")
+}
+
+/// The number below 2 ^ 64 of these digits.
+pub fn u64_of(word: &str) -> Result<u64, Error> {
+    Ok(word.parse::<u64>()?)
+}
+
+/// The number below 2 ^ 8 of these digits.
+pub fn u8_of(word: &str) -> Result<u8, Error> {
+    let number = u64_of(word)?;
+    if number > 255 {
+        return Err(too_large());
+    }
+    Ok(number as u8)
+}
+
+/// The number below 2 ^ 16 of these digits.
+pub fn u16_of(word: &str) -> Result<u16, Error> {
+    let number = u64_of(word)?;
+    if number > 65_535 {
+        return Err(too_large());
+    }
+    Ok(number as u16)
+}
+
+/// The number below 2 ^ 32 of these digits.
+pub fn u32_of(word: &str) -> Result<u32, Error> {
+    let number = u64_of(word)?;
+    if number > 4_294_967_295 {
+        return Err(too_large());
+    }
+    Ok(number as u32)
+}
+
+/// The number of these digits, as a length or an index.
+pub fn usize_of(word: &str) -> Result<usize, Error> {
+    Ok(u64_of(word)? as usize)
+}
+
+/// What stands before a sign and behind it.
+fn halves(word: &str, sign: char) -> Result<(&str, &str), Error> {
+    match word.split_once(sign) {
+        Some(halves) => Ok(halves),
+        None => Err(no_row()),
+    }
+}
 
 /// The key of these bytes.
 pub fn key(alloc: Global, word: &str) -> Result<Key, Error> {
@@ -14,10 +76,17 @@ pub fn value(alloc: Global, word: &str) -> Result<Value, Error> {
     Ok(Value::new(alloc, word.as_bytes())?)
 }
 
+/// The version of a clock and a node.
+pub fn version_of(clock: &str, node: &str) -> Result<Version, Error> {
+    let clock = u64_of(clock)?;
+    let node = u16_of(node)?;
+    Ok(Version::new(clock, node)?)
+}
+
 /// The version `CLOCK.NODE`.
 pub fn version(word: &str) -> Result<Version, Error> {
-    let (clock, node) = word.split_once('.').context("not a row")?;
-    Ok(Version::new(clock.parse::<u64>()?, node.parse::<u16>()?)?)
+    let (clock, node) = halves(word, '.')?;
+    version_of(clock, node)
 }
 
 /// The keys `KEY,KEY..`, or none where the word is `-`.
@@ -33,15 +102,14 @@ pub fn keys(alloc: Global, word: &str) -> Result<Vec<Key>, Error> {
 
 /// The pair of a key and a version.
 pub fn pair(alloc: Global, name: &str, at: &str) -> Result<Dep, Error> {
-    Ok(Dep {
-        key: key(alloc, name)?,
-        version: version(at)?,
-    })
+    let version = version(at)?;
+    let key = key(alloc, name)?;
+    Ok(Dep { key, version })
 }
 
 /// The pair `KEY@VERSION`.
 fn told_pair(alloc: Global, word: &str) -> Result<Dep, Error> {
-    let (name, at) = word.split_once('@').context("not a row")?;
+    let (name, at) = halves(word, '@')?;
     pair(alloc, name, at)
 }
 
@@ -61,49 +129,72 @@ pub fn deps(alloc: Global, word: &str) -> Result<Deps, Error> {
     Ok(Deps::new(pairs(alloc, word)?)?)
 }
 
+/// The key and the value of these bytes.
+pub fn key_and_value(alloc: Global, name: &str, bytes: &str) -> Result<(Key, Value), Error> {
+    let key = key(alloc, name)?;
+    let value = value(alloc, bytes)?;
+    Ok((key, value))
+}
+
 /// The put of a key, a value, a version and dependencies.
 pub fn put(alloc: Global, words: &[&str; 4]) -> Result<PutRecord, Error> {
     let [name, bytes, at, pairs] = words;
+    let version = version(at)?;
+    let deps = deps(alloc, pairs)?;
+    let (key, value) = key_and_value(alloc, name, bytes)?;
     Ok(PutRecord {
-        key: key(alloc, name)?,
-        value: value(alloc, bytes)?,
-        version: version(at)?,
-        deps: deps(alloc, pairs)?,
+        key,
+        value,
+        version,
+        deps,
     })
 }
 
 /// `yes` or `no`.
 pub fn yes_or_no(alloc: Global, is: bool) -> Result<String, Error> {
-    let word = if is { "yes" } else { "no" };
-    Ok(String::from_str(alloc, word)?)
+    if is {
+        word(alloc, "yes")
+    } else {
+        word(alloc, "no")
+    }
 }
 
 /// `VALUE at VERSION`.
 pub fn value_at(alloc: Global, value: &Value, version: Version) -> Result<String, Error> {
-    let text = String::from_utf8_lossy(alloc, value.as_bytes())?;
-    Ok(format!(in alloc; "{text} at {version}")?)
+    text(alloc, &[Bytes(value.as_bytes()), Word(" at "), At(version)])
 }
 
 /// `KEY@VERSION`.
 pub fn pair_text(alloc: Global, pair: &Dep) -> Result<String, Error> {
-    let name = String::from_utf8_lossy(alloc, pair.key.as_bytes())?;
-    Ok(format!(in alloc; "{name}@{}", pair.version)?)
+    text(
+        alloc,
+        &[Bytes(pair.key.as_bytes()), Word("@"), At(pair.version)],
+    )
 }
 
 fn put_op(alloc: Global, name: &str, bytes: &str, at: &str) -> Result<Op, Error> {
+    let version = version(at)?;
+    let (key, value) = key_and_value(alloc, name, bytes)?;
     Ok(Op::Put {
-        key: key(alloc, name)?,
-        value: value(alloc, bytes)?,
-        version: version(at)?,
+        key,
+        value,
+        version,
     })
 }
 
 fn got_op(alloc: Global, name: &str, bytes: &str, at: &str) -> Result<Op, Error> {
+    let version = version(at)?;
+    let (key, value) = key_and_value(alloc, name, bytes)?;
     Ok(Op::Got {
-        key: key(alloc, name)?,
-        value: value(alloc, bytes)?,
-        version: version(at)?,
+        key,
+        value,
+        version,
     })
+}
+
+fn missed_op(alloc: Global, name: &str) -> Result<Op, Error> {
+    let key = key(alloc, name)?;
+    Ok(Op::Missed { key })
 }
 
 /// What a client did.
@@ -111,23 +202,31 @@ pub fn op(alloc: Global, words: &[&str]) -> Result<Op, Error> {
     match words {
         ["put", name, bytes, at] => put_op(alloc, name, bytes, at),
         ["got", name, bytes, at] => got_op(alloc, name, bytes, at),
-        ["missed", name] => Ok(Op::Missed {
-            key: key(alloc, name)?,
-        }),
-        _ => bail!("not a row"),
+        ["missed", name] => missed_op(alloc, name),
+        _ => Err(no_row()),
     }
 }
 
-/// `KEY=VALUE at VERSION`.
-fn pair_at(alloc: Global, key: &Key, value: &Value, version: Version) -> Result<String, Error> {
-    let key = String::from_utf8_lossy(alloc, key.as_bytes())?;
-    let value = value_at(alloc, value, version)?;
-    Ok(format!(in alloc; "{key}={value}")?)
-}
-
-fn missed_text(alloc: Global, key: &Key) -> Result<String, Error> {
-    let key = String::from_utf8_lossy(alloc, key.as_bytes())?;
-    Ok(format!(in alloc; "missed {key}")?)
+/// What was done: `KEY=VALUE at VERSION`.
+fn done_text<'a>(
+    alloc: Global,
+    done: &'a str,
+    key: &'a Key,
+    value: &'a Value,
+    version: Version,
+) -> Result<String, Error> {
+    let (key, value) = (key.as_bytes(), value.as_bytes());
+    text(
+        alloc,
+        &[
+            Word(done),
+            Bytes(key),
+            Word("="),
+            Bytes(value),
+            Word(" at "),
+            At(version),
+        ],
+    )
 }
 
 /// The text of what a client did.
@@ -137,18 +236,35 @@ pub fn op_text(alloc: Global, op: &Op) -> Result<String, Error> {
             key,
             value,
             version,
-        } => {
-            let put = pair_at(alloc, key, value, *version)?;
-            Ok(format!(in alloc; "put {put}")?)
-        }
+        } => done_text(alloc, "put ", key, value, *version),
         Op::Got {
             key,
             value,
             version,
-        } => {
-            let got = pair_at(alloc, key, value, *version)?;
-            Ok(format!(in alloc; "got {got}")?)
-        }
-        Op::Missed { key } => missed_text(alloc, key),
+        } => done_text(alloc, "got ", key, value, *version),
+        Op::Missed { key } => text(alloc, &[Word("missed "), Bytes(key.as_bytes())]),
     }
+}
+
+/// The words from one place to before another.
+fn part<'a>(words: &'a [&'a str], from: usize, end: usize) -> &'a [&'a str] {
+    words.get(from..end).unwrap_or(&[])
+}
+
+/// The parts of words between which a sign stands.
+pub fn parts<'a>(
+    alloc: Global,
+    words: &'a [&'a str],
+    sign: &str,
+) -> Result<Vec<&'a [&'a str]>, Error> {
+    let mut parts = Vec::new(alloc);
+    let mut from = 0usize;
+    for (at, word) in words.iter().enumerate() {
+        if *word == sign {
+            parts.push(part(words, from, at))?;
+            from = at.saturating_add(1);
+        }
+    }
+    parts.push(part(words, from, words.len()))?;
+    Ok(parts)
 }

@@ -1,36 +1,46 @@
 //! Rows of the world.
 
-use crate::outcome::outcome_text;
+use crate::outcome::{outcome_text, told_outcome};
 use crate::subject::Subject;
-use crate::words::{key, keys, value, version};
-use anyhow::{Context, Error, bail};
+use crate::text::Part::{Count, Word};
+use crate::text::text;
+use crate::words::{key, key_and_value, no_row, parts, u8_of, u16_of, u32_of, version};
+use crate::{history, place};
+use anyhow::{Error, bail};
 use cops_core::{Event, World};
 use cops_node::Outcome;
-use cops_place::Place;
 use std::alloc::Global;
 
-/// The clients of a word `DATA_CENTRE`, or `DATA_CENTRE*COUNT` for so many at it.
-fn add_clients(homes: &mut Vec<u8>, word: &str) -> Result<(), Error> {
-    let (dc, count) = word.split_once('*').unwrap_or((word, "1"));
-    let dc = dc.parse::<u8>()?;
-    for _ in 0..count.parse::<u32>()? {
+/// So many clients at a data centre.
+fn add_clients(homes: &mut Vec<u8>, dc: &str, count: &str) -> Result<(), Error> {
+    let dc = u8_of(dc)?;
+    for _ in 0..u32_of(count)? {
         homes.push(dc)?;
     }
     Ok(())
+}
+
+/// The clients of a word `DATA_CENTRE`, or `DATA_CENTRE*COUNT` for so many at it.
+fn add_told(homes: &mut Vec<u8>, word: &str) -> Result<(), Error> {
+    match word.split_once('*') {
+        Some((dc, count)) => add_clients(homes, dc, count),
+        None => add_clients(homes, word, "1"),
+    }
 }
 
 /// Where the clients live.
 fn homes(alloc: Global, word: &str) -> Result<Vec<u8>, Error> {
     let mut homes = Vec::new(alloc);
     for one in word.split(',') {
-        add_clients(&mut homes, one)?;
+        add_told(&mut homes, one)?;
     }
     Ok(homes)
 }
 
 fn open(alloc: Global, dcs: &str, splits: &str, clients: &str) -> Result<World, Error> {
-    let place = Place::new(dcs.parse::<u8>()?, keys(alloc, splits)?)?;
-    Ok(World::open(alloc, place, homes(alloc, clients)?)?)
+    let place = place::open(alloc, dcs, splits)?;
+    let homes = homes(alloc, clients)?;
+    Ok(World::open(alloc, place, homes)?)
 }
 
 /// Begins a world anew.
@@ -39,52 +49,45 @@ fn begin(alloc: Global, world: &mut Option<World>, words: &[&str; 3]) -> Result<
     let opened = open(alloc, dcs, splits, clients)?;
     let count = opened.history().clients();
     *world = Some(opened);
-    Ok(format!(in alloc; "{count} clients")?)
+    text(alloc, &[Count(count), Word(" clients")])
 }
 
 fn put(alloc: Global, client: &str, name: &str, bytes: &str) -> Result<Event, Error> {
-    Ok(Event::Put {
-        client: client.parse::<u16>()?,
-        key: key(alloc, name)?,
-        value: value(alloc, bytes)?,
-    })
+    let client = u16_of(client)?;
+    let (key, value) = key_and_value(alloc, name, bytes)?;
+    Ok(Event::Put { client, key, value })
 }
 
 fn get(alloc: Global, client: &str, name: &str) -> Result<Event, Error> {
-    Ok(Event::Get {
-        client: client.parse::<u16>()?,
-        key: key(alloc, name)?,
-    })
+    let client = u16_of(client)?;
+    let key = key(alloc, name)?;
+    Ok(Event::Get { client, key })
 }
 
 fn deliver(dc: &str, at: &str) -> Result<Event, Error> {
-    Ok(Event::Deliver {
-        dc: dc.parse::<u8>()?,
-        version: version(at)?,
-    })
+    let dc = u8_of(dc)?;
+    let version = version(at)?;
+    Ok(Event::Deliver { dc, version })
 }
 
 fn ask(alloc: Global, dc: &str, name: &str, at: &str) -> Result<Event, Error> {
-    Ok(Event::Ask {
-        dc: dc.parse::<u8>()?,
-        key: key(alloc, name)?,
-        version: version(at)?,
-    })
+    let dc = u8_of(dc)?;
+    let version = version(at)?;
+    let key = key(alloc, name)?;
+    Ok(Event::Ask { dc, key, version })
 }
 
 fn mark(dc: &str, at: &str, dep: &str) -> Result<Event, Error> {
-    Ok(Event::Mark {
-        dc: dc.parse::<u8>()?,
-        version: version(at)?,
-        dep: dep.parse::<u16>()?,
-    })
+    let dc = u8_of(dc)?;
+    let version = version(at)?;
+    let dep = u16_of(dep)?;
+    Ok(Event::Mark { dc, version, dep })
 }
 
 fn settle(dc: &str, at: &str) -> Result<Event, Error> {
-    Ok(Event::Settle {
-        dc: dc.parse::<u8>()?,
-        version: version(at)?,
-    })
+    let dc = u8_of(dc)?;
+    let version = version(at)?;
+    Ok(Event::Settle { dc, version })
 }
 
 /// The event that a row's words tell.
@@ -96,30 +99,39 @@ fn event(alloc: Global, words: &[&str]) -> Result<Event, Error> {
         ["ask", dc, name, at] => ask(alloc, dc, name, at),
         ["mark", dc, at, dep] => mark(dc, at, dep),
         ["settle", dc, at] => settle(dc, at),
-        _ => bail!("not a row"),
+        _ => Err(no_row()),
     }
 }
 
 fn apply(alloc: Global, world: &mut World, words: &[&str]) -> Result<String, Error> {
-    let outcome = world.apply(event(alloc, words)?);
-    outcome_text(alloc, &outcome)
+    let event = event(alloc, words)?;
+    told_outcome(alloc, world.apply(event))
+}
+
+/// The last outcome of the same event, so many times.
+fn last(world: &mut World, count: u32, event: &Event) -> Outcome {
+    let mut last = Outcome::Missed;
+    for _ in 0..count {
+        last = world.answer(event);
+    }
+    last
 }
 
 /// The same event so many times: the last outcome.
 fn again(alloc: Global, world: &mut World, count: &str, words: &[&str]) -> Result<String, Error> {
+    let count = u32_of(count)?;
     let event = event(alloc, words)?;
-    let mut last = Outcome::Missed;
-    for _ in 0..count.parse::<u32>()? {
-        last = world.answer(&event);
-    }
-    outcome_text(alloc, &last)
+    let last = last(world, count, &event);
+    drop(event);
+    told_outcome(alloc, last)
 }
 
 /// The events whose words stand between `/`.
 fn events(alloc: Global, words: &[&str]) -> Result<Vec<Event>, Error> {
     let mut events = Vec::new(alloc);
-    for one in words.split(|word| *word == "/") {
-        events.push(event(alloc, one)?)?;
+    let parts = parts(alloc, words, "/")?;
+    for part in &parts {
+        events.push(event(alloc, part)?)?;
     }
     Ok(events)
 }
@@ -145,24 +157,26 @@ fn run(alloc: Global, world: &mut World, words: &[&str]) -> Result<String, Error
 
 /// How many operations the clients saw.
 fn count(alloc: Global, world: &World) -> Result<String, Error> {
-    Ok(format!(in alloc; "{} operations", world.history().len())?)
-}
-
-/// How many operations a client saw.
-fn session(alloc: Global, world: &World, client: &str) -> Result<String, Error> {
-    let session = world.history().session(client.parse::<u16>()?);
-    Ok(format!(in alloc; "{} operations", session.len())?)
+    text(alloc, &[Count(world.history().len()), Word(" operations")])
 }
 
 /// The answer to a call of the world that there is.
 fn ask_world(alloc: Global, world: &mut World, words: &[&str]) -> Result<String, Error> {
     match words {
         [_, "counts"] => count(alloc, world),
-        [_, "session", client] => session(alloc, world, client),
+        [_, "session", client] => history::session(alloc, world.history(), client),
         [_, "again", count, event @ ..] => again(alloc, world, count, event),
         [_, "run", events @ ..] => run(alloc, world, events),
         [_, event @ ..] => apply(alloc, world, event),
-        _ => bail!("not a row"),
+        _ => Err(no_row()),
+    }
+}
+
+/// The answer to a call that asks for a world.
+fn ask_any(alloc: Global, world: &mut Option<World>, words: &[&str]) -> Result<String, Error> {
+    match world {
+        Some(world) => ask_world(alloc, world, words),
+        None => bail!("there is no world"),
     }
 }
 
@@ -174,7 +188,7 @@ impl Subject for Option<World> {
     fn answer(&mut self, alloc: Global, words: &[&str]) -> Result<String, Error> {
         match words {
             [_, "open", dcs, splits, clients] => begin(alloc, self, &[dcs, splits, clients]),
-            _ => ask_world(alloc, self.as_mut().context("there is no world")?, words),
+            _ => ask_any(alloc, self, words),
         }
     }
 }
