@@ -8,4 +8,5 @@ from kit import kit
 if __name__ == "__main__":
     module = kit()
     module.edits_of = lambda crate: ([], [])
-    sys.exit(module.where_disk_lasts(module.ci, False))
+    # (some kits of one logic first look how much room the disk has)
+    sys.exit(module.where_disk_lasts(module.ci, False) if hasattr(module, "where_disk_lasts") else module.ci())
