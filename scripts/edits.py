@@ -1,10 +1,13 @@
 """Wrong edits: other texts in a crate's sources, for which the checker has to refuse the function that they change."""
 import os
 import re
+import shutil
 import tempfile
 
 HEADER = re.compile(r"(?m)^(?:pub(?:\([^)]*\))? )?(?:unsafe )?(?:(impl)\b([^{]*)|mod\b|struct\b|enum\b|trait\b)")
 FUNCTION = re.compile(r"(?m)^( *)(?:pub(?:\([^)]*\))? )?(?:const )?fn (\w+)")
+# (a method, or a function of a module: one of a root file alone could be a module's name)
+FUNCTION_PATH = re.compile(r"::\w+\Z")
 COUNTS = re.compile(r"only=(\d+) proved=(\d+)\Z")
 
 
@@ -52,40 +55,86 @@ def changed_functions(folder, edit):
     return list(dict.fromkeys(functions))
 
 
-def checked(module, crate, texts, functions, kept):
-    """A check of these functions of a crate with these texts in place of its own, over what earlier ones kept."""
-    flags = ["--jobs", "1", *(word for it in functions for word in ("--only", it))]
-    ran = module.checked(crate, texts, flags, kept)
-    return ran.returncode, ran.stdout.rstrip("\n").split("\n")
+def rounds_of(crate, edits):
+    """The edits in rounds: those of one are of different functions, none of which is a whole module, so that each function tells of its own edit."""
+    rounds = []
+    for edit in edits:
+        functions = changed_functions(crate.folder, edit)
+        is_apart = all(FUNCTION_PATH.search(it) for it in functions)
+        fitting = (it for it in rounds if is_apart and it.is_apart and not it.functions & {*functions})
+        found = next(fitting, None) or Round(is_apart)
+        if not found.edits:
+            rounds.append(found)
+        found.edits[edit] = functions
+    return rounds
 
 
-def judged(module, crate, edit, kept):
-    """Whether the checker refuses a function that the edit changes, and what is said of it."""
-    name = f"{crate.name}/{os.path.basename(edit)}"
-    texts, why = module.read_edit(edit, crate.folder)
-    if why:
-        return False, f"{name}: BAD EDIT: {why}"
-    functions = changed_functions(crate.folder, edit)
-    status, lines = checked(module, crate, texts, functions, kept)
-    unread = next((line for line in lines if module.unread(line, texts)), None)
-    if unread:
-        return False, f"{name}: BAD EDIT: the checker cannot read it, so no contract was tried: {unread[:200]}"
+class Round:
+    """Edits that are tried by one check, with the functions that each changes."""
+
+    def __init__(self, is_apart):
+        self.is_apart, self.edits = is_apart, {}
+
+    @property
+    def functions(self):
+        return {it for functions in self.edits.values() for it in functions}
+
+    def texts(self, module, crate):
+        """The texts of the sources with all the edits, or why one of them cannot be applied."""
+        texts = {}
+        with tempfile.TemporaryDirectory() as room:
+            shutil.copytree(f"{crate.folder}/src", f"{room}/src")
+            for edit in self.edits:
+                changed, why = module.read_edit(edit, room)
+                if why:
+                    return None, f"{name_of(crate, edit)}: BAD EDIT: {why}"
+                for path, text in changed.items():
+                    with open(f"{room}/{path}", "w", encoding="utf-8") as file:
+                        file.write(text)
+                texts |= changed
+        return texts, None
+
+    def checked(self, module, crate, texts, kept):
+        """A check of the functions with these texts in place of the crate's own, over what earlier ones kept: its status and its lines."""
+        flags = ["--jobs", "1", *(word for it in sorted(self.functions) for word in ("--only", it))]
+        ran = module.checked(crate, texts, flags, kept)
+        return ran.returncode, ran.stdout.rstrip("\n").split("\n")
+
+    def judged(self, module, crate, kept):
+        """For each edit whether the checker refuses a function that it changes, and what is said of it."""
+        texts, why = self.texts(module, crate)
+        if why:
+            return [(False, why)]
+        status, lines = self.checked(module, crate, texts, kept)
+        unread = next((line for line in lines if module.unread(line, texts)), None)
+        if unread:
+            names = ", ".join(name_of(crate, edit) for edit in self.edits)
+            return [(False, f"{names}: BAD EDIT: the checker cannot read it, so no contract was tried: {unread[:200]}")]
+        return [one_judged(name_of(crate, edit), crate, functions, status, lines) for edit, functions in self.edits.items()]
+
+
+def name_of(crate, edit):
+    return f"{crate.name}/{os.path.basename(edit)}"
+
+
+def one_judged(name, crate, functions, status, lines):
+    """What a check says of the edit that changed these functions."""
     of_these = "|".join(map(re.escape, functions))
     refused = [line for line in lines if re.match(rf"fn {crate.name}::(\S+::)?({of_these})(::\S+)?: (not proved|no proof)", line)]
     counts = COUNTS.match(lines[-1])
     if status == 1 and refused and counts and int(counts[2]) < int(counts[1]):
         return True, f"{name}: refused, as it must be: {refused[0][:160]}"
-    if status == 0 and counts:
+    if counts:
         return False, f"{name}: NOT REFUSED: {', '.join(functions)} is still proved"
     return False, "\n".join([f"{name}: NOT TRIED: its check ended with status {status}:", *lines[-8:]])
 
 
 def tried(module, crate, edits):
-    """Tries a crate's edits one after the other, each over what those before it proved of the crate, and gives which are refused."""
+    """Tries a crate's edits round by round, each over what those before it proved of the crate, and gives which are refused."""
     are_refused = []
     with tempfile.TemporaryDirectory() as kept:
-        for edit in edits:
-            is_refused, told = judged(module, crate, edit, kept)
-            print(told, flush=True)
-            are_refused.append(is_refused)
+        for it in rounds_of(crate, edits):
+            for is_refused, told in it.judged(module, crate, kept):
+                print(told, flush=True)
+                are_refused.append(is_refused)
     return are_refused

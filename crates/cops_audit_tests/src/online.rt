@@ -23,7 +23,7 @@ fn says(
     online: &mut Online,
     entries: &[(u16, Did)],
     wanted: &[SoFar],
-) -> Result<bool, Fail> {
+) -> Result<bool, TypeFault> {
     for ((client, did), so_far) in entries.iter().zip(wanted) {
         feed(alloc, online, *client, *did)?;
         if !is_said(online, *so_far) {
@@ -48,9 +48,9 @@ fn fed(
     wanted: &[SoFar],
 ) -> Result<bool, Fail> {
     let mut online = Online::new(alloc, clients)?;
-    let said = says(alloc, &mut online, entries, wanted)?;
+    let said = says(alloc, &mut online, entries, wanted);
     let ended = ends(alloc, online, clients, entries)?;
-    Ok(said && ended)
+    Ok(said? && ended)
 }
 
 #[test]
@@ -118,7 +118,7 @@ fn feed_rounds(alloc: Global, online: &mut Online, client: u8, next: u8) -> Resu
 }
 
 /// Feeds the rounds of ten clients in turn, and tells whether the gets of each wait for the puts of the next.
-fn all_wait(alloc: Global, online: &mut Online) -> Result<bool, Fail> {
+fn all_wait(alloc: Global, online: &mut Online) -> Result<bool, TypeFault> {
     for client in 0..9u8 {
         feed_rounds(alloc, online, client, client + 1)?;
         if !is_said(online, Waiting(100)) {
@@ -140,37 +140,49 @@ fn puts_of_rounds(alloc: Global) -> Result<Vec<OpName>, Fail> {
     Ok(puts)
 }
 
+/// An auditor that was fed the rounds of ten clients, whose gets waited for their puts.
+fn fed_rounds(alloc: Global) -> Result<Online, Fail> {
+    let mut online = Online::new(alloc, 10)?;
+    if all_wait(alloc, &mut online) == Ok(true) {
+        return Ok(online);
+    }
+    drop(online);
+    Err(Fail::new("a get did not wait"))
+}
+
 #[test]
 fn many_gets_before_their_puts(rt: HostRuntime) -> Result<(), Fail> {
-    let a = rt.alloc();
-    let puts = puts_of_rounds(a)?;
-    let mut online = Online::new(a, 10)?;
-    assert!(rt; all_wait(a, &mut online)?);
-    assert!(rt; accepts(&online.finish()?, &puts));
+    let verdict = fed_rounds(rt.alloc())?.finish()?;
+    let puts = puts_of_rounds(rt.alloc())?;
+    assert!(rt; accepts(&verdict, &puts));
     Ok(())
 }
 
 #[test]
 fn a_stale_get_after_many(rt: HostRuntime) -> Result<(), Fail> {
-    let a = rt.alloc();
-    let mut online = Online::new(a, 10)?;
-    assert!(rt; all_wait(a, &mut online)?);
-    feed(a, &mut online, 0, Did::Got(1, 7, 7, 1))?;
-    assert!(rt; is_said(&mut online, Refused));
+    let mut online = fed_rounds(rt.alloc())?;
+    let fed = feed(rt.alloc(), &mut online, 0, Did::Got(1, 7, 7, 1));
+    let refused = is_said(&mut online, Refused);
+    drop(online);
+    fed?;
+    assert!(rt; refused);
     Ok(())
 }
 
-/// What a client that is not there did is refused, and changes nothing.
+const WAITS: Did = Did::Got(b'x', 1, 1, 0);
+
+/// Whether what a client that is not there did is refused, and what is said stays.
+fn refuses_others(alloc: Global, online: &mut Online) -> Result<bool, TypeFault> {
+    feed(alloc, online, 0, WAITS)?;
+    let refused = feed(alloc, online, 1, Did::Put(b'x', 1, 1, 0));
+    Ok(refused == Err(TypeFault::UnknownClient) && is_said(online, Waiting(1)))
+}
+
 #[test]
 fn clients_that_are_not_there(rt: HostRuntime) -> Result<(), Fail> {
-    let a = rt.alloc();
-    let got = Did::Got(b'x', 1, 1, 0);
-    let mut online = Online::new(a, 1)?;
-    feed(a, &mut online, 0, got)?;
-    let refused = feed(a, &mut online, 1, Did::Put(b'x', 1, 1, 0));
-    let said = is_said(&mut online, Waiting(1));
-    assert!(rt; ends(a, online, 1, &[(0, got)])?);
-    assert!(rt; said);
-    assert!(rt; refused == Err(TypeFault::UnknownClient));
+    let mut online = Online::new(rt.alloc(), 1)?;
+    let refused = refuses_others(rt.alloc(), &mut online);
+    let ended = ends(rt.alloc(), online, 1, &[(0, WAITS)])?;
+    assert!(rt; refused? && ended);
     Ok(())
 }

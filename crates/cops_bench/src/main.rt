@@ -8,17 +8,28 @@ mod tie;
 mod world;
 
 use anyhow::Error;
+use cops_words::{u8_of, u16_of, u64_of};
 use std::env;
 use std::rt::Files;
+
+fn time_node<R: Print + AllocGlobal>(rt: &R, words: &[&String; 3]) -> Result<(), Error> {
+    let [pairs, turns, among] = words;
+    node::answer(rt, u64_of(pairs)?, u64_of(turns)?, u64_of(among)?)
+}
+
+fn time_world<R: Files + Print + AllocGlobal>(rt: &R, words: &[&String; 4]) -> Result<(), Error> {
+    let [path, mode, dcs, clients] = words;
+    world::happen(rt, path, mode, (u8_of(dcs)?, u16_of(clients)?))
+}
 
 /// Runs what the words name.
 fn perform<R: Files + Print + AllocGlobal>(rt: &R, words: &[String]) -> Result<(), Error> {
     match words {
         [what, pairs, turns, among] if what.as_str() == "node" => {
-            node::answer(rt, pairs.parse()?, turns.parse()?, among.parse()?)
+            time_node(rt, &[pairs, turns, among])
         }
         [what, path, mode, dcs, clients] if what.as_str() == "world" => {
-            world::happen(rt, path, mode, (dcs.parse()?, clients.parse()?))
+            time_world(rt, &[path, mode, dcs, clients])
         }
         [what, path, mode] if what.as_str() == "tie" => tie::tie_up(rt, path, mode),
         [what, path, mode] if what.as_str() == "online" => online::say(rt, path, mode),

@@ -10,23 +10,51 @@ fn key(alloc: Global, number: u64) -> Result<Key, Error> {
     Ok(Key::new(alloc, &number.to_le_bytes())?)
 }
 
+/// Settles a put on the key of a number.
+fn put(alloc: Global, node: &mut Node, number: u64) -> Result<(), Error> {
+    let deps = Deps::new(Vec::new(alloc))?;
+    let key = key(alloc, number)?;
+    let value = Value::new(alloc, b"12345678")?;
+    let _done = node.put(0, key, value, deps);
+    Ok(())
+}
+
 /// Settles so many puts, each on a key of its own.
-fn filled(alloc: Global, pairs: u64) -> Result<Node, Error> {
-    let mut node = Node::open(alloc, 0);
+fn fill(alloc: Global, node: &mut Node, pairs: u64) -> Result<(), Error> {
     for number in 0..pairs {
-        let value = Value::new(alloc, b"12345678")?;
-        let _done = node.put(0, key(alloc, number)?, value, Deps::new(Vec::new(alloc))?);
+        put(alloc, node, number)?;
     }
-    Ok(node)
+    Ok(())
 }
 
 /// How many of an ask and a get of the pair of a number are answered with it.
 fn found(alloc: Global, node: &mut Node, number: u64) -> Result<u64, Error> {
-    let key = key(alloc, number)?;
     let version = Version::new(number.wrapping_add(1), 0)?;
+    let key = key(alloc, number)?;
     let asked = node.ask(&key, version) == Outcome::Yes;
     let shown = node.get(0, &key) != Outcome::Missed;
     Ok(u64::from(asked).wrapping_add(u64::from(shown)))
+}
+
+/// Makes turns of an ask and a get, about so many of the pairs, and counts what is found.
+fn ask(alloc: Global, node: &mut Node, turns: u64, among: u64) -> Result<u64, Error> {
+    let mut answered = 0u64;
+    for turn in 0..turns {
+        let number = turn.wrapping_mul(7_919) % among.max(1);
+        answered = answered.wrapping_add(found(alloc, node, number)?);
+    }
+    Ok(answered)
+}
+
+fn fill_and_ask(alloc: Global, pairs: u64, turns: u64, among: u64) -> Result<u64, Error> {
+    let mut node = Node::open(alloc, 0);
+    match fill(alloc, &mut node, pairs) {
+        Ok(()) => ask(alloc, &mut node, turns, among),
+        Err(error) => {
+            drop(node);
+            Err(error)
+        }
+    }
 }
 
 /// Fills a node with so many settled pairs, and then makes turns of an ask and a get, about so many of the pairs.
@@ -36,12 +64,7 @@ pub fn answer<R: Print + AllocGlobal>(
     turns: u64,
     among: u64,
 ) -> Result<(), Error> {
-    let mut node = filled(rt.alloc(), pairs)?;
-    let mut answered = 0u64;
-    for turn in 0..turns {
-        let number = turn.wrapping_mul(7_919) % among.max(1);
-        answered = answered.wrapping_add(found(rt.alloc(), &mut node, number)?);
-    }
+    let answered = fill_and_ask(rt.alloc(), pairs, turns, among)?;
     println!(rt; "{answered}")?;
     Ok(())
 }

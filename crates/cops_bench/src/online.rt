@@ -44,7 +44,36 @@ fn feed_by_sessions(online: &mut Online, history: &History) -> Result<(), Error>
     Ok(())
 }
 
+/// Feeds a history in one of two orders.
+fn feed(online: &mut Online, history: &History, by_sessions: bool) -> Result<(), Error> {
+    if by_sessions {
+        feed_by_sessions(online, history)
+    } else {
+        feed_in_turns(online, history)
+    }
+}
+
+fn ask<R: Print>(rt: &R, online: &mut Online) -> Result<(), Error> {
+    let so_far = online.so_far();
+    println!(rt; "{so_far:?}")?;
+    Ok(())
+}
+
 /// Feeds a history in one of two orders, and asks so many times.
+fn feed_and_ask<R: Print>(
+    rt: &R,
+    online: &mut Online,
+    history: &History,
+    by_sessions: bool,
+    questions: u32,
+) -> Result<(), Error> {
+    feed(online, history, by_sessions)?;
+    for _ in 0..questions {
+        ask(rt, online)?;
+    }
+    Ok(())
+}
+
 fn fed<R: Print>(
     rt: &R,
     alloc: Global,
@@ -53,32 +82,30 @@ fn fed<R: Print>(
     questions: u32,
 ) -> Result<(), Error> {
     let mut online = Online::new(alloc, history.clients() as u16)?;
-    if by_sessions {
-        feed_by_sessions(&mut online, history)?;
-    } else {
-        feed_in_turns(&mut online, history)?;
-    }
-    for _ in 0..questions {
-        println!(rt; "{:?}", online.so_far())?;
-    }
+    feed_and_ask(rt, &mut online, history, by_sessions, questions)
+}
+
+fn judge_only(alloc: Global, history: &History) -> Result<(), Error> {
+    let _verdict = judge(alloc, history)?;
     Ok(())
+}
+
+/// Judges a history, or feeds it, as the mode says.
+fn heard<R: Print + AllocGlobal>(rt: &R, history: &History, mode: &str) -> Result<(), Error> {
+    match mode {
+        "judge" => judge_only(rt.alloc(), history),
+        "feed" => fed(rt, rt.alloc(), history, false, 0),
+        "turns" => fed(rt, rt.alloc(), history, false, 1),
+        "sessions" => fed(rt, rt.alloc(), history, true, 1),
+        "twice" => fed(rt, rt.alloc(), history, false, 2),
+        _ => Ok(()),
+    }
 }
 
 /// Reads a trace and, by the mode, judges it, or feeds it in turns or by sessions and asks at the end, once, or twice,
 /// or not at all.
 pub fn say<R: Files + Print + AllocGlobal>(rt: &R, path: &str, mode: &str) -> Result<(), Error> {
-    let alloc = rt.alloc();
-    let trace = read_trace(alloc, &mut Counted::new(File::open(rt, path)?))?;
-    let history = trace.history();
-    match mode {
-        "judge" => {
-            let _verdict = judge(alloc, history)?;
-            Ok(())
-        }
-        "feed" => fed(rt, alloc, history, false, 0),
-        "turns" => fed(rt, alloc, history, false, 1),
-        "sessions" => fed(rt, alloc, history, true, 1),
-        "twice" => fed(rt, alloc, history, false, 2),
-        _ => Ok(()),
-    }
+    let file = File::open(rt, path)?;
+    let trace = read_trace(rt.alloc(), &mut Counted::new(file))?;
+    heard(rt, trace.history(), mode)
 }

@@ -1,82 +1,17 @@
-//! The events of a world, read from a file with a line for each: its name, and what it is about.
+//! The events of a world, read from a file with a line for each.
 
-use anyhow::{Context, Error};
+use anyhow::Error;
 use cops_core::{Event, World};
 use cops_place::Place;
-use cops_types::{Key, Value, Version};
+use cops_words::world_event;
 use std::alloc::Global;
 use std::fs;
 use std::rt::Files;
 
-fn number(word: Option<&str>) -> Result<u16, Error> {
-    Ok(word.context("a number is missing")?.parse::<u16>()?)
-}
-
-fn data_centre(word: Option<&str>) -> Result<u8, Error> {
-    Ok(word.context("a data centre is missing")?.parse::<u8>()?)
-}
-
-fn key(alloc: Global, word: Option<&str>) -> Result<Key, Error> {
-    Ok(Key::new(alloc, word.context("a key is missing")?.as_bytes())?)
-}
-
-fn value(alloc: Global, word: Option<&str>) -> Result<Value, Error> {
-    Ok(Value::new(alloc, word.context("a value is missing")?.as_bytes())?)
-}
-
-fn version(word: Option<&str>) -> Result<Version, Error> {
-    let (clock, node) = word
-        .and_then(|word| word.split_once('.'))
-        .context("a version is missing")?;
-    Ok(Version::new(clock.parse::<u64>()?, node.parse::<u16>()?)?)
-}
-
-fn client_event(alloc: Global, words: &[&str]) -> Result<Event, Error> {
-    let client = number(words.get(1).copied())?;
-    let key = key(alloc, words.get(2).copied())?;
-    match words.get(3).copied() {
-        None => Ok(Event::Get { client, key }),
-        word => Ok(Event::Put {
-            client,
-            key,
-            value: value(alloc, word)?,
-        }),
-    }
-}
-
-fn data_centre_event(alloc: Global, words: &[&str]) -> Result<Event, Error> {
-    let dc = data_centre(words.get(1).copied())?;
-    let (second, third) = (words.get(2).copied(), words.get(3).copied());
-    Ok(match words.first().copied() {
-        Some("deliver") => Event::Deliver {
-            dc,
-            version: version(second)?,
-        },
-        Some("ask") => Event::Ask {
-            dc,
-            key: key(alloc, second)?,
-            version: version(third)?,
-        },
-        Some("mark") => Event::Mark {
-            dc,
-            version: version(second)?,
-            dep: number(third)?,
-        },
-        _ => Event::Settle {
-            dc,
-            version: version(second)?,
-        },
-    })
-}
-
-/// The event of a line: `put CLIENT KEY VALUE`, `get CLIENT KEY`, `deliver DC VERSION`, `ask DC KEY VERSION`,
-/// `mark DC VERSION INDEX`, `settle DC VERSION`.
+/// The event of a line.
 fn event(alloc: Global, line: &str) -> Result<Event, Error> {
     let words: Vec<&str> = line.split(' ').collect(alloc)?;
-    match words.first().copied() {
-        Some("put") | Some("get") => client_event(alloc, &words),
-        _ => data_centre_event(alloc, &words),
-    }
+    world_event(alloc, &words)
 }
 
 /// The events of a text, one a line.
@@ -98,9 +33,23 @@ fn open(alloc: Global, dcs: u8, clients: u16) -> Result<World, Error> {
 }
 
 /// Lets the events happen in a world, and counts the operations that it records.
-fn run(mut world: World, events: &[Event]) -> Result<usize, Error> {
-    let _outcomes = world.run(events)?;
+fn run(world: &mut World, events: &[Event]) -> Result<usize, Error> {
+    let outcomes = world.run(events)?;
+    drop(outcomes);
     Ok(world.history().len())
+}
+
+/// Lets the events happen in a world of so many data centres and clients, and counts the operations that it records.
+fn count(alloc: Global, events: &[Event], of: (u8, u16)) -> Result<usize, Error> {
+    let (dcs, clients) = of;
+    let mut world = open(alloc, dcs, clients)?;
+    run(&mut world, events)
+}
+
+fn say<R: Print + AllocGlobal>(rt: &R, events: &[Event], of: (u8, u16)) -> Result<(), Error> {
+    let operations = count(rt.alloc(), events, of)?;
+    println!(rt; "{} operations of {} events", operations, events.len())?;
+    Ok(())
 }
 
 /// Reads the events of a file and, where the mode is `run`, lets them happen in a world of so many data centres and clients.
@@ -113,9 +62,8 @@ pub fn happen<R: Files + Print + AllocGlobal>(
     let text = fs::read_to_string(rt, path)?;
     let events = events_of(rt.alloc(), &text)?;
     if mode == "run" {
-        let (dcs, clients) = of;
-        let operations = run(open(rt.alloc(), dcs, clients)?, &events)?;
-        println!(rt; "{} operations of {} events", operations, events.len())?;
+        say(rt, &events, of)
+    } else {
+        Ok(())
     }
-    Ok(())
 }

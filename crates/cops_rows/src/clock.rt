@@ -3,9 +3,9 @@
 use crate::subject::Subject;
 use crate::text::Part::{At, Number, Word};
 use crate::text::text;
-use crate::words::{no_node, no_row, u16_of, version};
 use anyhow::Error;
 use cops_types::{Clock, MAX_NODE};
+use cops_words::{no_node, no_row, u16_of, version};
 use std::alloc::Global;
 
 /// Where the clock stands.

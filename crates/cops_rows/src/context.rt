@@ -1,11 +1,12 @@
 //! Rows of a client's context.
 
 use crate::subject::Subject;
+use crate::telling::{pair_text, yes_or_no};
 use crate::text::Part::{Count, Word};
 use crate::text::text;
-use crate::words::{no_row, pair, pair_text, yes_or_no};
 use anyhow::Error;
 use cops_context::Context;
+use cops_words::{no_row, pair};
 use std::alloc::Global;
 
 /// How many pairs there are, and whether one more has room.

@@ -1,12 +1,13 @@
 //! Rows of the puts that wait at a node.
 
 use crate::subject::Subject;
+use crate::telling::yes_or_no;
 use crate::text::Part::{At, Bytes, Count, Number, Word};
 use crate::text::{text, word};
-use crate::words::{no_row, put, u16_of, version, yes_or_no};
 use anyhow::Error;
 use cops_held::{Held, HeldFault, Taken};
 use cops_types::PutRecord;
+use cops_words::{no_row, put, u16_of, version};
 use std::alloc::Global;
 
 /// How many puts wait.

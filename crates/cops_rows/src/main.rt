@@ -14,12 +14,12 @@ mod place;
 mod scenario;
 mod store;
 mod subject;
+mod telling;
 mod text;
 mod tie;
 mod trace;
 mod types;
 mod wire;
-mod words;
 mod world;
 
 use crate::subject::Subject;

@@ -2,14 +2,13 @@
 
 use crate::outcome::told_outcome;
 use crate::subject::Subject;
+use crate::telling::{pair_text, value_at};
 use crate::text::Part::{Number, Word};
 use crate::text::{text, word};
-use crate::words::{
-    deps, key, key_and_value, no_node, no_row, pair_text, put, u16_of, value_at, version,
-};
 use anyhow::Error;
 use cops_node::{Node, NodeEvent, Outcome};
 use cops_types::MAX_NODE;
+use cops_words::{key, no_node, no_row, node_event, u16_of, version};
 use std::alloc::Global;
 
 /// Begins a node anew.
@@ -20,60 +19,6 @@ fn begin(alloc: Global, node: &mut Node, number: &str) -> Result<String, Error> 
     }
     *node = Node::open(alloc, number);
     text(alloc, &[Word("node "), Number(u64::from(node.number()))])
-}
-
-fn put_event(alloc: Global, words: &[&str; 4]) -> Result<NodeEvent, Error> {
-    let [client, name, bytes, pairs] = words;
-    let client = u16_of(client)?;
-    let deps = deps(alloc, pairs)?;
-    let (key, value) = key_and_value(alloc, name, bytes)?;
-    Ok(NodeEvent::Put {
-        client,
-        key,
-        value,
-        deps,
-    })
-}
-
-fn get_event(alloc: Global, client: &str, name: &str) -> Result<NodeEvent, Error> {
-    let client = u16_of(client)?;
-    let key = key(alloc, name)?;
-    Ok(NodeEvent::Get { client, key })
-}
-
-fn deliver_event(alloc: Global, words: &[&str; 4]) -> Result<NodeEvent, Error> {
-    let put = put(alloc, words)?;
-    Ok(NodeEvent::Deliver(put))
-}
-
-fn ask_event(alloc: Global, name: &str, at: &str) -> Result<NodeEvent, Error> {
-    let version = version(at)?;
-    let key = key(alloc, name)?;
-    Ok(NodeEvent::Ask { key, version })
-}
-
-fn mark_event(at: &str, dep: &str) -> Result<NodeEvent, Error> {
-    let version = version(at)?;
-    let dep = u16_of(dep)?;
-    Ok(NodeEvent::Mark { version, dep })
-}
-
-fn settle_event(at: &str) -> Result<NodeEvent, Error> {
-    let version = version(at)?;
-    Ok(NodeEvent::Settle { version })
-}
-
-/// The event that a row's words tell.
-pub fn node_event(alloc: Global, words: &[&str]) -> Result<NodeEvent, Error> {
-    match words {
-        ["put", client, name, bytes, pairs] => put_event(alloc, &[client, name, bytes, pairs]),
-        ["get", client, name] => get_event(alloc, client, name),
-        ["deliver", name, bytes, at, pairs] => deliver_event(alloc, &[name, bytes, at, pairs]),
-        ["ask", name, at] => ask_event(alloc, name, at),
-        ["mark", at, dep] => mark_event(at, dep),
-        ["settle", at] => settle_event(at),
-        _ => Err(no_row()),
-    }
 }
 
 /// The node takes an event by that event's own call.

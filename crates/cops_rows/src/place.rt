@@ -3,9 +3,9 @@
 use crate::subject::Subject;
 use crate::text::Part::{Number, Word};
 use crate::text::text;
-use crate::words::{key, keys, no_row, u8_of};
 use anyhow::{Error, bail};
 use cops_place::Place;
+use cops_words::{key, keys, no_row, u8_of};
 use std::alloc::Global;
 
 /// How many data centres there are, and how many nodes each has.

@@ -4,12 +4,12 @@ use crate::outcome::outcome;
 use crate::subject::Subject;
 use crate::text::Part::{At, Bytes, Count, Number, Word};
 use crate::text::{line_of, text, word};
-use crate::words::{no_row, usize_of};
 use anyhow::{Error, bail};
 use cops_core::Event;
 use cops_node::Outcome;
 use cops_scenario::{Scenario, ScriptOp, ScriptedClient, outcome_line};
 use cops_types::{Key, Value, Version};
+use cops_words::{no_row, usize_of};
 use std::alloc::Global;
 
 /// What a scenario is made of.

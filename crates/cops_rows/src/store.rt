@@ -1,11 +1,12 @@
 //! Rows of a node's settled puts.
 
 use crate::subject::Subject;
+use crate::telling::{value_at, yes_or_no};
 use crate::text::Part::{Count, Word};
 use crate::text::{text, word};
-use crate::words::{key, key_and_value, no_row, value_at, version, yes_or_no};
 use anyhow::Error;
 use cops_store::{Settled, Store};
+use cops_words::{key, key_and_value, no_row, version};
 use std::alloc::Global;
 
 /// How many keys there are, and how many pairs.

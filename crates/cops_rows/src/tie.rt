@@ -1,16 +1,15 @@
 //! Rows of what the books of a run are told to be.
 
 use crate::book::entries_text;
-use crate::node::node_event;
 use crate::outcome::outcome;
 use crate::subject::Subject;
 use crate::text::Part::{Count, Word};
 use crate::text::{text, word};
-use crate::words::{no_row, op, parts, u16_of, u64_of};
 use anyhow::{Error, bail};
 use cops_scenario::Scenario;
 use cops_tie::{Entry, tie};
 use cops_trace::Trace;
+use cops_words::{no_row, node_event, op, parts, u16_of, u64_of};
 use std::alloc::Global;
 
 /// The one book of a scenario's one node, and what its clients saw.

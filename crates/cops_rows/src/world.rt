@@ -4,11 +4,11 @@ use crate::outcome::{outcome_text, told_outcome};
 use crate::subject::Subject;
 use crate::text::Part::{Count, Word};
 use crate::text::text;
-use crate::words::{key, key_and_value, no_row, parts, u8_of, u16_of, u32_of, version};
 use crate::{history, place};
 use anyhow::{Error, bail};
 use cops_core::{Event, World};
 use cops_node::Outcome;
+use cops_words::{no_row, parts, u8_of, u32_of, world_event};
 use std::alloc::Global;
 
 /// So many clients at a data centre.
@@ -52,59 +52,8 @@ fn begin(alloc: Global, world: &mut Option<World>, words: &[&str; 3]) -> Result<
     text(alloc, &[Count(count), Word(" clients")])
 }
 
-fn put(alloc: Global, client: &str, name: &str, bytes: &str) -> Result<Event, Error> {
-    let client = u16_of(client)?;
-    let (key, value) = key_and_value(alloc, name, bytes)?;
-    Ok(Event::Put { client, key, value })
-}
-
-fn get(alloc: Global, client: &str, name: &str) -> Result<Event, Error> {
-    let client = u16_of(client)?;
-    let key = key(alloc, name)?;
-    Ok(Event::Get { client, key })
-}
-
-fn deliver(dc: &str, at: &str) -> Result<Event, Error> {
-    let dc = u8_of(dc)?;
-    let version = version(at)?;
-    Ok(Event::Deliver { dc, version })
-}
-
-fn ask(alloc: Global, dc: &str, name: &str, at: &str) -> Result<Event, Error> {
-    let dc = u8_of(dc)?;
-    let version = version(at)?;
-    let key = key(alloc, name)?;
-    Ok(Event::Ask { dc, key, version })
-}
-
-fn mark(dc: &str, at: &str, dep: &str) -> Result<Event, Error> {
-    let dc = u8_of(dc)?;
-    let version = version(at)?;
-    let dep = u16_of(dep)?;
-    Ok(Event::Mark { dc, version, dep })
-}
-
-fn settle(dc: &str, at: &str) -> Result<Event, Error> {
-    let dc = u8_of(dc)?;
-    let version = version(at)?;
-    Ok(Event::Settle { dc, version })
-}
-
-/// The event that a row's words tell.
-fn event(alloc: Global, words: &[&str]) -> Result<Event, Error> {
-    match words {
-        ["put", client, name, bytes] => put(alloc, client, name, bytes),
-        ["get", client, name] => get(alloc, client, name),
-        ["deliver", dc, at] => deliver(dc, at),
-        ["ask", dc, name, at] => ask(alloc, dc, name, at),
-        ["mark", dc, at, dep] => mark(dc, at, dep),
-        ["settle", dc, at] => settle(dc, at),
-        _ => Err(no_row()),
-    }
-}
-
 fn apply(alloc: Global, world: &mut World, words: &[&str]) -> Result<String, Error> {
-    let event = event(alloc, words)?;
+    let event = world_event(alloc, words)?;
     told_outcome(alloc, world.apply(event))
 }
 
@@ -120,7 +69,7 @@ fn last(world: &mut World, count: u32, event: &Event) -> Outcome {
 /// The same event so many times: the last outcome.
 fn again(alloc: Global, world: &mut World, count: &str, words: &[&str]) -> Result<String, Error> {
     let count = u32_of(count)?;
-    let event = event(alloc, words)?;
+    let event = world_event(alloc, words)?;
     let last = last(world, count, &event);
     drop(event);
     told_outcome(alloc, last)
@@ -131,7 +80,7 @@ fn events(alloc: Global, words: &[&str]) -> Result<Vec<Event>, Error> {
     let mut events = Vec::new(alloc);
     let parts = parts(alloc, words, "/")?;
     for part in &parts {
-        events.push(event(alloc, part)?)?;
+        events.push(world_event(alloc, part)?)?;
     }
     Ok(events)
 }

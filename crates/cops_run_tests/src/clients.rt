@@ -341,15 +341,21 @@ fn before_the_end<R: Wait>(
     Ok((cluster, shares))
 }
 
+/// Whether one node has two entries, and two operations are in the trace.
+fn has_two(closed: &Closed) -> bool {
+    match closed.books.as_slice() {
+        [book] => book.len() == 2 && closed.trace.len() == 2,
+        _ => false,
+    }
+}
+
 #[test]
 fn a_cluster_ends_with_its_entries(rt: HostRuntime) -> Result<(), Fail> {
     let (cluster, shares) = before_the_end(&rt, rt.alloc(), false, false)?;
     let Ok(closed) = cluster.close(shares) else {
         return Err(Fail::new("not closed"));
     };
-    assert_eq!(rt; closed.books.len(), 1);
-    assert_eq!(rt; closed.books[0].len(), 2);
-    assert_eq!(rt; closed.trace.len(), 2);
+    assert!(rt; has_two(&closed));
     Ok(())
 }
 

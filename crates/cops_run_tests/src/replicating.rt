@@ -223,25 +223,40 @@ impl Both {
 fn backwards<R: Wait>(rt: &R, alloc: Global, keys: &[u8]) -> Result<Scene, Fail> {
     let (mut link_in, link_out) = link(alloc, MAX_CAPACITY)?;
     let mut scene = set_up(alloc, link_out)?;
-    scene.put_backwards(rt, alloc, keys, &mut link_in)?;
-    Ok(scene)
+    let sent = scene.put_backwards(rt, alloc, keys, &mut link_in);
+    drop(link_in);
+    match sent {
+        Ok(()) => Ok(scene),
+        Err(fault) => {
+            drop(scene);
+            Err(fault)
+        }
+    }
+}
+
+/// Whether two puts come over in one turn, and are settled in the next.
+fn come_over<R: Wait>(rt: &R, alloc: Global, joined: &mut Both) -> Result<bool, TypeFault> {
+    joined.scene.put_all(rt, alloc, b"xy")?;
+    let sent = joined.sends(rt);
+    Ok(sent == [2, 0] && joined.scene.told(rt, alloc, b'y') == [2, 3, 0, 1, 6])
 }
 
 #[test]
 fn a_put_comes_into_the_other_data_centre(rt: HostRuntime) -> Result<(), Fail> {
-    let alloc = rt.alloc();
-    let mut joined = joined(alloc, 16)?;
-    joined.scene.put_all(&rt, alloc, b"xy")?;
-    assert!(rt; joined.sends(&rt) == [2, 0]);
-    assert!(rt; joined.scene.told(&rt, alloc, b'y') == [2, 3, 0, 1, 6]);
+    let mut joined = joined(rt.alloc(), 16)?;
+    assert!(rt; come_over(&rt, rt.alloc(), &mut joined)?);
     Ok(())
+}
+
+/// Whether a put waits in one turn for the put that comes after it, and is settled in the next.
+fn waits<R: Wait>(rt: &R, alloc: Global, scene: &mut Scene) -> bool {
+    scene.told(rt, alloc, b'y') == [1, 4, 0, 1, 7]
 }
 
 #[test]
 fn a_put_waits_for_its_dependency(rt: HostRuntime) -> Result<(), Fail> {
-    let alloc = rt.alloc();
-    let mut scene = backwards(&rt, alloc, b"xy")?;
-    assert!(rt; scene.told(&rt, alloc, b'y') == [1, 4, 0, 1, 7]);
+    let mut scene = backwards(&rt, rt.alloc(), b"xy")?;
+    assert!(rt; waits(&rt, rt.alloc(), &mut scene));
     Ok(())
 }
 
@@ -294,13 +309,18 @@ fn are_in_order(entries: &[Made], last: u64) -> bool {
     before == last
 }
 
+/// Whether three puts come over one by one, in their order.
+fn come_in_order<R: Wait>(rt: &R, alloc: Global, joined: &mut Both) -> Result<bool, TypeFault> {
+    joined.scene.put_all(rt, alloc, b"abc")?;
+    let told = joined.one_by_one(rt);
+    let in_order = are_in_order(&joined.scene.receiver.share().entries, 3);
+    Ok(told == [1, 0, TURN_LIMIT, 1, 1, 0] && in_order)
+}
+
 #[test]
 fn a_link_of_one_frame_keeps_the_order(rt: HostRuntime) -> Result<(), Fail> {
-    let alloc = rt.alloc();
-    let mut joined = joined(alloc, 1)?;
-    joined.scene.put_all(&rt, alloc, b"abc")?;
-    assert!(rt; joined.one_by_one(&rt) == [1, 0, TURN_LIMIT, 1, 1, 0]);
-    assert!(rt; are_in_order(&joined.scene.receiver.share().entries, 3));
+    let mut joined = joined(rt.alloc(), 1)?;
+    assert!(rt; come_in_order(&rt, rt.alloc(), &mut joined)?);
     Ok(())
 }
 
@@ -343,12 +363,15 @@ fn held<R: Wait>(rt: &R, scene: &mut Scene) -> [u32; 2] {
     [scene.drain(rt, &Holding, 9), scene.turn(rt, &HoldingAfter)]
 }
 
+/// Whether both gates hold the receiver, and what it was held at is done in the turns after.
+fn loses_nothing<R: Wait>(rt: &R, alloc: Global, scene: &mut Scene) -> bool {
+    held(rt, scene) == [HELD, HELD] && scene.told(rt, alloc, b'y') == [5, 0, 0, 1, 7]
+}
+
 #[test]
 fn a_gate_holds_and_nothing_is_lost(rt: HostRuntime) -> Result<(), Fail> {
-    let alloc = rt.alloc();
-    let mut scene = backwards(&rt, alloc, b"xy")?;
-    assert!(rt; held(&rt, &mut scene) == [HELD, HELD]);
-    assert!(rt; scene.told(&rt, alloc, b'y') == [5, 0, 0, 1, 7]);
+    let mut scene = backwards(&rt, rt.alloc(), b"xy")?;
+    assert!(rt; loses_nothing(&rt, rt.alloc(), &mut scene));
     Ok(())
 }
 
@@ -361,12 +384,15 @@ fn drains<R: Wait>(rt: &R, scene: &mut Scene) -> [u32; 3] {
     ]
 }
 
+/// Whether three turns are too few for three puts that come backwards, and one more is enough.
+fn reaches_limit<R: Wait>(rt: &R, alloc: Global, scene: &mut Scene) -> bool {
+    drains(rt, scene) == [TURN_LIMIT, TURN_LIMIT, 0] && scene.shows(rt, alloc, b'z')
+}
+
 #[test]
 fn a_limit_of_turns(rt: HostRuntime) -> Result<(), Fail> {
-    let alloc = rt.alloc();
-    let mut scene = backwards(&rt, alloc, b"xyz")?;
-    assert!(rt; drains(&rt, &mut scene) == [TURN_LIMIT, TURN_LIMIT, 0]);
-    assert!(rt; scene.shows(&rt, alloc, b'z'));
+    let mut scene = backwards(&rt, rt.alloc(), b"xyz")?;
+    assert!(rt; reaches_limit(&rt, rt.alloc(), &mut scene));
     Ok(())
 }
 

@@ -33,18 +33,31 @@ fn put(alloc: Global, clock: u64) -> Result<PutRecord, TypeFault> {
 }
 
 /// The clock of a frame's version, or 0.
-fn clock_of(taken: &Option<Message>) -> u64 {
-    match taken {
-        Some(Message::PutAfter { version, .. }) => version.clock(),
+fn clock_of(message: &Message) -> u64 {
+    match message {
+        Message::PutAfter { version, .. } => version.clock(),
         _ => 0,
     }
+}
+
+/// The clock of a frame's version, or 0. The frame is let go.
+fn spent_clock(message: Message) -> u64 {
+    let clock = clock_of(&message);
+    drop(message);
+    clock
+}
+
+/// The frame of a put of that clock.
+fn frame(alloc: Global, clock: u64) -> Result<Frame, Fail> {
+    let put = put(alloc, clock)?;
+    Ok(Frame::of(alloc, &put)?)
 }
 
 /// Whether a put of that clock is taken.
 fn offer(alloc: Global, sender: &mut LinkIn, clock: u64) -> Result<bool, Fail>
     ensures { SameIn sender.old sender.new }
 {
-    let frame = Frame::of(alloc, &put(alloc, clock)?)?;
+    let frame = frame(alloc, clock)?;
     Ok(sender.send(frame).is_ok())
 }
 
@@ -52,8 +65,10 @@ fn offer(alloc: Global, sender: &mut LinkIn, clock: u64) -> Result<bool, Fail>
 fn next_clock(taker: &mut LinkOut) -> Result<u64, Memory>
     ensures { SameOut taker.old taker.new }
 {
-    let taken = taker.take()?;
-    Ok(clock_of(&taken))
+    match taker.take()? {
+        Some(message) => Ok(spent_clock(message)),
+        None => Ok(0),
+    }
 }
 
 /// Whether a full link gives a put of that clock back, which it takes once there is room.
@@ -66,7 +81,7 @@ fn is_given_back(
     ensures sender { SameIn sender.old sender.new }
     ensures taker { SameOut taker.old taker.new }
 {
-    let frame = Frame::of(alloc, &put(alloc, clock)?)?;
+    let frame = frame(alloc, clock)?;
     let Err(SendFault::Full(back)) = sender.send(frame) else {
         return Ok(false);
     };
@@ -110,15 +125,23 @@ fn is_third(message: &Message) -> bool {
     }
 }
 
+/// Whether the message is taken that replicates the put of clock 3.
+fn takes_third(taker: &mut LinkOut) -> Result<bool, Memory> {
+    match taker.take()? {
+        Some(message) => {
+            let is = is_third(&message);
+            drop(message);
+            Ok(is)
+        }
+        None => Ok(false),
+    }
+}
+
 #[test]
 fn a_put_comes_out_as_it_went_in(rt: HostRuntime) -> Result<(), Fail> {
-    let alloc = rt.alloc();
-    let (mut sender, mut taker) = link(alloc, MAX_CAPACITY)?;
-    assert!(rt; offer(alloc, &mut sender, 3)?);
-    let Some(message) = taker.take()? else {
-        return Err(Fail::new("nothing was taken"));
-    };
-    assert!(rt; is_third(&message));
+    let (mut sender, mut taker) = link(rt.alloc(), MAX_CAPACITY)?;
+    assert!(rt; offer(rt.alloc(), &mut sender, 3)?);
+    assert!(rt; takes_third(&mut taker)?);
     Ok(())
 }
 
@@ -138,7 +161,7 @@ fn a_capacity_is_1_to_1024(rt: HostRuntime) -> Result<(), Fail> {
 /// Sends a thousand puts, and waits where the link is full.
 fn send_all<R: Wait>(rt: &R, alloc: Global, mut sender: LinkIn) -> Result<bool, Fail> {
     for clock in 1..1001 {
-        let mut frame = Frame::of(alloc, &put(alloc, clock)?)?;
+        let mut frame = frame(alloc, clock)?;
         for _ in rt.forever() {
             match sender.send(frame) {
                 Ok(()) => break,
@@ -150,18 +173,23 @@ fn send_all<R: Wait>(rt: &R, alloc: Global, mut sender: LinkIn) -> Result<bool, 
     Ok(sender.finish().is_some())
 }
 
+/// The clock of the put that is taken next, once there is one.
+fn awaited_clock<R: Wait>(rt: &R, taker: &mut LinkOut) -> Result<u64, Memory> {
+    for _ in rt.forever() {
+        let clock = next_clock(taker)?;
+        if clock > 0 {
+            return Ok(clock);
+        }
+        thread::yield_now();
+    }
+    Ok(0)
+}
+
 /// Takes a thousand puts, and says whether they came in their turn.
 fn take_all<R: Wait>(rt: &R, mut taker: LinkOut) -> Result<bool, Memory> {
     let mut in_turn = true;
     for clock in 1..1001 {
-        for _ in rt.forever() {
-            let taken = taker.take()?;
-            if taken.is_some() {
-                in_turn = in_turn && clock_of(&taken) == clock;
-                break;
-            }
-            thread::yield_now();
-        }
+        in_turn = in_turn && awaited_clock(rt, &mut taker)? == clock;
     }
     Ok(in_turn)
 }

@@ -50,17 +50,37 @@ fn ends(trace: &Trace, client: u16, op: &Op) -> (usize, bool) {
     (session.len(), session.last() == Some(op))
 }
 
+/// Fills the slot of client 0, which was reserved first, after that of client 1.
+fn record_backwards<R: Wait>(rt: &R, alloc: Global, recorder: &Recorder) -> Result<(), Fail> {
+    let first = put(alloc, 11)?;
+    match put(alloc, 10) {
+        Ok(second) => Ok(record_both(rt, recorder, first, second)?),
+        Err(fault) => {
+            drop(first);
+            Err(Fail::from(fault))
+        }
+    }
+}
+
+/// Whether the client has one operation, the put of that clock.
+fn has_put(alloc: Global, trace: &Trace, client: u16, clock: u64) -> Result<bool, TypeFault> {
+    let op = put(alloc, clock)?;
+    Ok(ends(trace, client, &op) == (1, true))
+}
+
+fn has_both(alloc: Global, trace: &Trace) -> Result<bool, TypeFault> {
+    Ok(has_put(alloc, trace, 0, 10)? && has_put(alloc, trace, 1, 11)?)
+}
+
 #[test]
 fn a_record_takes_its_place_when_its_slot_is_filled(rt: HostRuntime) -> Result<(), Fail> {
-    let alloc = rt.alloc();
-    let recorder = Recorder::new(alloc, 2)?;
-    record_both(&rt, &recorder, put(alloc, 11)?, put(alloc, 10)?)?;
+    let recorder = Recorder::new(rt.alloc(), 2)?;
+    record_backwards(&rt, rt.alloc(), &recorder)?;
     assert!(rt; copies(&rt, &recorder, 0)? == (2, 1));
     assert!(rt; copies(&rt, &recorder, 1)? == (1, 0));
     assert!(rt; copies(&rt, &recorder, usize::MAX)? == (0, 0));
     let trace = recorder.into_trace()?;
-    assert!(rt; ends(&trace, 0, &put(alloc, 10)?) == (1, true));
-    assert!(rt; ends(&trace, 1, &put(alloc, 11)?) == (1, true));
+    assert!(rt; has_both(rt.alloc(), &trace)?);
     Ok(())
 }
 

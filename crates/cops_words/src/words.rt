@@ -1,7 +1,5 @@
-//! What a row's words stand for.
+//! What words stand for: numbers, keys, values, versions, dependencies, operations.
 
-use crate::text::Part::{At, Bytes, Word};
-use crate::text::{text, word};
 use anyhow::{Error, anyhow};
 use cops_types::{Dep, Deps, Key, Op, PutRecord, Value, Version};
 use std::alloc::Global;
@@ -150,28 +148,6 @@ pub fn put(alloc: Global, words: &[&str; 4]) -> Result<PutRecord, Error> {
     })
 }
 
-/// `yes` or `no`.
-pub fn yes_or_no(alloc: Global, is: bool) -> Result<String, Error> {
-    if is {
-        word(alloc, "yes")
-    } else {
-        word(alloc, "no")
-    }
-}
-
-/// `VALUE at VERSION`.
-pub fn value_at(alloc: Global, value: &Value, version: Version) -> Result<String, Error> {
-    text(alloc, &[Bytes(value.as_bytes()), Word(" at "), At(version)])
-}
-
-/// `KEY@VERSION`.
-pub fn pair_text(alloc: Global, pair: &Dep) -> Result<String, Error> {
-    text(
-        alloc,
-        &[Bytes(pair.key.as_bytes()), Word("@"), At(pair.version)],
-    )
-}
-
 fn put_op(alloc: Global, name: &str, bytes: &str, at: &str) -> Result<Op, Error> {
     let version = version(at)?;
     let (key, value) = key_and_value(alloc, name, bytes)?;
@@ -204,45 +180,6 @@ pub fn op(alloc: Global, words: &[&str]) -> Result<Op, Error> {
         ["got", name, bytes, at] => got_op(alloc, name, bytes, at),
         ["missed", name] => missed_op(alloc, name),
         _ => Err(no_row()),
-    }
-}
-
-/// What was done: `KEY=VALUE at VERSION`.
-fn done_text<'a>(
-    alloc: Global,
-    done: &'a str,
-    key: &'a Key,
-    value: &'a Value,
-    version: Version,
-) -> Result<String, Error> {
-    let (key, value) = (key.as_bytes(), value.as_bytes());
-    text(
-        alloc,
-        &[
-            Word(done),
-            Bytes(key),
-            Word("="),
-            Bytes(value),
-            Word(" at "),
-            At(version),
-        ],
-    )
-}
-
-/// The text of what a client did.
-pub fn op_text(alloc: Global, op: &Op) -> Result<String, Error> {
-    match op {
-        Op::Put {
-            key,
-            value,
-            version,
-        } => done_text(alloc, "put ", key, value, *version),
-        Op::Got {
-            key,
-            value,
-            version,
-        } => done_text(alloc, "got ", key, value, *version),
-        Op::Missed { key } => text(alloc, &[Word("missed "), Bytes(key.as_bytes())]),
     }
 }
 
