@@ -18,9 +18,14 @@ import time
 sys.dont_write_bytecode = True
 import plain  # noqa: E402
 import plain_cluster  # noqa: E402
-from traces import ROOT, check, cops, counts, example, ran, trace  # noqa: E402
+from traces import ROOT, check, cops, ended, example, ran, skip, trace  # noqa: E402
 from client import message, talk  # noqa: E402
 from events import scenario  # noqa: E402
+
+
+# As the system's tables of sockets write them: 127.0.0.1, and a socket that listens.
+LOOPBACK = "0100007F"
+LISTENS = "0A"
 
 
 def audited(name, data, text, status):
@@ -559,6 +564,36 @@ def strange_peers():
         check(f"usage of serve {given}", (status, out, err != b""), (2, b"", True))
 
 
+def listening(port):
+    """The addresses at which some process listens on this port, as the system's tables of sockets tell them."""
+    for table in filter(os.path.exists, ("/proc/net/tcp", "/proc/net/tcp6")):
+        with open(table, encoding="ascii") as file:
+            for line in file.readlines()[1:]:
+                _, local, _, state, *_ = line.split()
+                address, _, at = local.partition(":")
+                if int(at, 16) == port and state == LISTENS:
+                    yield address
+
+
+def listens_here_alone():
+    """The front door listens at 127.0.0.1, and at no other address of the machine."""
+    with socket.socket() as known:
+        known.bind(("127.0.0.1", 0))
+        known.listen()
+        told = list(listening(known.getsockname()[1]))
+    if told != [LOOPBACK]:
+        skip("where the front door listens", "the system's tables do not tell of a socket that listens")
+        return
+    server = Server(one_client(), 1)
+    for _ in range(2000):
+        if list(listening(server.port)):
+            break
+        time.sleep(0.01)
+    check("where the front door listens", list(listening(server.port)), [LOOPBACK])
+    check("a session there", server.lines("bye"), ["bye"])
+    check("the report of no operations", server.ended(), (0, b"accepted: 0 operations, 0 puts\n", b""))
+
+
 def words():
     path = os.path.join(ROOT, "examples", "empty.trace")
     for given in (["audit"], ["audit", b"\xff"], [b"\xff"], ["nothing"], ["audit", path, "more"], ["audit", "--nothing", path], ["show"], ["run", "a"], ["judge", "a", "b"]):
@@ -627,6 +662,7 @@ def no_thread():
     clients = [{"at": 0, "script": [{"get": "a"}]} for _ in range(64)]
     soft, hard = resource.getrlimit(resource.RLIMIT_STACK)
     if hard != resource.RLIM_INFINITY and hard < 8 << 20:
+        skip("a run with more threads than the memory's limit lets be", "a thread's stack may not have 8 MB")
         return
     with tempfile.TemporaryDirectory() as folder:
         path = os.path.join(folder, "scenario.json")
@@ -668,8 +704,7 @@ def wrong_edits():
 
 for tests in (
     examples, long_chain, many_rounds, faults, shown, scenarios, refusals, faulty_scenarios, scripts, mixed_scripts, working_clusters, plain_cluster.random_worlds, many_workers, served,
-    replies, strange_peers, words, devices, generated, little_memory, no_thread, definition_files, wrong_edits, plain.rows, plain.random_histories,
+    replies, strange_peers, listens_here_alone, words, devices, generated, little_memory, no_thread, definition_files, wrong_edits, plain.rows, plain.random_histories,
 ):
     tests()
-print(f"{counts['passed']} passed, {counts['failed']} failed")
-sys.exit(1 if counts["failed"] else 0)
+sys.exit(ended())

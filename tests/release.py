@@ -12,7 +12,7 @@ import sys
 import tempfile
 
 sys.dont_write_bytecode = True
-from traces import ROOT, check, counts  # noqa: E402
+from traces import ROOT, check, ended  # noqa: E402
 
 TOOLS = ("sh", "dirname", "find", "mv", "rm", "sed", "sha256sum", "sort", "touch")
 ANSWER = (0, b"accepted: 2 operations, 1 puts\n", b"")
@@ -154,5 +154,4 @@ def is_built_of_other_sources(copy):
 is_what_was_proved()
 for tests in (is_run, is_not_run_when_changed, is_not_run_of_other_sources, is_built_of_other_sources):
     on_a_copy(tests)
-print(f"{counts['passed']} passed, {counts['failed']} failed")
-sys.exit(1 if counts["failed"] else 0)
+sys.exit(ended())

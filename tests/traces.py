@@ -10,7 +10,7 @@ sys.dont_write_bytecode = True
 sys.path[:0] = [os.path.join(ROOT, "examples"), os.path.join(ROOT, "bench")]
 from write_trace import trace  # noqa: E402, F401
 
-counts = {"passed": 0, "failed": 0}
+counts = {"passed": 0, "failed": 0, "skipped": 0}
 
 
 def cops(*words, stdin=b"", stdout=subprocess.PIPE, limit=None):
@@ -38,6 +38,19 @@ def check(name, got, wanted):
     else:
         counts["failed"] += 1
         print(f"FAILED {name}\n  got    {str(got)[:500]}\n  wanted {str(wanted)[:500]}")
+
+
+def skip(name, why):
+    """Counts a test that this machine cannot make."""
+    counts["skipped"] += 1
+    print(f"SKIPPED {name}: {why}")
+
+
+def ended():
+    """Prints how many tests passed and failed, and were skipped where any were, and gives the status."""
+    skipped = f", {counts['skipped']} skipped" if counts["skipped"] else ""
+    print(f"{counts['passed']} passed, {counts['failed']} failed{skipped}")
+    return 1 if counts["failed"] else 0
 
 
 def example(name):

@@ -1,5 +1,5 @@
 ghost use Rattle.std.specs.Prelude.{◌≡◌, IfOk, codes, false};
-ghost use Rattle.clap.specs.Words.{app_of, rule_of, with_subcommand};
+ghost use Rattle.clap.specs.Words.{app_of, new_app, rule_of, with_rule, with_subcommand};
 ghost use Rattle.clap.specs.declared.builder.command.Command.TheViews.{out-Command as fields_of};
 ghost use Rattle.cops_line.specs.Commands.{positional, port_argument, sessions_option, workers_option, cops_top, cops_app, audit_app, show_app, run_app, serve_app};
 
@@ -10,7 +10,7 @@ const ABOUT: &str =
     "A COPS cluster in one process, and an auditor of the histories that clients recorded";
 
 /// The version of the program, and the kit and its logic by which it is proved and built.
-const VERSION: &str = "0.1.0 (rattle-kit-13f, logic dac8208d650f15bf)";
+const VERSION: &str = "0.1.0 (rattle-kit-13b, logic dac8208d650f15bf)";
 
 const LONG_ABOUT: &str = "\
 A COPS cluster in one process, and an auditor of the histories that clients recorded.
@@ -25,6 +25,8 @@ The exit status is 0 where the trace is accepted or the command did its work, 1 
 is refused, 2 where the input or the words are faulty, 3 where memory ran out, and 4 where a
 file could not be opened, read or written, or a run or a serving failed.";
 
+const AUDIT_ABOUT: &str = "Judges whether a recorded history is causally convergent";
+
 const AUDIT_LONG_ABOUT: &str = "\
 Judges whether a recorded history is causally convergent.
 
@@ -32,11 +34,15 @@ Prints one line, `accepted: ..`, or `refused: ..` and a line for each operation 
 what it contradicts. A file that is no trace is answered with one line, `faulty: ..`, that says
 what is wrong and at which byte.";
 
+const SHOW_ABOUT: &str = "Prints a trace as text, a line for each frame";
+
 const SHOW_LONG_ABOUT: &str = "\
 Prints a trace as text: a line for each frame, with its kind and its fields.
 
 Where the file is no whole trace, the frames before the fault are printed, and then one line,
 `faulty: ..`, that says what is wrong and at which byte.";
+
+const RUN_ABOUT: &str = "Runs a scenario, and records what its clients saw";
 
 const RUN_LONG_ABOUT: &str = "\
 Runs the cluster that a scenario describes, and records what its clients saw.
@@ -45,6 +51,8 @@ Prints a line for each event with its outcome, or, where clients have scripts, a
 client, and then the report of the recorded history. Clients with scripts run on threads of their
 own. The trace file is written anew. A scenario that is mistaken is answered with one line,
 `faulty: ..`, that names the field.";
+
+const SERVE_ABOUT: &str = "Serves clients of a scenario's cluster on a port of this machine";
 
 const SERVE_LONG_ABOUT: &str = "\
 Serves clients of the cluster that a scenario describes, on a port of 127.0.0.1.
@@ -111,48 +119,70 @@ fn sessions_arg<'a>(alloc: Global) -> Arg<'a>
         .help(SESSIONS_HELP)
 }
 
+/// A subcommand of this name with its texts, and without arguments.
+fn described<'a>(
+    alloc: Global,
+    name: &'static str,
+    about: &'static str,
+    long_about: &'static str,
+) -> Command<'a>
+    ensures app { app_of result ≡ new_app name.now }
+    ensures local { (fields_of result).has_globals ≡ false }
+{
+    Command::new(alloc, name)
+        .about(about)
+        .long_about(long_about)
+}
+
+/// A subcommand that reads a trace.
+fn of_trace<'a>(
+    alloc: Global,
+    name: &'static str,
+    about: &'static str,
+    long_about: &'static str,
+) -> Result<Command<'a>, AllocError>
+    ensures app { IfOk result (λ c. app_of c ≡ with_rule (new_app name.now) (positional (codes "trace"))) }
+    ensures local { IfOk result (λ c. (fields_of c).has_globals ≡ false) }
+{
+    let command = described(alloc, name, about, long_about);
+    command.arg(file_arg(alloc, "trace", "TRACE", TRACE_HELP))
+}
+
 fn audit_command<'a>(alloc: Global) -> Result<Command<'a>, AllocError>
     ensures app { IfOk result (λ c. app_of c ≡ audit_app) }
     ensures local { IfOk result (λ c. (fields_of c).has_globals ≡ false) }
 {
-    Command::new(alloc, "audit")
-        .about("Judges whether a recorded history is causally convergent")
-        .long_about(AUDIT_LONG_ABOUT)
-        .arg(file_arg(alloc, "trace", "TRACE", TRACE_HELP))?
-        .arg(workers_arg(alloc))
+    let command = of_trace(alloc, "audit", AUDIT_ABOUT, AUDIT_LONG_ABOUT)?;
+    command.arg(workers_arg(alloc))
 }
 
 fn show_command<'a>(alloc: Global) -> Result<Command<'a>, AllocError>
     ensures app { IfOk result (λ c. app_of c ≡ show_app) }
     ensures local { IfOk result (λ c. (fields_of c).has_globals ≡ false) }
 {
-    Command::new(alloc, "show")
-        .about("Prints a trace as text, a line for each frame")
-        .long_about(SHOW_LONG_ABOUT)
-        .arg(file_arg(alloc, "trace", "TRACE", TRACE_HELP))
+    of_trace(alloc, "show", SHOW_ABOUT, SHOW_LONG_ABOUT)
 }
 
 fn run_command<'a>(alloc: Global) -> Result<Command<'a>, AllocError>
     ensures app { IfOk result (λ c. app_of c ≡ run_app) }
     ensures local { IfOk result (λ c. (fields_of c).has_globals ≡ false) }
 {
-    Command::new(alloc, "run")
-        .about("Runs a scenario, and records what its clients saw")
-        .long_about(RUN_LONG_ABOUT)
-        .arg(file_arg(alloc, "scenario", "SCENARIO", SCENARIO_HELP))?
-        .arg(file_arg(alloc, "trace", "TRACE", NEW_TRACE_HELP))
+    let command = described(alloc, "run", RUN_ABOUT, RUN_LONG_ABOUT).arg(file_arg(
+        alloc,
+        "scenario",
+        "SCENARIO",
+        SCENARIO_HELP,
+    ))?;
+    command.arg(file_arg(alloc, "trace", "TRACE", NEW_TRACE_HELP))
 }
 
 fn serve_command<'a>(alloc: Global) -> Result<Command<'a>, AllocError>
     ensures app { IfOk result (λ c. app_of c ≡ serve_app) }
     ensures local { IfOk result (λ c. (fields_of c).has_globals ≡ false) }
 {
-    Command::new(alloc, "serve")
-        .about("Serves clients of a scenario's cluster on a port of this machine")
-        .long_about(SERVE_LONG_ABOUT)
-        .arg(port_arg(alloc))?
-        .arg(file_arg(alloc, "scenario", "SCENARIO", SCENARIO_HELP))?
-        .arg(sessions_arg(alloc))
+    let command = described(alloc, "serve", SERVE_ABOUT, SERVE_LONG_ABOUT).arg(port_arg(alloc))?;
+    let command = command.arg(file_arg(alloc, "scenario", "SCENARIO", SCENARIO_HELP))?;
+    command.arg(sessions_arg(alloc))
 }
 
 fn top_command<'a>(alloc: Global) -> Result<Command<'a>, AllocError>

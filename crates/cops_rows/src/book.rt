@@ -1,14 +1,14 @@
 //! Rows of a node's book.
 
-use crate::outcome::{outcome_text, told_outcome};
 use crate::subject::Subject;
-use crate::text::Part::{At, Count, Number, Word};
-use crate::text::text;
 use anyhow::{Error, bail};
 use cops_node::NodeEvent;
 use cops_tie::{Book, Entry};
 use cops_types::{MAX_NODE, Version};
-use cops_words::{no_node, no_row, node_event, u16_of, u64_of, usize_of};
+use cops_words::Part::{At, Count, Number, Word};
+use cops_words::{
+    no_node, no_row, node_event, outcome_text, text, told_outcome, u16_of, u64_of, usize_of,
+};
 use std::alloc::Global;
 
 /// `COUNT entries`.

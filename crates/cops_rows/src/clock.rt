@@ -1,11 +1,10 @@
 //! Rows of a node's clock.
 
 use crate::subject::Subject;
-use crate::text::Part::{At, Number, Word};
-use crate::text::text;
 use anyhow::Error;
 use cops_types::{Clock, MAX_NODE};
-use cops_words::{no_node, no_row, u16_of, version};
+use cops_words::Part::{At, Number, Word};
+use cops_words::{no_node, no_row, text, u16_of, version};
 use std::alloc::Global;
 
 /// Where the clock stands.

@@ -1,12 +1,10 @@
 //! Rows of a client's context.
 
 use crate::subject::Subject;
-use crate::telling::{pair_text, yes_or_no};
-use crate::text::Part::{Count, Word};
-use crate::text::text;
 use anyhow::Error;
 use cops_context::Context;
-use cops_words::{no_row, pair};
+use cops_words::Part::{Count, Word};
+use cops_words::{no_row, pair, pair_text, text, yes_or_no};
 use std::alloc::Global;
 
 /// How many pairs there are, and whether one more has room.

@@ -1,13 +1,11 @@
 //! Rows of the puts that wait at a node.
 
 use crate::subject::Subject;
-use crate::telling::yes_or_no;
-use crate::text::Part::{At, Bytes, Count, Number, Word};
-use crate::text::{text, word};
 use anyhow::Error;
 use cops_held::{Held, HeldFault, Taken};
 use cops_types::PutRecord;
-use cops_words::{no_row, put, u16_of, version};
+use cops_words::Part::{At, Bytes, Count, Number, Word};
+use cops_words::{no_row, put, text, u16_of, version, word, yes_or_no};
 use std::alloc::Global;
 
 /// How many puts wait.

@@ -1,12 +1,10 @@
 //! Rows of histories.
 
 use crate::subject::Subject;
-use crate::telling::{op_text, yes_or_no};
-use crate::text::Part::{Count, Word};
-use crate::text::{text, word};
 use anyhow::{Error, bail};
 use cops_types::{History, OpName};
-use cops_words::{no_row, op, u16_of, u32_of};
+use cops_words::Part::{Count, Word};
+use cops_words::{no_row, op, op_text, text, u16_of, u32_of, word, yes_or_no};
 use std::alloc::Global;
 
 /// How many clients there are, and how many operations.

@@ -1,14 +1,14 @@
 //! Rows of one node.
 
-use crate::outcome::told_outcome;
 use crate::subject::Subject;
-use crate::telling::{pair_text, value_at};
-use crate::text::Part::{Number, Word};
-use crate::text::{text, word};
 use anyhow::Error;
 use cops_node::{Node, NodeEvent, Outcome};
 use cops_types::MAX_NODE;
-use cops_words::{key, no_node, no_row, node_event, u16_of, version};
+use cops_words::Part::{Number, Word};
+use cops_words::{
+    key, no_node, no_row, node_event, pair_text, text, told_outcome, u16_of, value_at, version,
+    word,
+};
 use std::alloc::Global;
 
 /// Begins a node anew.

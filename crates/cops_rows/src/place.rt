@@ -1,11 +1,10 @@
 //! Rows of where keys live.
 
 use crate::subject::Subject;
-use crate::text::Part::{Number, Word};
-use crate::text::text;
 use anyhow::{Error, bail};
 use cops_place::Place;
-use cops_words::{key, keys, no_row, u8_of};
+use cops_words::Part::{Number, Word};
+use cops_words::{key, keys, no_row, text, u8_of};
 use std::alloc::Global;
 
 /// How many data centres there are, and how many nodes each has.

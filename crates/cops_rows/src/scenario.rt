@@ -1,15 +1,13 @@
 //! Rows of scenario files.
 
-use crate::outcome::outcome;
 use crate::subject::Subject;
-use crate::text::Part::{At, Bytes, Count, Number, Word};
-use crate::text::{line_of, text, word};
 use anyhow::{Error, bail};
 use cops_core::Event;
 use cops_node::Outcome;
 use cops_scenario::{Scenario, ScriptOp, ScriptedClient, outcome_line};
 use cops_types::{Key, Value, Version};
-use cops_words::{no_row, usize_of};
+use cops_words::Part::{At, Bytes, Count, Number, Word};
+use cops_words::{line_of, no_row, outcome, text, usize_of, word};
 use std::alloc::Global;
 
 /// What a scenario is made of.

@@ -1,12 +1,10 @@
 //! Rows of a node's settled puts.
 
 use crate::subject::Subject;
-use crate::telling::{value_at, yes_or_no};
-use crate::text::Part::{Count, Word};
-use crate::text::{text, word};
 use anyhow::Error;
 use cops_store::{Settled, Store};
-use cops_words::{key, key_and_value, no_row, version};
+use cops_words::Part::{Count, Word};
+use cops_words::{key, key_and_value, no_row, text, value_at, version, word, yes_or_no};
 use std::alloc::Global;
 
 /// How many keys there are, and how many pairs.

@@ -1,15 +1,13 @@
 //! Rows of what the books of a run are told to be.
 
 use crate::book::entries_text;
-use crate::outcome::outcome;
 use crate::subject::Subject;
-use crate::text::Part::{Count, Word};
-use crate::text::{text, word};
 use anyhow::{Error, bail};
 use cops_scenario::Scenario;
 use cops_tie::{Entry, tie};
 use cops_trace::Trace;
-use cops_words::{no_row, node_event, op, parts, u16_of, u64_of};
+use cops_words::Part::{Count, Word};
+use cops_words::{no_row, node_event, op, outcome, parts, text, u16_of, u64_of, word};
 use std::alloc::Global;
 
 /// The one book of a scenario's one node, and what its clients saw.

@@ -1,17 +1,16 @@
 //! Rows of traces.
 
-use crate::hex::{bytes, digits};
 use crate::history::op_at;
 use crate::subject::Subject;
-use crate::telling::yes_or_no;
-use crate::text::Part::{Count, Number, Word};
-use crate::text::{line_of, text, word};
 use anyhow::{Error, bail};
 use cops_trace::{
     Partial, Trace, TraceFault, WriteFault, fault_line, read_so_far, read_trace, write_trace,
 };
 use cops_types::{Counted, FailingReader, FailingWriter};
-use cops_words::{no_row, op, u16_of, u64_of, usize_of};
+use cops_words::Part::{Count, Number, Word};
+use cops_words::{
+    bytes, digits, line_of, no_row, op, text, u16_of, u64_of, usize_of, word, yes_or_no,
+};
 use std::alloc::Global;
 
 /// How many clients there are, and how many records.

@@ -2,12 +2,13 @@
 
 use crate::history;
 use crate::subject::Subject;
-use crate::telling::{op_text, pair_text, yes_or_no};
-use crate::text::Part::{At, Count, Number, Word};
-use crate::text::text;
 use anyhow::Error;
 use cops_types::{Format, Key, Value, Version};
-use cops_words::{deps, key, no_row, op, pair, u64_of, usize_of, value, version, version_of};
+use cops_words::Part::{At, Count, Number, Word};
+use cops_words::{
+    deps, key, no_row, op, op_text, pair, pair_text, text, u64_of, usize_of, value, version,
+    version_of, yes_or_no,
+};
 use std::alloc::Global;
 
 /// Keys, values, versions and dependencies, of which each row makes its own.

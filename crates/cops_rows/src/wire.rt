@@ -1,13 +1,10 @@
 //! Rows of frames.
 
-use crate::hex::{bytes, digits};
 use crate::subject::Subject;
-use crate::telling::yes_or_no;
-use crate::text::Part::{Count, Number, Word};
-use crate::text::{lossy, text, word};
 use anyhow::{Error, anyhow, bail};
 use cops_wire::{Decoded, Feeder, Message, body_len, decode, encode, kind, legal, show};
-use cops_words::{no_row, u8_of, u32_of, u64_of};
+use cops_words::Part::{Count, Number, Word};
+use cops_words::{bytes, digits, lossy, no_row, text, u8_of, u32_of, u64_of, word, yes_or_no};
 use std::alloc::Global;
 
 /// The bytes of a message's line.

@@ -1,14 +1,12 @@
 //! Rows of the world.
 
-use crate::outcome::{outcome_text, told_outcome};
 use crate::subject::Subject;
-use crate::text::Part::{Count, Word};
-use crate::text::text;
 use crate::{history, place};
 use anyhow::{Error, bail};
 use cops_core::{Event, World};
 use cops_node::Outcome;
-use cops_words::{no_row, parts, u8_of, u32_of, world_event};
+use cops_words::Part::{Count, Word};
+use cops_words::{no_row, outcome_text, parts, text, told_outcome, u8_of, u32_of, world_event};
 use std::alloc::Global;
 
 /// So many clients at a data centre.

@@ -1,7 +1,7 @@
 //! Bytes as hexadecimal digits.
 
+use crate::words::no_row;
 use anyhow::Error;
-use cops_words::no_row;
 use std::alloc::Global;
 
 /// The number of a digit.

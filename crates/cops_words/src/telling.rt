@@ -1,7 +1,7 @@
 //! The words that tell pairs, values and operations.
 
-use crate::text::Part::{At, Bytes, Word};
-use crate::text::{text, word};
+use crate::texts::Part::{At, Bytes, Word};
+use crate::texts::{text, word};
 use anyhow::Error;
 use cops_types::{Dep, Key, Op, Value, Version};
 use std::alloc::Global;

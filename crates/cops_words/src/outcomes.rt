@@ -1,11 +1,11 @@
 //! The words that tell a node's outcome.
 
-use crate::text::Part::{At, Bytes, Number, Word};
-use crate::text::{text, word};
+use crate::texts::Part::{At, Bytes, Number, Word};
+use crate::texts::{text, word};
+use crate::words::{no_row, u8_of, value, version};
 use anyhow::Error;
 use cops_node::Outcome;
 use cops_types::{Value, Version};
-use cops_words::{no_row, u8_of, value, version};
 use std::alloc::Global;
 
 fn got(alloc: Global, value: &Value, version: Version) -> Result<String, Error> {
