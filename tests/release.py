@@ -79,7 +79,7 @@ def kit_of(root):
 
 
 def differences(root, program, kit):
-    """What does not hold of a tree's release, where this program was built of the tree by this kit. Kits of one logic make the same program."""
+    """What does not hold of a tree's release, where this program was built of the tree by this kit: any kit of the same logic makes it of the same bytes."""
     release = os.path.join(root, "release", "cops")
     hashes = subprocess.run(["sha256sum", "-c", "--status", "release/SOURCES"], cwd=root)
     if not filecmp.cmp(program, release, shallow=False):

@@ -1,13 +1,14 @@
--- The statuses that the program ends with, and what 0 says.
-use Rattle.std.specs.Prelude.{◌⊎◌, ℕ, List, Ok, Err}
+-- The statuses that the program ends with, and what they say.
+use Rattle.std.specs.Prelude.{ℕ, List, Ok, Err}
 use Rattle.cops_line.specs.declared.job.Job.{Job}
 use Rattle.cops_line.specs.declared.job.Job.TheVariants.{Audit, Show, Run, Serve}
 use Rattle.cops_trace.specs.declared.fault.TraceFault.{TraceFault}
 use Rattle.cops_trace.specs.Text.{ATrace}
 use Rattle.cops_trace.specs.Answer.{Says}
 use Rattle.cops_scenario.specs.Scenario.{AScenario}
-use Rattle.cops_scenario.specs.declared.fault.Field.{Field}
-use Rattle.cops_scenario.specs.File.{IsTextOf, IsNoText, IsWrongText}
+use Rattle.cops_scenario.specs.File.{IsTextOf}
+use Rattle.cops_command.specs.declared.status.Status.{Status}
+use Rattle.cops_command.specs.declared.status.Status.TheVariants as status
 use Rattle.cops_stream.specs.declared.audit.Answer.{Answer}
 use Rattle.cops_stream.specs.declared.audit.Answer.TheVariants.{Accepted, Refused, Faulty}
 use Rattle.cops_stream.specs.Audit.{AuditSays, SpellsConvergent}
@@ -15,10 +16,10 @@ use Rattle.cops_run_stream.specs.Running.{IsLeft}
 use Rattle.cops_serve.specs.Serving.{IsServed}
 
 -- the status of an audit's answer
-abbrev pub status_of : Answer → ℕ
-status_of Accepted = 0
-status_of Refused = 1
-status_of Faulty = 2
+abbrev pub status_of : Answer → Status
+status_of Accepted = status.Accepted
+status_of Refused = status.Refused
+status_of Faulty = status.Faulty
 
 -- the bytes are a trace's text
 abbrev pub TellsTrace : List ℕ → Type 0
@@ -32,7 +33,7 @@ TellsRun bytes = (s : AScenario) × (t : ATrace) × (told : List ℕ) × IsTextO
 abbrev pub TellsServed : ℕ → List ℕ → Type 0
 TellsServed sessions bytes = (s : AScenario) × (text : List ℕ) × IsTextOf bytes s × IsServed sessions s text
 
--- what is so of the bytes of a job's input where the job ends with the status 0
+-- what is so of the bytes of a job's input where the job ends as accepted
 abbrev pub EndsWell : Job → List ℕ → Type 0
 EndsWell (Audit trace workers) bytes = SpellsConvergent bytes
 EndsWell (Show trace) bytes = TellsTrace bytes
@@ -43,7 +44,7 @@ EndsWell (Serve port scenario sessions) bytes = TellsServed sessions bytes
 abbrev pub TellsRefused : List ℕ → Type 0
 TellsRefused bytes = (told : List ℕ) × AuditSays bytes Refused told
 
--- what is so of them where it ends with the status 1, as audits alone do
+-- what is so of them where it ends as refused, as audits alone do
 abbrev pub EndsRefused : Job → List ℕ → Type 0
 EndsRefused (Audit trace workers) bytes = TellsRefused bytes
 EndsRefused job bytes = ⊥
@@ -51,7 +52,3 @@ EndsRefused job bytes = ⊥
 -- the bytes are no trace's text, by the fault that is told
 abbrev pub TellsNoTrace : List ℕ → Type 0
 TellsNoTrace bytes = (e : TraceFault) × Says bytes (Err e)
-
--- they tell no scenario
-abbrev pub TellsNoScenario : List ℕ → Type 0
-TellsNoScenario bytes = IsNoText bytes ⊎ ((field : Field) × IsWrongText bytes field)

@@ -4,8 +4,12 @@
 
 ghost use Rattle.std.specs.Prelude.{◌≡◌, ◌≤◌, IfSome};
 ghost use Rattle.cops_stream.specs.Audit.{SpellsConvergent};
-ghost use Rattle.cops.specs.Status.{EndsRefused, EndsWell, TellsNoScenario, TellsNoTrace, TellsRefused, TellsRun, TellsServed, TellsTrace, status_of};
+ghost use Rattle.cops_command.specs.Scenario.{TellsNone};
+ghost use Rattle.cops_command.specs.Status.{number};
+ghost use Rattle.cops_command.specs.declared.status.Status.TheVariants.{Accepted, Faulty, Refused};
+ghost use Rattle.cops.specs.Status.{EndsRefused, EndsWell, TellsNoTrace, TellsRefused, TellsRun, TellsServed, TellsTrace, status_of};
 
+use cops_command::Status;
 use cops_line::{Job, LineFault, line};
 use cops_run_stream::run_stream;
 use cops_serve::serve_stream;
@@ -21,89 +25,79 @@ use std::sync::Wait;
 use std::thread::Threads;
 use std::{env, io};
 
-const ACCEPTED: u8 = 0;
-
-const REFUSED: u8 = 1;
-
-const FAULTY: u8 = 2;
-
-const NO_MEMORY: u8 = 3;
-
-const FAILED: u8 = 4;
-
 /// Prints why the program failed, and gives the status.
-fn failed<R: Eprint>(rt: &R, why: &str, status: u8) -> u8
-    ensures { result ≡ status }
+fn failed<R: Eprint>(rt: &R, why: &str, status: Status) -> u8
+    ensures { result ≡ number status }
 {
     let _ = eprintln!(rt; "failed: {why}");
-    status
+    status.number()
 }
 
 /// The status that an audit's answer ends with.
-fn status_of(answer: Answer) -> u8
+fn status_of(answer: Answer) -> Status
     ensures { result ≡ status_of answer }
 {
     match answer {
-        Answer::Accepted => ACCEPTED,
-        Answer::Refused => REFUSED,
-        Answer::Faulty => FAULTY,
+        Answer::Accepted => Status::Accepted,
+        Answer::Refused => Status::Refused,
+        Answer::Faulty => Status::Faulty,
     }
 }
 
-/// Audits the input by so many workers, and gives the status: `ACCEPTED` only where the bytes spell one history, and it is
+/// Audits the input by so many workers, and gives the status: accepted only where the bytes spell one history, and it is
 /// causally convergent.
 fn audit<R, I>(rt: &R, input: I, workers: u8) -> u8
 where
     R: Print + Eprint + AllocGlobal + Threads + Wait + Sync,
     I: Read + Drop,
-    ensures accepted { result ≡ 0 → IfSome (I.remaining input) SpellsConvergent }
-    ensures refused { result ≡ 1 → IfSome (I.remaining input) TellsRefused }
-    ensures faulty { result ≡ 2 → (1 ≤ workers) → (workers ≤ 64) → IfSome (I.remaining input) TellsNoTrace }
+    ensures accepted { result ≡ number Accepted → IfSome (I.remaining input) SpellsConvergent }
+    ensures refused { result ≡ number Refused → IfSome (I.remaining input) TellsRefused }
+    ensures faulty { result ≡ number Faulty → (1 ≤ workers) → (workers ≤ 64) → IfSome (I.remaining input) TellsNoTrace }
 {
     let mut reader = Counted::new(input);
     let mut writer = Counted::new(io::writer(rt));
     match audit_stream(rt, rt.alloc(), &mut reader, &mut writer, workers, &OpenGate) {
-        Ok(answer) => status_of(answer),
-        Err(StreamFault::Memory) => failed(rt, "memory", NO_MEMORY),
-        Err(StreamFault::BadWorkers) => failed(rt, "workers", FAULTY),
-        Err(StreamFault::Held) => failed(rt, "held", FAILED),
-        Err(StreamFault::ReadFailed) => failed(rt, "read", FAILED),
-        Err(StreamFault::WriteFailed) => failed(rt, "write", FAILED),
+        Ok(answer) => status_of(answer).number(),
+        Err(StreamFault::Memory) => failed(rt, "memory", Status::NoMemory),
+        Err(StreamFault::BadWorkers) => failed(rt, "workers", Status::Faulty),
+        Err(StreamFault::Held) => failed(rt, "held", Status::Failed),
+        Err(StreamFault::ReadFailed) => failed(rt, "read", Status::Failed),
+        Err(StreamFault::WriteFailed) => failed(rt, "write", Status::Failed),
     }
 }
 
-/// Shows the input, and gives the status: 0 only of a trace's text.
+/// Shows the input, and gives the status: accepted only of a trace's text.
 fn show<R, I, E>(rt: &R, input: I, errors: E) -> u8
 where
     R: Print + Eprint + AllocGlobal,
     I: Read + Drop,
     E: Write + Drop,
-    ensures shown { result ≡ 0 → IfSome (I.remaining input) TellsTrace }
-    ensures refused { result ≡ 1 → IfSome (I.remaining input) (λ _. ⊥) }
-    ensures faulty { result ≡ 2 → IfSome (I.remaining input) TellsNoTrace }
+    ensures shown { result ≡ number Accepted → IfSome (I.remaining input) TellsTrace }
+    ensures refused { result ≡ number Refused → IfSome (I.remaining input) (λ _. ⊥) }
+    ensures faulty { result ≡ number Faulty → IfSome (I.remaining input) TellsNoTrace }
 {
     let mut reader = Counted::new(input);
     let mut out = Counted::new(io::writer(rt));
     let mut errors = Counted::new(errors);
     match show_stream(rt.alloc(), &mut reader, &mut out, &mut errors) {
         Ok(status) => status,
-        Err(Memory) => failed(rt, "memory", NO_MEMORY),
+        Err(Memory) => failed(rt, "memory", Status::NoMemory),
     }
 }
 
-/// Runs the scenario that the input holds, writes its trace to the file of that name, and gives the status: 0 only of a
+/// Runs the scenario that the input holds, writes its trace to the file of that name, and gives the status: accepted only of a
 /// scenario with a run whose history is accepted.
 fn run_scenario<R, I, E>(rt: &R, input: I, trace: &str, errors: E) -> u8
 where
     R: Files + Print + Eprint + AllocGlobal + Threads + Wait + Sync,
     I: Read + Drop,
     E: Write + Drop,
-    ensures ran { result ≡ 0 → IfSome (I.remaining input) TellsRun }
-    ensures refused { result ≡ 1 → IfSome (I.remaining input) (λ _. ⊥) }
-    ensures faulty { result ≡ 2 → IfSome (I.remaining input) TellsNoScenario }
+    ensures ran { result ≡ number Accepted → IfSome (I.remaining input) TellsRun }
+    ensures refused { result ≡ number Refused → IfSome (I.remaining input) (λ _. ⊥) }
+    ensures faulty { result ≡ number Faulty → IfSome (I.remaining input) TellsNone }
 {
     let Ok(file) = File::create(rt, trace) else {
-        return failed(rt, "open", FAILED);
+        return failed(rt, "open", Status::Failed);
     };
     let mut reader = Counted::new(input);
     let mut trace = Counted::new(file);
@@ -119,20 +113,20 @@ where
         &OpenGate,
     ) {
         Ok(status) => status,
-        Err(Memory) => failed(rt, "memory", NO_MEMORY),
+        Err(Memory) => failed(rt, "memory", Status::NoMemory),
     }
 }
 
-/// Serves so many sessions of clients of the cluster of the scenario that the input holds, and gives the status: 0 only of a
+/// Serves so many sessions of clients of the cluster of the scenario that the input holds, and gives the status: accepted only of a
 /// scenario with a report on so many sessions, whose history is accepted.
 fn serve<R, I, E>(rt: &R, input: I, port: u16, sessions: u16, errors: E) -> u8
 where
     R: Net<Listener = TcpListener, Stream = TcpStream> + Print + Eprint + AllocGlobal + Wait,
     I: Read + Drop,
     E: Write + Drop,
-    ensures served { result ≡ 0 → IfSome (I.remaining input) (TellsServed sessions) }
-    ensures refused { result ≡ 1 → IfSome (I.remaining input) (λ _. ⊥) }
-    ensures faulty { result ≡ 2 → IfSome (I.remaining input) TellsNoScenario }
+    ensures served { result ≡ number Accepted → IfSome (I.remaining input) (TellsServed sessions) }
+    ensures refused { result ≡ number Refused → IfSome (I.remaining input) (λ _. ⊥) }
+    ensures faulty { result ≡ number Faulty → IfSome (I.remaining input) TellsNone }
 {
     let mut reader = Counted::new(input);
     let mut out = Counted::new(io::writer(rt));
@@ -147,7 +141,7 @@ where
         &mut errors,
     ) {
         Ok(status) => status,
-        Err(Memory) => failed(rt, "memory", NO_MEMORY),
+        Err(Memory) => failed(rt, "memory", Status::NoMemory),
     }
 }
 
@@ -158,8 +152,8 @@ where
     R: Net<Listener = TcpListener, Stream = TcpStream>,
     I: Read + Drop,
     E: Write + Drop,
-    ensures well { result ≡ 0 → IfSome (I.remaining input) (EndsWell job.entry) }
-    ensures refused { result ≡ 1 → IfSome (I.remaining input) (EndsRefused job.entry) }
+    ensures well { result ≡ number Accepted → IfSome (I.remaining input) (EndsWell job.entry) }
+    ensures refused { result ≡ number Refused → IfSome (I.remaining input) (EndsRefused job.entry) }
 {
     match job {
         Job::Audit { workers, .. } => audit(rt, input, workers),
@@ -191,7 +185,7 @@ where
         return command(rt, job, rt.reader(), errors);
     }
     let Ok(file) = File::open(rt, input) else {
-        return failed(rt, "open", FAILED);
+        return failed(rt, "open", Status::Failed);
     };
     command(rt, job, file, errors)
 }
@@ -201,13 +195,13 @@ fn no_job<R: Print + Eprint>(rt: &R, fault: LineFault) -> u8 {
     match fault {
         LineFault::Help(text) | LineFault::Version(text) => {
             let _ = print!(rt; "{text}");
-            ACCEPTED
+            Status::Accepted.number()
         }
         LineFault::Usage(text) => {
             let _ = eprint!(rt; "{text}");
-            FAULTY
+            Status::Faulty.number()
         }
-        LineFault::Memory => failed(rt, "memory", NO_MEMORY),
+        LineFault::Memory => failed(rt, "memory", Status::NoMemory),
     }
 }
 
@@ -239,9 +233,9 @@ fn no_words<R: Eprint>(rt: &R, fault: io::Error) -> u8 {
     if fault.kind() == ErrorKind::InvalidData {
         let why = "error: invalid UTF-8 was detected in one or more arguments";
         let _ = eprintln!(rt; "{why}\n\nFor more information, try '--help'.");
-        FAULTY
+        Status::Faulty.number()
     } else {
-        failed(rt, "memory", NO_MEMORY)
+        failed(rt, "memory", Status::NoMemory)
     }
 }
 
@@ -249,7 +243,7 @@ fn main(rt: HostRuntime) -> ExitCode {
     let status = match arguments(&rt) {
         Ok(words) => match run(&rt, words.as_slice(), rt.stderr()) {
             Ok(status) => status,
-            Err(_) => failed(&rt, "memory", NO_MEMORY),
+            Err(_) => failed(&rt, "memory", Status::NoMemory),
         },
         Err(fault) => no_words(&rt, fault),
     };

@@ -8,9 +8,10 @@ ghost use Rattle.cops_audit.specs.Verdicts.{IsVerdict, Accepts, ConvergesByVersi
 use crate::names::all_names;
 use crate::notes::{Notes, without_source};
 use crate::rising::not_above;
+use crate::settling::{refused_before_stale, refused_doubled, verdict_by_stale};
 use crate::stale::stale_among;
-use crate::table::{VersionedPut, doubled, is_rising, put_names, puts_by_version};
-use crate::verdict::{Faults, Verdict};
+use crate::table::{VersionedPut, doubled, is_rising, puts_by_version};
+use crate::verdict::Verdict;
 use cops_types::{History, Memory, OpName};
 use std::alloc::Global;
 
@@ -35,7 +36,7 @@ fn classify(alloc: Global, history: &History) -> Result<Verdict, Memory>
     let table = puts.as_slice();
     if !is_rising(table) {
         let faults = doubled(alloc, history, names, table)?;
-        return Ok(Verdict::Refused(Faults::Doubled(faults)));
+        return Ok(refused_doubled(history, names, table, faults));
     }
     let verdict = classify_gets(alloc, history, names, table)?;
     Ok(verdict)
@@ -53,18 +54,11 @@ fn classify_gets(
     ensures { IfOk result (IsVerdict history.now.sessions) }
 {
     let notes = Notes::new(alloc, history, table)?;
-    let faults = without_source(alloc, &notes, names)?;
-    if !faults.is_empty() {
-        return Ok(Verdict::Refused(Faults::NoSource(faults)));
+    let sourceless = without_source(alloc, &notes, names)?;
+    let above = not_above(alloc, &notes, names)?;
+    if let Some(verdict) = refused_before_stale(history, names, table, &notes, sourceless, above) {
+        return Ok(verdict);
     }
-    let faults = not_above(alloc, &notes, names)?;
-    if !faults.is_empty() {
-        return Ok(Verdict::Refused(Faults::NotAbove(faults)));
-    }
-    let faults = stale_among(alloc, history, table, &notes, names)?;
-    if !faults.is_empty() {
-        return Ok(Verdict::Refused(Faults::Stale(faults)));
-    }
-    let puts = put_names(alloc, table)?;
-    Ok(Verdict::Accepted(puts))
+    let stale = stale_among(alloc, history, table, &notes, names)?;
+    verdict_by_stale(alloc, history, names, table, stale)
 }

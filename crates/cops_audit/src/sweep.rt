@@ -12,7 +12,7 @@ use cops_types::OpName;
 use std::alloc::{AllocError, Global};
 
 /// Operations of one client, from one place up to another.
-#[derive(Clone, Copy, Debug, PartialEq, Eq)]
+#[derive(Clone, Copy)]
 pub struct Range {
     pub client: u16,
     pub from: u32,

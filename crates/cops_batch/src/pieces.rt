@@ -1,4 +1,4 @@
-ghost use Rattle.std.specs.Prelude.{◌≡◌, ◌<◌, ◌≤◌, ℕ, IfOk, IsTrue, length, vec_len, All, AllPairs, slice_index_or};
+ghost use Rattle.std.specs.Prelude.{◌≡◌, ◌<◌, ◌≤◌, ℕ, IfOk, IsTrue, OnOk, length, vec_len, All, AllPairs, slice_index_or};
 ghost use Rattle.cops_types.specs.Faults.{IsBefore, IsDoubled, IsStale};
 ghost use Rattle.cops_types.specs.Verdicts.{AllAbove, AllHaveSources};
 ghost use Rattle.cops_audit.specs.Names.{ListsAmong};
@@ -16,7 +16,7 @@ use std::alloc::{AllocError, Global};
 use std::sync::Wait;
 
 /// How a worker's search of its piece stands.
-#[derive(Clone, Copy, Debug, PartialEq, Eq)]
+#[derive(Clone, Copy)]
 pub enum State {
     /// Nothing went wrong so far.
     Fine,
@@ -27,7 +27,7 @@ pub enum State {
 }
 
 /// A piece of the operations, and what its worker found in it.
-#[derive(Debug, Drop)]
+#[derive(Drop)]
 pub struct Piece {
     pub number: u32,
     pub start: usize,
@@ -121,21 +121,46 @@ pub fn look_for_doubled<R: Wait, G: Gate>(
     }
 }
 
-/// What a piece has of the classes before the stale gets.
-fn found_before_stale(
+/// The gets without a source of a piece.
+fn found_sourceless(
     alloc: Global,
     tables: &Tables,
     piece: &Piece,
-) -> Result<(Vec<OpName>, Vec<NotAbove>), AllocError>
+) -> Result<Vec<OpName>, AllocError>
     requires tables { AreTables tables.now }
     requires within { LiesWithin (length tables.now.names.now) piece.now }
-    ensures sourceless { IfOk result (λ r. ListsAmong (λ n. n) (IsSourceless tables.now.notes) (names_of tables.now.names.now piece.now) r.0.items) }
-    ensures not_above { IfOk result (λ r. ListsAmong (λ f. f.op) (λ f. SeesNotAbove tables.now.notes f.op f.earlier) (names_of tables.now.names.now piece.now) r.1.items) }
+    ensures { IfOk result (λ v. ListsAmong (λ n. n) (IsSourceless tables.now.notes) (names_of tables.now.names.now piece.now) v.items) }
 {
     let names = piece.of(tables.names);
-    let sourceless = without_source(alloc, &tables.notes, names)?;
+    let faults = without_source(alloc, &tables.notes, names)?;
+    Ok(faults)
+}
+
+/// The puts of a piece that are not above what their sessions saw before them.
+fn found_not_above(
+    alloc: Global,
+    tables: &Tables,
+    piece: &Piece,
+) -> Result<Vec<NotAbove>, AllocError>
+    requires tables { AreTables tables.now }
+    requires within { LiesWithin (length tables.now.names.now) piece.now }
+    ensures { IfOk result (λ v. ListsAmong (λ f. f.op) (λ f. SeesNotAbove tables.now.notes f.op f.earlier) (names_of tables.now.names.now piece.now) v.items) }
+{
+    let names = piece.of(tables.names);
     let faults = not_above(alloc, &tables.notes, names)?;
-    Ok((sourceless, faults))
+    Ok(faults)
+}
+
+/// Puts into a piece what it has of the classes before the stale gets.
+fn search_before_stale(alloc: Global, tables: &Tables, piece: &mut Piece) -> Result<(), AllocError>
+    requires tables { AreTables tables.now }
+    requires within { LiesWithin (length tables.now.names.now) piece.old }
+    ensures place { SamePlace piece.old piece.new }
+    ensures found { OnOk result (IsSearched tables.now piece.new) }
+{
+    piece.names = found_sourceless(alloc, tables, piece)?;
+    piece.not_above = found_not_above(alloc, tables, piece)?;
+    Ok(())
 }
 
 /// A worker's first work: the classes before the stale gets.
@@ -156,12 +181,8 @@ pub fn look_before_stale<R: Wait, G: Gate>(
         piece.state = State::Held;
         return;
     }
-    match found_before_stale(alloc, tables, piece) {
-        Ok((sourceless, faults)) => {
-            piece.names = sourceless;
-            piece.not_above = faults;
-            piece.state = State::Fine;
-        }
+    match search_before_stale(alloc, tables, piece) {
+        Ok(()) => piece.state = State::Fine,
         Err(_) => piece.state = State::Memory,
     }
 }
@@ -213,7 +234,7 @@ pub fn look_for_stale<R: Wait, G: Gate>(
     ensures held { IsHeldByGate (G.may_hold gate.now) piece.new }
     ensures found { IsTrue search → piece.new.state ≡ Fine → IsSearchedForStale tables.now piece.new }
 {
-    if piece.state == State::Held {
+    if let State::Held = piece.state {
         return;
     }
     match found_stale(alloc, tables, search, piece) {

@@ -39,8 +39,13 @@ impl<'a> Links<'a> {
         ensures firsts { IfOk result (λ l. AreFirsts history.now.sessions table.now l.firsts.items) }
     {
         let keys = link(alloc, history, table)?;
-        let firsts = passed_firsts(alloc, history, table, keys.nexts.as_slice())?;
-        Ok(Links { keys, firsts })
+        match passed_firsts(alloc, history, table, keys.nexts.as_slice()) {
+            Ok(firsts) => Ok(Links { keys, firsts }),
+            Err(fault) => {
+                drop(keys);
+                Err(fault)
+            }
+        }
     }
 }
 

@@ -1,10 +1,9 @@
-//! What the benchmarks of a node, of a world, of the tie and of the auditor that is fed run, for the scripts in `bench/`:
-//! `node PAIRS TURNS AMONG`, `world FILE MODE DATA_CENTRES CLIENTS`, `tie FILE MODE`, or `online TRACE MODE`. With no words it does nothing.
+//! What the benchmarks of a node, of a world and of the auditor that is fed run, for the scripts in `bench/`: `node PAIRS TURNS AMONG`,
+//! `world FILE MODE DATA_CENTRES CLIENTS`, or `online TRACE MODE`. With no words it does nothing.
 #![tactic(auto)]
 
 mod node;
 mod online;
-mod tie;
 mod world;
 
 use anyhow::Error;
@@ -31,7 +30,6 @@ fn perform<R: Files + Print + AllocGlobal>(rt: &R, words: &[String]) -> Result<(
         [what, path, mode, dcs, clients] if what.as_str() == "world" => {
             time_world(rt, &[path, mode, dcs, clients])
         }
-        [what, path, mode] if what.as_str() == "tie" => tie::tie_up(rt, path, mode),
         [what, path, mode] if what.as_str() == "online" => online::say(rt, path, mode),
         _ => Ok(()),
     }

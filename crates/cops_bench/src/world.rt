@@ -15,7 +15,7 @@ fn event(alloc: Global, line: &str) -> Result<Event, Error> {
 }
 
 /// The events of a text, one a line.
-pub fn events_of(alloc: Global, text: &str) -> Result<Vec<Event>, Error> {
+fn events_of(alloc: Global, text: &str) -> Result<Vec<Event>, Error> {
     let mut events = Vec::new(alloc);
     for line in text.lines() {
         events.push(event(alloc, line)?)?;

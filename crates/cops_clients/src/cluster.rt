@@ -7,17 +7,14 @@ use crate::fault::OpenFault;
 use crate::share::{Holder, Share};
 use crate::spot::Spot;
 use cops_context::Context;
+use cops_core::{Setting, WorldFault};
 use cops_place::Place;
 use cops_record::Recorder;
-use cops_scenario::Scenario;
 use cops_tie::{Book, Puts};
 use cops_types::{Key, Memory, NodeStatus};
 use std::alloc::{AllocError, Global};
 use std::sync::atomic::AtomicU64;
 use std::sync::{Mutex, Wait};
-
-/// The most clients of a cluster.
-const MAX_CLIENTS: usize = 65_535;
 
 /// The nodes of a cluster, each under a lock of its own, by data centre and place; one counter of tickets; and the recorder
 /// of what clients see.
@@ -45,7 +42,6 @@ impl Cluster {
     ghost use Rattle.std.specs.Prelude.{◌≡◌, ◌<◌, ◌≤◌, ◌+◌, ◌*◌, ◌↔◌, All, length, vec_len, IfOk, OnErr, IsErrOf, IsSome, IfSome, IfNone};
     ghost use Rattle.cops_core.specs.World.{AreClients};
     ghost use Rattle.cops_place.specs.Place.{primary};
-    ghost use Rattle.cops_scenario.specs.Scenario.{homes_of};
     ghost use Rattle.cops_clients.specs.Opening.{AreClientsAt, AreReceivers};
     ghost use Rattle.cops_clients.specs.Cluster.{IsNode, IsPutsFrom};
 
@@ -57,16 +53,26 @@ impl Cluster {
         ensures shares { IfOk result (λ o. AreReceivers place.dcs o.shares.items) }
         ensures bad { IsErrOf result OpenFault.BadClient ↔ (AreClients place client_dcs.items → ⊥) }
     {
-        if client_dcs.len() > MAX_CLIENTS || !are_below(&client_dcs, place.dcs()) {
-            return Err(OpenFault::BadClient);
+        match Setting::new(place, client_dcs) {
+            Ok(setting) => Ok(Cluster::of(alloc, &setting)?),
+            Err(WorldFault::Memory) => Err(OpenFault::Memory),
+            Err(WorldFault::BadClient) => Err(OpenFault::BadClient),
         }
-        let nodes = opened_nodes(alloc, place.dcs(), place.nodes())?;
-        let recorder = Recorder::new(alloc, client_dcs.len() as u16)?;
-        let clients = opened_clients(alloc, &client_dcs)?;
-        let shares = opened_shares(alloc, place.dcs())?;
+    }
+
+    /// The same of a setting, whose clients' data centres are there.
+    pub fn of(alloc: Global, setting: &Setting) -> Result<Opened, Memory>
+        ensures place { IfOk result (λ o. o.cluster.place ≡ setting.now.place) }
+        ensures clients { IfOk result (λ o. AreClientsAt setting.now.homes (length setting.now.homes) o.clients.items) }
+        ensures shares { IfOk result (λ o. AreReceivers setting.now.place.dcs o.shares.items) }
+    {
+        let nodes = opened_nodes(alloc, setting.dcs(), setting.nodes())?;
+        let recorder = Recorder::new(alloc, setting.clients() as u16)?;
+        let clients = opened_clients(alloc, setting.homes())?;
+        let shares = opened_shares(alloc, setting.dcs())?;
         let cluster = Cluster {
-            place,
-            clients: client_dcs.len() as u16,
+            place: setting.place().clone()?,
+            clients: setting.clients() as u16,
             nodes,
             tickets: AtomicU64::new(0),
             recorder,
@@ -77,20 +83,6 @@ impl Cluster {
             clients,
             shares,
         })
-    }
-
-    /// A cluster of a scenario's data centres and nodes, with its clients.
-    pub fn of_scenario(alloc: Global, scenario: &Scenario) -> Result<Opened, Memory>
-        ensures place { IfOk result (λ o. o.cluster.place ≡ scenario.now.place) }
-        ensures clients { IfOk result (λ o. AreClientsAt (homes_of scenario.now) (length (homes_of scenario.now)) o.clients.items) }
-        ensures shares { IfOk result (λ o. AreReceivers scenario.now.place.dcs o.shares.items) }
-    {
-        let homes = scenario.homes(alloc)?;
-        match Cluster::open(alloc, scenario.place().clone()?, homes) {
-            Ok(opened) => Ok(opened),
-            Err(OpenFault::Memory) => Err(Memory),
-            Err(OpenFault::BadClient) => unreachable!(),
-        }
     }
 
     /// How many data centres there are, 1 to 16.
@@ -173,13 +165,6 @@ impl Cluster {
         let at = usize::from(spot.dc) * nodes + usize::from(spot.place);
         &self.nodes[at]
     }
-}
-
-/// Whether each number is below this one.
-fn are_below(numbers: &[u8], end: u8) -> bool
-    ensures { IsTrue result ↔ All (λ n. n < end) numbers.now }
-{
-    numbers.iter().all(|n| *n < end)
 }
 
 /// The books of opened nodes, by data centre and place.

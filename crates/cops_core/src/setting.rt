@@ -3,12 +3,13 @@ ghost use Rattle.std.specs.Prelude.{◌≡◌, ◌<◌, ◌↔◌, All, IsTrue};
 use crate::fault::WorldFault;
 use cops_place::Place;
 use cops_types::Key;
+use std::alloc::AllocError;
 use std::marker::Model;
 
-/// The most clients of a world.
+/// The most clients of a cluster.
 pub const MAX_CLIENTS: usize = 65_535;
 
-/// What never changes in a world: where keys live, and the data centre of each client.
+/// What never changes in a cluster: where keys live, and the data centre of each client, at most 65,535, each of which is there.
 #[derive(Debug, Drop)]
 pub struct Setting {
     place: Place,
@@ -40,6 +41,22 @@ impl Setting {
             return Err(WorldFault::BadClient);
         }
         Ok(Setting { place, homes })
+    }
+
+    /// Where keys live, and in how many data centres.
+    pub fn place(&self) -> &Place
+        ensures place { result.now ≡ self.now.place }
+        ensures setting { IsSetting self.now }
+    {
+        &self.place
+    }
+
+    /// The data centre of each client.
+    pub fn homes(&self) -> &[u8]
+        ensures homes { result.now ≡ self.now.homes }
+        ensures setting { IsSetting self.now }
+    {
+        &self.homes
     }
 
     /// How many clients there are.
@@ -81,6 +98,20 @@ impl Setting {
         ensures setting { IsSetting self.now }
     {
         self.place.primary(key)
+    }
+}
+
+/// A copy that equals it.
+impl Clone for Setting {
+    ghost use Rattle.std.specs.Prelude.{◌≡◌};
+
+    ghost is_clone = { λ s t. t ≡ s };
+
+    fn clone(&self) -> Result<Setting, AllocError> {
+        Ok(Setting {
+            place: self.place.clone()?,
+            homes: self.homes.clone()?,
+        })
     }
 }
 

@@ -44,13 +44,26 @@ impl World {
         ensures ok { IfOk result (λ world. world ≡ opened_cluster place client_dcs.items) }
         ensures bad { IsErrOf result WorldFault.BadClient ↔ (AreClients place client_dcs.items → ⊥) }
     {
-        let setting = Setting::new(place, client_dcs)?;
+        Ok(World::of(alloc, Setting::new(place, client_dcs)?)?)
+    }
+
+    /// The same of a setting, whose clients' data centres are there.
+    pub fn of(alloc: Global, setting: Setting) -> Result<Self, Memory>
+        ensures { IfOk result (λ world. world ≡ opened_cluster setting.place setting.homes) }
+    {
         let state = State::open(alloc, &setting)?;
         Ok(World {
             alloc,
             setting,
             state,
         })
+    }
+
+    /// Its data centres and its clients, which never change.
+    pub fn setting(&self) -> &Setting
+        ensures { result.now ≡ self.now.setting }
+    {
+        &self.setting
     }
 
     /// Answers an event, by the table of refusals in their order:

@@ -1,8 +1,9 @@
 -- From what a parse answers to what the words tell.
 use Rattle.std.proofs.Common.{◌≡◌, ◌≢◌, ◌<◌, ◌⊎◌, List, [], ◌∷◌, length, map, sym, subst, refl, arith, ⊎_elim, true, false, true≢false, Option}
-use Rattle.std.specs.Prelude.{◌==◌}
+use Rattle.std.specs.Prelude.{Bool, ◌==◌, ◌&&◌}
 use Rattle.std.specs.Borrow.{Bor}
-use Rattle.clap.specs.Words.{App, Row, Text, fault_of, is_simple, is_simple_and_free, subcommand_of, IsAmong}
+use Rattle.clap.specs.Faults.{is_free_app}
+use Rattle.clap.specs.Words.{App, Row, Text, fault_of, is_simple, is_simple_and_free, built, subcommand_of, IsAmong}
 use Rattle.clap.specs.declared.error.kind.ErrorKind.{ErrorKind}
 use Rattle.clap.specs.declared.error.kind.ErrorKind.TheVariants.{DisplayHelp, DisplayVersion, OutOfMemory}
 use Rattle.clap.proofs.OnLiterals.{clap_on_literals}
@@ -17,9 +18,12 @@ pub simple_command : is_simple_and_free cops_app ≡ true
 unfolding cops_app clap_on_literals
 simple_command = refl
 
+first_true : (a b : Bool) → (a && b) ≡ true → a ≡ true
+first_true true b both = refl
+first_true false b both = both
+
 pub simple_matches : is_simple cops_app ≡ true
-unfolding cops_app clap_on_literals
-simple_matches = refl
+simple_matches = first_true (is_simple cops_app) (is_free_app (built cops_app)) simple_command
 
 -- words that are not none tell what they read as
 pub told : (words : List Text) (job : Job) → 0 < length words → IsRead words job → Tells words job

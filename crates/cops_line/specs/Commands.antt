@@ -3,11 +3,16 @@ use Rattle.std.specs.Prelude.{codes, pos, true, [], Some}
 use Rattle.clap.specs.Words.{App, Rule, Text, new_app, new_rule, with_rule, with_subcommand}
 use Rattle.clap.specs.Simple.{new_shape}
 use Rattle.clap.specs.declared.builder.action.ArgAction.TheVariants.{Set}
+use Rattle.clap.specs.declared.builder.value_parser.ValueParser.{ValueParser}
 use Rattle.clap.specs.declared.builder.value_parser.ValueParser.TheVariants as parser
 
 -- an argument that has to be there, and takes one word
 abbrev pub positional : Text → Rule
 positional id = record (new_rule id) { action = Some Set; required = true; value_names = 1 }
+
+-- an option that takes a number, and may be left out
+abbrev pub number_option : Text → ValueParser → Rule
+number_option id number = record (new_rule id) { long = Some id; action = Some Set; value_names = 1; parser = Some number }
 
 -- `--workers N`, which may be left out and takes a number from 1 to 64
 abbrev pub workers_option : Rule
@@ -46,6 +51,13 @@ run_app = with_rule (with_rule (new_app (codes "run")) (positional (codes "scena
 -- `serve PORT SCENARIO`, with `--sessions N` or without it
 abbrev pub serve_app : App
 serve_app = with_rule (with_rule (with_rule (new_app (codes "serve")) port_argument) (positional (codes "scenario"))) sessions_option
+
+-- with a version, and with a subcommand that has to be there as the first of the words
+abbrev pub versioned : App → App
+versioned app = record {
+  top = record (app.top) { no_binary_name = true; subcommand_required = true; has_version = true };
+  subs = app.subs;
+}
 
 -- the words of a subcommand alone, or `--version`
 abbrev pub cops_top : App

@@ -1,8 +1,10 @@
-ghost use Rattle.std.specs.Prelude.{◌≡◌, IfOk, codes, false};
+ghost use Rattle.std.specs.Prelude.{◌≡◌, IfOk, codes, false, pos};
 ghost use Rattle.clap.specs.Words.{app_of, new_app, rule_of, with_rule, with_subcommand};
 ghost use Rattle.clap.specs.declared.builder.command.Command.TheViews.{out-Command as fields_of};
-ghost use Rattle.cops_line.specs.Commands.{positional, port_argument, sessions_option, workers_option, cops_top, cops_app, audit_app, show_app, run_app, serve_app};
+ghost use Rattle.clap.specs.declared.builder.value_parser.ValueParser.TheVariants as parser;
+ghost use Rattle.cops_line.specs.Commands.{number_option, positional, port_argument, sessions_option, workers_option, versioned, cops_top, cops_app, audit_app, show_app, run_app, serve_app};
 
+use clap::builder::ValueParser;
 use clap::{Arg, ArgAction, Command, value_parser};
 use std::alloc::{AllocError, Global};
 
@@ -85,17 +87,38 @@ fn file_arg<'a>(alloc: Global, id: &'static str, name: &'static str, help: &'sta
         .help(help)
 }
 
+/// An option that takes a number.
+fn number_arg<'a>(
+    alloc: Global,
+    id: &'static str,
+    number: ValueParser<'a>,
+    help: &'static str,
+) -> Arg<'a>
+    ensures rule { rule_of result ≡ number_option id.now number.entry }
+    ensures local { result.global ≡ false }
+{
+    Arg::new(alloc, id)
+        .long(id)
+        .action(ArgAction::Set)
+        .value_name("N")
+        .value_parser(number)
+        .help(help)
+}
+
+/// A number from 1 to 65,535.
+fn large_number<'a>() -> ValueParser<'a>
+    ensures { result ≡ parser.Signed (pos 1) (pos 65535) }
+{
+    value_parser!(u16).range(1..=65535)
+}
+
 /// The option that names the number of workers.
 fn workers_arg<'a>(alloc: Global) -> Arg<'a>
     ensures rule { rule_of result ≡ workers_option }
     ensures local { result.global ≡ false }
 {
-    Arg::new(alloc, "workers")
-        .long("workers")
-        .action(ArgAction::Set)
-        .value_name("N")
-        .value_parser(value_parser!(u8).range(1..=64))
-        .help(WORKERS_HELP)
+    let number = value_parser!(u8).range(1..=64);
+    number_arg(alloc, "workers", number, WORKERS_HELP)
 }
 
 /// The port, which has to be there.
@@ -103,7 +126,7 @@ fn port_arg<'a>(alloc: Global) -> Arg<'a>
     ensures rule { rule_of result ≡ port_argument }
     ensures local { result.global ≡ false }
 {
-    file_arg(alloc, "port", "PORT", PORT_HELP).value_parser(value_parser!(u16).range(1..=65535))
+    file_arg(alloc, "port", "PORT", PORT_HELP).value_parser(large_number())
 }
 
 /// The option that names the number of sessions.
@@ -111,12 +134,7 @@ fn sessions_arg<'a>(alloc: Global) -> Arg<'a>
     ensures rule { rule_of result ≡ sessions_option }
     ensures local { result.global ≡ false }
 {
-    Arg::new(alloc, "sessions")
-        .long("sessions")
-        .action(ArgAction::Set)
-        .value_name("N")
-        .value_parser(value_parser!(u16).range(1..=65535))
-        .help(SESSIONS_HELP)
+    number_arg(alloc, "sessions", large_number(), SESSIONS_HELP)
 }
 
 /// A subcommand of this name with its texts, and without arguments.
@@ -134,6 +152,22 @@ fn described<'a>(
         .long_about(long_about)
 }
 
+/// A subcommand of this name with its texts and its first argument.
+fn of_argument<'a>(
+    alloc: Global,
+    name: &'static str,
+    about: &'static str,
+    long_about: &'static str,
+    argument: Arg<'a>,
+) -> Result<Command<'a>, AllocError>
+    requires { argument.global ≡ false }
+    ensures app { IfOk result (λ c. app_of c ≡ with_rule (new_app name.now) (rule_of argument.entry)) }
+    ensures local { IfOk result (λ c. (fields_of c).has_globals ≡ false) }
+{
+    let command = described(alloc, name, about, long_about);
+    command.arg(argument)
+}
+
 /// A subcommand that reads a trace.
 fn of_trace<'a>(
     alloc: Global,
@@ -144,8 +178,8 @@ fn of_trace<'a>(
     ensures app { IfOk result (λ c. app_of c ≡ with_rule (new_app name.now) (positional (codes "trace"))) }
     ensures local { IfOk result (λ c. (fields_of c).has_globals ≡ false) }
 {
-    let command = described(alloc, name, about, long_about);
-    command.arg(file_arg(alloc, "trace", "TRACE", TRACE_HELP))
+    let trace = file_arg(alloc, "trace", "TRACE", TRACE_HELP);
+    of_argument(alloc, name, about, long_about, trace)
 }
 
 fn audit_command<'a>(alloc: Global) -> Result<Command<'a>, AllocError>
@@ -167,12 +201,8 @@ fn run_command<'a>(alloc: Global) -> Result<Command<'a>, AllocError>
     ensures app { IfOk result (λ c. app_of c ≡ run_app) }
     ensures local { IfOk result (λ c. (fields_of c).has_globals ≡ false) }
 {
-    let command = described(alloc, "run", RUN_ABOUT, RUN_LONG_ABOUT).arg(file_arg(
-        alloc,
-        "scenario",
-        "SCENARIO",
-        SCENARIO_HELP,
-    ))?;
+    let scenario = file_arg(alloc, "scenario", "SCENARIO", SCENARIO_HELP);
+    let command = of_argument(alloc, "run", RUN_ABOUT, RUN_LONG_ABOUT, scenario)?;
     command.arg(file_arg(alloc, "trace", "TRACE", NEW_TRACE_HELP))
 }
 
@@ -180,22 +210,34 @@ fn serve_command<'a>(alloc: Global) -> Result<Command<'a>, AllocError>
     ensures app { IfOk result (λ c. app_of c ≡ serve_app) }
     ensures local { IfOk result (λ c. (fields_of c).has_globals ≡ false) }
 {
-    let command = described(alloc, "serve", SERVE_ABOUT, SERVE_LONG_ABOUT).arg(port_arg(alloc))?;
+    let command = of_argument(
+        alloc,
+        "serve",
+        SERVE_ABOUT,
+        SERVE_LONG_ABOUT,
+        port_arg(alloc),
+    )?;
     let command = command.arg(file_arg(alloc, "scenario", "SCENARIO", SCENARIO_HELP))?;
     command.arg(sessions_arg(alloc))
+}
+
+/// The command with the version. A subcommand has to be there, and the words begin after the program's name.
+fn with_version<'a>(command: Command<'a>) -> Command<'a>
+    ensures app { app_of result ≡ versioned (app_of command.entry) }
+    ensures local { (fields_of result).has_globals ≡ (fields_of command.entry).has_globals }
+{
+    command
+        .version(VERSION)
+        .no_binary_name(true)
+        .subcommand_required(true)
 }
 
 fn top_command<'a>(alloc: Global) -> Result<Command<'a>, AllocError>
     ensures app { IfOk result (λ c. app_of c ≡ cops_top) }
     ensures local { IfOk result (λ c. (fields_of c).has_globals ≡ false) }
 {
-    Command::new(alloc, "cops")
-        .version(VERSION)
-        .about(ABOUT)
-        .long_about(LONG_ABOUT)
-        .no_binary_name(true)
-        .subcommand_required(true)
-        .bin_name("cops")
+    let command = described(alloc, "cops", ABOUT, LONG_ABOUT);
+    with_version(command).bin_name("cops")
 }
 
 /// The program's command with the subcommands that read a trace alone.

@@ -10,8 +10,8 @@ use clap::error::ErrorKind;
 use std::alloc::Global;
 
 /// The text of an error of the parse, as the fault that it is.
-fn as_fault(alloc: Global, error: Error) -> LineFault
-    ensures { Reports (kind_of error) result }
+fn as_fault(alloc: Global, error: &Error) -> LineFault
+    ensures { Reports (kind_of error.now) result }
 {
     let kind = error.kind();
     if kind == ErrorKind::OutOfMemory {
@@ -49,6 +49,6 @@ pub fn line<'a>(alloc: Global, words: &'a [&'a str]) -> Result<Job<'a>, LineFaul
             // Not reached, though not proved so: no clause says that a subcommand's required argument has a value.
             None => Err(LineFault::Usage(String::from_str(alloc, "error: no such command\n")?)),
         },
-        Err(error) => Err(as_fault(alloc, error)),
+        Err(error) => Err(as_fault(alloc, &error)),
     }
 }

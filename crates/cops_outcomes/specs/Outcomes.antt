@@ -7,9 +7,9 @@ use Rattle.cops_node.specs.declared.outcome.Outcome.TheVariants.{Refused}
 use Rattle.cops_core.specs.declared.event.Event.{Event}
 use Rattle.cops_core.specs.declared.event.Event.TheVariants.{Put as PutBy, Get as GetBy}
 use Rattle.cops_core.specs.World.{Setting, World, happens}
-use Rattle.cops_scenario.specs.declared.scenario.ScriptOp.{ScriptOp}
-use Rattle.cops_scenario.specs.declared.scenario.ScriptOp.TheVariants.{Put, Get}
-use Rattle.cops_scenario.specs.declared.scenario.ScriptedClient.{ScriptedClient}
+use Rattle.cops_core.specs.declared.script.ScriptOp.{ScriptOp}
+use Rattle.cops_core.specs.declared.script.ScriptOp.TheVariants.{Put, Get}
+use Rattle.cops_core.specs.declared.script.ScriptedClient.{ScriptedClient}
 use Rattle.cops_outcomes.specs.declared.outcome.ClientOutcome.{ClientOutcome}
 use Rattle.cops_outcomes.specs.declared.outcome.ClientOutcome.TheVariants.{Done, Stopped}
 
@@ -48,8 +48,9 @@ abbrev pub IsOutcome : Setting → World → ℕ → List ScriptOp → List Op �
 IsOutcome s w client script session Done = IsFrontOf script session × (length session ≡ length script)
 IsOutcome s w client script session (Stopped code) = IsFrontOf script session × IsStop s w client (slice_get script (length session)) code
 
--- an outcome for each client, and each is one of its session
+-- a session and an outcome for each client, and each outcome is one of its session
 pub record AreOutcomes (s : Setting) (w : World) (clients : List ScriptedClient) (sessions : Sessions) (outcomes : List ClientOutcome) : Type 0 where
   pub count : length outcomes ≡ length clients
+  pub as_many : length sessions ≡ length clients
   pub each : (client : ℕ) (c : ScriptedClient) (o : ClientOutcome) → client < length clients
       → IsOutcome s w client (slice_index_or clients client c).script.items (slice_index_or sessions client []) (slice_index_or outcomes client o)

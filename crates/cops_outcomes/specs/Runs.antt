@@ -6,10 +6,9 @@ use Rattle.cops_store.specs.Store.{has_pair}
 use Rattle.cops_node.specs.Node.{put_pair}
 use Rattle.cops_core.specs.declared.event.Event.{Event}
 use Rattle.cops_core.specs.World.{Setting, World, settled_in}
-use Rattle.cops_scenario.specs.Scenario.{AScenario}
+use Rattle.cops_core.specs.declared.script.ScriptedClient.{ScriptedClient}
 use Rattle.cops_tie.specs.declared.entry.Entry.{Entry}
 use Rattle.cops_tie.specs.Tie.{IsTiedTo, IsTiedBefore, IsUntied}
-use Rattle.cops_tie.specs.Turns.{setting_of}
 use Rattle.cops_outcomes.specs.declared.fault.CheckFault.{CheckFault}
 use Rattle.cops_outcomes.specs.declared.fault.CheckFault.TheVariants.{Memory, Untied}
 use Rattle.cops_outcomes.specs.declared.outcome.ClientOutcome.{ClientOutcome}
@@ -24,25 +23,25 @@ abbrev pub IsConverged : Setting → World → Type 0
 IsConverged s w = All (IsEverywhere s w) w.issued
 
 -- where the run ends in this world: each client's outcome is one of its session, and the data centres have converged
-abbrev pub EndsWell : AScenario → World → Sessions → List ClientOutcome → Type 0
-EndsWell s w sessions outcomes = AreOutcomes (setting_of s) w s.clients sessions outcomes × IsConverged (setting_of s) w
+abbrev pub EndsWell : Setting → List ScriptedClient → World → Sessions → List ClientOutcome → Type 0
+EndsWell s clients w sessions outcomes = AreOutcomes s w clients sessions outcomes × IsConverged s w
 
--- The books are one run of the scenario's world, with these events, whose clients saw these sessions, and the run ends well.
-pub record IsRun (s : AScenario) (books : List (List Entry)) (sessions : Sessions) (events : List Event) (outcomes : List ClientOutcome) : Type 0 where
+-- The books are one run of a world of these clients, with these events, whose clients saw these sessions, and the run ends well.
+pub record IsRun (s : Setting) (clients : List ScriptedClient) (books : List (List Entry)) (sessions : Sessions) (events : List Event) (outcomes : List ClientOutcome) : Type 0 where
   pub end : World
-  pub tied : IsTiedTo (setting_of s) books sessions events end
-  pub ends_well : EndsWell s end sessions outcomes
+  pub tied : IsTiedTo s books sessions events end
+  pub ends_well : EndsWell s clients end sessions outcomes
 
 -- the books are one run of the world, which does not end well; the ticket is the one above the greatest
-pub record FailsAtEnd (s : AScenario) (books : List (List Entry)) (sessions : Sessions) (outcomes : List ClientOutcome) (ticket : ℕ) : Type 0 where
+pub record FailsAtEnd (s : Setting) (clients : List ScriptedClient) (books : List (List Entry)) (sessions : Sessions) (outcomes : List ClientOutcome) (ticket : ℕ) : Type 0 where
   pub events : List Event
   pub end : World
-  pub tied : IsTiedBefore (setting_of s) books sessions events end ticket
-  pub fails : EndsWell s end sessions outcomes → ⊥
+  pub tied : IsTiedBefore s books sessions events end ticket
+  pub fails : EndsWell s clients end sessions outcomes → ⊥
 
 -- no run: the books are not tied, with the ticket of that, or the run does not end well
-abbrev pub IsNoRun : AScenario → List (List Entry) → Sessions → List ClientOutcome → ℕ → Type 0
-IsNoRun s books sessions outcomes ticket = IsUntied (setting_of s) books sessions ticket ⊎ FailsAtEnd s books sessions outcomes ticket
+abbrev pub IsNoRun : Setting → List ScriptedClient → List (List Entry) → Sessions → List ClientOutcome → ℕ → Type 0
+IsNoRun s clients books sessions outcomes ticket = IsUntied s books sessions ticket ⊎ FailsAtEnd s clients books sessions outcomes ticket
 
 -- an answer Untied has such a ticket
 abbrev pub WhereNoRun : (ℕ → Type 0) → CheckFault → Type 0

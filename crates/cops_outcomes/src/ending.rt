@@ -6,26 +6,24 @@ ghost use Rattle.cops_core.specs.World.{happens};
 ghost use Rattle.cops_outcomes.specs.Outcomes.{AreOutcomes, IsFrontOf, IsOutcome, IsSeenAs, IsStop, event_for};
 
 use crate::outcome::ClientOutcome;
-use cops_core::{Event, World, every_interleaving_is_accepted};
+use cops_core::{Event, ScriptOp, ScriptedClient, World, every_interleaving_is_accepted};
 use cops_node::{CLOCK_EXHAUSTED, MEMORY, Outcome};
-use cops_scenario::{ScriptOp, ScriptedClient};
 use cops_types::{History, Memory, Op};
 use std::alloc::AllocError;
 
 /// The code with which the world refuses a get of a client with a full context.
 const CONTEXT_FULL: u8 = 2;
 
-/// Whether there is an outcome for each client, and each is one of its session.
+/// Whether there are a session and an outcome for each client, and each outcome is one of its session.
 pub fn are_outcomes(
     world: &mut World,
     clients: &[ScriptedClient],
     history: &History,
     outcomes: &[ClientOutcome],
 ) -> Result<bool, Memory>
-    requires { length clients.now ≤ 65536 }
     ensures { IfOk result (λ are. IsTrue are ↔ AreOutcomes world.old.setting world.old.world clients.now history.now.sessions outcomes.now) }
 {
-    if outcomes.len() != clients.len() {
+    if outcomes.len() != clients.len() || history.clients() != clients.len() {
         return Ok(false);
     }
     for i in 0..clients.len() {

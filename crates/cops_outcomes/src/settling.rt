@@ -5,15 +5,14 @@ ghost use Rattle.cops_outcomes.specs.Runs.{IsConverged, IsEverywhere};
 use cops_core::World;
 use cops_types::PutRecord;
 
-/// Whether each of so many data centres has settled each issued put.
-pub fn is_converged(world: &World, dcs: u8) -> bool
-    requires { world.now.setting.place.dcs ≡ dcs }
+/// Whether each data centre has settled each issued put.
+pub fn is_converged(world: &World) -> bool
     ensures { IsTrue result ↔ IsConverged world.now.setting world.now.world }
 {
     for place in 0..world.puts() {
         match world.put_at(place) {
             Some(put) => {
-                if !is_everywhere(world, dcs, put) {
+                if !is_everywhere(world, put) {
                     return false;
                 }
             }
@@ -23,12 +22,11 @@ pub fn is_converged(world: &World, dcs: u8) -> bool
     true
 }
 
-/// Whether each of so many data centres has settled the put.
-fn is_everywhere(world: &World, dcs: u8, put: &PutRecord) -> bool
-    requires { world.now.setting.place.dcs ≡ dcs }
+/// Whether each data centre has settled the put.
+fn is_everywhere(world: &World, put: &PutRecord) -> bool
     ensures { IsTrue result ↔ IsEverywhere world.now.setting world.now.world put.now }
 {
-    for dc in 0..dcs {
+    for dc in 0..world.setting().dcs() {
         if !world.has_settled(dc, &put.key, put.version) {
             return false;
         }

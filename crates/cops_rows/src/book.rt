@@ -1,6 +1,5 @@
 //! Rows of a node's book.
 
-use crate::subject::Subject;
 use anyhow::{Error, bail};
 use cops_node::NodeEvent;
 use cops_tie::{Book, Entry};
@@ -120,20 +119,15 @@ fn close(alloc: Global, book: &mut Book) -> Result<String, Error> {
     entries_text(alloc, entries.len())
 }
 
-impl Subject for Book {
-    fn begin(alloc: Global) -> Self {
-        Book::open(alloc, 0)
-    }
-
-    fn answer(&mut self, alloc: Global, words: &[&str]) -> Result<String, Error> {
-        match words {
-            [_, "new", number] => begin(alloc, self, number),
-            [_, "step", ticket, event @ ..] => step(alloc, self, ticket, event),
-            [_, "counts"] => entries_text(alloc, self.entries().len()),
-            [_, "entry", index] => entry(alloc, self, index),
-            [_, "node"] => node(alloc, self),
-            [_, "close"] => close(alloc, self),
-            _ => Err(no_row()),
-        }
+/// The answer to a call.
+pub fn answer(alloc: Global, book: &mut Book, words: &[&str]) -> Result<String, Error> {
+    match words {
+        ["new", number] => begin(alloc, book, number),
+        ["step", ticket, event @ ..] => step(alloc, book, ticket, event),
+        ["counts"] => entries_text(alloc, book.entries().len()),
+        ["entry", index] => entry(alloc, book, index),
+        ["node"] => node(alloc, book),
+        ["close"] => close(alloc, book),
+        _ => Err(no_row()),
     }
 }

@@ -1,6 +1,5 @@
 //! Rows of a node's clock.
 
-use crate::subject::Subject;
 use anyhow::Error;
 use cops_types::{Clock, MAX_NODE};
 use cops_words::Part::{At, Number, Word};
@@ -32,18 +31,13 @@ fn raise(alloc: Global, clock: &mut Clock, at: &str) -> Result<String, Error> {
     told(alloc, clock)
 }
 
-impl Subject for Clock {
-    fn begin(_: Global) -> Self {
-        Clock::new(0)
-    }
-
-    fn answer(&mut self, alloc: Global, words: &[&str]) -> Result<String, Error> {
-        match words {
-            [_, "new", number] => begin(alloc, self, number),
-            [_, "next"] => next(alloc, self),
-            [_, "raise", at] => raise(alloc, self, at),
-            [_, "told"] => told(alloc, self),
-            _ => Err(no_row()),
-        }
+/// The answer to a call.
+pub fn answer(alloc: Global, clock: &mut Clock, words: &[&str]) -> Result<String, Error> {
+    match words {
+        ["new", number] => begin(alloc, clock, number),
+        ["next"] => next(alloc, clock),
+        ["raise", at] => raise(alloc, clock, at),
+        ["told"] => told(alloc, clock),
+        _ => Err(no_row()),
     }
 }

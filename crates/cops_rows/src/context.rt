@@ -1,6 +1,5 @@
 //! Rows of a client's context.
 
-use crate::subject::Subject;
 use anyhow::Error;
 use cops_context::Context;
 use cops_words::Part::{Count, Word};
@@ -54,21 +53,16 @@ fn begin(alloc: Global, context: &mut Context) -> Result<String, Error> {
     counts(alloc, context)
 }
 
-impl Subject for Context {
-    fn begin(alloc: Global) -> Self {
-        Context::new(alloc)
-    }
-
-    fn answer(&mut self, alloc: Global, words: &[&str]) -> Result<String, Error> {
-        match words {
-            [_, "new"] => begin(alloc, self),
-            [_, "counts"] => counts(alloc, self),
-            [_, "empty"] => yes_or_no(alloc, self.is_empty()),
-            [_, "deps"] => deps(alloc, self),
-            [_, "reserve"] => reserve(alloc, self),
-            [_, "add", name, at] => add(alloc, self, name, at),
-            [_, "replace", name, at] => replace(alloc, self, name, at),
-            _ => Err(no_row()),
-        }
+/// The answer to a call.
+pub fn answer(alloc: Global, context: &mut Context, words: &[&str]) -> Result<String, Error> {
+    match words {
+        ["new"] => begin(alloc, context),
+        ["counts"] => counts(alloc, context),
+        ["empty"] => yes_or_no(alloc, context.is_empty()),
+        ["deps"] => deps(alloc, context),
+        ["reserve"] => reserve(alloc, context),
+        ["add", name, at] => add(alloc, context, name, at),
+        ["replace", name, at] => replace(alloc, context, name, at),
+        _ => Err(no_row()),
     }
 }

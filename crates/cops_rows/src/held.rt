@@ -1,6 +1,5 @@
 //! Rows of the puts that wait at a node.
 
-use crate::subject::Subject;
 use anyhow::Error;
 use cops_held::{Held, HeldFault, Taken};
 use cops_types::PutRecord;
@@ -78,21 +77,16 @@ fn begin(alloc: Global, held: &mut Held) -> Result<String, Error> {
     counts(alloc, held)
 }
 
-impl Subject for Held {
-    fn begin(alloc: Global) -> Self {
-        Held::new(alloc)
-    }
-
-    fn answer(&mut self, alloc: Global, words: &[&str]) -> Result<String, Error> {
-        match words {
-            [_, "new"] => begin(alloc, self),
-            [_, "counts"] => counts(alloc, self),
-            [_, "hold", name, bytes, at, pairs] => hold(alloc, self, &[name, bytes, at, pairs]),
-            [_, "open", at] => open(alloc, self, at),
-            [_, "has", at] => has(alloc, self, at),
-            [_, "mark", at, dep] => mark(alloc, self, at, dep),
-            [_, "take", at] => take(alloc, self, at),
-            _ => Err(no_row()),
-        }
+/// The answer to a call.
+pub fn answer(alloc: Global, held: &mut Held, words: &[&str]) -> Result<String, Error> {
+    match words {
+        ["new"] => begin(alloc, held),
+        ["counts"] => counts(alloc, held),
+        ["hold", name, bytes, at, pairs] => hold(alloc, held, &[name, bytes, at, pairs]),
+        ["open", at] => open(alloc, held, at),
+        ["has", at] => has(alloc, held, at),
+        ["mark", at, dep] => mark(alloc, held, at, dep),
+        ["take", at] => take(alloc, held, at),
+        _ => Err(no_row()),
     }
 }

@@ -1,6 +1,5 @@
 //! Rows of histories.
 
-use crate::subject::Subject;
 use anyhow::{Error, bail};
 use cops_types::{History, OpName};
 use cops_words::Part::{Count, Word};
@@ -66,12 +65,12 @@ pub fn op_at(alloc: Global, history: &History, client: &str, index: &str) -> Res
 /// The answer to a call of the history that there is.
 fn ask(alloc: Global, history: &mut History, words: &[&str]) -> Result<String, Error> {
     match words {
-        [_, "reserve", client] => reserve(alloc, history, client),
-        [_, "push", client, rest @ ..] => push(alloc, history, client, rest),
-        [_, "counts"] => counts(alloc, history),
-        [_, "empty"] => yes_or_no(alloc, history.is_empty()),
-        [_, "session", client] => session(alloc, history, client),
-        [_, "op", client, index] => op_at(alloc, history, client, index),
+        ["reserve", client] => reserve(alloc, history, client),
+        ["push", client, rest @ ..] => push(alloc, history, client, rest),
+        ["counts"] => counts(alloc, history),
+        ["empty"] => yes_or_no(alloc, history.is_empty()),
+        ["session", client] => session(alloc, history, client),
+        ["op", client, index] => op_at(alloc, history, client, index),
         _ => Err(no_row()),
     }
 }
@@ -84,15 +83,14 @@ fn ask_any(alloc: Global, history: &mut Option<History>, words: &[&str]) -> Resu
     }
 }
 
-impl Subject for Option<History> {
-    fn begin(_: Global) -> Self {
-        None
-    }
-
-    fn answer(&mut self, alloc: Global, words: &[&str]) -> Result<String, Error> {
-        match words {
-            [_, "new", clients] => begin(alloc, self, clients),
-            _ => ask_any(alloc, self, words),
-        }
+/// The answer to a call.
+pub fn answer(
+    alloc: Global,
+    history: &mut Option<History>,
+    words: &[&str],
+) -> Result<String, Error> {
+    match words {
+        ["new", clients] => begin(alloc, history, clients),
+        _ => ask_any(alloc, history, words),
     }
 }

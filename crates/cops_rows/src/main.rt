@@ -11,27 +11,15 @@ mod node;
 mod place;
 mod scenario;
 mod store;
-mod subject;
+mod subjects;
 mod tie;
 mod trace;
 mod types;
 mod wire;
 mod world;
 
-use crate::subject::Subject;
-use crate::types::Types;
+use crate::subjects::Subjects;
 use anyhow::{Error, bail};
-use cops_context::Context;
-use cops_core::World;
-use cops_held::Held;
-use cops_node::Node;
-use cops_place::Place;
-use cops_scenario::Scenario;
-use cops_store::Store;
-use cops_tie::Book;
-use cops_trace::Trace;
-use cops_types::{Clock, History};
-use cops_wire::Feeder;
 use cops_words::Part::{Number, Word};
 use cops_words::{text, word};
 use std::alloc::Global;
@@ -54,9 +42,9 @@ fn refusal(alloc: Global, error: &Error) -> Result<String, Error> {
 }
 
 /// The answer to a row's call, or the text of its error.
-fn told<S: Subject>(alloc: Global, subject: &mut S, call: &str) -> Result<String, Error> {
+fn told(alloc: Global, subjects: &mut Subjects, call: &str) -> Result<String, Error> {
     let words = words_of(alloc, call)?;
-    match subject.answer(alloc, &words) {
+    match subjects.answer(alloc, &words) {
         Ok(text) => Ok(text),
         Err(error) => refusal(alloc, &error),
     }
@@ -73,10 +61,10 @@ fn unlike<'a>(alloc: Global, got: &'a str, wanted: &'a str) -> Result<String, Er
 }
 
 /// What differs in a row, or nothing.
-fn difference<S: Subject>(alloc: Global, subject: &mut S, row: &str) -> Result<String, Error> {
+fn difference(alloc: Global, subjects: &mut Subjects, row: &str) -> Result<String, Error> {
     match row.split_once(" = ") {
         Some((call, wanted)) => {
-            let got = told(alloc, subject, call)?;
+            let got = told(alloc, subjects, call)?;
             unlike(alloc, &got, wanted)
         }
         None => word(alloc, "got: not a row"),
@@ -102,14 +90,14 @@ fn row_line<'a>(alloc: Global, name: &'a str, number: u64, what: &'a str) -> Res
 }
 
 /// Prints what differs in a row, and counts it.
-fn say_row<S: Subject, R: Print + AllocGlobal>(
+fn say_row<R: Print + AllocGlobal>(
     rt: &R,
-    subject: &mut S,
+    subjects: &mut Subjects,
     place: (&str, u64),
     row: &str,
 ) -> Result<u64, Error> {
     let (name, number) = place;
-    let what = difference(rt.alloc(), subject, row)?;
+    let what = difference(rt.alloc(), subjects, row)?;
     if what.is_empty() {
         return Ok(0);
     }
@@ -118,13 +106,13 @@ fn say_row<S: Subject, R: Print + AllocGlobal>(
     Ok(1)
 }
 
-/// Makes the calls of a text's rows on a subject to which nothing has happened, and counts the rows and those that differ.
-fn say_rows<S: Subject, R: Print + AllocGlobal>(
+/// Makes the calls of a text's rows, and counts the rows and those that differ.
+fn say_rows<R: Print + AllocGlobal>(
     rt: &R,
+    subjects: &mut Subjects,
     name: &str,
     text: &str,
 ) -> Result<(u64, u64), Error> {
-    let mut subject = S::begin(rt.alloc());
     let mut number = 0u64;
     let mut rows = 0u64;
     let mut differing = 0u64;
@@ -132,39 +120,16 @@ fn say_rows<S: Subject, R: Print + AllocGlobal>(
         number = number.saturating_add(1);
         if !is_heading(line) {
             rows = rows.saturating_add(1);
-            differing = differing.saturating_add(say_row(rt, &mut subject, (name, number), line)?);
+            differing = differing.saturating_add(say_row(rt, subjects, (name, number), line)?);
         }
     }
     Ok((rows, differing))
 }
 
-/// What stands behind the last `/`.
-fn file_of(name: &str) -> &str {
-    match name.rsplit_once('/') {
-        Some((_, file)) => file,
-        None => name,
-    }
-}
-
-/// Makes the calls of a text's rows on the subject that the file is named after.
+/// Makes the calls of a text's rows where nothing has happened.
 fn say_text<R: Print + AllocGlobal>(rt: &R, name: &str, text: &str) -> Result<(u64, u64), Error> {
-    match file_of(name) {
-        "book.rows" => say_rows::<Book, R>(rt, name, text),
-        "clock.rows" => say_rows::<Clock, R>(rt, name, text),
-        "context.rows" => say_rows::<Context, R>(rt, name, text),
-        "held.rows" => say_rows::<Held, R>(rt, name, text),
-        "history.rows" => say_rows::<Option<History>, R>(rt, name, text),
-        "node.rows" => say_rows::<Node, R>(rt, name, text),
-        "place.rows" => say_rows::<Option<Place>, R>(rt, name, text),
-        "scenario.rows" => say_rows::<Option<Scenario>, R>(rt, name, text),
-        "store.rows" => say_rows::<Store, R>(rt, name, text),
-        "tie.rows" => say_rows::<Option<tie::Run>, R>(rt, name, text),
-        "trace.rows" => say_rows::<Option<Trace>, R>(rt, name, text),
-        "types.rows" => say_rows::<Types, R>(rt, name, text),
-        "wire.rows" => say_rows::<Feeder, R>(rt, name, text),
-        "world.rows" => say_rows::<Option<World>, R>(rt, name, text),
-        _ => bail!("{name}: no rows are named so"),
-    }
+    let mut subjects = Subjects::begin(rt.alloc());
+    say_rows(rt, &mut subjects, name, text)
 }
 
 /// Prints that a file's rows are as wanted, where none differs. A file without rows differs.

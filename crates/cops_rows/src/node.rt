@@ -1,6 +1,5 @@
 //! Rows of one node.
 
-use crate::subject::Subject;
 use anyhow::Error;
 use cops_node::{Node, NodeEvent, Outcome};
 use cops_types::MAX_NODE;
@@ -81,20 +80,14 @@ fn dep_of(alloc: Global, node: &Node, at: &str, dep: &str) -> Result<String, Err
     }
 }
 
-impl Subject for Node {
-    fn begin(alloc: Global) -> Self {
-        Node::open(alloc, 0)
-    }
-
-    fn answer(&mut self, alloc: Global, words: &[&str]) -> Result<String, Error> {
-        match words {
-            [_, "new", number] => begin(alloc, self, number),
-            [_, "status"] => status(alloc, self),
-            [_, "shown", name] => shown(alloc, self, name),
-            [_, "dep", at, dep] => dep_of(alloc, self, at, dep),
-            [_, "step", event @ ..] => step(alloc, self, event),
-            [_, event @ ..] => call(alloc, self, event),
-            _ => Err(no_row()),
-        }
+/// The answer to a call.
+pub fn answer(alloc: Global, node: &mut Node, words: &[&str]) -> Result<String, Error> {
+    match words {
+        ["new", number] => begin(alloc, node, number),
+        ["status"] => status(alloc, node),
+        ["shown", name] => shown(alloc, node, name),
+        ["dep", at, dep] => dep_of(alloc, node, at, dep),
+        ["step", event @ ..] => step(alloc, node, event),
+        event => call(alloc, node, event),
     }
 }

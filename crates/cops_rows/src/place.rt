@@ -1,6 +1,5 @@
 //! Rows of where keys live.
 
-use crate::subject::Subject;
 use anyhow::{Error, bail};
 use cops_place::Place;
 use cops_words::Part::{Number, Word};
@@ -64,9 +63,9 @@ fn begin(
 /// The answer to a call of the place that there is.
 fn ask(alloc: Global, place: &Place, words: &[&str]) -> Result<String, Error> {
     match words {
-        [_, "primary", name] => primary(alloc, place, name),
-        [_, "node", dc, name] => node(alloc, place, dc, name),
-        [_, "copy", "node", dc, name] => copy_node(alloc, place, dc, name),
+        ["primary", name] => primary(alloc, place, name),
+        ["node", dc, name] => node(alloc, place, dc, name),
+        ["copy", "node", dc, name] => copy_node(alloc, place, dc, name),
         _ => Err(no_row()),
     }
 }
@@ -79,15 +78,10 @@ fn ask_any(alloc: Global, place: &Option<Place>, words: &[&str]) -> Result<Strin
     }
 }
 
-impl Subject for Option<Place> {
-    fn begin(_: Global) -> Self {
-        None
-    }
-
-    fn answer(&mut self, alloc: Global, words: &[&str]) -> Result<String, Error> {
-        match words {
-            [_, "new", dcs, splits] => begin(alloc, self, dcs, splits),
-            _ => ask_any(alloc, self, words),
-        }
+/// The answer to a call.
+pub fn answer(alloc: Global, place: &mut Option<Place>, words: &[&str]) -> Result<String, Error> {
+    match words {
+        ["new", dcs, splits] => begin(alloc, place, dcs, splits),
+        _ => ask_any(alloc, place, words),
     }
 }

@@ -1,10 +1,9 @@
 //! Rows of scenario files.
 
-use crate::subject::Subject;
 use anyhow::{Error, bail};
-use cops_core::Event;
+use cops_core::{Event, ScriptOp, ScriptedClient};
 use cops_node::Outcome;
-use cops_scenario::{Scenario, ScriptOp, ScriptedClient, outcome_line};
+use cops_scenario::{Scenario, outcome_line};
 use cops_types::{Key, Value, Version};
 use cops_words::Part::{At, Bytes, Count, Number, Word};
 use cops_words::{line_of, no_row, outcome, text, usize_of, word};
@@ -184,10 +183,10 @@ fn line(alloc: Global, number: &str, words: &[&str]) -> Result<String, Error> {
 /// The answer to a call of the scenario that there is.
 fn ask(alloc: Global, scenario: &Scenario, words: &[&str]) -> Result<String, Error> {
     match words {
-        [_, "client", number] => client(alloc, scenario, number),
-        [_, "script", number, index] => script(alloc, scenario, number, index),
-        [_, "events"] => events(alloc, scenario),
-        [_, "event", index] => event(alloc, scenario, index),
+        ["client", number] => client(alloc, scenario, number),
+        ["script", number, index] => script(alloc, scenario, number, index),
+        ["events"] => events(alloc, scenario),
+        ["event", index] => event(alloc, scenario, index),
         _ => Err(no_row()),
     }
 }
@@ -200,16 +199,15 @@ fn ask_any(alloc: Global, scenario: &Option<Scenario>, words: &[&str]) -> Result
     }
 }
 
-impl Subject for Option<Scenario> {
-    fn begin(_: Global) -> Self {
-        None
-    }
-
-    fn answer(&mut self, alloc: Global, words: &[&str]) -> Result<String, Error> {
-        match words {
-            [_, "new", text] => begin(alloc, self, text),
-            [_, "line", number, outcome @ ..] => line(alloc, number, outcome),
-            _ => ask_any(alloc, self, words),
-        }
+/// The answer to a call.
+pub fn answer(
+    alloc: Global,
+    scenario: &mut Option<Scenario>,
+    words: &[&str],
+) -> Result<String, Error> {
+    match words {
+        ["new", text] => begin(alloc, scenario, text),
+        ["line", number, outcome @ ..] => line(alloc, number, outcome),
+        _ => ask_any(alloc, scenario, words),
     }
 }

@@ -1,6 +1,5 @@
 //! Rows of a node's settled puts.
 
-use crate::subject::Subject;
 use anyhow::Error;
 use cops_store::{Settled, Store};
 use cops_words::Part::{Count, Word};
@@ -49,19 +48,14 @@ fn begin(alloc: Global, store: &mut Store) -> Result<String, Error> {
     counts(alloc, store)
 }
 
-impl Subject for Store {
-    fn begin(alloc: Global) -> Self {
-        Store::new(alloc)
-    }
-
-    fn answer(&mut self, alloc: Global, words: &[&str]) -> Result<String, Error> {
-        match words {
-            [_, "new"] => begin(alloc, self),
-            [_, "counts"] => counts(alloc, self),
-            [_, "settle", name, bytes, at] => settle(alloc, self, name, bytes, at),
-            [_, "has", name, at] => has(alloc, self, name, at),
-            [_, "get", name] => get(alloc, self, name),
-            _ => Err(no_row()),
-        }
+/// The answer to a call.
+pub fn answer(alloc: Global, store: &mut Store, words: &[&str]) -> Result<String, Error> {
+    match words {
+        ["new"] => begin(alloc, store),
+        ["counts"] => counts(alloc, store),
+        ["settle", name, bytes, at] => settle(alloc, store, name, bytes, at),
+        ["has", name, at] => has(alloc, store, name, at),
+        ["get", name] => get(alloc, store, name),
+        _ => Err(no_row()),
     }
 }

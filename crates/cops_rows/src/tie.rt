@@ -1,7 +1,6 @@
 //! Rows of what the books of a run are told to be.
 
 use crate::book::entries_text;
-use crate::subject::Subject;
 use anyhow::{Error, bail};
 use cops_scenario::Scenario;
 use cops_tie::{Entry, tie};
@@ -100,20 +99,20 @@ fn record(alloc: Global, run: &mut Run, client: &str, words: &[&str]) -> Result<
 
 /// How many events the books tell.
 fn tied(alloc: Global, run: &Run) -> Result<String, Error> {
-    let place = run.scenario.place();
-    if run.books.len() != place.dcs() as usize * place.nodes() as usize {
+    let setting = run.scenario.setting(alloc)?;
+    if run.books.len() != setting.dcs() as usize * setting.nodes() as usize {
         bail!("there is more than one node");
     }
-    let events = tie(alloc, &run.scenario, &run.books, &run.trace)?;
+    let events = tie(alloc, &setting, &run.books, &run.trace)?;
     text(alloc, &[Count(events.len()), Word(" events")])
 }
 
 /// The answer to a call of the run that there is.
 fn ask(alloc: Global, run: &mut Run, words: &[&str]) -> Result<String, Error> {
     match words {
-        [_, "entry", ticket, rest @ ..] => enter(alloc, run, ticket, rest),
-        [_, "record", client, rest @ ..] => record(alloc, run, client, rest),
-        [_, "books"] => tied(alloc, run),
+        ["entry", ticket, rest @ ..] => enter(alloc, run, ticket, rest),
+        ["record", client, rest @ ..] => record(alloc, run, client, rest),
+        ["books"] => tied(alloc, run),
         _ => Err(no_row()),
     }
 }
@@ -126,15 +125,10 @@ fn ask_any(alloc: Global, run: &mut Option<Run>, words: &[&str]) -> Result<Strin
     }
 }
 
-impl Subject for Option<Run> {
-    fn begin(_: Global) -> Self {
-        None
-    }
-
-    fn answer(&mut self, alloc: Global, words: &[&str]) -> Result<String, Error> {
-        match words {
-            [_, "new", text] => begin(alloc, self, text),
-            _ => ask_any(alloc, self, words),
-        }
+/// The answer to a call.
+pub fn answer(alloc: Global, run: &mut Option<Run>, words: &[&str]) -> Result<String, Error> {
+    match words {
+        ["new", text] => begin(alloc, run, text),
+        _ => ask_any(alloc, run, words),
     }
 }

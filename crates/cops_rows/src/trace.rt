@@ -1,7 +1,6 @@
 //! Rows of traces.
 
 use crate::history::op_at;
-use crate::subject::Subject;
 use anyhow::{Error, bail};
 use cops_trace::{
     Partial, Trace, TraceFault, WriteFault, fault_line, read_so_far, read_trace, write_trace,
@@ -168,12 +167,12 @@ fn push(alloc: Global, trace: &mut Trace, client: &str, words: &[&str]) -> Resul
 /// The answer to a call of the trace that there is.
 fn ask(alloc: Global, trace: &mut Trace, words: &[&str]) -> Result<String, Error> {
     match words {
-        [_, "push", client, rest @ ..] => push(alloc, trace, client, rest),
-        [_, "counts"] => counts(alloc, trace),
-        [_, "empty"] => yes_or_no(alloc, trace.is_empty()),
-        [_, "write"] => write(alloc, trace),
-        [_, "short", bytes] => short(alloc, trace, bytes),
-        [_, "op", client, index] => op_at(alloc, trace.history(), client, index),
+        ["push", client, rest @ ..] => push(alloc, trace, client, rest),
+        ["counts"] => counts(alloc, trace),
+        ["empty"] => yes_or_no(alloc, trace.is_empty()),
+        ["write"] => write(alloc, trace),
+        ["short", bytes] => short(alloc, trace, bytes),
+        ["op", client, index] => op_at(alloc, trace.history(), client, index),
         _ => Err(no_row()),
     }
 }
@@ -186,23 +185,14 @@ fn ask_any(alloc: Global, trace: &mut Option<Trace>, words: &[&str]) -> Result<S
     }
 }
 
-impl Subject for Option<Trace> {
-    fn begin(_: Global) -> Self {
-        None
-    }
-
-    fn answer(&mut self, alloc: Global, words: &[&str]) -> Result<String, Error> {
-        match words {
-            [_, "new", clients] => begin(alloc, self, clients),
-            [_, "read", piece, word] => read(alloc, self, piece, word),
-            [_, "front", word] => front(alloc, word),
-            [_, "failing", "read", reads, piece, word] => {
-                failing(alloc, false, &[reads, piece, word])
-            }
-            [_, "failing", "front", reads, piece, word] => {
-                failing(alloc, true, &[reads, piece, word])
-            }
-            _ => ask_any(alloc, self, words),
-        }
+/// The answer to a call.
+pub fn answer(alloc: Global, trace: &mut Option<Trace>, words: &[&str]) -> Result<String, Error> {
+    match words {
+        ["new", clients] => begin(alloc, trace, clients),
+        ["read", piece, word] => read(alloc, trace, piece, word),
+        ["front", word] => front(alloc, word),
+        ["failing", "read", reads, piece, word] => { failing(alloc, false, &[reads, piece, word]) }
+        ["failing", "front", reads, piece, word] => { failing(alloc, true, &[reads, piece, word]) }
+        _ => ask_any(alloc, trace, words),
     }
 }

@@ -1,7 +1,6 @@
 //! Rows of keys, values, versions and dependencies.
 
 use crate::history;
-use crate::subject::Subject;
 use anyhow::Error;
 use cops_types::{Format, Key, Value, Version};
 use cops_words::Part::{At, Count, Number, Word};
@@ -10,10 +9,6 @@ use cops_words::{
     version_of, yes_or_no,
 };
 use std::alloc::Global;
-
-/// Keys, values, versions and dependencies, of which each row makes its own.
-#[derive(Drop)]
-pub struct Types;
 
 /// So many bytes.
 fn letters(alloc: Global, count: &str) -> Result<Vec<u8>, Error> {
@@ -121,26 +116,21 @@ fn limits(alloc: Global) -> Result<String, Error> {
     )
 }
 
-impl Subject for Types {
-    fn begin(_: Global) -> Self {
-        Types
-    }
-
-    fn answer(&mut self, alloc: Global, words: &[&str]) -> Result<String, Error> {
-        match words {
-            [_, "key", count] => key_of(alloc, count),
-            [_, "value", count] => value_of(alloc, count),
-            [_, "keys", one, "is", other] => same_keys(alloc, one, other),
-            [_, "keys", one, "before", other] => before(alloc, one, other),
-            [_, "values", one, "is", other] => same_values(alloc, one, other),
-            [_, "version", clock, node] => number(alloc, clock, node),
-            [_, "number", raw] => numbered(alloc, raw),
-            [_, "name", client, index, at] => name(alloc, client, index, at),
-            [_, "deps", word] => pairs(alloc, word),
-            [_, "copy", "pair", name, at] => pair_copy(alloc, name, at),
-            [_, "copy", rest @ ..] => op_copy(alloc, rest),
-            [_, "limits"] => limits(alloc),
-            _ => Err(no_row()),
-        }
+/// The answer to a call.
+pub fn answer(alloc: Global, words: &[&str]) -> Result<String, Error> {
+    match words {
+        ["key", count] => key_of(alloc, count),
+        ["value", count] => value_of(alloc, count),
+        ["keys", one, "is", other] => same_keys(alloc, one, other),
+        ["keys", one, "before", other] => before(alloc, one, other),
+        ["values", one, "is", other] => same_values(alloc, one, other),
+        ["version", clock, node] => number(alloc, clock, node),
+        ["number", raw] => numbered(alloc, raw),
+        ["name", client, index, at] => name(alloc, client, index, at),
+        ["deps", word] => pairs(alloc, word),
+        ["copy", "pair", name, at] => pair_copy(alloc, name, at),
+        ["copy", rest @ ..] => op_copy(alloc, rest),
+        ["limits"] => limits(alloc),
+        _ => Err(no_row()),
     }
 }

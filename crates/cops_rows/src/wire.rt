@@ -1,6 +1,5 @@
 //! Rows of frames.
 
-use crate::subject::Subject;
 use anyhow::{Error, anyhow, bail};
 use cops_wire::{Decoded, Feeder, Message, body_len, decode, encode, kind, legal, show};
 use cops_words::Part::{Count, Number, Word};
@@ -203,22 +202,17 @@ fn begin(alloc: Global, feeder: &mut Feeder) -> Result<String, Error> {
     word(alloc, "opened")
 }
 
-impl Subject for Feeder {
-    fn begin(alloc: Global) -> Self {
-        Feeder::new(alloc)
-    }
-
-    fn answer(&mut self, alloc: Global, words: &[&str]) -> Result<String, Error> {
-        match words {
-            [_, "new"] => begin(alloc, self),
-            [_, "feed", frame] => feed(alloc, self, frame),
-            [_, "flood", count, byte] => flood(alloc, self, count, byte),
-            [_, "show", frame] => show_frame(alloc, frame),
-            [_, "decode", frame] => measures(alloc, frame),
-            [_, "spell", frame] => spell(alloc, frame),
-            [_, "legal", "StatusIs", clock] => is_status_legal(alloc, clock),
-            [_, "legal", name, first, second] => is_pair_legal(alloc, name, first, second),
-            _ => Err(no_row()),
-        }
+/// The answer to a call.
+pub fn answer(alloc: Global, feeder: &mut Feeder, words: &[&str]) -> Result<String, Error> {
+    match words {
+        ["new"] => begin(alloc, feeder),
+        ["feed", frame] => feed(alloc, feeder, frame),
+        ["flood", count, byte] => flood(alloc, feeder, count, byte),
+        ["show", frame] => show_frame(alloc, frame),
+        ["decode", frame] => measures(alloc, frame),
+        ["spell", frame] => spell(alloc, frame),
+        ["legal", "StatusIs", clock] => is_status_legal(alloc, clock),
+        ["legal", name, first, second] => is_pair_legal(alloc, name, first, second),
+        _ => Err(no_row()),
     }
 }

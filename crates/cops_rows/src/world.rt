@@ -1,6 +1,5 @@
 //! Rows of the world.
 
-use crate::subject::Subject;
 use crate::{history, place};
 use anyhow::{Error, bail};
 use cops_core::{Event, World};
@@ -110,12 +109,11 @@ fn count(alloc: Global, world: &World) -> Result<String, Error> {
 /// The answer to a call of the world that there is.
 fn ask_world(alloc: Global, world: &mut World, words: &[&str]) -> Result<String, Error> {
     match words {
-        [_, "counts"] => count(alloc, world),
-        [_, "session", client] => history::session(alloc, world.history(), client),
-        [_, "again", count, event @ ..] => again(alloc, world, count, event),
-        [_, "run", events @ ..] => run(alloc, world, events),
-        [_, event @ ..] => apply(alloc, world, event),
-        _ => Err(no_row()),
+        ["counts"] => count(alloc, world),
+        ["session", client] => history::session(alloc, world.history(), client),
+        ["again", count, event @ ..] => again(alloc, world, count, event),
+        ["run", events @ ..] => run(alloc, world, events),
+        event => apply(alloc, world, event),
     }
 }
 
@@ -127,15 +125,10 @@ fn ask_any(alloc: Global, world: &mut Option<World>, words: &[&str]) -> Result<S
     }
 }
 
-impl Subject for Option<World> {
-    fn begin(_: Global) -> Self {
-        None
-    }
-
-    fn answer(&mut self, alloc: Global, words: &[&str]) -> Result<String, Error> {
-        match words {
-            [_, "open", dcs, splits, clients] => begin(alloc, self, &[dcs, splits, clients]),
-            _ => ask_any(alloc, self, words),
-        }
+/// The answer to a call.
+pub fn answer(alloc: Global, world: &mut Option<World>, words: &[&str]) -> Result<String, Error> {
+    match words {
+        ["open", dcs, splits, clients] => begin(alloc, world, &[dcs, splits, clients]),
+        _ => ask_any(alloc, world, words),
     }
 }

@@ -16,5 +16,5 @@ mod running;
 mod stage;
 
 pub use fault::RunFault;
-pub use ran::{CountedRun, Run};
-pub use running::{run, run_counted};
+pub use ran::Run;
+pub use running::run;

@@ -12,10 +12,3 @@ pub struct Run {
     pub trace: Trace,
     pub outcomes: Vec<ClientOutcome>,
 }
-
-/// A run, with the number of turns that its senders and receivers made in all.
-#[derive(Drop)]
-pub struct CountedRun {
-    pub run: Run,
-    pub turns: u64,
-}

@@ -15,7 +15,6 @@ pub(crate) fn send<R: Wait>(rt: &R, stage: &Stage, mut sender: Sender) -> bool {
         if stage.are_clients_joined() {
             break;
         }
-        stage.count_turn();
         if !matches!(sender.turn(rt, stage.cluster()), Ok(Turn::Did(_))) {
             stage.rest(rt);
         }
@@ -28,7 +27,6 @@ pub(crate) fn send<R: Wait>(rt: &R, stage: &Stage, mut sender: Sender) -> bool {
 /// The counted turns of a sender, until nothing is kept back. Want of memory in a turn is tried again.
 fn drain<R: Wait>(rt: &R, stage: &Stage, sender: &mut Sender) -> bool {
     for _ in 0..stage.turns() {
-        stage.count_turn();
         if stage.is_broken() || sender.drain(rt, stage.cluster(), 1).is_ok() {
             return true;
         }
@@ -69,7 +67,6 @@ fn take_in<R: Wait, G: Gate>(rt: &R, stage: &Stage, gate: &G, receiver: &mut Rec
         if stage.are_senders_joined() {
             break;
         }
-        stage.count_turn();
         match receiver.turn(rt, stage.cluster(), gate) {
             Ok(Turn::Did(_)) => {}
             Err(TurnFault::Held) => return true,
@@ -87,7 +84,6 @@ fn settle<R: Wait, G: Gate>(rt: &R, stage: &Stage, gate: &G, receiver: &mut Rece
         if stage.is_broken() {
             return End::Broken;
         }
-        stage.count_turn();
         match receiver.drain(rt, stage.cluster(), gate, 1) {
             Ok(()) => return End::Drained,
             Err(TurnFault::Held) => return End::Held,

@@ -3,6 +3,7 @@ ghost use Rattle.std.specs.List.Sorted.{IsPermutation};
 ghost use Rattle.cops_clients.specs.Close.{made_in, told};
 ghost use Rattle.cops_core.specs.Invariants.{HasAcceptedVerdict};
 ghost use Rattle.cops_trace.specs.Text.{sessions_of};
+ghost use Rattle.cops_scenario.specs.Scenario.{setting_of};
 ghost use Rattle.cops_outcomes.specs.Runs.{IsRun};
 ghost use Rattle.cops_run.specs.Held.{MayHold};
 
@@ -10,10 +11,10 @@ use crate::driving::drive;
 use crate::fault::RunFault;
 use crate::gathering::Gathered;
 use crate::opening::jobs;
-use crate::ran::{CountedRun, Run};
+use crate::ran::Run;
 use crate::stage::Stage;
 use cops_clients::{CloseFault, Closed, Cluster, Opened, Share, Uncompared, difference_of_lists};
-use cops_core::Event;
+use cops_core::{Event, ScriptedClient, Setting};
 use cops_outcomes::{CheckFault, checked};
 use cops_replication::wired;
 use cops_scenario::Scenario;
@@ -36,36 +37,50 @@ pub fn run<R: Threads + Wait + Sync, G: Gate>(
     scenario: Scenario,
     gate: &G,
 ) -> Result<Run, RunFault>
-    ensures ok { IfOk result (λ r. IsRun scenario (map (λ b. b.items) r.entries.items) (sessions_of r.trace) r.events.items r.outcomes.items) }
+    ensures ok { IfOk result (λ r. IsRun (setting_of scenario) scenario.clients (map (λ b. b.items) r.entries.items) (sessions_of r.trace) r.events.items r.outcomes.items) }
     ensures accepted { IfOk result (λ r. HasAcceptedVerdict (sessions_of r.trace)) }
     ensures held { IsErrOf result RunFault.Held → MayHold (G.may_hold gate.now) }
 {
-    match run_counted(rt, alloc, scenario, gate) {
-        Ok(counted) => {
-            let CountedRun { run, turns: _ } = counted;
-            Ok(run)
-        }
-        Err(fault) => Err(fault),
-    }
+    let ran = ran(rt, alloc, &scenario, gate);
+    drop(scenario);
+    ran
 }
 
-/// The same, with the number of turns that senders and receivers made, which says how much of their work was in vain.
-pub fn run_counted<R: Threads + Wait + Sync, G: Gate>(
+/// The same of a scenario that stays with the caller.
+fn ran<R: Threads + Wait + Sync, G: Gate>(
     rt: &R,
     alloc: Global,
-    scenario: Scenario,
+    scenario: &Scenario,
     gate: &G,
-) -> Result<CountedRun, RunFault>
-    ensures ok { IfOk result (λ c. IsRun scenario (map (λ b. b.items) c.run.entries.items) (sessions_of c.run.trace) c.run.events.items c.run.outcomes.items) }
-    ensures accepted { IfOk result (λ c. HasAcceptedVerdict (sessions_of c.run.trace)) }
+) -> Result<Run, RunFault>
+    ensures ok { IfOk result (λ r. IsRun (setting_of scenario.now) scenario.now.clients (map (λ b. b.items) r.entries.items) (sessions_of r.trace) r.events.items r.outcomes.items) }
+    ensures accepted { IfOk result (λ r. HasAcceptedVerdict (sessions_of r.trace)) }
+    ensures held { IsErrOf result RunFault.Held → MayHold (G.may_hold gate.now) }
+{
+    let setting = scenario.setting(alloc)?;
+    let ran = ran_in(rt, alloc, &setting, scenario, gate);
+    drop(setting);
+    ran
+}
+
+/// The same in the scenario's setting.
+fn ran_in<R: Threads + Wait + Sync, G: Gate>(
+    rt: &R,
+    alloc: Global,
+    setting: &Setting,
+    scenario: &Scenario,
+    gate: &G,
+) -> Result<Run, RunFault>
+    ensures ok { IfOk result (λ r. IsRun setting.now scenario.now.clients (map (λ b. b.items) r.entries.items) (sessions_of r.trace) r.events.items r.outcomes.items) }
+    ensures accepted { IfOk result (λ r. HasAcceptedVerdict (sessions_of r.trace)) }
     ensures held { IsErrOf result RunFault.Held → MayHold (G.may_hold gate.now) }
 {
     let Opened {
         cluster,
         clients,
         shares,
-    } = Cluster::of_scenario(alloc, &scenario)?;
-    let jobs = match jobs(alloc, &scenario, clients) {
+    } = Cluster::of(alloc, setting)?;
+    let jobs = match jobs(alloc, scenario.clients(), clients) {
         Ok(jobs) => jobs,
         Err(fault) => {
             drop(cluster);
@@ -73,7 +88,7 @@ pub fn run_counted<R: Threads + Wait + Sync, G: Gate>(
             return Err(RunFault::from(fault));
         }
     };
-    let replicas = match wired(alloc, scenario.place().dcs(), scenario.link(), shares) {
+    let replicas = match wired(alloc, setting.dcs(), scenario.link(), shares) {
         Ok(replicas) => replicas,
         Err(fault) => {
             drop(cluster);
@@ -89,25 +104,29 @@ pub fn run_counted<R: Threads + Wait + Sync, G: Gate>(
             return Err(fault);
         }
     };
-    let turns = stage.turns_made();
-    match tied(rt, alloc, &scenario, stage.into_cluster(), gathered) {
-        Ok(run) => Ok(CountedRun { run, turns }),
-        Err(fault) => Err(fault),
-    }
+    tied(
+        rt,
+        alloc,
+        setting,
+        scenario.clients(),
+        stage.into_cluster(),
+        gathered,
+    )
 }
 
 /// The run of which the threads left this. Its books are compared with the shares beside the check that they are a run.
 fn tied<R: Threads + Sync>(
     rt: &R,
     alloc: Global,
-    scenario: &Scenario,
+    setting: &Setting,
+    clients: &[ScriptedClient],
     cluster: Cluster,
     gathered: Gathered,
 ) -> Result<Run, RunFault>
-    requires { cluster.place ≡ scenario.now.place }
-    ensures ok { IfOk result (λ r. IsRun scenario.now (map (λ b. b.items) r.entries.items) (sessions_of r.trace) r.events.items r.outcomes.items) }
+    requires { cluster.place ≡ setting.now.place }
+    ensures ok { IfOk result (λ r. IsRun setting.now clients.now (map (λ b. b.items) r.entries.items) (sessions_of r.trace) r.events.items r.outcomes.items) }
     ensures accepted { IfOk result (λ r. HasAcceptedVerdict (sessions_of r.trace)) }
-    ensures told { IfOk result (λ r. IsPermutation (made_in (length scenario.now.place.splits + 1) 0 r.entries.items) (told gathered.shares.items)) }
+    ensures told { IfOk result (λ r. IsPermutation (made_in (length setting.now.place.splits + 1) 0 r.entries.items) (told gathered.shares.items)) }
     ensures fault { result ≡ Err RunFault.Held → ⊥ }
 {
     let Gathered {
@@ -123,7 +142,7 @@ fn tied<R: Threads + Sync>(
         }
     };
     let Closed { books, trace } = closed;
-    let places = scenario.place().nodes();
+    let places = setting.nodes();
     let (compared, checked) = thread::join(
         rt,
         || -> Result<(), RunFault>
@@ -133,10 +152,10 @@ fn tied<R: Threads + Sync>(
             ensures fault { result ≡ Err RunFault.Held → ⊥ }
         { compare(alloc, places, &books, shares) },
         || -> Result<Vec<Event>, CheckFault>
-            requires { length books.items ≡ scenario.now.place.dcs * (length scenario.now.place.splits + 1) }
-            ensures ok { IfOk result (λ events. IsRun scenario.entry.now (map (λ b. b.items) books.items) (sessions_of trace) events.items outcomes.items) }
+            requires { length books.items ≡ setting.now.place.dcs * (length setting.now.place.splits + 1) }
+            ensures ok { IfOk result (λ events. IsRun setting.entry.now clients.entry.now (map (λ b. b.items) books.items) (sessions_of trace) events.items outcomes.items) }
             ensures accepted { OnOk result (HasAcceptedVerdict (sessions_of trace)) }
-        { checked(alloc, scenario, &books, &trace, &outcomes) },
+        { checked(alloc, setting, clients, &books, &trace, &outcomes) },
     );
     match compared {
         Ok(()) => {}

@@ -11,7 +11,6 @@ const REST: u64 = 50;
 pub(crate) struct Stage {
     cluster: Cluster,
     turns: u32,
-    turns_made: AtomicU64,
     /// What idle loops rest on. It stays 0, and nobody wakes them: they rest for their time.
     resting: AtomicU64,
     broken: AtomicBool,
@@ -29,7 +28,6 @@ impl Stage {
         Stage {
             cluster,
             turns,
-            turns_made: AtomicU64::new(0),
             resting: AtomicU64::new(0),
             broken: AtomicBool::new(false),
             clients_joined: AtomicBool::new(false),
@@ -53,16 +51,6 @@ impl Stage {
     /// How many turns a loop may make that others no longer bring work to.
     pub(crate) fn turns(&self) -> u32 {
         self.turns
-    }
-
-    /// A sender or a receiver makes a turn.
-    pub(crate) fn count_turn(&self) {
-        self.turns_made.fetch_add(1, Ordering::Relaxed);
-    }
-
-    /// How many turns senders and receivers made so far.
-    pub(crate) fn turns_made(&self) -> u64 {
-        self.turns_made.load(Ordering::Relaxed)
     }
 
     /// An idle loop leaves the processor and the locks to others for a while.

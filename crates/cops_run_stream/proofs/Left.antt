@@ -9,13 +9,14 @@ use Rattle.cops_core.specs.declared.event.Event.{Event}
 use Rattle.cops_core.specs.World.{Cluster, IsSetting, Setting, World, Run, opened_cluster, opening}
 use Rattle.cops_core.specs.Invariants.{HasAcceptedVerdict, IsReached}
 use Rattle.cops_trace.specs.Text.{ATrace, IsTrace, sessions_after, sessions_of}
-use Rattle.cops_scenario.specs.declared.scenario.ScriptedClient.{ScriptedClient}
-use Rattle.cops_scenario.specs.Scenario.{AScenario, homes_of}
+use Rattle.cops_core.specs.declared.script.ScriptedClient.{ScriptedClient}
+use Rattle.cops_audit.specs.declared.verdict.Verdict.{Verdict}
+use Rattle.cops_command.specs.Told.{IsReportOf}
+use Rattle.cops_scenario.specs.Scenario.{AScenario, homes_of, setting_of}
 use Rattle.cops_run_stream.specs.declared.leaving.Left.{Left}
 use Rattle.cops_run_stream.specs.Lines.{outcome_lines}
-use Rattle.cops_tie.specs.Turns.{setting_of}
 use Rattle.cops_run_stream.specs.Parts.{AreAnswers, IsRunLeft}
-use Rattle.cops_run_stream.specs.Running.{all_seen, IsEventRun, IsRunOf, IsReportOf, IsLeft}
+use Rattle.cops_run_stream.specs.Running.{all_seen, IsEventRun, IsRunOf, IsLeft}
 use Rattle.cops_run_stream.proofs.Recording.{run_saw}
 
 -- a world that was opened, and events came
@@ -57,17 +58,16 @@ event_run s events outcomes lines t n (end, ran, accepted) count trace told =
     )
 
 -- what a run left, once its report was appended to its lines
-pub left_of : (s : AScenario) (left : Left) (t : ATrace) (lines : List ℕ) → IsRunOf s s.events lines t → HasAcceptedVerdict (sessions_of t)
-    → left.status ≡ 0 → (left.trace ≡ t) × IsTrace t → ((report : List ℕ) × IsReportOf (sessions_of t) report × (left.text.items ≡ lines ++ report)) → IsRunLeft s left
-left_of s left t lines ran accepted status (same, legal) (report, is_report, told) = (
-  status,
-  subst (λ (u : ATrace). IsLeft s u left.text.items) (sym same) (record {
-    lines = lines;
-    report = report;
-    is_trace = legal;
-    ran = ran;
-    accepted = accepted;
-    is_report = is_report;
-    told_is = told;
-  }),
-)
+pub left_of : (s : AScenario) (left : Left) (t : ATrace) (lines : List ℕ) → IsRunOf s s.events lines t → HasAcceptedVerdict (sessions_of t) → (left.trace ≡ t) × IsTrace t
+    → ((verdict : Verdict) × (report : List ℕ) × IsReportOf (sessions_of t) verdict report × (left.text.items ≡ lines ++ report)) → IsRunLeft s left
+left_of s left t lines ran accepted (same, legal) (verdict, report, is_report, told) =
+    subst (λ (u : ATrace). IsLeft s u left.text.items) (sym same) (record {
+      lines = lines;
+      verdict = verdict;
+      report = report;
+      is_trace = legal;
+      ran = ran;
+      accepted = accepted;
+      is_report = is_report;
+      told_is = told;
+    })

@@ -1,4 +1,3 @@
 pub mod Recording
 pub mod LineByLine
 pub mod Left
-pub mod Ending

@@ -1,5 +1,5 @@
 -- What the parts of running a scenario hand over.
-use Rattle.std.specs.Prelude.{◌≡◌, List}
+use Rattle.std.specs.Prelude.{List}
 use Rattle.cops_node.specs.declared.outcome.Outcome.{Outcome}
 use Rattle.cops_core.specs.declared.event.Event.{Event}
 use Rattle.cops_core.specs.World.{Setting, World, Run, opening}
@@ -12,6 +12,6 @@ use Rattle.cops_run_stream.specs.Running.{IsLeft}
 abbrev pub AreAnswers : Setting → List Event → List Outcome → Type 0
 AreAnswers s events outcomes = (end : World) × Run s (opening s) events outcomes end × HasAcceptedVerdict end.sessions
 
--- a run of the scenario, and what tells it, with the status 0
+-- a run of the scenario, and what tells it
 abbrev pub IsRunLeft : AScenario → Left → Type 0
-IsRunLeft s left = (left.status ≡ 0) × IsLeft s left.trace left.text.items
+IsRunLeft s left = IsLeft s left.trace left.text.items

@@ -1,7 +1,6 @@
 -- What running a scenario leaves: the trace of what its clients saw, the lines that tell what happened, and the report.
 use Rattle.std.specs.Prelude.{◌≡◌, ◌⊎◌, ℕ, List, [], ◌∷◌, ◌++◌, length, Option, None, Some}
 use Rattle.std.specs.Io.KnownBytes.{Appends, Keeps}
-use Rattle.cops_types.specs.Histories.{Sessions}
 use Rattle.cops_types.specs.declared.op.Op.TheVariants.{Put as Wrote, Got, Missed}
 use Rattle.cops_node.specs.declared.outcome.Outcome.{Outcome}
 use Rattle.cops_node.specs.declared.outcome.Outcome.TheVariants.{PutDone, Got as Answered, Missed as Nothing}
@@ -12,15 +11,15 @@ use Rattle.cops_core.specs.Invariants.{HasAcceptedVerdict}
 use Rattle.cops_trace.specs.declared.record.Record.{Record}
 use Rattle.cops_trace.specs.Text.{ATrace, IsTrace, sessions_of, text}
 use Rattle.cops_audit.specs.declared.verdict.Verdict.{Verdict}
-use Rattle.cops_audit.specs.Verdicts.{IsVerdict}
-use Rattle.cops_report.specs.Reports.{IsReport}
-use Rattle.cops_scenario.specs.declared.fault.Field.{Field}
-use Rattle.cops_scenario.specs.Scenario.{AScenario}
-use Rattle.cops_scenario.specs.File.{IsTextOf, IsNoText, IsWrongText}
+use Rattle.cops_scenario.specs.Scenario.{AScenario, setting_of}
+use Rattle.cops_scenario.specs.File.{IsTextOf}
 use Rattle.cops_tie.specs.declared.entry.Entry.{Entry}
-use Rattle.cops_tie.specs.Turns.{setting_of}
 use Rattle.cops_outcomes.specs.declared.outcome.ClientOutcome.{ClientOutcome}
 use Rattle.cops_outcomes.specs.Runs.{IsRun}
+use Rattle.cops_command.specs.Scenario.{TellsNone}
+use Rattle.cops_command.specs.Status.{number}
+use Rattle.cops_command.specs.Told.{IsReportOf}
+use Rattle.cops_command.specs.declared.status.Status.TheVariants.{Accepted, Faulty}
 use Rattle.cops_run_stream.specs.Lines.{outcome_lines, client_lines}
 
 -- what a client saw of an event that was answered so: of its put that was done, and of its get
@@ -50,7 +49,7 @@ pub record IsScriptRun (s : AScenario) (lines : List ℕ) (t : ATrace) : Type 0 
   pub books : List (List Entry)
   pub events : List Event
   pub outcomes : List ClientOutcome
-  pub ran : IsRun s books (sessions_of t) events outcomes
+  pub ran : IsRun (setting_of s) s.clients books (sessions_of t) events outcomes
   pub lines_are : lines ≡ client_lines outcomes
 
 -- its events where it has them, and else its scripts
@@ -58,23 +57,18 @@ abbrev pub IsRunOf : AScenario → Option (List Event) → List ℕ → ATrace �
 IsRunOf s None lines t = IsScriptRun s lines t
 IsRunOf s (Some events) lines t = IsEventRun s events lines t
 
--- the report of what clients saw
-pub record IsReportOf (h : Sessions) (report : List ℕ) : Type 0 where
-  pub verdict : Verdict
-  pub is_verdict : IsVerdict h verdict
-  pub is_report : IsReport h verdict report
-
 -- a run of the scenario with its trace, which is accepted, and the text that tells it: the lines, and then the report
 pub record IsLeft (s : AScenario) (t : ATrace) (told : List ℕ) : Type 0 where
   pub lines : List ℕ
+  pub verdict : Verdict
   pub report : List ℕ
   pub is_trace : IsTrace t
   pub ran : IsRunOf s s.events lines t
   pub accepted : HasAcceptedVerdict (sessions_of t)
-  pub is_report : IsReportOf (sessions_of t) report
+  pub is_report : IsReportOf (sessions_of t) verdict report
   pub told_is : told ≡ lines ++ report
 
--- how it ends with the status 0: the bytes tell a scenario, the one writer gained the text of a run's trace, and the other what tells it
+-- how it ends well: the bytes tell a scenario, the one writer gained the text of a run's trace, and the other what tells it
 pub record EndsWell (bytes : List ℕ) (trace_old trace_new old new : Option (List ℕ)) : Type 0 where
   pub scenario : AScenario
   pub trace : ATrace
@@ -84,8 +78,8 @@ pub record EndsWell (bytes : List ℕ) (trace_old trace_new old new : Option (Li
   pub traced : Appends trace_old trace_new (text trace)
   pub printed : Appends old new told
 
--- how it ends, by the status: 0 so, and 2 where the bytes tell no scenario; there is no other
+-- how it ends, by the status: so where it is accepted, and faulty where the bytes tell no scenario; there is no other
 abbrev pub EndsAs : List ℕ → ℕ → Option (List ℕ) → Option (List ℕ) → Option (List ℕ) → Option (List ℕ) → Type 0
 EndsAs bytes status trace_old trace_new old new =
-    ((status ≡ 0) × EndsWell bytes trace_old trace_new old new)
-    ⊎ ((status ≡ 2) × (IsNoText bytes ⊎ ((field : Field) × IsWrongText bytes field)) × Keeps trace_old trace_new)
+    ((status ≡ number Accepted) × EndsWell bytes trace_old trace_new old new)
+    ⊎ ((status ≡ number Faulty) × TellsNone bytes × Keeps trace_old trace_new)

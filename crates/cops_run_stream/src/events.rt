@@ -1,13 +1,13 @@
 //! The run of an event list, in a world on one thread.
 ghost use Rattle.std.specs.Prelude.{◌≡◌, ◌++◌, Some, length, IfOk, OnOk};
+ghost use Rattle.cops_scenario.specs.Scenario.{setting_of};
 ghost use Rattle.cops_types.specs.declared.op.Op.TheVariants.{Put as Wrote, Got};
-ghost use Rattle.cops_tie.specs.Turns.{setting_of};
 ghost use Rattle.cops_run_stream.specs.Lines.{outcome_lines};
 ghost use Rattle.cops_run_stream.specs.Parts.{AreAnswers, IsRunLeft};
 ghost use Rattle.cops_run_stream.specs.Running.{all_seen, saw};
 
 use crate::leaving::{Left, reported_left};
-use cops_core::{Event, every_interleaving_is_accepted};
+use cops_core::{Event, World, every_interleaving_is_accepted};
 use cops_node::Outcome;
 use cops_scenario::{Scenario, outcome_line};
 use cops_trace::Trace;
@@ -35,7 +35,7 @@ fn answers(alloc: Global, scenario: &Scenario, events: &[Event]) -> Result<Vec<O
     ensures { IfOk result (λ outcomes. AreAnswers (setting_of scenario.now) events.now outcomes.items) }
 {
     every_interleaving_is_accepted();
-    let mut world = scenario.open_world(alloc)?;
+    let mut world = World::of(alloc, scenario.setting(alloc)?)?;
     world.run(events)
 }
 

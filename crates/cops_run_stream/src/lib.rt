@@ -6,6 +6,5 @@ mod events;
 mod leaving;
 mod scripts;
 mod streaming;
-mod telling;
 
 pub use streaming::run_stream;

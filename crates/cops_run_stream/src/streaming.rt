@@ -3,6 +3,8 @@ ghost use Rattle.std.specs.Io.KnownBytes.{Appends, Keeps};
 ghost use Rattle.cops_types.specs.Failures.{Failed};
 ghost use Rattle.cops_types.specs.Counted.{failures, inner};
 ghost use Rattle.cops_trace.specs.Text.{text};
+ghost use Rattle.cops_command.specs.Status.{number};
+ghost use Rattle.cops_command.specs.declared.status.Status.TheVariants.{Accepted, Failed as EndsFailed};
 ghost use Rattle.cops_run_stream.specs.Parts.{IsRunLeft};
 ghost use Rattle.cops_run_stream.specs.Running.{EndsAs};
 ghost use Rattle.cops_run_stream.specs.declared.leaving.Left.{Left as ALeft};
@@ -10,10 +12,9 @@ ghost use Rattle.cops_run_stream.specs.declared.leaving.Left.{Left as ALeft};
 use crate::events::run_events;
 use crate::leaving::Left;
 use crate::scripts::run_scripts;
-use crate::telling::{faulty, print};
-use cops_device::{failed, read_all};
+use cops_command::{Status, failed, print, read_scenario};
 use cops_run::RunFault;
-use cops_scenario::{Scenario, ScenarioFault};
+use cops_scenario::Scenario;
 use cops_trace::{WriteFault, write_trace};
 use cops_types::{Counted, Gate, Memory};
 use std::alloc::Global;
@@ -42,26 +43,17 @@ where
     E: Write,
     G: Gate,
     // The status is that of the reader's bytes and of what was written, unless something failed: never 1.
-    ensures ended { IfOk result (λ status. (status ≡ 4) ⊎ IfSome (R.remaining (inner reader.old)) (λ bytes.
+    ensures ended { IfOk result (λ status. (status ≡ number EndsFailed) ⊎ IfSome (R.remaining (inner reader.old)) (λ bytes.
         EndsAs bytes status (T.contents (inner trace.old)) (T.contents (inner trace.new)) (W.contents (inner out.old)) (W.contents (inner out.new)))) }
 
     // What failed was a device, or a run before anything was written.
-    ensures failed { result ≡ Ok 4 → Failed (failures reader.old) (failures reader.new) ⊎ (Failed (failures trace.old) (failures trace.new)
+    ensures failed { result ≡ Ok (number EndsFailed) → Failed (failures reader.old) (failures reader.new) ⊎ (Failed (failures trace.old) (failures trace.new)
         ⊎ (Failed (failures out.old) (failures out.new) ⊎ (Keeps (T.contents (inner trace.old)) (T.contents (inner trace.new)) × Keeps (W.contents (inner out.old)) (W.contents (inner out.new))))) }
-    ensures heard { (result ≡ Ok 4) ⊎ ((failures reader.new ≡ failures reader.old) × ((failures trace.new ≡ failures trace.old) × (failures out.new ≡ failures out.old))) }
+    ensures heard { (result ≡ Ok (number EndsFailed)) ⊎ ((failures reader.new ≡ failures reader.old) × ((failures trace.new ≡ failures trace.old) × (failures out.new ≡ failures out.old))) }
 {
-    let Some(bytes) = read_all(alloc, reader)? else {
-        return Ok(failed(errors, b"failed: read\n"));
-    };
-    let scenario = match Scenario::from_json(alloc, &bytes) {
+    let scenario = match read_scenario(alloc, reader, out, errors)? {
         Ok(scenario) => scenario,
-        Err(ScenarioFault::Memory) => return Err(Memory),
-        Err(ScenarioFault::NotJson) => {
-            return Ok(faulty(alloc, ScenarioFault::NotJson, out, errors)?);
-        }
-        Err(ScenarioFault::BadField(field)) => {
-            return Ok(faulty(alloc, ScenarioFault::BadField(field), out, errors)?);
-        }
+        Err(status) => return Ok(status),
     };
     let ran = run_scenario(rt, alloc, scenario, gate);
     Ok(told(alloc, ran, trace, out, errors)?)
@@ -90,12 +82,12 @@ fn told<T: Write, W: Write, E: Write>(
     out: &mut Counted<W>,
     errors: &mut Counted<E>,
 ) -> Result<u8, Memory>
-    ensures whole { IfOk result (λ status. (status ≡ 4) ⊎ ((left : ALeft) × (ran ≡ Ok left) × (status ≡ left.status)
+    ensures whole { IfOk result (λ status. (status ≡ number EndsFailed) ⊎ ((left : ALeft) × (ran ≡ Ok left) × (status ≡ number Accepted)
         × Appends (T.contents (inner trace.old)) (T.contents (inner trace.new)) (text left.trace)
         × Appends (W.contents (inner out.old)) (W.contents (inner out.new)) left.text.items)) }
-    ensures failed { IfOk ran (λ left. left.status ≡ 0) → result ≡ Ok 4 → Failed (failures trace.old) (failures trace.new)
+    ensures failed { result ≡ Ok (number EndsFailed) → Failed (failures trace.old) (failures trace.new)
         ⊎ (Failed (failures out.old) (failures out.new) ⊎ (Keeps (T.contents (inner trace.old)) (T.contents (inner trace.new)) × Keeps (W.contents (inner out.old)) (W.contents (inner out.new)))) }
-    ensures heard { (result ≡ Ok 4) ⊎ ((failures trace.new ≡ failures trace.old) × (failures out.new ≡ failures out.old)) }
+    ensures heard { (result ≡ Ok (number EndsFailed)) ⊎ ((failures trace.new ≡ failures trace.old) × (failures out.new ≡ failures out.old)) }
 {
     match ran {
         Ok(left) => Ok(write(alloc, &left, trace, out, errors)?),
@@ -115,14 +107,14 @@ fn write<T: Write, W: Write, E: Write>(
     out: &mut Counted<W>,
     errors: &mut Counted<E>,
 ) -> Result<u8, Memory>
-    ensures whole { IfOk result (λ status. (status ≡ 4) ⊎ ((status ≡ left.now.status)
+    ensures whole { IfOk result (λ status. (status ≡ number EndsFailed) ⊎ ((status ≡ number Accepted)
         × Appends (T.contents (inner trace.old)) (T.contents (inner trace.new)) (text left.now.trace)
         × Appends (W.contents (inner out.old)) (W.contents (inner out.new)) left.now.text.items)) }
-    ensures failed { left.now.status ≡ 0 → result ≡ Ok 4 → Failed (failures trace.old) (failures trace.new) ⊎ Failed (failures out.old) (failures out.new) }
-    ensures heard { (result ≡ Ok 4) ⊎ ((failures trace.new ≡ failures trace.old) × (failures out.new ≡ failures out.old)) }
+    ensures failed { result ≡ Ok (number EndsFailed) → Failed (failures trace.old) (failures trace.new) ⊎ Failed (failures out.old) (failures out.new) }
+    ensures heard { (result ≡ Ok (number EndsFailed)) ⊎ ((failures trace.new ≡ failures trace.old) × (failures out.new ≡ failures out.old)) }
 {
     match write_trace(alloc, trace, &left.trace) {
-        Ok(()) => Ok(print(&left.text, left.status, out, errors)),
+        Ok(()) => Ok(print(&left.text, Status::Accepted, out, errors)),
         Err(WriteFault::Memory) => Err(Memory),
         Err(WriteFault::WriteFailed { .. }) => Ok(failed(errors, b"failed: write\n")),
     }

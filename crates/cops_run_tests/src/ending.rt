@@ -1,3 +1,4 @@
+use cops_core::Setting;
 use cops_node::Outcome;
 use cops_outcomes::*;
 use cops_run::*;
@@ -17,15 +18,30 @@ fn scenario(alloc: Global) -> Result<Scenario, ScenarioFault> {
     Scenario::from_json(alloc, TWO.as_bytes())
 }
 
-/// Whether what a run left passes with these outcomes in the place of its own.
+/// Whether what a run left passes in this setting with these outcomes in the place of its own.
+fn passes_in(
+    alloc: Global,
+    scenario: &Scenario,
+    setting: &Setting,
+    run: &Run,
+    outcomes: &[ClientOutcome],
+) -> bool {
+    if run.entries.len() != setting.dcs() as usize * setting.nodes() as usize {
+        return false;
+    }
+    let (clients, entries) = (scenario.clients(), &run.entries);
+    checked(alloc, setting, clients, entries, &run.trace, outcomes).is_ok()
+}
+
+/// The same in the scenario's setting.
 fn passes(alloc: Global, run: &Run, outcomes: &[ClientOutcome]) -> bool {
     let Ok(scenario) = scenario(alloc) else {
         return false;
     };
-    if run.entries.len() != 2 || scenario.place().dcs() != 2 || scenario.place().nodes() != 1 {
-        return false;
+    match scenario.setting(alloc) {
+        Ok(setting) => passes_in(alloc, &scenario, &setting, run, outcomes),
+        Err(_) => false,
     }
-    checked(alloc, &scenario, &run.entries, &run.trace, outcomes).is_ok()
 }
 
 #[test]

@@ -1,4 +1,4 @@
-use crate::meeting::{Meeting, TURNS, waits_for};
+use cops_gates::{HoldsAt, Meeting, TURNS, waits_for};
 use cops_outcomes::*;
 use cops_run::*;
 use cops_scenario::{Scenario, ScenarioFault};
@@ -41,27 +41,9 @@ fn steps_of_two_nodes_stand_side_by_side(rt: HostRuntime) -> Result<(), Fail> {
     Ok(())
 }
 
-/// Holds a call at one point.
-#[derive(Drop)]
-struct Holding {
-    at: Point,
-}
-
-impl Gate for Holding {
-    ghost may_hold = { λ _ _. Unit {0} };
-
-    fn pass<R: Wait>(&self, _rt: &R, point: Point) -> Result<(), GateHeld> {
-        if point == self.at {
-            return Err(GateHeld);
-        }
-        Ok(())
-    }
-}
-
 /// How a run of the two clients ends whose gate holds a step.
-fn held_at<R: Threads + Wait + Sync>(rt: &R, alloc: Global, at: Point) -> Result<bool, Fail> {
-    let gate = Holding { at };
-    let ended = run(rt, alloc, scenario(alloc, TWO)?, &gate);
+fn held_at<R: Threads + Wait + Sync>(rt: &R, alloc: Global, point: Point) -> Result<bool, Fail> {
+    let ended = run(rt, alloc, scenario(alloc, TWO)?, &HoldsAt { point });
     Ok(matches!(ended, Err(RunFault::Held)))
 }
 

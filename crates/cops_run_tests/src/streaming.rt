@@ -1,26 +1,11 @@
+use cops_gates::HoldsSteps;
 use cops_run_stream::run_stream;
-use cops_types::{Counted, Gate, GateHeld, Point};
-use std::sync::Wait;
+use cops_types::Counted;
 use std::test::Fail;
 
 /// Two data centres, in each of which a client puts a key and gets it.
 const TWO: &str =
     "{\"data_centres\":2,\"clients\":[{\"at\":0,\"script\":[{\"put\":[\"a\",\"1\"]},{\"get\":\"a\"}]},{\"at\":1,\"script\":[{\"put\":[\"b\",\"1\"]},{\"get\":\"b\"}]}]}";
-
-/// Holds every step of a client 1.
-#[derive(Drop)]
-struct Holding;
-
-impl Gate for Holding {
-    ghost may_hold = { λ _ _. Unit {0} };
-
-    fn pass<R: Wait>(&self, _rt: &R, point: Point) -> Result<(), GateHeld> {
-        match point {
-            Point::InStep { client: 1, .. } => Err(GateHeld),
-            _ => Ok(()),
-        }
-    }
-}
 
 #[test]
 fn a_run_that_is_held_is_told(rt: HostRuntime) -> Result<(), Fail> {
@@ -35,7 +20,7 @@ fn a_run_that_is_held_is_told(rt: HostRuntime) -> Result<(), Fail> {
         &mut trace,
         &mut out,
         &mut errors,
-        &Holding,
+        &HoldsSteps { client: 1 },
     )?;
     assert_eq!(rt; status, 4);
     assert!(rt; trace.into_inner().is_empty());

@@ -9,9 +9,9 @@ use Rattle.cops_core.specs.declared.event.Event.{Event}
 use Rattle.cops_core.specs.declared.event.Event.TheVariants.{Put, Get, Deliver, Ask, Mark, Settle}
 use Rattle.cops_scenario.specs.declared.fault.Field.{Field}
 use Rattle.cops_scenario.specs.declared.fault.Field.TheVariants.{Root, DataCentres, Splits, Link, Turns, Clients, Events}
-use Rattle.cops_scenario.specs.declared.scenario.ScriptOp.{ScriptOp}
-use Rattle.cops_scenario.specs.declared.scenario.ScriptOp.TheVariants as script
-use Rattle.cops_scenario.specs.declared.scenario.ScriptedClient.{ScriptedClient}
+use Rattle.cops_core.specs.declared.script.ScriptOp.{ScriptOp}
+use Rattle.cops_core.specs.declared.script.ScriptOp.TheVariants as script
+use Rattle.cops_core.specs.declared.script.ScriptedClient.{ScriptedClient}
 use Rattle.cops_scenario.specs.Scenario.{AScenario, HasNumbersOf, AreSplits, IsLegalClient, AreLegalEvents, name_of, number_at}
 
 abbrev pub number_json : ℕ → Data

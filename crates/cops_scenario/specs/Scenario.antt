@@ -7,12 +7,13 @@ use Rattle.cops_types.specs.Value.{IsValue}
 use Rattle.cops_types.specs.Version.{IsVersion}
 use Rattle.cops_core.specs.declared.event.Event.{Event}
 use Rattle.cops_core.specs.declared.event.Event.TheVariants as event
+use Rattle.cops_core.specs.World.{Setting}
 use Rattle.cops_place.specs.Place.{APlace, IsPlace, AreAscending}
 use Rattle.cops_scenario.specs.declared.fault.Field.{Field}
 use Rattle.cops_scenario.specs.declared.fault.Field.TheVariants.{Root, DataCentres, Splits, Link, Turns, Clients, Events}
-use Rattle.cops_scenario.specs.declared.scenario.ScriptOp.{ScriptOp}
-use Rattle.cops_scenario.specs.declared.scenario.ScriptOp.TheVariants as script
-use Rattle.cops_scenario.specs.declared.scenario.ScriptedClient.{ScriptedClient}
+use Rattle.cops_core.specs.declared.script.ScriptOp.{ScriptOp}
+use Rattle.cops_core.specs.declared.script.ScriptOp.TheVariants as script
+use Rattle.cops_core.specs.declared.script.ScriptedClient.{ScriptedClient}
 
 -- a place, what the links hold, how many turns a loop may take, the clients, and the events where there are any
 pub record AScenario : Type 0 where
@@ -70,6 +71,10 @@ AreLegalEvents (Some events) = (length events ≤ 100000) × All IsLegalEvent ev
 -- the data centre of each client
 abbrev pub homes_of : AScenario → List ℕ
 homes_of s = map (λ c. c.at) s.clients
+
+-- what never changes in its world
+abbrev pub setting_of : AScenario → Setting
+setting_of s = record { place = s.place; homes = homes_of s }
 
 -- the names of the fields in a file
 abbrev pub name_of : Field → List ℕ

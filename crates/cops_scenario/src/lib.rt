@@ -12,4 +12,4 @@ mod scenario;
 
 pub use fault::{Field, ScenarioFault};
 pub use line::outcome_line;
-pub use scenario::{Scenario, ScriptOp, ScriptedClient};
+pub use scenario::Scenario;

@@ -8,15 +8,13 @@ ghost use Rattle.cops_scenario.specs.declared.fault.Field.{Field as AField};
 ghost use Rattle.serde_json.specs.Find.{get};
 ghost use Rattle.cops_scenario.specs.Scenario.{AreLegalEvents, AreSplits, IsClientOf, IsLegalClient, name_of, number_at};
 ghost use Rattle.cops_core.specs.declared.event.Event.{Event as AnEvent};
-ghost use Rattle.cops_scenario.specs.declared.scenario.ScriptedClient.{ScriptedClient as AClient};
+ghost use Rattle.cops_core.specs.declared.script.ScriptedClient.{ScriptedClient as AClient};
 
 use crate::event::{events, script};
 use crate::fault::{Field, ScenarioFault};
 use crate::field::{Unread, dc, key, list, number};
-use crate::scenario::{
-    MAX_CLIENTS, MAX_EVENTS, MAX_LINK, MAX_SCRIPT, MAX_TURNS, Scenario, ScriptedClient,
-};
-use cops_core::Event;
+use crate::scenario::{MAX_CLIENTS, MAX_EVENTS, MAX_LINK, MAX_SCRIPT, MAX_TURNS, Scenario};
+use cops_core::{Event, ScriptedClient};
 use cops_place::{MAX_DCS, MAX_SPLITS, Place, PlaceFault};
 use serde_json::Value as Json;
 use std::alloc::Global;

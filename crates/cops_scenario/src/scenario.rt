@@ -1,7 +1,7 @@
 //! What a scenario holds.
-use cops_core::{Event, World, WorldFault};
+use cops_core::{Event, ScriptedClient, Setting, WorldFault};
 use cops_place::Place;
-use cops_types::{Key, Memory, Value};
+use cops_types::Memory;
 use std::alloc::{AllocError, Global};
 use std::marker::Model;
 
@@ -19,20 +19,6 @@ pub const MAX_LINK: u16 = 1_024;
 
 /// The most turns of a loop.
 pub const MAX_TURNS: u32 = 1_000_000_000;
-
-/// What a client does next.
-#[derive(Debug, Drop, PartialEq, Eq)]
-pub enum ScriptOp {
-    Put { key: Key, value: Value },
-    Get { key: Key },
-}
-
-/// A client: its data centre, and at most 10,000 operations.
-#[derive(Debug, Drop)]
-pub struct ScriptedClient {
-    pub at: u8,
-    pub script: Vec<ScriptOp>,
-}
 
 /// What a cluster is made of, and what happens in it: where keys live; how many frames a link holds, 1 to 1,024; how many
 /// turns a loop may make, 1 to 1,000,000,000; at most 64 clients; and, where no client has a script, at most 100,000
@@ -59,8 +45,8 @@ impl Model for Scenario {
 
 impl Scenario {
     ghost use Rattle.std.specs.Prelude.{◌≡◌, ◌≤◌, length, All, IfOk, option_map};
-    ghost use Rattle.cops_core.specs.World.{AreClients, opened_cluster};
-    ghost use Rattle.cops_scenario.specs.Scenario.{IsScenario, IsClientOf, AreEventsOf, homes_of};
+    ghost use Rattle.cops_core.specs.World.{AreClients};
+    ghost use Rattle.cops_scenario.specs.Scenario.{IsScenario, IsClientOf, AreEventsOf, homes_of, setting_of};
 
     /// The scenario of these parts, which are within their limits.
     pub(crate) fn new(
@@ -118,8 +104,19 @@ impl Scenario {
         &self.clients
     }
 
+    /// Its data centres, and its clients' places in them.
+    pub fn setting(&self, alloc: Global) -> Result<Setting, Memory>
+        ensures { IfOk result (λ setting. setting ≡ setting_of self.now) }
+    {
+        match Setting::new(self.place.clone()?, self.homes(alloc)?) {
+            Ok(setting) => Ok(setting),
+            Err(WorldFault::Memory) => Err(Memory),
+            Err(WorldFault::BadClient) => unreachable!(),
+        }
+    }
+
     /// The data centre of each client.
-    pub fn homes(&self, alloc: Global) -> Result<Vec<u8>, AllocError>
+    fn homes(&self, alloc: Global) -> Result<Vec<u8>, AllocError>
         ensures homes { IfOk result (λ homes. homes.items ≡ homes_of self.now) }
         ensures there { IfOk result (λ homes. AreClients self.now.place homes.items) }
     {
@@ -128,17 +125,6 @@ impl Scenario {
             homes.push(client.at)?;
         }
         Ok(homes)
-    }
-
-    /// A world of the scenario's data centres and clients, in which nothing has happened.
-    pub fn open_world(&self, alloc: Global) -> Result<World, Memory>
-        ensures { IfOk result (λ world. world ≡ opened_cluster self.now.place (homes_of self.now)) }
-    {
-        match World::open(alloc, self.place.clone()?, self.homes(alloc)?) {
-            Ok(world) => Ok(world),
-            Err(WorldFault::Memory) => Err(Memory),
-            Err(WorldFault::BadClient) => unreachable!(),
-        }
     }
 
     /// The events, at most 100,000, where the scenario has them: no client then has a script.

@@ -9,14 +9,14 @@ use Rattle.cops_core.specs.declared.event.Event.{Event}
 use Rattle.cops_core.specs.World.{Setting}
 use Rattle.cops_core.specs.Invariants.{HasAcceptedVerdict}
 use Rattle.cops_audit.specs.declared.verdict.Verdict.{Verdict}
-use Rattle.cops_audit.specs.Verdicts.{IsVerdict}
-use Rattle.cops_report.specs.Reports.{IsReport}
-use Rattle.cops_scenario.specs.declared.fault.Field.{Field}
-use Rattle.cops_scenario.specs.Scenario.{AScenario}
-use Rattle.cops_scenario.specs.File.{IsTextOf, IsNoText, IsWrongText}
+use Rattle.cops_command.specs.Scenario.{TellsNone}
+use Rattle.cops_command.specs.Status.{number}
+use Rattle.cops_command.specs.Told.{IsReportOf}
+use Rattle.cops_command.specs.declared.status.Status.TheVariants.{Accepted, Faulty}
+use Rattle.cops_scenario.specs.Scenario.{AScenario, setting_of}
+use Rattle.cops_scenario.specs.File.{IsTextOf}
 use Rattle.cops_tie.specs.declared.entry.Entry.{Entry}
 use Rattle.cops_tie.specs.Tie.{IsTied}
-use Rattle.cops_tie.specs.Turns.{setting_of}
 use Rattle.cops_clients.specs.Close.{made_in, told}
 use Rattle.cops_clients.specs.declared.client.Client.{Client}
 use Rattle.cops_clients.specs.declared.share.Made.{Made}
@@ -39,8 +39,7 @@ pub record IsTiedReport (s : Setting) (books : List (Vec Entry)) (text : List �
   pub tied : IsTied s (map (λ (b : Vec Entry). b.items) books) sessions events
   pub accepted : HasAcceptedVerdict sessions
   pub verdict : Verdict
-  pub is_verdict : IsVerdict sessions verdict
-  pub is_report : IsReport sessions verdict text
+  pub is_report : IsReportOf sessions verdict text
 
 -- such a report in a scenario's world, of books that have just the entries that the clients and the receivers of a front end were told
 pub record IsReportOn (s : AScenario) (f : FrontEnd) (text : List ℕ) : Type 0 where
@@ -54,8 +53,8 @@ pub record IsServed (sessions : ℕ) (s : AScenario) (text : List ℕ) : Type 0 
   pub calls : AreSessions sessions front_end.calls.items
   pub report : IsReportOn s front_end text
 
--- how serving so many sessions ends, by the status: 0 of a scenario's text, where the writer gained such a report, or 2 of a faulty text
+-- how serving so many sessions ends, by the status: accepted of a scenario's text, where the writer gained such a report, or faulty
 abbrev pub EndsAs : List ℕ → ℕ → ℕ → Option (List ℕ) → Option (List ℕ) → Type 0
 EndsAs bytes sessions status old new =
-    ((status ≡ 0) × ((s : AScenario) × IsTextOf bytes s × ((text : List ℕ) × IsServed sessions s text × Appends old new text)))
-    ⊎ ((status ≡ 2) × (IsNoText bytes ⊎ ((field : Field) × IsWrongText bytes field)))
+    ((status ≡ number Accepted) × ((s : AScenario) × IsTextOf bytes s × ((text : List ℕ) × IsServed sessions s text × Appends old new text)))
+    ⊎ ((status ≡ number Faulty) × TellsNone bytes)

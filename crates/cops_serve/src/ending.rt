@@ -1,16 +1,16 @@
 //! The end of the serving: the books are tied to what was recorded.
 ghost use Rattle.std.specs.Prelude.{◌≡◌, ◌+◌, ◌*◌, ◌++◌, ◌↔◌, length, map, IfOk, IsTrue};
 ghost use Rattle.std.specs.List.Sorted.{IsPermutation};
+ghost use Rattle.cops_scenario.specs.Scenario.{setting_of};
 ghost use Rattle.cops_clients.specs.Close.{made_in, told as told_in};
-ghost use Rattle.cops_tie.specs.Turns.{setting_of};
 ghost use Rattle.cops_serve.specs.Serving.{HasNodesOf, IsTiedReport};
 
 use crate::fault::ServeFault;
 use crate::front_end::FrontEnd;
-use cops_audit::judge;
 use cops_clients::{Client, CloseFault, Closed, Cluster, Share};
+use cops_command::reported;
+use cops_core::Setting;
 use cops_replication::Receiver;
-use cops_report::report;
 use cops_scenario::Scenario;
 use cops_tie::{TieFault, tied_run};
 use std::alloc::{AllocError, Global};
@@ -87,17 +87,26 @@ fn closed(cluster: Cluster, shares: Vec<Share>) -> Result<Closed, ServeFault>
     }
 }
 
-/// The report of what a closed cluster's clients saw.
+/// The report of what a closed cluster's clients saw in a scenario's world.
 fn told(alloc: Global, scenario: &Scenario, closed: &Closed) -> Result<Vec<u8>, ServeFault>
     requires { length closed.now.books.items ≡ scenario.now.place.dcs * (length scenario.now.place.splits + 1) }
     ensures { IfOk result (λ text. IsTiedReport (setting_of scenario.now) closed.now.books.items text.items) }
 {
-    match tied_run(alloc, scenario, &closed.books, &closed.trace) {
-        Ok(_run) => {}
+    let setting = scenario.setting(alloc)?;
+    let told = told_in(alloc, &setting, closed);
+    drop(setting);
+    told
+}
+
+/// The same in a world of this setting.
+fn told_in(alloc: Global, setting: &Setting, closed: &Closed) -> Result<Vec<u8>, ServeFault>
+    requires { length closed.now.books.items ≡ setting.now.place.dcs * (length setting.now.place.splits + 1) }
+    ensures { IfOk result (λ text. IsTiedReport setting.now closed.now.books.items text.items) }
+{
+    match tied_run(alloc, setting, &closed.books, &closed.trace) {
+        Ok(run) => drop(run),
         Err(TieFault::Memory) => return Err(ServeFault::Memory),
         Err(TieFault::Untied { ticket }) => return Err(ServeFault::Untied { ticket }),
     }
-    let history = closed.trace.history();
-    let verdict = judge(alloc, history)?;
-    Ok(report(alloc, history, &verdict)?)
+    Ok(reported(alloc, closed.trace.history())?)
 }

@@ -18,7 +18,7 @@ impl FrontEnd {
             cluster,
             clients,
             shares,
-        } = Cluster::of_scenario(alloc, scenario)?;
+        } = Cluster::of(alloc, &scenario.setting(alloc)?)?;
         let Replicas { senders, receivers } = wired(alloc, cluster.dcs(), scenario.link(), shares)?;
         Ok(FrontEnd {
             turns: scenario.turns(),

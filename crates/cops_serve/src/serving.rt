@@ -2,16 +2,17 @@
 ghost use Rattle.std.specs.Prelude.{◌≡◌, ◌⊎◌, ◌++◌, List, ℕ, Ok, IfOk, IfSome};
 ghost use Rattle.std.specs.Io.KnownBytes.{Appends};
 ghost use Rattle.cops_types.specs.Counted.{failures, inner};
+ghost use Rattle.cops_command.specs.Status.{number};
+ghost use Rattle.cops_command.specs.declared.status.Status.TheVariants.{Accepted, Failed};
 ghost use Rattle.cops_net.specs.Listening.{AreSessions};
 ghost use Rattle.cops_net.specs.declared.reply.Call.{Call};
 ghost use Rattle.cops_serve.specs.Serving.{EndsAs, IsServed};
 
 use crate::fault::ServeFault;
 use crate::front_end::FrontEnd;
-use cops_device::{ACCEPTED, FAULTY, failed, read_all};
+use cops_command::{Status, failed, print, read_scenario};
 use cops_net::{NetFault, listen};
-use cops_scenario::{Scenario, ScenarioFault};
-use cops_trace::write_text;
+use cops_scenario::Scenario;
 use cops_types::{Counted, Memory};
 use std::alloc::Global;
 use std::io::{Read, Write};
@@ -37,20 +38,13 @@ where
     W: Write,
     E: Write,
     // The status is that of the reader's bytes, of so many sessions and of the text that was printed, unless something failed.
-    ensures ended { IfOk result (λ status. (status ≡ 4) ⊎ IfSome (I.remaining (inner reader.old)) (λ bytes.
+    ensures ended { IfOk result (λ status. (status ≡ number Failed) ⊎ IfSome (I.remaining (inner reader.old)) (λ bytes.
         EndsAs bytes sessions status (W.contents (inner out.old)) (W.contents (inner out.new)))) }
-    ensures heard { (result ≡ Ok 4) ⊎ ((failures reader.new ≡ failures reader.old) × (failures out.new ≡ failures out.old)) }
+    ensures heard { (result ≡ Ok (number Failed)) ⊎ ((failures reader.new ≡ failures reader.old) × (failures out.new ≡ failures out.old)) }
 {
-    let Some(bytes) = read_all(alloc, reader)? else {
-        return Ok(failed(errors, b"failed: read\n"));
-    };
-    match Scenario::from_json(alloc, &bytes) {
+    match read_scenario(alloc, reader, out, errors)? {
         Ok(scenario) => serve_scenario(rt, alloc, &scenario, port, sessions, out, errors),
-        Err(ScenarioFault::Memory) => Err(Memory),
-        Err(ScenarioFault::NotJson) => faulty(alloc, ScenarioFault::NotJson, out, errors),
-        Err(ScenarioFault::BadField(field)) => {
-            faulty(alloc, ScenarioFault::BadField(field), out, errors)
-        }
+        Err(status) => Ok(status),
     }
 }
 
@@ -68,13 +62,13 @@ where
     R: Net<Listener = TcpListener, Stream = TcpStream> + Wait,
     W: Write,
     E: Write,
-    ensures status { IfOk result (λ status. (status ≡ 0) ⊎ (status ≡ 4)) }
-    ensures served { IfOk result (λ status. (status ≡ 4) ⊎ ((text : List ℕ) × IsServed sessions scenario.now text
+    ensures status { IfOk result (λ status. (status ≡ number Accepted) ⊎ (status ≡ number Failed)) }
+    ensures served { IfOk result (λ status. (status ≡ number Failed) ⊎ ((text : List ℕ) × IsServed sessions scenario.now text
         × Appends (W.contents (inner out.old)) (W.contents (inner out.new)) text)) }
-    ensures heard { (result ≡ Ok 4) ⊎ (failures out.new ≡ failures out.old) }
+    ensures heard { (result ≡ Ok (number Failed)) ⊎ (failures out.new ≡ failures out.old) }
 {
     match served(rt, alloc, scenario, port, sessions) {
-        Ok(report) => Ok(printed(&report, ACCEPTED, out, errors)),
+        Ok(report) => Ok(print(&report, Status::Accepted, out, errors)),
         Err(ServeFault::Memory) => Err(Memory),
         Err(fault) => unserved(alloc, fault, errors),
     }
@@ -86,7 +80,7 @@ fn unserved<E: Write>(
     fault: ServeFault,
     errors: &mut Counted<E>,
 ) -> Result<u8, Memory>
-    ensures { IfOk result (λ status. status ≡ 4) }
+    ensures { IfOk result (λ status. status ≡ number Failed) }
 {
     let line = format!(in alloc; "failed: {fault}\n")?;
     Ok(failed(errors, line.as_bytes()))
@@ -137,36 +131,5 @@ fn attend<R: Net<Listener = TcpListener, Stream = TcpStream> + Wait>(
         Err(NetFault::AcceptFailed) => Err(ServeFault::AcceptFailed),
         Err(NetFault::Memory) => Err(ServeFault::Memory),
         Err(_) => unreachable!(),
-    }
-}
-
-/// Prints the line of a faulty scenario, and gives the status.
-fn faulty<W: Write, E: Write>(
-    alloc: Global,
-    fault: ScenarioFault,
-    out: &mut Counted<W>,
-    errors: &mut Counted<E>,
-) -> Result<u8, Memory>
-    ensures status { IfOk result (λ status. (status ≡ 2) ⊎ (status ≡ 4)) }
-    ensures heard { (result ≡ Ok 4) ⊎ (failures out.new ≡ failures out.old) }
-{
-    let line = format!(in alloc; "faulty: {fault}\n")?;
-    Ok(printed(line.as_bytes(), FAULTY, out, errors))
-}
-
-/// Prints a text, and gives the status.
-fn printed<W: Write, E: Write>(
-    text: &[u8],
-    status: u8,
-    out: &mut Counted<W>,
-    errors: &mut Counted<E>,
-) -> u8
-    ensures status { (result ≡ status) ⊎ (result ≡ 4) }
-    ensures whole { (result ≡ 4) ⊎ Appends (W.contents (inner out.old)) (W.contents (inner out.new)) text.now }
-    ensures heard { (result ≡ 4) ⊎ (failures out.new ≡ failures out.old) }
-{
-    match write_text(out, text) {
-        Ok(()) => status,
-        Err(_) => failed(errors, b"failed: write\n"),
     }
 }

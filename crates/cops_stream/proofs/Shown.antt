@@ -1,10 +1,11 @@
 -- What showing a trace writes, from what was read.
-use Rattle.std.proofs.Common.{◌≡◌, ℕ, List, [], ◌++◌, Option, Some, None, refl, sym, ap, subst, ◌∙◌, append_assoc}
+use Rattle.std.proofs.Common.{◌≡◌, ℕ, List, [], ◌++◌, Option, Some, None, sym, ap, subst, ◌∙◌, append_assoc}
 use Rattle.std.specs.Prelude.{IfSome}
 use Rattle.std.proofs.lemmas.List.{append-nil}
 use Rattle.std.specs.Io.KnownBytes.{Appends}
 use Rattle.cops_trace.specs.declared.fault.TraceFault.{TraceFault}
 use Rattle.cops_wire.specs.declared.message.Message.{Message}
+use Rattle.cops_command.specs.Status.{number}
 use Rattle.cops_stream.specs.Show.{HasFirst, Shows, AreShown, lines_of, status_of, last_line, end_of}
 
 pub appends_none : (a : Option (List ℕ)) → Appends a a []
@@ -18,9 +19,9 @@ appends_both (Some u) (Some v) None xs ys p q = absurd q
 appends_both (Some u) (Some v) (Some w) xs ys p q = q ∙ ap (λ (t : List ℕ). t ++ ys) p ∙ append_assoc u xs ys
 
 -- the lines, and then the last one
-pub shows_all : (a : Option (List ℕ)) (bytes : List ℕ) (fault : Option TraceFault) (end : ℕ) (old mid new : Option (List ℕ)) → IfSome a (λ all. bytes ≡ all) → HasFirst bytes fault → end ≡ end_of bytes fault
-    → ((ms : List Message) × AreShown bytes end ms × Appends old mid (lines_of ms)) → Appends mid new (last_line fault) → IfSome a (λ all. Shows all (status_of fault) old new)
-shows_all None bytes fault end old mid new same first is shown last = tt
-shows_all (Some u) bytes fault end old mid new same first is shown last =
-    subst (λ (t : List ℕ). Shows t (status_of fault) old new) same
-    (fault, shown.0, first, subst (λ (n : ℕ). AreShown bytes n shown.0) is shown.1, refl, appends_both old mid new _ _ shown.2 last)
+pub shows_all : (a : Option (List ℕ)) (bytes : List ℕ) (fault : Option TraceFault) (end status : ℕ) (old mid new : Option (List ℕ)) → status ≡ number (status_of fault) → IfSome a (λ all. bytes ≡ all) → HasFirst bytes fault → end ≡ end_of bytes fault
+    → ((ms : List Message) × AreShown bytes end ms × Appends old mid (lines_of ms)) → Appends mid new (last_line fault) → IfSome a (λ all. Shows all status old new)
+shows_all None bytes fault end status old mid new ends same first is shown last = tt
+shows_all (Some u) bytes fault end status old mid new ends same first is shown last =
+    subst (λ (t : List ℕ). Shows t status old new) same
+    (fault, shown.0, first, subst (λ (n : ℕ). AreShown bytes n shown.0) is shown.1, ends, appends_both old mid new _ _ shown.2 last)

@@ -4,8 +4,7 @@ use Rattle.std.specs.Io.KnownBytes.{Appends}
 use Rattle.cops_types.specs.Convergence.{IsCausallyConvergent}
 use Rattle.cops_audit.specs.declared.verdict.Verdict.{Verdict}
 use Rattle.cops_audit.specs.declared.verdict.Verdict.TheVariants as verdict
-use Rattle.cops_audit.specs.Verdicts.{IsVerdict}
-use Rattle.cops_report.specs.Reports.{IsReport}
+use Rattle.cops_command.specs.Told.{IsReportOf}
 use Rattle.cops_trace.specs.declared.fault.TraceFault.{TraceFault}
 use Rattle.cops_trace.specs.Text.{ATrace, IsTrace, sessions_of, text}
 use Rattle.cops_trace.specs.Answer.{Says}
@@ -21,8 +20,7 @@ answer_of (verdict.Refused faults) = Refused
 -- of a trace: the report of the verdict on its sessions
 pub record IsTold (t : ATrace) (answer : Answer) (told : List ℕ) : Type 0 where
   pub verdict : Verdict
-  pub is_verdict : IsVerdict (sessions_of t) verdict
-  pub is_report : IsReport (sessions_of t) verdict told
+  pub is_report : IsReportOf (sessions_of t) verdict told
   pub answer_is : answer ≡ answer_of verdict
 
 -- what was read is a trace whose history is causally convergent

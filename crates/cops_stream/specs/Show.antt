@@ -8,6 +8,9 @@ use Rattle.cops_wire.specs.declared.message.Message.{Message}
 use Rattle.cops_wire.specs.Grammar.{grammar, IsMessage}
 use Rattle.cops_wire.specs.Message.{parts}
 use Rattle.cops_wire.specs.Shown.{shown}
+use Rattle.cops_command.specs.Status.{number}
+use Rattle.cops_command.specs.declared.status.Status.{Status}
+use Rattle.cops_command.specs.declared.status.Status.TheVariants.{Accepted, Faulty}
 use Rattle.cops_trace.specs.declared.fault.TraceFault.{TraceFault}
 use Rattle.cops_trace.specs.Text.{ATrace, spelled}
 use Rattle.cops_trace.specs.Answer.{Says}
@@ -45,9 +48,9 @@ HasFirst bytes None = (t : ATrace) × Says bytes (Ok t)
 HasFirst bytes (Some e) = Says bytes (Err e)
 
 -- the status of that, and the last line
-abbrev pub status_of : Option TraceFault → ℕ
-status_of None = 0
-status_of (Some e) = 2
+abbrev pub status_of : Option TraceFault → Status
+status_of None = Accepted
+status_of (Some e) = Faulty
 
 abbrev pub last_line : Option TraceFault → List ℕ
 last_line None = []
@@ -63,4 +66,4 @@ end_of bytes (Some e) = unwrap_or (offset_of e) (length bytes)
 abbrev pub Shows : List ℕ → ℕ → Option (List ℕ) → Option (List ℕ) → Type 0
 Shows bytes status old new =
     (fault : Option TraceFault) × (ms : List Message) × HasFirst bytes fault × AreShown bytes (end_of bytes fault) ms
-    × (status ≡ status_of fault) × Appends old new (lines_of ms ++ last_line fault)
+    × (status ≡ number (status_of fault)) × Appends old new (lines_of ms ++ last_line fault)

@@ -5,18 +5,18 @@ ghost use Rattle.cops_types.specs.Failures.{Failed};
 ghost use Rattle.cops_types.specs.Counted.{failures, inner};
 ghost use Rattle.cops_trace.specs.Answer.{Agrees};
 ghost use Rattle.cops_wire.specs.declared.message.Message.{Message as AMessage};
+ghost use Rattle.cops_command.specs.Status.{number};
+ghost use Rattle.cops_command.specs.declared.status.Status.TheVariants.{Failed as EndsFailed};
 ghost use Rattle.cops_stream.specs.declared.show.TheConstants.{GATHERED};
 ghost use Rattle.cops_stream.specs.NextLine.{AppendsNext};
 ghost use Rattle.cops_stream.specs.Show.{HasFirst, Shows, AreShown, end_of, line_of, lines_of};
 
-use cops_device::{FAULTY, PIECE, failed, read_all};
+use cops_command::{PIECE, Status, failed, print, read_all};
 use cops_trace::{Trace, TraceFault, fault_line, read_trace, write_text};
 use cops_types::{Counted, Memory};
 use cops_wire::{Decoded, Message, WireFault, decode, show};
 use std::alloc::Global;
 use std::io::{Read, Write};
-
-const SHOWN: u8 = 0;
 
 /// How much text is gathered before it is written.
 const GATHERED: usize = 4 * PIECE;
@@ -32,12 +32,12 @@ pub fn show_stream<R: Read, W: Write, E: Write>(
 ) -> Result<u8, Memory>
     // The status is that of the reader's bytes, and the lines are those of their frames and of their fault, unless a
     // device failed.
-    ensures shown { IfOk result (λ status. (status ≡ 4) ⊎ IfSome (R.remaining (inner reader.old)) (λ bytes.
+    ensures shown { IfOk result (λ status. (status ≡ number EndsFailed) ⊎ IfSome (R.remaining (inner reader.old)) (λ bytes.
         Shows bytes status (W.contents (inner out.old)) (W.contents (inner out.new)))) }
 
     // The devices' faults are told exactly where they were met.
-    ensures failed { result ≡ Ok 4 → Failed (failures reader.old) (failures reader.new) ⊎ Failed (failures out.old) (failures out.new) }
-    ensures heard { (result ≡ Ok 4) ⊎ ((failures reader.new ≡ failures reader.old) × (failures out.new ≡ failures out.old)) }
+    ensures failed { result ≡ Ok (number EndsFailed) → Failed (failures reader.old) (failures reader.new) ⊎ Failed (failures out.old) (failures out.new) }
+    ensures heard { (result ≡ Ok (number EndsFailed)) ⊎ ((failures reader.new ≡ failures reader.old) × (failures out.new ≡ failures out.old)) }
 {
     let bytes = match read_all(alloc, reader)? {
         Some(bytes) => bytes,
@@ -49,14 +49,11 @@ pub fn show_stream<R: Read, W: Write, E: Write>(
         return Ok(failed(errors, b"failed: write\n"));
     }
     let Some(fault) = fault else {
-        return Ok(SHOWN);
+        return Ok(Status::Accepted.number());
     };
     let mut text = Vec::new(alloc);
     fault_line(alloc, &fault, &mut text)?;
-    match write_text(out, &text) {
-        Ok(()) => Ok(FAULTY),
-        Err(_) => Ok(failed(errors, b"failed: write\n")),
-    }
+    Ok(print(&text, Status::Faulty, out, errors))
 }
 
 /// The first fault of these bytes, or none where they are a trace's text.

@@ -1,12 +1,23 @@
-//! Tests of what no contract says, of devices, streams, links, recorders, books and the world, through their public calls alone: refused
-//! reads, writes and growths, threads, and workers that are held. They stand in a crate above all others, so that each crate is proved once
-//! and not with its tests again.
+//! Tests of what no contract and no text of an audit says, of devices, streams, links, recorders, books, the world, the auditor, its workers
+//! and the reports, through their public calls alone: refused reads, writes and growths, threads, and workers that are held. They stand in a
+//! crate above all others, so that each crate is proved once and not with its tests again. What an audit says of a whole trace stands as rows
+//! beside the tests of the program.
 #![tactic(auto)]
 
 #[cfg(test)]
+mod audit;
+#[cfg(test)]
+mod batch;
+#[cfg(test)]
+mod building;
+#[cfg(test)]
 mod link;
 #[cfg(test)]
+mod online;
+#[cfg(test)]
 mod record;
+#[cfg(test)]
+mod report;
 #[cfg(test)]
 mod stream;
 #[cfg(test)]

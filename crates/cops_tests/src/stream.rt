@@ -1,6 +1,6 @@
+use cops_gates::HoldsAt;
 use cops_stream::*;
-use cops_types::{Counted, FailingReader, FailingWriter, Gate, GateHeld, OpenGate, Point};
-use std::sync::Wait;
+use cops_types::{Counted, FailingReader, FailingWriter, OpenGate, Point};
 use std::test::Fail;
 
 /// The first client puts 1 at x under 1.0, and the second gets it.
@@ -20,21 +20,6 @@ const NO_SOURCE: [u8; 42] = [
 
 const TOLD: &[u8] = b"refused: 1 operations, 0 puts, 1 faults\nno source (0,0) at 1.0\n";
 
-/// Holds the last of two workers at its end.
-#[derive(Clone, Copy)]
-struct HoldsTheSecond;
-
-impl Gate for HoldsTheSecond {
-    ghost may_hold = { λ _ _. Unit {0} };
-
-    fn pass<R: Wait>(&self, _rt: &R, point: Point) -> Result<(), GateHeld> {
-        if point == Point::PieceDone(1) {
-            return Err(GateHeld);
-        }
-        Ok(())
-    }
-}
-
 #[test]
 fn bad_or_held_workers_write_nothing(rt: HostRuntime) {
     for (workers, fault) in [
@@ -44,7 +29,9 @@ fn bad_or_held_workers_write_nothing(rt: HostRuntime) {
     ] {
         let mut reader = Counted::new(TWO.as_slice());
         let mut writer = Counted::new(Vec::new(rt.alloc()));
-        let gate = HoldsTheSecond;
+        let gate = HoldsAt {
+            point: Point::PieceDone(1),
+        };
         let got = audit_stream(&rt, rt.alloc(), &mut reader, &mut writer, workers, &gate);
         assert_eq!(rt; got, Err(fault), "{workers}");
         assert_eq!(rt; writer.into_inner().len(), 0, "{workers}");

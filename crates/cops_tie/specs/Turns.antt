@@ -1,15 +1,10 @@
 -- What the code holds of an entry, and what it answers.
 use Rattle.std.specs.Prelude.{◌≡◌, ℕ}
 use Rattle.cops_core.specs.World.{Setting, World}
-use Rattle.cops_scenario.specs.Scenario.{AScenario, homes_of}
 use Rattle.cops_tie.specs.declared.order.Turn.{Turn}
 use Rattle.cops_tie.specs.declared.fault.TieFault.{TieFault}
 use Rattle.cops_tie.specs.declared.fault.TieFault.TheVariants.{Memory, Untied}
 use Rattle.cops_tie.specs.Tie.{Placed, place_asked, IsFrom}
-
--- what never changes in a scenario's world
-abbrev pub setting_of : AScenario → Setting
-setting_of s = record { place = s.place; homes = homes_of s }
 
 abbrev pub shown : Turn → Placed
 shown t = record { dc = t.dc; place = t.place; entry = t.entry.now }

@@ -4,14 +4,13 @@ ghost use Rattle.cops_core.specs.World.{Happens, World as AWorld, context_in, op
 ghost use Rattle.cops_core.specs.Invariants.{HasAcceptedVerdict};
 ghost use Rattle.cops_trace.specs.Text.{sessions_of};
 ghost use Rattle.cops_tie.specs.Tie.{Placed, IsBelow, Continues, Follows, IsFrom, IsHomeOf, IsTied, IsTiedBefore, IsUntied, StopsAt, event_at, event_of, place_asked, ticket, ticket_after};
-ghost use Rattle.cops_tie.specs.Turns.{StandsRight, WhereUntied, setting_of, shown};
+ghost use Rattle.cops_tie.specs.Turns.{StandsRight, WhereUntied, shown};
 
 use crate::entry::Entry;
 use crate::fault::TieFault;
 use crate::order::{Turn, in_order};
-use cops_core::{Event, World};
+use cops_core::{Event, Setting, World};
 use cops_node::{NodeEvent, Outcome};
-use cops_scenario::Scenario;
 use cops_trace::Trace;
 use cops_types::{Deps, History, Memory, PutRecord};
 use std::alloc::{AllocError, Global};
@@ -26,20 +25,20 @@ pub struct TiedRun {
 }
 
 /// The world's events of a run whose books these are: `Untied` where the entries of all books, in order of their tickets, are
-/// no run of a world of the scenario, or one whose clients saw something else than the trace says. Each entry of a put has
+/// no run of a world of this setting, or one whose clients saw something else than the trace says. Each entry of a put has
 /// to have its client's context, each delivered put has to be the issued one, and each entry has to stand with the node
 /// that the world asks. The condition: there is one book for each node, in order of node numbers.
 pub fn tie(
     alloc: Global,
-    scenario: &Scenario,
+    setting: &Setting,
     books: &[Vec<Entry>],
     trace: &Trace,
 ) -> Result<Vec<Event>, TieFault>
-    requires { length books.now ≡ scenario.now.place.dcs * (length scenario.now.place.splits + 1) }
-    ensures tied { IfOk result (λ events. IsTied (setting_of scenario.now) (map (λ b. b.items) books.now) (sessions_of trace.now) events.items) }
-    ensures untied { IfErr result (WhereUntied (IsUntied (setting_of scenario.now) (map (λ b. b.items) books.now) (sessions_of trace.now))) }
+    requires { length books.now ≡ setting.now.place.dcs * (length setting.now.place.splits + 1) }
+    ensures tied { IfOk result (λ events. IsTied setting.now (map (λ b. b.items) books.now) (sessions_of trace.now) events.items) }
+    ensures untied { IfErr result (WhereUntied (IsUntied setting.now (map (λ b. b.items) books.now) (sessions_of trace.now))) }
 {
-    match tied_run(alloc, scenario, books, trace) {
+    match tied_run(alloc, setting, books, trace) {
         Ok(run) => Ok(events_of(run)),
         Err(fault) => Err(fault),
     }
@@ -61,19 +60,18 @@ fn events_of(run: TiedRun) -> Vec<Event>
 /// The same, with the world that the run ends in. What the clients of a tied run saw is accepted.
 pub fn tied_run(
     alloc: Global,
-    scenario: &Scenario,
+    setting: &Setting,
     books: &[Vec<Entry>],
     trace: &Trace,
 ) -> Result<TiedRun, TieFault>
-    requires { length books.now ≡ scenario.now.place.dcs * (length scenario.now.place.splits + 1) }
-    ensures setting { IfOk result (λ run. run.world.setting ≡ setting_of scenario.now) }
-    ensures tied { IfOk result (λ run. IsTiedBefore (setting_of scenario.now) (map (λ b. b.items) books.now) (sessions_of trace.now) run.events.items run.world.world run.next) }
+    requires { length books.now ≡ setting.now.place.dcs * (length setting.now.place.splits + 1) }
+    ensures setting { IfOk result (λ run. run.world.setting ≡ setting.now) }
+    ensures tied { IfOk result (λ run. IsTiedBefore setting.now (map (λ b. b.items) books.now) (sessions_of trace.now) run.events.items run.world.world run.next) }
     ensures accepted { OnOk result (HasAcceptedVerdict (sessions_of trace.now)) }
-    ensures untied { IfErr result (WhereUntied (IsUntied (setting_of scenario.now) (map (λ b. b.items) books.now) (sessions_of trace.now))) }
+    ensures untied { IfErr result (WhereUntied (IsUntied setting.now (map (λ b. b.items) books.now) (sessions_of trace.now))) }
 {
-    let place = scenario.place();
-    let order = in_order(alloc, place.dcs(), place.nodes(), books)?;
-    let run = run_of(alloc, scenario, &order)?;
+    let order = in_order(alloc, setting.dcs(), setting.nodes(), books)?;
+    let run = run_of(alloc, setting, &order)?;
     if is_same(run.world.history(), trace.history()) {
         return Ok(run);
     }
@@ -83,16 +81,16 @@ pub fn tied_run(
 }
 
 /// The run that the entries are, whatever the clients saw.
-fn run_of(alloc: Global, scenario: &Scenario, order: &[Turn<'_>]) -> Result<TiedRun, TieFault>
+fn run_of(alloc: Global, setting: &Setting, order: &[Turn<'_>]) -> Result<TiedRun, TieFault>
     requires { AllPairs (λ p q. ticket p ≤ ticket q) (map shown order.now) }
-    ensures setting { IfOk result (λ run. run.world.setting ≡ setting_of scenario.now) }
-    ensures follows { IfOk result (λ run. Follows (setting_of scenario.now) (opening (setting_of scenario.now)) (map shown order.now) run.world.world) }
+    ensures setting { IfOk result (λ run. run.world.setting ≡ setting.now) }
+    ensures follows { IfOk result (λ run. Follows setting.now (opening setting.now) (map shown order.now) run.world.world) }
     ensures events { IfOk result (λ run. run.events.items ≡ map event_of (map shown order.now)) }
     ensures next { IfOk result (λ run. run.next ≡ ticket_after (map shown order.now)) }
-    ensures stops { IfErr result (WhereUntied (StopsAt (setting_of scenario.now) (opening (setting_of scenario.now)) (map shown order.now))) }
+    ensures stops { IfErr result (WhereUntied (StopsAt setting.now (opening setting.now) (map shown order.now))) }
 {
-    let mut world = scenario.open_world(alloc)?;
-    match followed(alloc, scenario, &mut world, order) {
+    let mut world = World::of(alloc, setting.clone()?)?;
+    match followed(alloc, setting, &mut world, order) {
         Ok(events) => Ok(TiedRun {
             events,
             world,
@@ -108,15 +106,15 @@ fn run_of(alloc: Global, scenario: &Scenario, order: &[Turn<'_>]) -> Result<Tied
 /// Follows the entries, and gives the world's events.
 fn followed(
     alloc: Global,
-    scenario: &Scenario,
+    setting: &Setting,
     world: &mut World,
     order: &[Turn<'_>],
 ) -> Result<Vec<Event>, TieFault>
-    requires setting { world.old.setting ≡ setting_of scenario.now }
+    requires setting { world.old.setting ≡ setting.now }
     requires never_falls { AllPairs (λ p q. ticket p ≤ ticket q) (map shown order.now) }
     ensures setting { world.new.setting ≡ world.old.setting }
-    ensures ok { IfOk result (λ events. Follows (setting_of scenario.now) world.old.world (map shown order.now) world.new.world × (events.items ≡ map event_of (map shown order.now))) }
-    ensures stops { IfErr result (WhereUntied (StopsAt (setting_of scenario.now) world.old.world (map shown order.now))) }
+    ensures ok { IfOk result (λ events. Follows setting.now world.old.world (map shown order.now) world.new.world × (events.items ≡ map event_of (map shown order.now))) }
+    ensures stops { IfErr result (WhereUntied (StopsAt setting.now world.old.world (map shown order.now))) }
 {
     let mut events = Vec::with_capacity(alloc, order.len())?;
     for i in 0..order.len() {
@@ -125,7 +123,7 @@ fn followed(
         if comes_again(order, i) {
             return Err(TieFault::Untied { ticket });
         }
-        match continued(scenario, world, turn)? {
+        match continued(setting, world, turn)? {
             Some(event) => events.push(event)?,
             None => return Err(TieFault::Untied { ticket }),
         }
@@ -146,17 +144,13 @@ fn comes_again(order: &[Turn<'_>], i: usize) -> bool
 }
 
 /// The world's event that the entry is, which the world then has met: none where the entry does not continue the run.
-fn continued(
-    scenario: &Scenario,
-    world: &mut World,
-    turn: &Turn<'_>,
-) -> Result<Option<Event>, Memory>
-    requires { world.old.setting ≡ setting_of scenario.now }
+fn continued(setting: &Setting, world: &mut World, turn: &Turn<'_>) -> Result<Option<Event>, Memory>
+    requires { world.old.setting ≡ setting.now }
     ensures setting { world.new.setting ≡ world.old.setting }
-    ensures some { IfOk result (λ o. IfSome o (λ event. (event ≡ event_of (shown turn.now)) × Continues (setting_of scenario.now) world.old.world (shown turn.now) world.new.world)) }
-    ensures none { IfOk result (λ o. IfNone o ((mid : AWorld) → Continues (setting_of scenario.now) world.old.world (shown turn.now) mid → ⊥)) }
+    ensures some { IfOk result (λ o. IfSome o (λ event. (event ≡ event_of (shown turn.now)) × Continues setting.now world.old.world (shown turn.now) world.new.world)) }
+    ensures none { IfOk result (λ o. IfNone o ((mid : AWorld) → Continues setting.now world.old.world (shown turn.now) mid → ⊥)) }
 {
-    if !is_from(scenario, world, turn)? {
+    if !is_from(setting, world, turn)? {
         return Ok(None);
     }
     let event = world_event(turn.dc, &turn.entry.event)?;
@@ -190,53 +184,52 @@ fn is_answered(world: &mut World, event: &Event, answer: &Outcome) -> Result<boo
 }
 
 /// Whether the entry stands with the node that its event belongs to, and the node was told what the world has.
-fn is_from(scenario: &Scenario, world: &World, turn: &Turn<'_>) -> Result<bool, Memory>
-    ensures { IfOk result (λ is. IsTrue is ↔ StandsRight (setting_of scenario.now) world.now.world (shown turn.now)) }
+fn is_from(setting: &Setting, world: &World, turn: &Turn<'_>) -> Result<bool, Memory>
+    ensures { IfOk result (λ is. IsTrue is ↔ StandsRight setting.now world.now.world (shown turn.now)) }
 {
-    if place_of_event(scenario, &turn.entry.event) != u16::from(turn.place) {
+    if place_of_event(setting, &turn.entry.event) != u16::from(turn.place) {
         return Ok(false);
     }
-    is_told(scenario, world, turn.dc, &turn.entry.event)
+    is_told(setting, world, turn.dc, &turn.entry.event)
 }
 
 /// The place of the key's node, or of the node that gave the version.
-fn place_of_event(scenario: &Scenario, event: &NodeEvent) -> u16
-    ensures { result ≡ place_asked (setting_of scenario.now) event.now }
+fn place_of_event(setting: &Setting, event: &NodeEvent) -> u16
+    ensures { result ≡ place_asked setting.now event.now }
 {
-    let place = scenario.place();
     match event {
-        NodeEvent::Put { key, .. } => u16::from(place.primary(key)),
-        NodeEvent::Get { key, .. } => u16::from(place.primary(key)),
-        NodeEvent::Deliver(put) => u16::from(place.primary(&put.key)),
-        NodeEvent::Ask { key, .. } => u16::from(place.primary(key)),
+        NodeEvent::Put { key, .. } => u16::from(setting.primary(key)),
+        NodeEvent::Get { key, .. } => u16::from(setting.primary(key)),
+        NodeEvent::Deliver(put) => u16::from(setting.primary(&put.key)),
+        NodeEvent::Ask { key, .. } => u16::from(setting.primary(key)),
         NodeEvent::Mark { version, .. } => version.node() % 64,
         NodeEvent::Settle { version } => version.node() % 64,
     }
 }
 
 /// Whether the node was told what the world has.
-fn is_told(scenario: &Scenario, world: &World, dc: u8, event: &NodeEvent) -> Result<bool, Memory>
-    ensures { IfOk result (λ is. IsTrue is ↔ IsFrom (setting_of scenario.now) world.now.world dc event.now) }
+fn is_told(setting: &Setting, world: &World, dc: u8, event: &NodeEvent) -> Result<bool, Memory>
+    ensures { IfOk result (λ is. IsTrue is ↔ IsFrom setting.now world.now.world dc event.now) }
 {
     match event {
         NodeEvent::Put { client, deps, .. } => {
-            if !is_home(scenario, dc, *client) {
+            if !is_home(setting, dc, *client) {
                 return Ok(false);
             }
             has_context(world, *client, deps)
         }
-        NodeEvent::Get { client, .. } => Ok(is_home(scenario, dc, *client)),
+        NodeEvent::Get { client, .. } => Ok(is_home(setting, dc, *client)),
         NodeEvent::Deliver(put) => Ok(is_sent(world, put)),
         NodeEvent::Ask { .. } | NodeEvent::Mark { .. } | NodeEvent::Settle { .. } => Ok(true),
     }
 }
 
 /// Whether it is the client's data centre.
-fn is_home(scenario: &Scenario, dc: u8, client: u16) -> bool
-    ensures { IsTrue result ↔ IsHomeOf (setting_of scenario.now) dc client }
+fn is_home(setting: &Setting, dc: u8, client: u16) -> bool
+    ensures { IsTrue result ↔ IsHomeOf setting.now dc client }
 {
-    match scenario.clients().get(client as usize) {
-        Some(it) => it.at == dc,
+    match setting.homes().get(client as usize) {
+        Some(home) => *home == dc,
         None => false,
     }
 }

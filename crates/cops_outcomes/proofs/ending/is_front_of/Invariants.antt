@@ -1,6 +1,6 @@
 use Rattle.std.proofs.Common.{ℕ, ◌<◌, slice_index_or}
 use Rattle.cops_types.specs.declared.op.Op.{Op}
-use Rattle.cops_scenario.specs.declared.scenario.ScriptOp.{ScriptOp}
+use Rattle.cops_core.specs.declared.script.ScriptOp.{ScriptOp}
 use Rattle.cops_outcomes.specs.Outcomes.{IsSeenAs}
 use Rattle.cops_outcomes.proofs.ending.is_front_of.Given as goal
 

@@ -1,7 +1,7 @@
 use Rattle.std.proofs.Common.{◌∙◌, ap, sym, subst, length, Option, List}
+use Rattle.cops_scenario.specs.Scenario.{setting_of}
 use Rattle.cops_core.specs.declared.event.Event.{Event}
 use Rattle.cops_core.specs.World.{opening}
-use Rattle.cops_tie.specs.Turns.{setting_of}
 use Rattle.cops_run_stream.specs.Running.{IsRunOf}
 use Rattle.cops_run_stream.proofs.Recording.{run_len}
 use Rattle.cops_run_stream.proofs.Left.{event_run, left_of}
@@ -12,12 +12,6 @@ recorded-requires c =
     let s = setting_of c.args.scenario.now in
     ap length c.deref-2.ensures.value ∙ run_len s (opening s) c.args.events.now c.in_ok-outcomes.outcomes.items c.in_ok-outcomes.ensures.0 c.in_ok-outcomes.ensures.1
 
-pub reported_left-requires : goal.reported_left-requires
-reported_left-requires c =
-    let run = event_run c.args.scenario.now c.args.events.now c.in_ok-outcomes.outcomes.items c.in_ok-lines.lines.items c.in_ok-trace.trace (length c.clients.result.now)
-    c.in_ok-outcomes.ensures (ap length c.clients.ensures.clients) (rw c.deref-2.ensures.value at c.in_ok-trace.ensures) (rw c.deref.ensures.value at c.in_ok-lines.ensures) in
-    run.1
-
 pub returns : goal.returns
 returns c =
     let s = c.args.scenario.now in
@@ -26,4 +20,4 @@ returns c =
     let run = event_run s c.args.events.now c.in_ok-outcomes.outcomes.items lines trace (length c.clients.result.now)
     c.in_ok-outcomes.ensures (ap length c.clients.ensures.clients) (rw c.deref-2.ensures.value at c.in_ok-trace.ensures) (rw c.deref.ensures.value at c.in_ok-lines.ensures) in
     left_of s c.in_ok-reported_left.field-0 trace lines (subst (λ (events : Option (List Event)). IsRunOf s events lines trace) (sym c.requires) run.0) run.1
-    c.in_ok-reported_left.ensures.status c.in_ok-reported_left.ensures.trace c.in_ok-reported_left.ensures.text
+    c.in_ok-reported_left.ensures.trace c.in_ok-reported_left.ensures.text

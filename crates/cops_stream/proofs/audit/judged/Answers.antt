@@ -12,8 +12,10 @@ returns-in-Accepted-clause-told g c =
     let v = c.in-Ok.verdict in
     record {
       verdict = v;
-      is_verdict = subst (λ (s : Sessions). IsVerdict s v) h c.in-Ok.ensures.ok;
-      is_report = subst (λ (s : Sessions). IsReport s v c.in_ok-text.text.items) h c.in_ok-text.ensures;
+      is_report = record {
+        is_verdict = subst (λ (s : Sessions). IsVerdict s v) h c.in-Ok.ensures.ok;
+        is_report = subst (λ (s : Sessions). IsReport s v c.in_ok-text.text.items) h c.in_ok-text.ensures;
+      };
       answer_is = sym (ap answer_of c.in-Accepted.is);
     }
 
@@ -27,8 +29,10 @@ returns-clause-told g c =
     let v = c.in-Ok.verdict in
     record {
       verdict = v;
-      is_verdict = subst (λ (s : Sessions). IsVerdict s v) h c.in-Ok.ensures.ok;
-      is_report = subst (λ (s : Sessions). IsReport s v c.in_ok-text.text.items) h c.in_ok-text.ensures;
+      is_report = record {
+        is_verdict = subst (λ (s : Sessions). IsVerdict s v) h c.in-Ok.ensures.ok;
+        is_report = subst (λ (s : Sessions). IsReport s v c.in_ok-text.text.items) h c.in_ok-text.ensures;
+      };
       answer_is = sym (ap answer_of c.in-Refused.is);
     }
 

@@ -4,13 +4,13 @@ use Rattle.std.proofs.lemmas.List.{map-append}
 use Rattle.cops_core.specs.declared.event.Event.{Event}
 use Rattle.cops_core.specs.World.{World}
 use Rattle.cops_tie.specs.Tie.{Placed, event_of, IsBelow, Continues, Follows, StopsAt}
-use Rattle.cops_tie.specs.Turns.{setting_of, shown}
+use Rattle.cops_tie.specs.Turns.{shown}
 use Rattle.cops_tie.proofs.Walking.{at_turn, take_turn}
 use Rattle.cops_tie.proofs.tying.followed.Goals as goal
 
 pub returns-then-comes_again-clause-stops : goal.returns-then-comes_again-clause-stops
 returns-then-comes_again-clause-stops c =
-    let s = setting_of c.args.scenario.now in
+    let s = c.args.setting.now in
     let w = c.loop-i.world.world in
     let t = c.index-order-i.result in
     let ps = map shown c.args.order.now in
@@ -20,7 +20,7 @@ returns-then-comes_again-clause-stops c =
 
 pub returns-in-None-clause-stops : goal.returns-in-None-clause-stops
 returns-in-None-clause-stops c =
-    let s = setting_of c.args.scenario.now in
+    let s = c.args.setting.now in
     let w = c.loop-i.world.world in
     let t = c.index-order-i.result in
     let at = at_turn c.args.order.now c.loop-i.i t c.loop-i-test.true c.index-order-i.is in
@@ -29,7 +29,7 @@ returns-in-None-clause-stops c =
 
 pub loop-i-preserved : goal.loop-i-preserved
 loop-i-preserved c =
-    let s = setting_of c.args.scenario.now in
+    let s = c.args.setting.now in
     let w = c.loop-i.world.world in
     let next = c.continued.new.world.world in
     let t = c.index-order-i.result in

@@ -1,0 +1,67 @@
+//! How a command ends.
+ghost use Rattle.std.specs.Prelude.{◌≡◌, ◌≤◌, ◌⊎◌, ℕ, length, take};
+ghost use Rattle.std.specs.Io.KnownBytes.{Appends};
+ghost use Rattle.cops_types.specs.Failures.{Failed as DidFail};
+ghost use Rattle.cops_types.specs.Counted.{failures, inner};
+ghost use Rattle.cops_command.specs.Status.{number};
+ghost use Rattle.cops_command.specs.declared.status.Status.TheVariants.{Failed};
+
+use cops_trace::write_text;
+use cops_types::Counted;
+use std::io::Write;
+
+/// How a command ends. The numbers are the program's statuses.
+#[derive(Clone, Copy, Debug, PartialEq, Eq)]
+pub enum Status {
+    /// A history that is accepted, and an input that was shown whole.
+    Accepted = 0,
+    /// A history that is refused.
+    Refused = 1,
+    /// A faulty input, and words that are wrong.
+    Faulty = 2,
+    /// Want of memory.
+    NoMemory = 3,
+    /// A device's fault, and a run that failed.
+    Failed = 4,
+}
+
+impl Status {
+    ghost use Rattle.std.specs.Prelude.{◌≡◌};
+    ghost use Rattle.cops_command.specs.Status.{number};
+
+    /// The number that the program ends with.
+    pub fn number(self) -> u8
+        ensures { result ≡ number self }
+    {
+        self as u8
+    }
+}
+
+/// Tells of a fault by a line on `errors`, whose own faults are not told, and gives the status.
+pub fn failed<E: Write>(errors: &mut Counted<E>, text: &[u8]) -> u8
+    ensures status { result ≡ number Failed }
+
+    // A front of the text was written, and all of it unless a write failed.
+    ensures told { (n : ℕ) × Appends (E.contents (inner errors.old)) (E.contents (inner errors.new)) (take n text.now)
+        × ((length text.now ≤ n) ⊎ DidFail (failures errors.old) (failures errors.new)) }
+{
+    let _ = write_text(errors, text);
+    Status::Failed.number()
+}
+
+/// Prints a text, and gives this status, or that of a write that failed, which a line on `errors` tells.
+pub fn print<W: Write, E: Write>(
+    text: &[u8],
+    status: Status,
+    out: &mut Counted<W>,
+    errors: &mut Counted<E>,
+) -> u8
+    ensures whole { (result ≡ number Failed) ⊎ ((result ≡ number status) × Appends (W.contents (inner out.old)) (W.contents (inner out.new)) text.now) }
+    ensures failed { result ≡ number Failed → (status ≡ Failed) ⊎ DidFail (failures out.old) (failures out.new) }
+    ensures heard { (result ≡ number Failed) ⊎ (failures out.new ≡ failures out.old) }
+{
+    match write_text(out, text) {
+        Ok(()) => status.number(),
+        Err(_) => failed(errors, b"failed: write\n"),
+    }
+}

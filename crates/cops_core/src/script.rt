@@ -1,0 +1,16 @@
+//! What scripted clients do.
+use cops_types::{Key, Value};
+
+/// What a client does next.
+#[derive(Debug, Drop, PartialEq, Eq)]
+pub enum ScriptOp {
+    Put { key: Key, value: Value },
+    Get { key: Key },
+}
+
+/// A client: its data centre, and its operations, one after the other.
+#[derive(Debug, Drop)]
+pub struct ScriptedClient {
+    pub at: u8,
+    pub script: Vec<ScriptOp>,
+}

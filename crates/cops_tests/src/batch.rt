@@ -1,0 +1,95 @@
+use crate::building::*;
+use cops_audit::{Verdict, judge};
+use cops_batch::*;
+use cops_gates::{HoldsAt, Meeting};
+use cops_types::{Gate, History, OpenGate, Point};
+use std::sync::Wait;
+use std::test::Fail;
+use std::thread::Threads;
+
+/// One version of three puts.
+const DOUBLED: [(u16, Did); 5] = [
+    (0, Did::Put(b'x', 1, 1, 0)),
+    (1, Did::Put(b'y', 1, 1, 0)),
+    (1, Did::Got(b'q', 9, 9, 0)),
+    (2, Did::Put(b'x', 2, 2, 0)),
+    (2, Did::Put(b'x', 3, 1, 0)),
+];
+
+/// Whether so many workers give this verdict.
+fn gives<R: Threads + Wait + Sync + AllocGlobal, G: Gate>(
+    rt: &R,
+    gate: &G,
+    workers: u8,
+    history: &History,
+    wanted: &Verdict,
+) -> Result<bool, BatchFault> {
+    let verdict = judge_with(rt, rt.alloc(), history, workers, gate)?;
+    Ok(same(&verdict, wanted))
+}
+
+/// Whether so many workers say what one does, or the fault with which they end.
+fn answer<R: Threads + Wait + Sync + AllocGlobal, G: Gate>(
+    rt: &R,
+    gate: &G,
+    workers: u8,
+    entries: &[(u16, Did)],
+) -> Result<Result<bool, BatchFault>, Fail> {
+    let history = history(rt.alloc(), 3, entries)?;
+    let wanted = judge(rt.alloc(), &history)?;
+    Ok(gives(rt, gate, workers, &history, &wanted))
+}
+
+#[test]
+fn two_workers_say_what_one_does(rt: HostRuntime) -> Result<(), Fail> {
+    assert!(rt; answer(&rt, &OpenGate, 2, &STALE)? == Ok(true));
+    Ok(())
+}
+
+#[test]
+fn too_few_and_too_many_workers(rt: HostRuntime) -> Result<(), Fail> {
+    for workers in [0u8, 65, 255] {
+        let answer = answer(&rt, &OpenGate, workers, &STALE)?;
+        assert!(rt; answer == Err(BatchFault::BadWorkers), "{workers}");
+    }
+    Ok(())
+}
+
+/// Whether the pieces meet and the verdict is that of one worker.
+fn meets<R: Threads + Wait + Sync + AllocGlobal>(
+    rt: &R,
+    workers: u8,
+    entries: &[(u16, Did)],
+) -> Result<bool, Fail> {
+    let gate = Meeting::new(Point::PieceStart(0), Point::PieceStart(1));
+    Ok(answer(rt, &gate, workers, entries)? == Ok(true))
+}
+
+#[test]
+fn pieces_stand_side_by_side(rt: HostRuntime) -> Result<(), Fail> {
+    for (workers, entries) in [(2, &STALE[..]), (2, &DOUBLED[..]), (64, &STALE[..4])] {
+        assert!(rt; meets(&rt, workers, entries)?);
+    }
+    Ok(())
+}
+
+/// Whether a call by three workers is held at the point.
+fn is_held<R: Threads + Wait + Sync + AllocGlobal>(
+    rt: &R,
+    entries: &[(u16, Did)],
+    point: Point,
+) -> Result<bool, Fail> {
+    Ok(answer(rt, &HoldsAt { point }, 3, entries)? == Err(BatchFault::Held))
+}
+
+#[test]
+fn a_held_worker_is_told(rt: HostRuntime) -> Result<(), Fail> {
+    let sourceless = &DOUBLED[1..3];
+    for i in 0..3 {
+        assert!(rt; is_held(&rt, &STALE, Point::PieceStart(i))?, "{i}");
+        assert!(rt; is_held(&rt, sourceless, Point::PieceDone(i))?, "{i}");
+        assert!(rt; is_held(&rt, &DOUBLED, Point::PieceDone(i))?, "{i}");
+    }
+    assert!(rt; !is_held(&rt, &STALE, Point::PieceDone(3))?);
+    Ok(())
+}
