@@ -3,7 +3,7 @@
 use anyhow::{Error, bail};
 use cops_types::{History, OpName};
 use cops_words::Part::{Count, Word};
-use cops_words::{no_row, op, op_text, text, u16_of, u32_of, word, yes_or_no};
+use cops_words::{no_row, op, op_text, session_text, text, u16_of, u32_of, word, yes_or_no};
 use std::alloc::Global;
 
 /// How many clients there are, and how many operations.
@@ -41,12 +41,6 @@ fn push(
     counts(alloc, history)
 }
 
-/// How many operations a client has.
-pub fn session(alloc: Global, history: &History, client: &str) -> Result<String, Error> {
-    let session = history.session(u16_of(client)?);
-    text(alloc, &[Count(session.len()), Word(" operations")])
-}
-
 /// The name of a client's operation at an index.
 pub fn name(client: &str, index: &str) -> Result<OpName, Error> {
     let client = u16_of(client)?;
@@ -69,7 +63,7 @@ fn ask(alloc: Global, history: &mut History, words: &[&str]) -> Result<String, E
         ["push", client, rest @ ..] => push(alloc, history, client, rest),
         ["counts"] => counts(alloc, history),
         ["empty"] => yes_or_no(alloc, history.is_empty()),
-        ["session", client] => session(alloc, history, client),
+        ["session", client] => session_text(alloc, history, client),
         ["op", client, index] => op_at(alloc, history, client, index),
         _ => Err(no_row()),
     }

@@ -1,128 +1,71 @@
 //! What rows act on.
 
-use crate::tie::Run;
-use crate::{
-    book, clock, context, held, history, node, place, scenario, store, tie, trace, types, wire,
-    world,
-};
+use crate::{clock, history, trace, types, wire};
 use anyhow::Error;
-use cops_context::Context;
-use cops_core::World;
-use cops_held::Held;
-use cops_node::Node;
-use cops_place::Place;
-use cops_scenario::Scenario;
-use cops_store::Store;
-use cops_tie::Book;
 use cops_trace::Trace;
 use cops_types::{Clock, History};
 use cops_wire::Feeder;
-use cops_words::no_row;
+use cops_words::{Subjects, no_row};
 use std::alloc::Global;
 
 /// What a row is about, by its first word.
 #[derive(Clone, Copy)]
 enum Name {
-    Book,
     Clock,
-    Context,
-    Held,
     History,
-    Node,
-    Place,
-    Scenario,
-    Store,
-    Tie,
     Trace,
     Types,
     Wire,
-    World,
 }
 
 /// The name that a word is.
 fn read_name(word: &str) -> Result<Name, Error> {
     match word {
-        "book" => Ok(Name::Book),
         "clock" => Ok(Name::Clock),
-        "context" => Ok(Name::Context),
-        "held" => Ok(Name::Held),
         "history" => Ok(Name::History),
-        "node" => Ok(Name::Node),
-        "place" => Ok(Name::Place),
-        "scenario" => Ok(Name::Scenario),
-        "store" => Ok(Name::Store),
-        "tie" => Ok(Name::Tie),
         "trace" => Ok(Name::Trace),
         "types" => Ok(Name::Types),
         "wire" => Ok(Name::Wire),
-        "world" => Ok(Name::World),
         _ => Err(no_row()),
     }
 }
 
 /// What the rows of one file act on, each on what those before it made.
 #[derive(Drop)]
-pub struct Subjects {
-    book: Book,
+pub struct Auditor {
     clock: Clock,
-    context: Context,
-    held: Held,
     history: Option<History>,
-    node: Node,
-    place: Option<Place>,
-    scenario: Option<Scenario>,
-    store: Store,
-    run: Option<Run>,
     trace: Option<Trace>,
     feeder: Feeder,
-    world: Option<World>,
 }
 
-impl Subjects {
-    /// Nothing has happened.
-    pub fn begin(alloc: Global) -> Self {
-        Subjects {
-            book: Book::open(alloc, 0),
+impl Subjects for Auditor {
+    fn begin(alloc: Global) -> Self {
+        Auditor {
             clock: Clock::new(0),
-            context: Context::new(alloc),
-            held: Held::new(alloc),
             history: None,
-            node: Node::open(alloc, 0),
-            place: None,
-            scenario: None,
-            store: Store::new(alloc),
-            run: None,
             trace: None,
             feeder: Feeder::new(alloc),
-            world: None,
         }
     }
 
-    /// The answer to a row's words, of which the first names what it acts on.
-    pub fn answer(&mut self, alloc: Global, words: &[&str]) -> Result<String, Error> {
+    fn answer(&mut self, alloc: Global, words: &[&str]) -> Result<String, Error> {
         match words {
             [first, call @ ..] => self.told(alloc, read_name(first)?, call),
             _ => Err(no_row()),
         }
     }
+}
 
+impl Auditor {
     /// The answer to a call.
     fn told(&mut self, alloc: Global, on: Name, call: &[&str]) -> Result<String, Error> {
         match on {
-            Name::Book => book::answer(alloc, &mut self.book, call),
             Name::Clock => clock::answer(alloc, &mut self.clock, call),
-            Name::Context => context::answer(alloc, &mut self.context, call),
-            Name::Held => held::answer(alloc, &mut self.held, call),
             Name::History => history::answer(alloc, &mut self.history, call),
-            Name::Node => node::answer(alloc, &mut self.node, call),
-            Name::Place => place::answer(alloc, &mut self.place, call),
-            Name::Scenario => scenario::answer(alloc, &mut self.scenario, call),
-            Name::Store => store::answer(alloc, &mut self.store, call),
-            Name::Tie => tie::answer(alloc, &mut self.run, call),
             Name::Trace => trace::answer(alloc, &mut self.trace, call),
             Name::Types => types::answer(alloc, call),
             Name::Wire => wire::answer(alloc, &mut self.feeder, call),
-            Name::World => world::answer(alloc, &mut self.world, call),
         }
     }
 }

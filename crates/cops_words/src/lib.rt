@@ -5,6 +5,7 @@
 mod hex;
 mod nodes;
 mod outcomes;
+mod rows;
 mod telling;
 mod texts;
 mod words;
@@ -13,7 +14,8 @@ mod worlds;
 pub use hex::{bytes, digits};
 pub use nodes::node_event;
 pub use outcomes::{outcome, outcome_text, told_outcome};
-pub use telling::{op_text, pair_text, value_at, yes_or_no};
+pub use rows::{Subjects, say_files};
+pub use telling::{op_text, pair_text, session_text, value_at, yes_or_no};
 pub use texts::{Part, line_of, lossy, text, word};
 pub use words::{
     deps, key, key_and_value, keys, no_node, no_row, op, pair, parts, put, u8_of, u16_of, u32_of,

@@ -1,9 +1,10 @@
-//! The words that tell pairs, values and operations.
+//! The words that tell pairs, values, operations and sessions.
 
-use crate::texts::Part::{At, Bytes, Word};
+use crate::texts::Part::{At, Bytes, Count, Word};
 use crate::texts::{text, word};
+use crate::words::u16_of;
 use anyhow::Error;
-use cops_types::{Dep, Key, Op, Value, Version};
+use cops_types::{Dep, History, Key, Op, Value, Version};
 use std::alloc::Global;
 
 /// `yes` or `no`.
@@ -65,4 +66,10 @@ pub fn op_text(alloc: Global, op: &Op) -> Result<String, Error> {
         } => done_text(alloc, "got ", key, value, *version),
         Op::Missed { key } => text(alloc, &[Word("missed "), Bytes(key.as_bytes())]),
     }
+}
+
+/// How many operations a client has.
+pub fn session_text(alloc: Global, history: &History, client: &str) -> Result<String, Error> {
+    let session = history.session(u16_of(client)?);
+    text(alloc, &[Count(session.len()), Word(" operations")])
 }

@@ -1,11 +1,13 @@
 //! Rows of the world.
 
-use crate::{history, place};
+use crate::place;
 use anyhow::{Error, bail};
 use cops_core::{Event, World};
 use cops_node::Outcome;
 use cops_words::Part::{Count, Word};
-use cops_words::{no_row, outcome_text, parts, text, told_outcome, u8_of, u32_of, world_event};
+use cops_words::{
+    no_row, outcome_text, parts, session_text, text, told_outcome, u8_of, u32_of, world_event,
+};
 use std::alloc::Global;
 
 /// So many clients at a data centre.
@@ -110,7 +112,7 @@ fn count(alloc: Global, world: &World) -> Result<String, Error> {
 fn ask_world(alloc: Global, world: &mut World, words: &[&str]) -> Result<String, Error> {
     match words {
         ["counts"] => count(alloc, world),
-        ["session", client] => history::session(alloc, world.history(), client),
+        ["session", client] => session_text(alloc, world.history(), client),
         ["again", count, event @ ..] => again(alloc, world, count, event),
         ["run", events @ ..] => run(alloc, world, events),
         event => apply(alloc, world, event),
