@@ -675,13 +675,18 @@ def no_thread():
 
 
 def definition_files():
-    """The page of proofs names files of definitions that are there, each with its number of lines."""
+    """The page of proofs names files of definitions that are there, each with its number of lines that are not empty, and how many those of its
+    first list are together."""
     with open(os.path.join(ROOT, "docs", "PROOFS.md"), encoding="utf-8") as page:
-        rows = re.findall(r"^\| `([\w/]+\.antt)` \| (\d+) \|", page.read(), re.MULTILINE)
+        text = page.read()
+    row = re.compile(r"^\| `([\w/]+\.antt)` \| (\d+) \|", re.MULTILINE)
+    rows = row.findall(text)
     check("the page of proofs names files", len(rows) > 20, True)
     for name, lines in rows:
         with open(os.path.join(ROOT, "crates", name), encoding="utf-8") as file:
-            check(f"the lines of {name}", sum(1 for _ in file), int(lines))
+            check(f"the lines of {name}", sum(1 for line in file if line.strip()), int(lines))
+    told, first = re.search(r"has to believe these files, (\d+) lines.*?\n\n(.*?)\n\n", text, re.DOTALL).groups()
+    check("the lines of the first list", sum(int(lines) for _, lines in row.findall(first)), int(told))
 
 
 def wrong_edits():

@@ -11,7 +11,8 @@ use Rattle.cops_command.specs.declared.status.Status.{Status}
 use Rattle.cops_command.specs.declared.status.Status.TheVariants as status
 use Rattle.cops_stream.specs.declared.audit.Answer.{Answer}
 use Rattle.cops_stream.specs.declared.audit.Answer.TheVariants.{Accepted, Refused, Faulty}
-use Rattle.cops_stream.specs.Audit.{AuditSays, SpellsConvergent}
+use Rattle.cops_stream.specs.Audit.{AuditSays}
+use Rattle.cops_stream.specs.Convergent.{SpellsConvergent}
 use Rattle.cops_run_stream.specs.Running.{IsLeft}
 use Rattle.cops_serve.specs.Serving.{IsServed}
 

@@ -3,7 +3,7 @@
 #![tactic(auto)]
 
 ghost use Rattle.std.specs.Prelude.{◌≡◌, ◌≤◌, IfSome};
-ghost use Rattle.cops_stream.specs.Audit.{SpellsConvergent};
+ghost use Rattle.cops_stream.specs.Convergent.{SpellsConvergent};
 ghost use Rattle.cops_command.specs.Scenario.{TellsNone};
 ghost use Rattle.cops_command.specs.Status.{number};
 ghost use Rattle.cops_command.specs.declared.status.Status.TheVariants.{Accepted, Faulty, Refused};

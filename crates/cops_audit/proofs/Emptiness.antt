@@ -4,7 +4,8 @@ use Rattle.std.proofs.lemmas.Bool.{eqb-true, eq-eqb}
 use Rattle.std.proofs.lemmas.List.{length-map, get_or-map}
 use Rattle.cops_types.specs.declared.op.OpName.{OpName}
 use Rattle.cops_types.specs.Histories.{Sessions, Puts, PutsVersion}
-use Rattle.cops_types.specs.Convergence.{IsVersionOrder, StandsBefore}
+use Rattle.cops_types.specs.Convergence.{StandsBefore}
+use Rattle.cops_types.specs.Verdicts.{IsVersionOrder}
 use Rattle.cops_types.specs.Faults.{Lists}
 use Rattle.cops_audit.specs.declared.table.VersionedPut.{VersionedPut}
 use Rattle.cops_audit.specs.Tables.{IsVersionTable}

@@ -2,7 +2,8 @@
 use Rattle.std.proofs.Common.{◌≡◌, ◌<◌, ℕ, List, [], length, get_or, replicate, refl, ◌∙◌, ap, subst, inl, inr, arith}
 use Rattle.std.proofs.lemmas.List.{length-replicate}
 use Rattle.cops_types.specs.declared.op.OpName.{OpName}
-use Rattle.cops_types.specs.Histories.{Sessions, IsNamed, SourceStep, Step, Past, step, more}
+use Rattle.cops_types.specs.Histories.{Sessions, IsNamed, SourceStep}
+use Rattle.cops_types.specs.Past.{Step, Past, step, more}
 use Rattle.cops_audit.specs.declared.sweep.Sweep.{Sweep}
 use Rattle.cops_audit.specs.Searches.{Finds, IsPast, IsSearching, ListsCounts, TakesSources}
 use Rattle.cops_audit.specs.Sweeps.{Counted, IsFresh, Raises}

@@ -9,8 +9,8 @@ use Rattle.std.proofs.lemmas.List.Sums.{sum_by-cons, sum_by-set}
 use Rattle.cops_types.specs.declared.op.Op.{Op}
 use Rattle.cops_types.specs.declared.op.Op.TheVariants.{Put}
 use Rattle.cops_types.specs.declared.op.OpName.{OpName}
-use Rattle.cops_types.specs.Histories.{Sessions, op_at}
-use Rattle.cops_types.specs.Recorded.{count_of, with_op}
+use Rattle.cops_types.specs.Histories.{Sessions, op_at, with_op}
+use Rattle.cops_types.specs.Recorded.{count_of}
 use Rattle.cops_audit.specs.declared.notes.Note.{Note}
 use Rattle.cops_audit.specs.declared.numbers.Numbers.{Numbers}
 use Rattle.cops_audit.specs.declared.room.Room.{Room}

@@ -4,7 +4,8 @@ use Rattle.std.proofs.lemmas.Bool.{eqb-true, eq-eqb, ltb-true, lt-ltb}
 use Rattle.cops_types.specs.declared.op.Op.{Op}
 use Rattle.cops_types.specs.declared.op.Op.TheVariants.{Put, Got, Missed}
 use Rattle.cops_types.specs.declared.op.OpName.{OpName}
-use Rattle.cops_types.specs.Histories.{Sessions, op_at, SourceStep, Step, Past, step, more}
+use Rattle.cops_types.specs.Histories.{Sessions, op_at, SourceStep}
+use Rattle.cops_types.specs.Past.{Step, Past, step, more}
 use Rattle.cops_types.specs.Convergence.{Order, Precedes}
 use Rattle.cops_audit.proofs.Reach.{Mem, linked, step_linked, linked_cases, joined}
 use Rattle.cops_audit.proofs.Members.{names_of, is_named, mem_left, mem_right, mem_cases, contains_from_mem, mem_from_contains}

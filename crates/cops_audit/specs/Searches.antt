@@ -1,7 +1,8 @@
 -- Pasts of any history, as counts.
 use Rattle.std.specs.Prelude.{◌≡◌, ◌<◌, ◌⊎◌, ◌↔◌, ℕ, List, length, Contains, AllPairs, slice_index}
 use Rattle.cops_types.specs.declared.op.OpName.{OpName}
-use Rattle.cops_types.specs.Histories.{Sessions, SourceStep, Past}
+use Rattle.cops_types.specs.Histories.{Sessions, SourceStep}
+use Rattle.cops_types.specs.Past.{Past}
 use Rattle.cops_audit.specs.declared.sweep.Sweep.{Sweep}
 use Rattle.cops_audit.specs.Sweeps.{Counted, InSome}
 

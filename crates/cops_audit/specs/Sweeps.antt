@@ -1,5 +1,6 @@
 -- Pasts as counts, learned by walking notes backward.
 use Rattle.std.specs.Prelude.{◌≡◌, ◌<◌, ◌≤◌, ◌+◌, ◌-◌, ◌*◌, ◌^◌, ◌⊎◌, ℕ, List, [], length, slice_index, slice_index_or, slice_get, Some, Contains, sum_by, vec_len, vec_capacity, replicate}
+use Rattle.cops_types.specs.declared.limits.TheConstants.{MAX_CLIENT_OPS, MAX_OPS}
 use Rattle.cops_types.specs.declared.op.OpName.{OpName}
 use Rattle.cops_audit.specs.declared.table.VersionedPut.{VersionedPut}
 use Rattle.cops_audit.specs.declared.notes.Note.{Note}
@@ -20,8 +21,8 @@ pub record AreRising (table : List VersionedPut) (notes : List (List Note)) : Ty
   pub seen_puts : (name : OpName) (place mark : ℕ) → note_at notes name ≡ Some (record { seen = Put place; mark = mark }) → (version : ℕ) × StandsAt table place name version
   pub seen_gets : (name : OpName) (place mark : ℕ) → note_at notes name ≡ Some (record { seen = Got place; mark = mark }) → (put : OpName) × (version : ℕ) × StandsAt table place put version
   pub seen_sourceless : (name : OpName) (place mark : ℕ) → note_at notes name ≡ Some (record { seen = Sourceless place; mark = mark }) → place ≤ length table
-  pub small : (name : OpName) (note : Note) → note_at notes name ≡ Some note → name.index < 1000000
-  pub few : length table ≤ 16000000
+  pub small : (name : OpName) (note : Note) → note_at notes name ≡ Some note → name.index < MAX_CLIENT_OPS
+  pub few : length table ≤ MAX_OPS
 
 -- from an operation to a later one of its session, or from a put to a get that returned it
 abbrev pub NoteStep : List VersionedPut → List (List Note) → OpName → OpName → Type 0

@@ -1,5 +1,6 @@
 -- The puts by their versions.
 use Rattle.std.specs.Prelude.{◌≢◌, ◌<◌, ◌≤◌, ◌↔◌, ℕ, List, length, Contains, AllPairs}
+use Rattle.cops_types.specs.declared.limits.TheConstants.{MAX_OPS}
 use Rattle.cops_types.specs.declared.op.OpName.{OpName}
 use Rattle.cops_types.specs.Histories.{Sessions, IsGot, PutsVersion}
 use Rattle.cops_audit.specs.declared.table.VersionedPut.{VersionedPut}
@@ -21,7 +22,7 @@ pub record IsPutTable (h : Sessions) (puts : List VersionedPut) : Type 0 where
   pub members : (p : VersionedPut) → Contains puts p ↔ PutsVersion h p.name p.version
   pub once : AllPairs (λ p q. p.name ≢ q.name) puts
   pub in_order : VersionsNeverFall puts
-  pub few : length puts ≤ 16000000
+  pub few : length puts ≤ MAX_OPS
 
 -- all puts with their versions, in order of versions, no version twice
 pub record IsVersionTable (h : Sessions) (puts : List VersionedPut) : Type 0 where

@@ -1,3 +1,4 @@
+ghost use Rattle.cops_types.specs.declared.limits.TheConstants.{MAX_OPS};
 ghost use Rattle.std.specs.Prelude.{◌≡◌, ◌≢◌, ◌<◌, ◌≤◌, ℕ, IfSome, IfNone, IsTrue, length, slice_index_or};
 ghost use Rattle.cops_audit.specs.declared.table.VersionedPut.{VersionedPut};
 ghost use Rattle.cops_audit.specs.Tables.{VersionsNeverFall};
@@ -42,7 +43,7 @@ pub struct Hints {
 impl Hints {
     /// The hints for a table.
     pub fn new(alloc: Global, table: &[VersionedPut]) -> Result<Self, AllocError>
-        requires { length table.now ≤ 16000000 }
+        requires { length table.now ≤ MAX_OPS }
     {
         let mut hints = Hints {
             lowest: 0,

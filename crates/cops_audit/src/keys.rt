@@ -1,3 +1,4 @@
+ghost use Rattle.cops_types.specs.declared.limits.TheConstants.{MAX_OPS};
 ghost use Rattle.std.specs.Prelude.{◌≡◌, ◌<◌, ◌≤◌, ◌+◌, ℕ, IfOk, IsOk, OnOk, length, slice_get, vec_capacity, Some};
 ghost use Rattle.cops_types.specs.Histories.{PutsKey, Puts};
 ghost use Rattle.cops_audit.specs.Keys.{AreAhead, AreFirsts, AreNexts, KnowsFirsts, OnKey};
@@ -95,7 +96,7 @@ pub fn link<'a>(
 
 /// Makes it so many places, each with itself. It takes no memory where there is room for them.
 fn set_own_places(places: &mut Vec<u32>, count: usize) -> Result<(), AllocError>
-    requires { count ≤ 16000000 }
+    requires { count ≤ MAX_OPS }
     ensures count { OnOk result (length places.new.items ≡ count) }
     ensures own { OnOk result ((k : ℕ) → k < count → slice_get places.new.items k ≡ Some k) }
     ensures capacity { vec_capacity places.old ≤ vec_capacity places.new }

@@ -1,8 +1,8 @@
 ghost use Rattle.std.specs.Prelude.{◌↔◌, List};
 ghost use Rattle.cops_types.specs.declared.op.OpName.{OpName};
 ghost use Rattle.cops_types.specs.Histories.{Sessions};
-ghost use Rattle.cops_types.specs.Convergence.{ConvergesBy, IsCausallyConvergent, IsVersionOrder};
-ghost use Rattle.cops_types.specs.Verdicts.{IsAccepted, NoneDoubled};
+ghost use Rattle.cops_types.specs.Convergence.{ConvergesBy, IsCausallyConvergent};
+ghost use Rattle.cops_types.specs.Verdicts.{IsVersionOrder, IsAccepted, NoneDoubled};
 ghost use Rattle.cops_audit.specs.declared.verdict.Verdict.{Verdict};
 ghost use Rattle.cops_audit.specs.declared.verdict.SoFar.{SoFar};
 ghost use Rattle.cops_audit.specs.SoFar.{Continues, IsSoFar};

@@ -1,3 +1,4 @@
+ghost use Rattle.cops_types.specs.declared.limits.TheConstants.{MAX_OPS};
 ghost use Rattle.std.specs.Prelude.{IfOk, ◌≡◌, ◌+◌, ◌≤◌, length, vec_len, vec_capacity, slice_index_or, []};
 ghost use Rattle.cops_types.specs.Histories.{IsNamed};
 ghost use Rattle.cops_types.specs.Recorded.{IsWithinLimits, count_of};
@@ -38,7 +39,7 @@ pub fn set_names(names: &mut Vec<OpName>, history: &History)
 /// The names of all operations, in their order.
 pub fn all_names(alloc: Global, history: &History) -> Result<Vec<OpName>, AllocError>
     ensures names { IfOk result (λ v. Lists (λ n. n) (IsNamed history.now.sessions) v.items) }
-    ensures few { IfOk result (λ v. vec_len v ≤ 16000000) }
+    ensures few { IfOk result (λ v. vec_len v ≤ MAX_OPS) }
 {
     let mut names = Vec::with_capacity(alloc, history.len())?;
     set_names(&mut names, history);

@@ -27,7 +27,8 @@ impl Model for Online {
 
 impl Online {
     ghost use Rattle.std.specs.Prelude.{◌≡◌, ◌≤◌, ◌<◌, ◌↔◌, length, [], replicate, IfOk, IfErr, IsErrOf, OnOk, OnErr};
-    ghost use Rattle.cops_types.specs.Recorded.{IsFull, with_op};
+    ghost use Rattle.cops_types.specs.Recorded.{IsFull};
+    ghost use Rattle.cops_types.specs.Histories.{with_op};
     ghost use Rattle.cops_types.specs.TypeFaults.{IsHistoryFault};
     ghost use Rattle.cops_audit.specs.SoFar.{IsSoFar};
     ghost use Rattle.cops_audit.specs.Verdicts.{IsVerdict};

@@ -1,3 +1,4 @@
+ghost use Rattle.cops_types.specs.declared.limits.TheConstants.{MAX_CLIENT_OPS};
 ghost use Rattle.std.specs.Prelude.{◌≡◌, ◌<◌, ◌↔◌, ℕ, IsTrue, IfSome, IfNone};
 ghost use Rattle.cops_types.specs.Histories.{PutsVersion, SourceStep};
 ghost use Rattle.cops_audit.specs.Tables.{GetsVersion};
@@ -18,7 +19,7 @@ pub fn put_version(history: &History, name: OpName) -> Option<Version>
 /// Whether the one is a put, and the other a get that returned it: its key, its value and its version.
 pub fn is_source(history: &History, put: OpName, got: OpName) -> bool
     ensures source { IsTrue result ↔ SourceStep history.now.sessions put got }
-    ensures limit { IsTrue result → put.index < 1000000 }
+    ensures limit { IsTrue result → put.index < MAX_CLIENT_OPS }
 {
     match (history.op(put), history.op(got)) {
         (

@@ -36,7 +36,7 @@ fn make_room<T: Drop>(items: &mut Vec<T>, count: usize) -> Result<(), AllocError
 
 impl Room {
     ghost use Rattle.std.specs.Prelude.{◌<◌, ◌-◌, OnErr, OnOk, length};
-    ghost use Rattle.cops_types.specs.Recorded.{with_op};
+    ghost use Rattle.cops_types.specs.Histories.{with_op};
     ghost use Rattle.cops_audit.specs.Rooms.{Fits, HasSpace, IsSameButSpace};
 
     /// Room for no operations, of so many clients.

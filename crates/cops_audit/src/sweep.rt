@@ -1,3 +1,4 @@
+ghost use Rattle.cops_types.specs.declared.limits.TheConstants.{MAX_CLIENT_OPS, MAX_OPS};
 ghost use Rattle.std.specs.Prelude.{◌≡◌, ◌<◌, ◌≤◌, ◌+◌, ℕ, List, IfOk, IfSome, IfNone, IsOk, OnOk, IsTrue, Some, length, map, slice_index, []};
 ghost use Rattle.cops_types.specs.declared.op.OpName.{OpName};
 ghost use Rattle.cops_audit.specs.Notes.{above, StandsAt, note_at};
@@ -68,7 +69,7 @@ impl Sweep {
     /// Takes in a put at a place.
     fn take_put(&mut self, firsts: &[u32], place: u32)
         requires inside { place < length firsts.now }
-        requires small { place < 16000000 }
+        requires small { place < MAX_OPS }
         requires first { slice_index firsts.now place < length self.old.newest }
         ensures counts { self.new.counts ≡ self.old.counts }
         ensures pending { self.new.pending ≡ self.old.pending }
@@ -87,10 +88,10 @@ impl Sweep {
         firsts: &[u32],
         seen: Seen,
     ) -> Result<(), AllocError>
-        requires few { length table.now ≤ 16000000 }
+        requires few { length table.now ≤ MAX_OPS }
         requires firsts { ArePlaces table.now firsts.now }
         requires places { length table.now ≤ length self.old.newest }
-        requires puts { (place : ℕ) (put : OpName) (version : ℕ) → StandsAt table.now place put version → (put.client < length self.old.counts) × (put.index < 1000000) }
+        requires puts { (place : ℕ) (put : OpName) (version : ℕ) → StandsAt table.now place put version → (put.client < length self.old.counts) × (put.index < MAX_CLIENT_OPS) }
         requires seen { above seen ≤ length table.now }
         ensures learns { OnOk result (Learns table.now firsts.now self.old self.new seen) }
         ensures room { (lengths : List ℕ) → Covers lengths table.now → HasRoom lengths self.old → IsOk result × HasRoom lengths self.new }

@@ -1,3 +1,4 @@
+ghost use Rattle.cops_types.specs.declared.limits.TheConstants.{MAX_OPS};
 ghost use Rattle.std.specs.Prelude.{◌≡◌, ◌≢◌, ◌⊎◌, ◌<◌, ◌≤◌, ◌+◌, ◌↔◌, ℕ, IfOk, IfSome, IfNone, IsOk, IsTrue, OnOk, [], length, map, AllPairs, vec_len, vec_capacity, slice_index_or};
 ghost use Rattle.cops_types.specs.declared.op.OpName.{OpName};
 ghost use Rattle.cops_types.specs.Histories.{IsNamed, PutsVersion};
@@ -49,7 +50,7 @@ pub fn set_puts(
     names: &[OpName],
 ) -> Result<(), AllocError>
     requires names { Lists (λ n. n) (IsNamed history.now.sessions) names.now }
-    requires few { length names.now ≤ 16000000 }
+    requires few { length names.now ≤ MAX_OPS }
     ensures puts { OnOk result (IsPutTable history.now.sessions puts.new.items) }
     ensures count { OnOk result (vec_len puts.new ≤ length names.now) }
     ensures capacity { vec_capacity puts.old ≤ vec_capacity puts.new }
@@ -68,7 +69,7 @@ pub fn puts_by_version(
     names: &[OpName],
 ) -> Result<Vec<VersionedPut>, AllocError>
     requires names { Lists (λ n. n) (IsNamed history.now.sessions) names.now }
-    requires few { length names.now ≤ 16000000 }
+    requires few { length names.now ≤ MAX_OPS }
     ensures { IfOk result (λ v. IsPutTable history.now.sessions v.items) }
 {
     let mut puts = Vec::with_capacity(alloc, names.len())?;

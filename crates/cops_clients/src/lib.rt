@@ -1,24 +1,11 @@
-//! A COPS cluster on threads (COPS, sections 3 and 4): each node under a lock of its own, clients that call from threads of
-//! their own, and what each caller was told. Stands on the nodes' books, places, contexts and the recorder. The layers above
-//! use that, where a cluster is closed, what every caller was told is what the books' nodes answered.
+//! A COPS cluster on threads, whole, for who uses one: the cluster with its clients and their shares, what brings its puts into the other
+//! data centres, how a scripted client may end, and the run of a scenario. Each body stands in a crate below, with its contract.
 #![tactic(auto)]
 
-mod client;
-mod closing;
-mod cluster;
-mod differing;
-mod fault;
-mod noted;
-mod receiving;
-mod refusal;
-mod share;
-mod spot;
-mod stepping;
-
-pub use client::Client;
-pub use closing::{CloseFault, Closed, Uncompared};
-pub use cluster::{Cluster, Opened};
-pub use differing::difference_of_lists;
-pub use fault::OpenFault;
-pub use receiving::{Asked, RECEIVER, Yes};
-pub use share::{Holder, Made, Share};
+pub use cops_cluster::{
+    Asked, Client, CloseFault, Closed, Cluster, Holder, Made, OpenFault, Opened, RECEIVER, Share,
+    Uncompared, Yes, difference_of_lists,
+};
+pub use cops_outcomes::ClientOutcome;
+pub use cops_replication::{Receiver, Replicas, Sender, Turn, TurnFault, wired};
+pub use cops_run::{Run, RunFault, run};

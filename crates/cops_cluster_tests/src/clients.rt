@@ -1,6 +1,6 @@
 ghost use Rattle.std.specs.Prelude.{◌≡◌, IfOk, length, vec_len};
 
-use cops_clients::*;
+use cops_cluster::*;
 use cops_gates::{HoldsSteps, Meeting};
 use cops_node::Outcome;
 use cops_place::Place;

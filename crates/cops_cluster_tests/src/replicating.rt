@@ -1,4 +1,4 @@
-use cops_clients::*;
+use cops_cluster::*;
 use cops_gates::{HoldsAnswers, HoldsSteps};
 use cops_link::*;
 use cops_node::{NodeEvent, Outcome};

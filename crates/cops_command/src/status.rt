@@ -6,8 +6,7 @@ ghost use Rattle.cops_types.specs.Counted.{failures, inner};
 ghost use Rattle.cops_command.specs.Status.{number};
 ghost use Rattle.cops_command.specs.declared.status.Status.TheVariants.{Failed};
 
-use cops_trace::write_text;
-use cops_types::Counted;
+use cops_types::{Counted, write_text};
 use std::io::Write;
 
 /// How a command ends. The numbers are the program's statuses.

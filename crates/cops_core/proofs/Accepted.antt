@@ -5,7 +5,8 @@ use Rattle.cops_types.specs.declared.put_record.PutRecord.{PutRecord}
 use Rattle.cops_types.specs.declared.op.Op.{Op}
 use Rattle.cops_types.specs.declared.op.OpName.{OpName}
 use Rattle.cops_types.specs.declared.op.Op.TheVariants.{Put as Wrote, Got, Missed}
-use Rattle.cops_types.specs.Histories.{Sessions, op_at, IsPut, SessionStep, SourceStep, Step, Past}
+use Rattle.cops_types.specs.Histories.{Sessions, op_at, IsPut, SessionStep, SourceStep}
+use Rattle.cops_types.specs.Past.{Step, Past}
 use Rattle.cops_types.specs.Faults.{HasVersion, IsNotBelow}
 use Rattle.cops_types.specs.Verdicts.{NoneDoubled, AllHaveSources, AllAbove, NoneStale}
 use Rattle.cops_context.specs.Context.{with_pair}
@@ -20,7 +21,7 @@ use Rattle.cops_core.proofs.Contexts.{context_before, IsOf, WasPut, IsFair, AllF
 abbrev pub IsOnce : Sessions → Type 0
 IsOnce h = (a b : OpName) (k l x y : List ℕ) (version : ℕ) → IsPut h a k x version → IsPut h b l y version → a ≡ b
 
--- the version that an op_at puts or answers is below this one
+-- the version that an operation puts or answers is below this one
 abbrev IsBelow : Op → ℕ → Type 0
 IsBelow (Wrote k x v) version = v < version
 IsBelow (Got k x v) version = v < version
@@ -51,7 +52,7 @@ wrote_of puts k x v put i =
     cc
 
 module _ (puts : List PutRecord) (h : Sessions) (c : IsConsistent puts) (fair : (client : ℕ) → AllFair puts [] (session h client)) where
-  -- the context after an op_at
+  -- the context after an operation
   abbrev pub context_at : OpName → List Dep
   context_at n = context_before [] (session h n.client) (suc n.index)
 

@@ -8,7 +8,8 @@ use Rattle.cops_node.specs.declared.event.NodeEvent.TheVariants.{Put as NodePut,
 use Rattle.cops_node.specs.declared.outcome.Outcome.{Outcome}
 use Rattle.cops_node.specs.declared.outcome.Outcome.TheVariants.{Held, Repeat, Marked, Settled, Refused}
 use Rattle.cops_node.specs.Node.{Node, greatest_clock, put_pair, raised, put_at, mark_at, settle_at, settled_node, node_step, NodeHappens}
-use Rattle.cops_core.specs.World.{Setting, home, primary, World, node_at, with_node, context_in, sent, place_of, checks, refusal, unless, keeps, asks, delivers, done, Happens, Event, PutBy, GetBy, DeliverTo, AskAt, MarkAt, SettleAt}
+use Rattle.cops_core.specs.World.{Setting, home, primary, World, node_at, with_node, context_in, sent, checks, refusal, unless, keeps, asks, delivers, done, Happens, Event, PutBy, GetBy, DeliverTo, AskAt, MarkAt, SettleAt}
+use Rattle.cops_types.specs.NodeNumber.{place_of}
 use Rattle.cops_core.proofs.Nodes.{same_node}
 
 -- where the answer is a refusal, the node is put back

@@ -2,9 +2,11 @@
 use Rattle.std.proofs.Common.{◌≡◌, ℕ, ◌<◌, ◌⊎◌, inl, inr, List, [], ◌∷◌, ◌++◌, Bool, true, false, cond, length, slice_index_or, slice_set, refl, sym, ap, ◌∙◌, arith, subst, get_or-set_same, get_or-set_other, nat_lt}
 use Rattle.std.specs.List.{IsDistinct}
 use Rattle.std.proofs.lemmas.Bool.{cases_eq, and_parts, ltb-true}
+use Rattle.cops_types.specs.declared.limits.TheConstants.{MAX_CLIENT_OPS, MAX_OPS}
 use Rattle.cops_types.specs.declared.dep.Dep.{Dep}
 use Rattle.cops_types.specs.declared.op.Op.{Op}
-use Rattle.cops_types.specs.Recorded.{count_of, with_op, IsWithinLimits}
+use Rattle.cops_types.specs.Recorded.{count_of, IsWithinLimits}
+use Rattle.cops_types.specs.Histories.{with_op}
 use Rattle.cops_types.proofs.Sessions.{within_with_op}
 use Rattle.cops_context.specs.Context.{IsContext, has_pair, with_pair}
 use Rattle.cops_context.proofs.PairLists.{context_push}
@@ -34,11 +36,11 @@ pub bounded_answered : (old new : World) (client : ℕ) (op : Op) (context : Lis
     → new.contexts ≡ slice_set old.contexts client context → new.sessions ≡ with_op old.sessions client op → IsContext context → IsBounded new
 bounded_answered old new client op context b known there room contexts sessions is = record {
   contexts = λ c. cases c (cases_eq c client);
-  limits = subst IsWithinLimits (sym sessions) (within_with_op old.sessions client op (known, ltb-true (length (slice_index_or old.sessions client [])) 1000000 parts.0, ltb-true (count_of old.sessions) 16000000 parts.1) b.limits);
+  limits = subst IsWithinLimits (sym sessions) (within_with_op old.sessions client op (known, ltb-true (length (slice_index_or old.sessions client [])) MAX_CLIENT_OPS parts.0, ltb-true (count_of old.sessions) MAX_OPS parts.1) b.limits);
 }
   where
-    parts : (nat_lt (length (slice_index_or old.sessions client [])) 1000000 ≡ true) × (nat_lt (count_of old.sessions) 16000000 ≡ true)
-    parts = and_parts (nat_lt (length (slice_index_or old.sessions client [])) 1000000) (nat_lt (count_of old.sessions) 16000000) room
+    parts : (nat_lt (length (slice_index_or old.sessions client [])) MAX_CLIENT_OPS ≡ true) × (nat_lt (count_of old.sessions) MAX_OPS ≡ true)
+    parts = and_parts (nat_lt (length (slice_index_or old.sessions client [])) MAX_CLIENT_OPS) (nat_lt (count_of old.sessions) MAX_OPS) room
 
     cases : (c : ℕ) → (c ≡ client) ⊎ (c ≡ client → ⊥) → IsContext (context_in new c)
     cases c (inl e) =

@@ -1,4 +1,4 @@
--- A session with the context that it leads to: each op_at is fair to the context before it.
+-- A session with the context that it leads to: each operation is fair to the context before it.
 use Rattle.std.proofs.Common.{◌≡◌, ◌≢◌, ℕ, zero, suc, ◌≤◌, ◌⊎◌, inl, inr, List, [], ◌∷◌, ◌++◌, Contains, Some, slice_get, length, refl, sym, ap, ◌∙◌, arith, subst}
 use Rattle.std.proofs.lemmas.List.Elements.{Contains-append_left}
 use Rattle.cops_types.specs.declared.dep.Dep.{Dep}
@@ -12,13 +12,13 @@ use Rattle.cops_core.specs.Invariants.{Covers}
 use Rattle.cops_core.proofs.Lists.{at_version, contains_one, contains_head, gain_old, gain_cases}
 use Rattle.cops_core.proofs.Reaching.{reaches_itself, reaches_dep, reaches_old}
 
--- the context after an op_at
+-- the context after an operation
 abbrev pub context_after : List Dep → Op → List Dep
 context_after context (Wrote k x v) = at_version k v ∷ []
 context_after context (Got k x v) = with_pair context (at_version k v)
 context_after context (Missed k) = context
 
--- the context before the op_at at a place
+-- the context before the operation at a place
 abbrev pub context_before : List Dep → List Op → ℕ → List Dep
 context_before context ops zero = context
 context_before context [] (suc i) = context
@@ -74,7 +74,7 @@ after_at context [] i op e = cc
 after_at context (o ∷ ops) zero op e = let same : o ≡ op = cc in ap (context_after context) same
 after_at context (o ∷ ops) (suc i) op e = after_at (context_after context o) ops i op e
 
--- what the context reaches before an op_at it reaches after it
+-- what the context reaches before an operation it reaches after it
 pub covers_after : (puts : List PutRecord) (context : List Dep) (op : Op) (p : Dep) → IsFair puts context op → Covers puts context p → Covers puts (context_after context op) p
 covers_after puts context (Wrote k x v) p f c =
     let needed : Contains f.put.deps c.from = subst (λ d. Contains d c.from) (sym f.deps) c.among in
@@ -108,7 +108,7 @@ module _ (puts : List PutRecord) (new : PutRecord) (c : IsConsistent puts) (fres
   is_of_more : (k x : List ℕ) (v : ℕ) (put : PutRecord) → IsOf puts k x v put → IsOf (puts ++ new ∷ []) k x v put
   is_of_more k x v put i = record { among = Contains-append_left puts (new ∷ []) put i.among; bears = i.bears; value = i.value }
 
-  -- a new put leaves each op_at as fair as it was
+  -- a new put leaves each operation as fair as it was
   fair_more : (context : List Dep) (op : Op) → ((p : Dep) → Contains context p → Bears puts p) → IsFair puts context op → IsFair (puts ++ new ∷ []) context op
   fair_more context (Wrote k x v) b f = record { put = f.put; is = is_of_more k x v f.put f.is; deps = f.deps }
   fair_more context (Got k x v) b f = record {

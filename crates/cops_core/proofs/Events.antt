@@ -3,11 +3,12 @@ use Rattle.std.proofs.Common.{◌≡◌, ℕ, ◌+◌, ◌*◌, ◌<◌, ◌≤�
 use Rattle.std.proofs.lemmas.Option.{get_or_from_slice_get}
 use Rattle.std.proofs.lemmas.List.{get_or_past}
 use Rattle.std.proofs.lemmas.Bool.{and_from}
+use Rattle.cops_types.specs.declared.limits.TheConstants.{MAX_CLIENT_OPS, MAX_OPS}
 use Rattle.cops_types.specs.declared.dep.Dep.{Dep}
 use Rattle.cops_types.specs.declared.put_record.PutRecord.{PutRecord}
 use Rattle.cops_types.specs.Histories.{Sessions}
 use Rattle.cops_types.specs.Recorded.{Recorded, count_of}
-use Rattle.cops_types.specs.Version.{version_of}
+use Rattle.cops_types.specs.Clock.{version_of}
 use Rattle.cops_store.specs.Store.{has_pair}
 use Rattle.cops_held.specs.Held.{waiting}
 use Rattle.cops_node.specs.declared.event.NodeEvent.{NodeEvent}
@@ -18,7 +19,8 @@ use Rattle.cops_node.specs.Node.{Node, opened, greatest_clock, raised, put_at, d
 use Rattle.cops_core.specs.declared.recording.Draft.{Draft}
 use Rattle.cops_core.specs.Invariants.{IsReached}
 use Rattle.cops_core.specs.Parts.{MayRecord}
-use Rattle.cops_core.specs.World.{Said, Setting, IsSetting, World, home, primary, node_at, with_node, context_in, sent, place_of, is_answered, knows, has_room, is_dc, checks, refusal, keeps, asks, delivers, done, settled_in, Happens, Event, PutBy, GetBy, DeliverTo, AskAt, MarkAt, SettleAt}
+use Rattle.cops_core.specs.World.{Said, Setting, IsSetting, World, home, primary, node_at, with_node, context_in, sent, is_answered, knows, has_room, is_dc, checks, refusal, keeps, asks, delivers, done, settled_in, Happens, Event, PutBy, GetBy, DeliverTo, AskAt, MarkAt, SettleAt}
+use Rattle.cops_types.specs.NodeNumber.{place_of}
 use Rattle.cops_core.proofs.Nodes.{same_node}
 use Rattle.cops_core.proofs.Placed.{Placed}
 use Rattle.cops_core.proofs.Simulation.{home_within, settled_here}
@@ -30,21 +32,21 @@ use Rattle.cops_core.proofs.Versions.{not_sent}
 -- the client's next operation is not refused
 pub record Admitted (w : World) (client : ℕ) : Type 0 where
   pub known : client < length w.sessions
-  pub few : length (slice_index_or w.sessions client []) < 1000000
-  pub all : count_of w.sessions < 16000000
+  pub few : length (slice_index_or w.sessions client []) < MAX_CLIENT_OPS
+  pub all : count_of w.sessions < MAX_OPS
 
 pub admitted : {h : Recorded} {w : World} {client : ℕ} → h.sessions ≡ w.sessions → MayRecord h client → Admitted w client
 admitted {h} {w} {client} same may = record {
   known = subst (λ (x : Sessions). client < length x) same may.known;
-  few = subst (λ (x : Sessions). length (slice_index_or x client []) < 1000000) same may.few;
-  all = subst (λ (x : Sessions). count_of x < 16000000) same may.all;
+  few = subst (λ (x : Sessions). length (slice_index_or x client []) < MAX_CLIENT_OPS) same may.few;
+  all = subst (λ (x : Sessions). count_of x < MAX_OPS) same may.all;
 }
 
 -- the history has room for it
 pub admitted_room : {w : World} {client : ℕ} → Admitted w client → has_room w client ≡ true
 admitted_room {w} {client} a =
-    and_from (nat_lt (length (slice_index_or w.sessions client [])) 1000000) (nat_lt (count_of w.sessions) 16000000)
-    (lt-ltb (length (slice_index_or w.sessions client [])) 1000000 a.few) (lt-ltb (count_of w.sessions) 16000000 a.all)
+    and_from (nat_lt (length (slice_index_or w.sessions client [])) MAX_CLIENT_OPS) (nat_lt (count_of w.sessions) MAX_OPS)
+    (lt-ltb (length (slice_index_or w.sessions client [])) MAX_CLIENT_OPS a.few) (lt-ltb (count_of w.sessions) MAX_OPS a.all)
 
 -- and neither test of the client refuses it
 pub client_passes : {w : World} {client : ℕ} (tests : List (Bool × ℕ)) → Admitted w client → refusal ((knows w client, 3) ∷ (has_room w client, 11) ∷ tests) ≡ refusal tests

@@ -1,6 +1,7 @@
 -- Which answers take memory.
 use Rattle.std.proofs.Common.{◌≡◌, ℕ, ◌+◌, Bool, true, false, cond, ◌&&◌, List, [], ◌∷◌, Option, Some, None, length, slice_index_or, refl, sym, ap, ◌∙◌, subst, nat_lt}
 use Rattle.std.proofs.lemmas.Bool.{ltb-true}
+use Rattle.cops_types.specs.declared.limits.TheConstants.{MAX_CLIENT_OPS, MAX_OPS}
 use Rattle.cops_types.specs.Recorded.{count_of}
 use Rattle.cops_store.specs.Store.{Stored, shown}
 use Rattle.cops_node.specs.declared.outcome.Outcome.TheVariants.{Refused}
@@ -29,11 +30,11 @@ both false b h = absurd cc
 pub none_refused : (w : World) (client : ℕ) → refusal ((knows w client, 3) ∷ (has_room w client, 11) ∷ []) ≡ None → Admitted w client
 none_refused w client h =
     let met = tests_met (knows w client) (has_room w client) h in
-    let room = both (nat_lt (length (slice_index_or w.sessions client [])) 1000000) (nat_lt (count_of w.sessions) 16000000) met.1 in
+    let room = both (nat_lt (length (slice_index_or w.sessions client [])) MAX_CLIENT_OPS) (nat_lt (count_of w.sessions) MAX_OPS) met.1 in
     record {
       known = ltb-true client (length w.sessions) met.0;
-      few = ltb-true (length (slice_index_or w.sessions client [])) 1000000 room.0;
-      all = ltb-true (count_of w.sessions) 16000000 room.1;
+      few = ltb-true (length (slice_index_or w.sessions client [])) MAX_CLIENT_OPS room.0;
+      all = ltb-true (count_of w.sessions) MAX_OPS room.1;
     }
 
 put_takes : (s : Setting) (w : World) (client : ℕ) (key value : List ℕ) → Admitted w client → Takes s w (PutBy client key value)

@@ -4,7 +4,8 @@ use Rattle.std.proofs.lemmas.List.Elements.{Contains-append_left, Contains-push,
 use Rattle.cops_types.specs.declared.op.Op.TheVariants.{Put as Wrote}
 use Rattle.cops_types.specs.declared.dep.Dep.{Dep}
 use Rattle.cops_types.specs.declared.put_record.PutRecord.{PutRecord}
-use Rattle.cops_types.specs.Version.{clock_of, node_of, version_of}
+use Rattle.cops_types.specs.Version.{clock_of, node_of}
+use Rattle.cops_types.specs.Clock.{version_of}
 use Rattle.cops_store.specs.Store.{Stored}
 use Rattle.cops_node.specs.declared.outcome.Outcome.TheVariants.{PutDone}
 use Rattle.cops_node.specs.Node.{put_pair, stored_of, Node, raised, put_at}

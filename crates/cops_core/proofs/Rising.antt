@@ -5,7 +5,7 @@ use Rattle.cops_types.specs.declared.put_record.PutRecord.{PutRecord}
 use Rattle.cops_types.specs.declared.op.OpName.{OpName}
 use Rattle.cops_types.specs.declared.op.Op.TheVariants.{Put as Wrote}
 use Rattle.cops_types.specs.Histories.{Sessions, IsPut, PutsVersion}
-use Rattle.cops_types.specs.Convergence.{IsVersionOrder}
+use Rattle.cops_types.specs.Verdicts.{IsVersionOrder}
 use Rattle.cops_core.specs.Machine.{State, session}
 use Rattle.cops_core.specs.Invariants.{HasAcceptedVerdict}
 use Rattle.cops_core.proofs.Lists.{contains_none, contains_cases, contains_head, contains_tail}

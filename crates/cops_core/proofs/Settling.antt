@@ -11,7 +11,8 @@ use Rattle.cops_held.specs.Held.{Waiting, unmarked, is_at, waiting, with_waiting
 use Rattle.cops_node.specs.declared.outcome.Outcome.{Outcome}
 use Rattle.cops_node.specs.declared.outcome.Outcome.TheVariants.{Held, Repeat, Yes, Wait, Marked, Settled, Refused}
 use Rattle.cops_node.specs.Node.{dep_at, put_pair, stored_of, Node, mark_at, mark_step, settled_node, settle_at, settle_step}
-use Rattle.cops_core.specs.World.{Setting, home, primary, Said, World, node_at, with_node, sent, same_said, was_said, gained, with_said, place_of, is_answered, keeps, delivers, DeliverTo, AskAt, MarkAt, SettleAt, view}
+use Rattle.cops_core.specs.World.{Setting, home, primary, Said, World, node_at, with_node, sent, same_said, was_said, gained, with_said, is_answered, keeps, delivers, DeliverTo, AskAt, MarkAt, SettleAt, view}
+use Rattle.cops_types.specs.NodeNumber.{place_of}
 use Rattle.cops_core.proofs.Lists.{same_pair_true}
 use Rattle.cops_core.proofs.Accepted.{Kept}
 use Rattle.cops_core.proofs.Bounds.{IsBounded, bounded_stays}

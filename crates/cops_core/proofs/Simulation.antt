@@ -5,7 +5,8 @@ use Rattle.std.specs.Cmp.Lexicographic.{slice_cmp}
 use Rattle.std.proofs.lemmas.List.Sums.{count_by-le-length}
 use Rattle.cops_types.specs.declared.dep.Dep.{Dep}
 use Rattle.cops_types.specs.declared.put_record.PutRecord.{PutRecord}
-use Rattle.cops_types.specs.Version.{clock_of, node_of, version_of}
+use Rattle.cops_types.specs.Version.{clock_of, node_of}
+use Rattle.cops_types.specs.Clock.{version_of}
 use Rattle.cops_store.specs.Store.{Stored, stored_pair, has_pair, with_settled}
 use Rattle.cops_node.specs.declared.outcome.Outcome.{Outcome}
 use Rattle.cops_node.specs.Node.{put_pair, stored_of, Node}

@@ -73,7 +73,7 @@ module _ (old new : State) (client : ℕ) (op : Op) (context : List Dep) (a : An
   context_other : (c : ℕ) → c ≢ client → context_of new c ≡ context_of old c
   context_other c ne = ap (λ (x : List (List Dep)). slice_index_or x c []) a.contexts ∙ get_or-set_other old.contexts client c _ [] ne
 
-  -- the name of the new op_at
+  -- the name of the new operation
   abbrev new_name : OpName
   new_name = record { client = client; index = length (session old.sessions client) }
 

@@ -5,7 +5,7 @@ use Rattle.cops_types.specs.declared.dep.Dep.{Dep}
 use Rattle.cops_types.specs.declared.put_record.PutRecord.{PutRecord}
 use Rattle.cops_types.specs.declared.op.OpName.{OpName}
 use Rattle.cops_types.specs.declared.op.Op.TheVariants.{Put as Wrote, Got}
-use Rattle.cops_types.specs.Histories.{Past}
+use Rattle.cops_types.specs.Past.{Past}
 use Rattle.cops_node.specs.declared.outcome.Outcome.{Outcome}
 use Rattle.cops_node.specs.declared.outcome.Outcome.TheVariants.{Refused}
 use Rattle.cops_node.specs.Node.{dep_at, put_pair, greatest_clock, stored_of, Node, opened, raised, put_at}
@@ -16,7 +16,7 @@ use Rattle.cops_types.specs.declared.dep.Dep.{Dep}
 use Rattle.cops_types.specs.declared.put_record.PutRecord.{PutRecord}
 use Rattle.cops_types.specs.declared.op.OpName.{OpName}
 use Rattle.cops_types.specs.declared.op.Op.TheVariants.{Put as Wrote, Got}
-use Rattle.cops_types.specs.Histories.{IsNamed, IsPut, IsGot, Past}
+use Rattle.cops_types.specs.Histories.{IsNamed, IsPut, IsGot}
 use Rattle.cops_types.proofs.Sessions.{none_within}
 use Rattle.cops_context.specs.Context.{IsContext}
 use Rattle.cops_held.specs.Held.{waiting}
@@ -25,7 +25,8 @@ use Rattle.cops_node.specs.declared.outcome.Outcome.TheVariants.{Refused}
 use Rattle.cops_node.specs.Node.{greatest_clock, put_pair, stored_of, Node, opened, raised, put_at}
 use Rattle.cops_core.specs.Dependencies.{Bears}
 use Rattle.cops_core.specs.Machine.{context_of, session, Step}
-use Rattle.cops_core.specs.World.{Setting, IsSetting, home, primary, World, node_at, context_in, sent, place_of, is_answered, knows, has_room, is_dc, checks, refusal, keeps, done, Event, PutBy, GetBy, DeliverTo, AskAt, MarkAt, SettleAt, happens, Happens, Run, row, rows, opening, view}
+use Rattle.cops_core.specs.World.{Setting, IsSetting, home, primary, World, node_at, context_in, sent, is_answered, knows, has_room, is_dc, checks, refusal, keeps, done, Event, PutBy, GetBy, DeliverTo, AskAt, MarkAt, SettleAt, happens, Happens, Run, row, rows, opening, view}
+use Rattle.cops_types.specs.NodeNumber.{place_of}
 use Rattle.cops_core.specs.Invariants.{Covers, IsCarried, IsIssued, Invariants, IsReached, HasAcceptedVerdict}
 use Rattle.cops_core.proofs.Lists.{at_version, contains_none}
 use Rattle.cops_core.proofs.Reaching.{reaches_settled}

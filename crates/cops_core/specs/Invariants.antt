@@ -3,7 +3,8 @@ use Rattle.std.specs.Prelude.{◌≡◌, ℕ, ◌≤◌, List, true, Contains, S
 use Rattle.cops_types.specs.declared.dep.Dep.{Dep}
 use Rattle.cops_types.specs.declared.put_record.PutRecord.{PutRecord}
 use Rattle.cops_types.specs.declared.op.OpName.{OpName}
-use Rattle.cops_types.specs.Histories.{Sessions, IsNamed, IsPut, IsGot, Past}
+use Rattle.cops_types.specs.Histories.{Sessions, IsNamed, IsPut, IsGot}
+use Rattle.cops_types.specs.Past.{Past}
 use Rattle.cops_types.specs.Recorded.{IsWithinLimits}
 use Rattle.cops_types.specs.Verdicts.{IsAccepted, NoneDoubled}
 use Rattle.cops_types.specs.Version.{clock_of}
@@ -14,7 +15,7 @@ use Rattle.cops_node.specs.declared.outcome.Outcome.{Outcome}
 use Rattle.cops_node.specs.Node.{stored_of}
 use Rattle.cops_core.specs.Dependencies.{Bears, Reaches, IsConsistent, IsClosed}
 use Rattle.cops_core.specs.Machine.{State, context_of}
-use Rattle.cops_core.specs.World.{Setting, IsSetting, home, World, node_at, context_in, Said, view, Event, Run, opening, Cluster}
+use Rattle.cops_core.specs.World.{Setting, IsSetting, home, World, node_at, context_in, Said, view, Event, Run, opening, AWorld}
 
 -- a pair of the list reaches this one
 pub record Covers (puts : List PutRecord) (context : List Dep) (pair : Dep) : Type 0 where
@@ -42,7 +43,7 @@ pub record Invariants (s : Setting) (w : World) : Type 0 where
   -- versions tell puts apart and are above those of dependencies, and no clock is behind what was settled
   pub consistent : IsConsistent w.issued
   pub clocks : (dc place : ℕ) (t : Stored) → Contains (node_at w dc place).settled t → clock_of t.version ≤ (node_at w dc place).clock
-  -- held and settled puts were issued, each issued put is that of one op_at, and each put and get is of an issued put
+  -- held and settled puts were issued, each issued put is that of one operation, and each put and get is of an issued put
   pub held : (dc place : ℕ) (h : Waiting) → Contains (node_at w dc place).held h → Contains w.issued h.put
   pub settled : (dc place : ℕ) (t : Stored) → Contains (node_at w dc place).settled t → IsIssued w t.key t.value t.version
   pub issued : (p : PutRecord) → Contains w.issued p → (n : OpName) × IsPut w.sessions n p.key p.value p.version
@@ -58,7 +59,7 @@ abbrev pub IsReached : Setting → World → Type 0
 IsReached s w = (events : List Event) × (outcomes : List Outcome) × Run s (opening s) events outcomes w
 
 -- a cluster that was opened, and events came
-pub record IsReachedCluster (c : Cluster) : Type 0 where
+pub record IsReachedWorld (c : AWorld) : Type 0 where
   pub setting : IsSetting c.setting
   pub reached : IsReached c.setting c.world
 

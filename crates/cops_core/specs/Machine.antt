@@ -5,8 +5,7 @@ use Rattle.cops_types.specs.declared.dep.Dep.{Dep}
 use Rattle.cops_types.specs.declared.put_record.PutRecord.{PutRecord}
 use Rattle.cops_types.specs.declared.op.Op.{Op}
 use Rattle.cops_types.specs.declared.op.Op.TheVariants.{Put as Wrote, Got, Missed}
-use Rattle.cops_types.specs.Histories.{Sessions}
-use Rattle.cops_types.specs.Recorded.{with_op}
+use Rattle.cops_types.specs.Histories.{Sessions, with_op}
 use Rattle.cops_context.specs.Context.{with_pair}
 use Rattle.cops_node.specs.Node.{put_pair}
 
@@ -34,7 +33,7 @@ pub record SettlesAt (old new : State) (dc : ℕ) (put : PutRecord) : Type 0 whe
   pub here : Gains (old.settled dc) (new.settled dc) put
   pub others : (d : ℕ) → d ≢ dc → Same (old.settled d) (new.settled d)
 
--- a client's session gains an op_at, and its context is this one
+-- a client's session gains an operation, and its context is this one
 pub record Answers (old new : State) (client : ℕ) (op : Op) (context : List Dep) : Type 0 where
   pub has_session : client < length old.sessions
   pub has_context : client < length old.contexts

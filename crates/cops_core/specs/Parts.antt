@@ -1,5 +1,6 @@
 -- The parts of a world, as its code keeps them.
 use Rattle.std.specs.Prelude.{◌≡◌, ℕ, ◌<◌, List, [], ◌∷◌, Bool, true, false, length, slice_index_or}
+use Rattle.cops_types.specs.declared.limits.TheConstants.{MAX_CLIENT_OPS, MAX_OPS}
 use Rattle.cops_types.specs.declared.dep.Dep.{Dep}
 use Rattle.cops_types.specs.declared.put_record.PutRecord.{PutRecord}
 use Rattle.cops_types.specs.Recorded.{Recorded, count_of, HasRoom}
@@ -23,8 +24,8 @@ AreByVersion (e ∷ es) = (e.1.version ≡ e.0) × AreByVersion es
 -- the client's next operation is not refused
 pub record MayRecord (history : Recorded) (client : ℕ) : Type 0 where
   pub known : client < length history.sessions
-  pub few : length (slice_index_or history.sessions client []) < 1000000
-  pub all : count_of history.sessions < 16000000
+  pub few : length (slice_index_or history.sessions client []) < MAX_CLIENT_OPS
+  pub all : count_of history.sessions < MAX_OPS
   pub room : HasRoom history client
 
 -- the context of each client, and of each whether one more pair takes no memory

@@ -1,14 +1,15 @@
--- The cluster: its nodes, what was issued and answered, and what each client saw.
-use Rattle.std.specs.Prelude.{◌≡◌, ℕ, zero, suc, ◌+◌, ◌*◌, ◌%◌, ◌<◌, ◌≤◌, ◌⊎◌, List, [], ◌∷◌, ◌++◌, Bool, true, false, if◌then◌else◌, ◌==◌, ◌&&◌, nat_lt, length, filter, find, replicate, flat_map, slice_set, slice_index_or, All, Option, Some, None, is_some}
+-- The world: its nodes, what was issued and answered, and what each client saw.
+use Rattle.std.specs.Prelude.{◌≡◌, ℕ, zero, suc, ◌+◌, ◌<◌, ◌≤◌, ◌⊎◌, List, [], ◌∷◌, ◌++◌, Bool, true, false, if◌then◌else◌, ◌==◌, ◌&&◌, nat_lt, length, filter, find, replicate, flat_map, slice_set, slice_index_or, All, Option, Some, None, is_some}
 use Rattle.std.specs.List.{list_any}
+use Rattle.cops_types.specs.declared.limits.TheConstants.{MAX_CLIENT_OPS, MAX_OPS}
 use Rattle.cops_types.specs.declared.dep.Dep.{Dep}
 use Rattle.cops_types.specs.declared.put_record.PutRecord.{PutRecord}
 use Rattle.cops_types.specs.declared.op.Op.{Op}
 use Rattle.cops_types.specs.declared.op.Op.TheVariants.{Put as Wrote, Got, Missed}
-use Rattle.cops_types.specs.Histories.{Sessions}
-use Rattle.cops_types.specs.Recorded.{count_of, with_op}
+use Rattle.cops_types.specs.Histories.{Sessions, with_op}
+use Rattle.cops_types.specs.Recorded.{count_of}
 use Rattle.cops_types.specs.Dep.{is_same_dep}
-use Rattle.cops_types.specs.Version.{node_of}
+use Rattle.cops_types.specs.NodeNumber.{node_number, place_of}
 use Rattle.cops_context.specs.Context.{with_pair}
 use Rattle.cops_store.specs.Store.{Stored, has_pair}
 use Rattle.cops_held.specs.Held.{waiting}
@@ -50,7 +51,7 @@ pub record World : Type 0 where
 -- the first nodes of a data centre, opened
 abbrev pub row : ℕ → ℕ → List Node
 row dc zero = []
-row dc (suc n) = row dc n ++ opened (dc * 64 + n) ∷ []
+row dc (suc n) = row dc n ++ opened (node_number dc n) ∷ []
 
 -- those of the first data centres
 abbrev pub rows : ℕ → ℕ → List (List Node)
@@ -68,7 +69,7 @@ opening s = record {
 
 -- the node at a place of a data centre; where there is none, one that holds nothing
 abbrev pub node_at : World → ℕ → ℕ → Node
-node_at w dc place = slice_index_or (slice_index_or w.nodes dc []) place (opened (dc * 64 + place))
+node_at w dc place = slice_index_or (slice_index_or w.nodes dc []) place (opened (node_number dc place))
 
 abbrev pub with_node : World → ℕ → ℕ → Node → World
 with_node w dc place n = record {
@@ -82,7 +83,7 @@ with_node w dc place n = record {
 abbrev pub context_in : World → ℕ → List Dep
 context_in w client = slice_index_or w.contexts client []
 
--- the client's session gains an op_at, and its context is this one
+-- the client's session gains an operation, and its context is this one
 abbrev pub with_answer : World → ℕ → Op → List Dep → World
 with_answer w client op context = record {
   nodes = w.nodes;
@@ -112,10 +113,6 @@ gained said y = if was_said said y then said else said ++ y ∷ []
 abbrev pub with_said : World → Said → World
 with_said w y = record { nodes = w.nodes; issued = w.issued; said = gained w.said y; contexts = w.contexts; sessions = w.sessions }
 
--- the place of the node that gave the version, in its data centre
-abbrev pub place_of : ℕ → ℕ
-place_of version = node_of version % 64
-
 -- no dependency, or one that the data centre has answered Yes for
 abbrev pub is_answered : List Said → ℕ → Option Dep → Bool
 is_answered said dc None = true
@@ -124,9 +121,9 @@ is_answered said dc (Some pair) = was_said said (record { dc = dc; pair = pair }
 abbrev pub knows : World → ℕ → Bool
 knows w client = nat_lt client (length w.sessions)
 
--- the client's history may have one more op_at
+-- the client's history may have one more operation
 abbrev pub has_room : World → ℕ → Bool
-has_room w client = nat_lt (length (slice_index_or w.sessions client [])) 1000000 && nat_lt (count_of w.sessions) 16000000
+has_room w client = nat_lt (length (slice_index_or w.sessions client [])) MAX_CLIENT_OPS && nat_lt (count_of w.sessions) MAX_OPS
 
 abbrev pub is_dc : Setting → ℕ → Bool
 is_dc s dc = nat_lt dc s.place.dcs
@@ -229,8 +226,8 @@ abbrev pub reached : Setting → World → List Event → World
 reached s w [] = w
 reached s w (event ∷ events) = reached s (happens s w event).1 events
 
--- a cluster: what never changes, and what does
-pub record Cluster : Type 0 where
+-- a world in its setting: what never changes, and what does
+pub record AWorld : Type 0 where
   pub setting : Setting
   pub world : World
 
@@ -238,7 +235,7 @@ pub record Cluster : Type 0 where
 abbrev pub AreClients : APlace → List ℕ → Type 0
 AreClients place homes = All (λ dc. dc < place.dcs) homes × (length homes ≤ 65535)
 
-abbrev pub opened_cluster : APlace → List ℕ → Cluster
-opened_cluster place homes =
+abbrev pub opened_world : APlace → List ℕ → AWorld
+opened_world place homes =
     let s : Setting = record { place = place; homes = homes } in
     record { setting = s; world = opening s }

@@ -3,7 +3,7 @@ ghost use Rattle.std.specs.Borrow.{Lends, sem};
 ghost use Rattle.cops_core.specs.Lending.{LendsNode, LendsNodeAt};
 
 use cops_node::Node;
-use cops_types::Memory;
+use cops_types::{Memory, node_number};
 use std::alloc::Global;
 use std::marker::Model;
 
@@ -36,7 +36,7 @@ impl DataCentre {
     {
         let mut opened = Vec::new(alloc);
         for place in 0..nodes {
-            opened.push(Node::open(alloc, u16::from(dc) * 64 + u16::from(place)))?;
+            opened.push(Node::open(alloc, node_number(dc, place)))?;
         }
         Ok(DataCentre { nodes: opened })
     }

@@ -20,6 +20,7 @@ mod state;
 mod table;
 mod world;
 
+pub use cops_node::Outcome;
 pub use event::{Event, Said};
 pub use fault::WorldFault;
 pub use laws::every_interleaving_is_accepted;

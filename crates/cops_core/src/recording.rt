@@ -1,6 +1,8 @@
 //! What the world keeps of its clients' operations: copies, and a place in the history.
+ghost use Rattle.cops_types.specs.declared.limits.TheConstants.{MAX_CLIENT_OPS, MAX_OPS};
 ghost use Rattle.std.specs.Prelude.{◌≡◌, ◌<◌, ◌⊎◌, ◌∷◌, ◌++◌, [], true, None, Some, nat_lt, ◌&&◌, length, slice_index_or, slice_set, IfOk, IfErr, OnOk};
-ghost use Rattle.cops_types.specs.Recorded.{count_of, with_op};
+ghost use Rattle.cops_types.specs.Recorded.{count_of};
+ghost use Rattle.cops_types.specs.Histories.{with_op};
 ghost use Rattle.cops_types.specs.declared.op.Op.TheVariants.{Put as Wrote};
 ghost use Rattle.cops_core.specs.Parts.{MayRecord};
 ghost use Rattle.cops_core.specs.World.{refusal, sent};
@@ -17,8 +19,8 @@ use std::alloc::{AllocError, Global};
 pub fn admit(history: &mut History, client: u16) -> Result<(), u8>
     ensures same { history.new.sessions ≡ history.old.sessions }
     ensures ok { OnOk result (MayRecord history.new client) }
-    ensures err { IfErr result (λ code. (code ≡ 9) ⊎ (refusal ((nat_lt client (length history.old.sessions), 3) ∷ (nat_lt (length (slice_index_or history.old.sessions client [])) 1000000 && nat_lt (count_of history.old.sessions) 16000000, 11) ∷ []) ≡ Some code)) }
-    ensures memory { IfErr result (λ code. code ≡ 9 → refusal ((nat_lt client (length history.old.sessions), 3) ∷ (nat_lt (length (slice_index_or history.old.sessions client [])) 1000000 && nat_lt (count_of history.old.sessions) 16000000, 11) ∷ []) ≡ None) }
+    ensures err { IfErr result (λ code. (code ≡ 9) ⊎ (refusal ((nat_lt client (length history.old.sessions), 3) ∷ (nat_lt (length (slice_index_or history.old.sessions client [])) MAX_CLIENT_OPS && nat_lt (count_of history.old.sessions) MAX_OPS, 11) ∷ []) ≡ Some code)) }
+    ensures memory { IfErr result (λ code. code ≡ 9 → refusal ((nat_lt client (length history.old.sessions), 3) ∷ (nat_lt (length (slice_index_or history.old.sessions client [])) MAX_CLIENT_OPS && nat_lt (count_of history.old.sessions) MAX_OPS, 11) ∷ []) ≡ None) }
 {
     match history.reserve(client) {
         Ok(()) => Ok(()),

@@ -1,5 +1,5 @@
 ghost use Rattle.std.specs.Prelude.{◌≡◌, ◌<◌, true, is_some, IfOk, OnErr, option_copied};
-ghost use Rattle.cops_core.specs.World.{place_of, is_answered};
+ghost use Rattle.cops_core.specs.World.{is_answered};
 
 use crate::answers::Answers;
 use crate::client_contexts::ClientContexts;
@@ -286,7 +286,7 @@ impl State {
         ensures happens { Happens setting.now self.old (MarkAt dc version dep) result self.new }
         ensures memory { result ≡ RefusedWith 9 → TakesMemory (MarkAt dc version dep) (happens setting.now self.old (MarkAt dc version dep)).0 }
     {
-        let place = place_of(version);
+        let place = version.place();
         if dc >= setting.dcs() {
             return Outcome::Refused(UNKNOWN_DC);
         }
@@ -310,7 +310,7 @@ impl State {
         ensures happens { Happens setting.now self.old (SettleAt dc version) result self.new }
         ensures memory { result ≡ RefusedWith 9 → TakesMemory (SettleAt dc version) (happens setting.now self.old (SettleAt dc version)).0 }
     {
-        let place = place_of(version);
+        let place = version.place();
         if dc >= setting.dcs() {
             return Outcome::Refused(UNKNOWN_DC);
         }
@@ -320,14 +320,6 @@ impl State {
         let node = self.centres.node(dc, place);
         node.settle(version)
     }
-}
-
-/// The place of the node that gave a version, in its data centre.
-fn place_of(version: Version) -> u8
-    ensures value { result ≡ place_of version }
-    ensures range { result < 64 }
-{
-    (version.node() % 64) as u8
 }
 
 /// Whether there is no dependency, or the data centre has answered Yes for it. It takes memory for a dependency alone.

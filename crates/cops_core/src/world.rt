@@ -20,14 +20,14 @@ pub struct World {
 }
 
 impl Model for World {
-    ghost use Rattle.cops_core.specs.World.{Cluster};
-    ghost use Rattle.cops_core.specs.Invariants.{IsReachedCluster};
+    ghost use Rattle.cops_core.specs.World.{AWorld};
+    ghost use Rattle.cops_core.specs.Invariants.{IsReachedWorld};
 
-    ghost Value = { Cluster };
+    ghost Value = { AWorld };
 
     ghost view = { λ w. record { setting = w.setting; world = w.state } };
 
-    ghost invariant = { λ w. IsReachedCluster (record { setting = w.setting; world = w.state }) };
+    ghost invariant = { λ w. IsReachedWorld (record { setting = w.setting; world = w.state }) };
 }
 
 impl World {
@@ -35,13 +35,13 @@ impl World {
     ghost use Rattle.cops_store.specs.Store.{has_pair};
     ghost use Rattle.cops_node.specs.declared.outcome.Outcome.TheVariants.{Refused as RefusedWith};
     ghost use Rattle.cops_core.specs.Machine.{Step};
-    ghost use Rattle.cops_core.specs.World.{AreClients, Happens, Run, TakesMemory, context_in, happens, home, opened_cluster, sent, settled_in, view};
+    ghost use Rattle.cops_core.specs.World.{AreClients, Happens, Run, TakesMemory, context_in, happens, home, opened_world, sent, settled_in, view};
     ghost use Rattle.cops_core.specs.Invariants.{HasAcceptedVerdict, Invariants};
 
     /// A world in which nothing has happened, of these data centres and nodes, and with a client at each of these data
     /// centres: `BadClient` where one of those is not there, or there are more than 65,535 clients.
     pub fn open(alloc: Global, place: Place, client_dcs: Vec<u8>) -> Result<Self, WorldFault>
-        ensures ok { IfOk result (λ world. world ≡ opened_cluster place client_dcs.items) }
+        ensures ok { IfOk result (λ world. world ≡ opened_world place client_dcs.items) }
         ensures bad { IsErrOf result WorldFault.BadClient ↔ (AreClients place client_dcs.items → ⊥) }
     {
         Ok(World::of(alloc, Setting::new(place, client_dcs)?)?)
@@ -49,7 +49,7 @@ impl World {
 
     /// The same of a setting, whose clients' data centres are there.
     pub fn of(alloc: Global, setting: Setting) -> Result<Self, Memory>
-        ensures { IfOk result (λ world. world ≡ opened_cluster setting.place setting.homes) }
+        ensures { IfOk result (λ world. world ≡ opened_world setting.place setting.homes) }
     {
         let state = State::open(alloc, &setting)?;
         Ok(World {

@@ -7,7 +7,8 @@ use Rattle.cops_wire.specs.declared.decoding.Decoded.{Decoded}
 use Rattle.cops_wire.specs.declared.fault.WireFault.{WireFault}
 use Rattle.cops_wire.specs.declared.fault.WireFault.TheVariants.{Memory, Short, BadLength, UnknownKind, BadField, TrailingBytes}
 use Rattle.cops_wire.specs.Grammar.{grammar, Parts}
-use Rattle.cops_wire.specs.Message.{parts, put_after}
+use Rattle.cops_wire.specs.Message.{parts}
+use Rattle.cops_wire.specs.Replicated.{put_after}
 use Rattle.cops_wire.specs.Answer.{IsAnswer, Answers}
 use Rattle.cops_wire.proofs.Codec.{spelling_answered}
 use Rattle.cops_wire.proofs.Messages.{parts-same}

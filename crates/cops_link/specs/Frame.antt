@@ -2,8 +2,10 @@
 use Rattle.std.specs.Prelude.{◌≡◌, ℕ, List}
 use Rattle.cops_types.specs.declared.format.Format.TheVariants.{One}
 use Rattle.cops_types.specs.declared.put_record.PutRecord.{PutRecord}
-use Rattle.cops_wire.specs.Grammar.{grammar, spelling, IsMessage}
-use Rattle.cops_wire.specs.Message.{parts, put_after}
+use Rattle.cops_wire.specs.Grammar.{grammar, spelling}
+use Rattle.cops_wire.specs.Legal.{IsMessage}
+use Rattle.cops_wire.specs.Message.{parts}
+use Rattle.cops_wire.specs.Replicated.{put_after}
 
 -- the bytes of the message that replicates a put
 abbrev pub spelled : PutRecord → List ℕ

@@ -1,6 +1,6 @@
 //! What a link carries.
 ghost use Rattle.std.specs.Prelude.{◌≡◌, IfOk};
-ghost use Rattle.cops_wire.specs.Message.{put_after};
+ghost use Rattle.cops_wire.specs.Replicated.{put_after};
 ghost use Rattle.cops_link.specs.Frame.{spelled};
 
 use cops_types::{Memory, PutRecord};
@@ -28,7 +28,7 @@ impl Model for Frame {
 
 impl Frame {
     ghost use Rattle.std.specs.Prelude.{◌≡◌, IfOk};
-    ghost use Rattle.cops_wire.specs.Message.{put_after};
+    ghost use Rattle.cops_wire.specs.Replicated.{put_after};
     ghost use Rattle.cops_link.specs.Frame.{spelled, IsPutAfter};
 
     /// The frame of a put's message.

@@ -4,8 +4,7 @@ use Rattle.std.specs.List.{list_any}
 use Rattle.std.specs.Io.KnownBytes.{Appends, Consumes, IsAtEnd}
 use Rattle.std.proofs.lemmas.List.{append-nil, length-append}
 use Rattle.cops_wire.specs.declared.message.Message.{Message}
-use Rattle.cops_trace.proofs.Feeding.{consumed, consumed_none}
-use Rattle.cops_trace.proofs.Writings.{appends_more}
+use Rattle.cops_types.proofs.Devices.{consumed, consumed_none, appends_more}
 use Rattle.cops_net.specs.declared.fault.NetFault.{NetFault}
 use Rattle.cops_net.specs.declared.fault.NetFault.TheVariants.{TurnLimit}
 use Rattle.cops_net.specs.declared.reply.Call.{Call}

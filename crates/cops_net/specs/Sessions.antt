@@ -7,7 +7,8 @@ use Rattle.cops_wire.specs.declared.fault.WireFault.{WireFault}
 use Rattle.cops_wire.specs.declared.fault.WireFault.TheVariants as wire
 use Rattle.cops_wire.specs.declared.message.Message.{Message}
 use Rattle.cops_wire.specs.declared.message.Message.TheVariants.{Bye}
-use Rattle.cops_wire.specs.Grammar.{grammar, spelling, IsMessage}
+use Rattle.cops_wire.specs.Grammar.{grammar, spelling}
+use Rattle.cops_wire.specs.Legal.{IsMessage}
 use Rattle.cops_wire.specs.Message.{parts}
 use Rattle.cops_wire.specs.Answer.{IsShort}
 use Rattle.cops_wire.specs.Feeding.{IsStopped}

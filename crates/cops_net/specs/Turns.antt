@@ -4,7 +4,8 @@ use Rattle.std.specs.List.{list_any}
 use Rattle.cops_types.specs.declared.format.Format.TheVariants.{One}
 use Rattle.cops_wire.specs.declared.message.Message.{Message}
 use Rattle.cops_wire.specs.declared.message.Message.TheVariants.{HelloOk}
-use Rattle.cops_wire.specs.Grammar.{grammar, IsMessage}
+use Rattle.cops_wire.specs.Grammar.{grammar}
+use Rattle.cops_wire.specs.Legal.{IsMessage}
 use Rattle.cops_wire.specs.Message.{parts}
 use Rattle.cops_wire.specs.Answer.{IsShort}
 use Rattle.cops_wire.specs.Feeding.{IsStopped}

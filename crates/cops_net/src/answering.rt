@@ -2,7 +2,8 @@
 ghost use Rattle.std.specs.Prelude.{◌≡◌, ◌++◌, ◌∷◌, [], List, true, IfOk, OnErr};
 ghost use Rattle.std.specs.Io.KnownBytes.{Appends};
 ghost use Rattle.cops_types.specs.declared.format.Format.TheVariants.{One};
-ghost use Rattle.cops_wire.specs.Grammar.{grammar, IsMessage};
+ghost use Rattle.cops_wire.specs.Grammar.{grammar};
+ghost use Rattle.cops_wire.specs.Legal.{IsMessage};
 ghost use Rattle.cops_wire.specs.Message.{parts};
 ghost use Rattle.cops_net.specs.declared.reply.Call.{Call as ACall};
 ghost use Rattle.cops_net.specs.Answers.{IsWelcome, IsStanding};

@@ -6,7 +6,7 @@
 //! one connection after the other. Who answers stands behind the trait `Session`, which keeps the list of its calls with
 //! their answers.
 //!
-//! Stands on `cops_types`, on the messages of `cops_wire`, and on `write_text` of `cops_trace`. The program uses that the
+//! Stands on `cops_types` and on the messages of `cops_wire`. The program uses that the
 //! replies tell the messages and what the session's list gained.
 #![tactic(auto)]
 

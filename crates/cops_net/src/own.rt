@@ -1,7 +1,8 @@
 //! What the front door answers itself.
 ghost use Rattle.std.specs.Prelude.{◌≡◌, false};
 ghost use Rattle.cops_types.specs.declared.format.Format.TheVariants.{One};
-ghost use Rattle.cops_wire.specs.Grammar.{grammar, IsMessage};
+ghost use Rattle.cops_wire.specs.Grammar.{grammar};
+ghost use Rattle.cops_wire.specs.Legal.{IsMessage};
 ghost use Rattle.cops_wire.specs.Message.{parts};
 ghost use Rattle.cops_net.specs.Protocol.{seq_of, is_handed, own_reply};
 ghost use Rattle.cops_net.specs.Sessions.{is_bye};

@@ -2,7 +2,8 @@
 use Rattle.std.specs.Prelude.{◌≡◌, ◌⊎◌, ℕ, ◌+◌, max, if◌then◌else◌, ◌||◌, nat_lt, List, [], ◌∷◌, length, slice_get, Option, None, Some, is_some}
 use Rattle.cops_types.specs.declared.dep.Dep.{Dep}
 use Rattle.cops_types.specs.declared.put_record.PutRecord.{PutRecord}
-use Rattle.cops_types.specs.Version.{version_of, clock_of}
+use Rattle.cops_types.specs.Version.{clock_of}
+use Rattle.cops_types.specs.Clock.{version_of}
 use Rattle.cops_store.specs.Store.{Stored, has_pair, with_settled, shown}
 use Rattle.cops_held.specs.Held.{Waiting, unmarked, waiting, with_waiting, all_marked, with_mark, without}
 use Rattle.cops_node.specs.declared.event.NodeEvent.{NodeEvent}

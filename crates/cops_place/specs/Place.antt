@@ -1,5 +1,5 @@
 -- Where keys live.
-use Rattle.std.specs.Prelude.{◌≡◌, ℕ, ◌+◌, ◌*◌, ◌≤◌, Bool, true, List, length, count_by}
+use Rattle.std.specs.Prelude.{◌≡◌, ℕ, ◌≤◌, Bool, true, List, length, count_by}
 use Rattle.std.specs.Cmp.Lexicographic.{slice_cmp}
 use Rattle.std.specs.List.{AllAdjacentBelow}
 use Rattle.std.specs.Ordering.{is_le, is_lt, nat_cmp}
@@ -28,10 +28,6 @@ AreAscending splits = AllAdjacentBelow (λ a b. is_below a b ≡ true) splits (l
 -- the place of a key's node in each data centre: the number of split keys that are not above the key
 abbrev pub primary : List (List ℕ) → List ℕ → ℕ
 primary splits key = count_by (λ split. is_at_most split key) splits
-
--- the number of the node at a place of a data centre
-abbrev pub node_at : ℕ → ℕ → ℕ
-node_at dc place = dc * 64 + place
 
 -- what a place is
 pub record IsPlace (p : APlace) : Type 0 where

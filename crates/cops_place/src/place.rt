@@ -2,7 +2,7 @@ ghost use Rattle.std.specs.Prelude.{◌≡◌, ◌↔◌, IsTrue};
 ghost use Rattle.cops_place.specs.Place.{AreAscending, primary, is_at_most, is_below};
 
 use crate::fault::PlaceFault;
-use cops_types::Key;
+use cops_types::{Key, node_number};
 use std::alloc::AllocError;
 use std::marker::Model;
 
@@ -32,7 +32,8 @@ impl Model for Place {
 
 impl Place {
     ghost use Rattle.std.specs.Prelude.{◌≡◌, ◌↔◌, ◌≤◌, ◌<◌, ◌+◌, length, IfOk, IsErrOf};
-    ghost use Rattle.cops_place.specs.Place.{IsPlace, IsInRange, AreAscending, primary, node_at};
+    ghost use Rattle.cops_place.specs.Place.{IsPlace, IsInRange, AreAscending, primary};
+    ghost use Rattle.cops_types.specs.NodeNumber.{node_number};
 
     /// So many data centres, and these split keys: `BadCount` unless there are 1 to 16 data centres and at most 63 split
     /// keys, then `SplitsNotAscending` unless each split key is above the one before it.
@@ -79,10 +80,10 @@ impl Place {
     /// The number of a key's primary node in a data centre, below 1,024: 64 times the data centre, and the place.
     pub fn node(&self, dc: u8, key: &Key) -> u16
         requires { dc < self.now.dcs }
-        ensures number { result ≡ node_at dc (primary self.now.splits key.now) }
+        ensures number { result ≡ node_number dc (primary self.now.splits key.now) }
         ensures range { result < 1024 }
     {
-        u16::from(dc) * 64 + u16::from(self.primary(key))
+        node_number(dc, self.primary(key))
     }
 }
 

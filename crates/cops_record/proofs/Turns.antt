@@ -1,6 +1,7 @@
 -- A trace has room for each record of a longer list within its limits.
 use Rattle.std.proofs.Common.{◌≡◌, ℕ, suc, ◌+◌, ◌<◌, ◌≤◌, ◌↔◌, List, [], ◌∷◌, ◌++◌, length, length-take, take, drop, get_or, Err, IsErrOf, refl, sym, ap, subst, ◌∙◌, arith}
 use Rattle.std.proofs.Math.Seq.{split_at}
+use Rattle.cops_types.specs.declared.limits.TheConstants.{MAX_CLIENT_OPS, MAX_OPS}
 use Rattle.cops_types.specs.declared.fault.TypeFault.{TypeFault}
 use Rattle.cops_types.specs.declared.fault.TypeFault.TheVariants.{Memory, KeyEmpty, KeyTooLong, ValueTooLong, BadVersion, ClockExhausted, UnknownClient, TooManyOps, BadDeps}
 use Rattle.cops_types.specs.TypeFaults.{IsHistoryFault}
@@ -39,7 +40,7 @@ only_memory BadDeps A B only unknown many not_a not_b = absurd only
 
 -- Before a record its client is there, and the trace of those before it has room for it.
 pub room_before : (seats : List Seat) (rs : List Record) (reserved capacity i : ℕ) (r : Record) → IsKept seats rs reserved capacity → i < length rs → r ≡ get_or rs i r
-    → (r.client < length seats) × (turn r.client (take i rs) < 1000000) × (length (take i rs) < 16000000)
+    → (r.client < length seats) × (turn r.client (take i rs) < MAX_CLIENT_OPS) × (length (take i rs) < MAX_OPS)
 room_before seats rs reserved capacity i r kept inside is =
     let known : r.client < length seats = subst (λ (q : Record). q.client < length seats) (sym is) (kept.known i r inside) in
     let fewer : turn r.client (take i rs) < turn r.client rs = subst (λ (q : Record). turn q.client (take i rs) < turn q.client rs) (sym is) (turn_below rs i r inside) in

@@ -1,6 +1,7 @@
 -- What a recorder keeps: records in order of arrival, and the slots that are reserved.
 use Rattle.std.specs.Prelude.{◌≡◌, ℕ, ◌+◌, ◌-◌, ◌<◌, ◌≤◌, ◌^◌, List, [], ◌∷◌, ◌++◌, length, All, slice_index_or, slice_set, ◌⊎◌}
 use Rattle.std.specs.List.{sum_by}
+use Rattle.cops_types.specs.declared.limits.TheConstants.{MAX_CLIENT_OPS, MAX_OPS}
 use Rattle.cops_types.specs.declared.op.Op.{Op}
 use Rattle.cops_trace.specs.declared.record.Record.{Record}
 use Rattle.cops_trace.specs.Text.{ATrace, turn}
@@ -40,7 +41,7 @@ slots seats = sum_by (λ (s : Seat). s.reserved) seats
 
 -- records and slots of the client are 1,000,000, or all together 16,000,000
 abbrev pub IsFull : State → ℕ → Type 0
-IsFull s client = ((seat_of s client).filled + (seat_of s client).reserved ≡ 1000000) ⊎ (length s.records + slots s.seats ≡ 16000000)
+IsFull s client = ((seat_of s client).filled + (seat_of s client).reserved ≡ MAX_CLIENT_OPS) ⊎ (length s.records + slots s.seats ≡ MAX_OPS)
 
 -- the trace of what was recorded
 abbrev pub recorded : State → ATrace
@@ -51,7 +52,7 @@ pub record IsKept (seats : List Seat) (records : List Record) (reserved capacity
   pub clients : length seats < 2 ^ 16
   pub known : All (λ (r : Record). r.client < length seats) records
   pub counted : (c : ℕ) (d : Seat) → c < length seats → (slice_index_or seats c d).filled ≡ turn c records
-  pub session : (c : ℕ) (d : Seat) → c < length seats → (slice_index_or seats c d).filled + (slice_index_or seats c d).reserved ≤ 1000000
+  pub session : (c : ℕ) (d : Seat) → c < length seats → (slice_index_or seats c d).filled + (slice_index_or seats c d).reserved ≤ MAX_CLIENT_OPS
   pub all_slots : reserved ≡ slots seats
-  pub total : length records + reserved ≤ 16000000
+  pub total : length records + reserved ≤ MAX_OPS
   pub room : length records + reserved ≤ capacity

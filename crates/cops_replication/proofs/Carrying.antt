@@ -10,8 +10,8 @@ use Rattle.std.proofs.lemmas.List.Elements.{All-append, All-cons}
 use Rattle.cops_types.specs.declared.put_record.PutRecord.{PutRecord}
 use Rattle.cops_tie.specs.Book.{puts_in}
 use Rattle.cops_tie.specs.declared.entry.Entry.{Entry}
-use Rattle.cops_clients.specs.declared.cluster.Cluster.{Cluster}
-use Rattle.cops_clients.specs.Cluster.{IsNode}
+use Rattle.cops_cluster.specs.declared.cluster.Cluster.{Cluster}
+use Rattle.cops_cluster.specs.Cluster.{IsNode}
 use Rattle.cops_replication.specs.Lanes.{Carried, EachSends, and_due}
 use Rattle.cops_replication.specs.Reading.{Reading, AreReadBelow, is_at, IsReadingAt, puts_read, read_after}
 use Rattle.cops_replication.specs.Sending.{Carries, CarriesBelow, lanes}

@@ -4,8 +4,8 @@ use Rattle.std.proofs.lemmas.List.{append-nil}
 use Rattle.cops_node.specs.declared.event.NodeEvent.{NodeEvent}
 use Rattle.cops_node.specs.declared.outcome.Outcome.{Outcome}
 use Rattle.cops_tie.specs.Book.{entry}
-use Rattle.cops_clients.specs.Shares.{AddsAtMostOne, AddsEntry, made}
-use Rattle.cops_clients.specs.declared.share.Share.{Share}
+use Rattle.cops_cluster.specs.Shares.{AddsAtMostOne, AddsEntry, made}
+use Rattle.cops_cluster.specs.declared.share.Share.{Share}
 use Rattle.cops_replication.specs.Shares.{Gains}
 
 pub gains_nothing : (a b : Share) → b.holder ≡ a.holder → b.entries.items ≡ a.entries.items → Gains a b

@@ -1,7 +1,7 @@
 -- A share that is lent out of its receiver.
 use Rattle.std.specs.Borrow.{Lends, MutBor, Fml}
-use Rattle.cops_clients.specs.declared.share.Share.{Share}
-use Rattle.cops_clients.specs.contracts.share.Share.{the_row as the_share}
+use Rattle.cops_cluster.specs.declared.share.Share.{Share}
+use Rattle.cops_cluster.specs.contracts.share.Share.{the_row as the_share}
 use Rattle.cops_replication.specs.declared.receiver.Receiver.{Receiver}
 use Rattle.cops_replication.specs.contracts.receiver.Receiver.{the_row as the_receiver}
 

@@ -2,7 +2,7 @@
 use Rattle.std.specs.Prelude.{◌≡◌, ◌≢◌, ℕ, ◌<◌, List, [], ◌∷◌, ◌++◌, length, map, slice_get, slice_index_or, Option, Some, None}
 use Rattle.std.specs.List.{All}
 use Rattle.std.specs.Global.{Vec}
-use Rattle.cops_clients.specs.declared.share.Share.{Share}
+use Rattle.cops_cluster.specs.declared.share.Share.{Share}
 use Rattle.cops_link.specs.Link.{IsLink}
 use Rattle.cops_link.specs.declared.ends.LinkIn.{LinkIn}
 use Rattle.cops_link.specs.declared.ends.LinkOut.{LinkOut}

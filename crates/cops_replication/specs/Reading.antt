@@ -4,8 +4,8 @@ use Rattle.std.specs.List.{list_any}
 use Rattle.cops_types.specs.declared.put_record.PutRecord.{PutRecord}
 use Rattle.cops_tie.specs.Book.{puts_in}
 use Rattle.cops_tie.specs.declared.entry.Entry.{Entry}
-use Rattle.cops_clients.specs.Cluster.{IsNode}
-use Rattle.cops_clients.specs.declared.cluster.Cluster.{Cluster}
+use Rattle.cops_cluster.specs.Cluster.{IsNode}
+use Rattle.cops_cluster.specs.declared.cluster.Cluster.{Cluster}
 
 -- the node at this place had these entries
 pub record Reading : Type 0 where

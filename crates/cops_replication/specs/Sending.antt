@@ -1,7 +1,7 @@
 -- What a contract sees of a sender.
 use Rattle.std.specs.Prelude.{◌≡◌, ℕ, List}
 use Rattle.std.specs.List.{All}
-use Rattle.cops_clients.specs.declared.cluster.Cluster.{Cluster}
+use Rattle.cops_cluster.specs.declared.cluster.Cluster.{Cluster}
 use Rattle.cops_replication.specs.Lanes.{ALane, Carried}
 use Rattle.cops_replication.specs.Reading.{Reading, AreReadBelow, IsReadingAt, puts_read, read_after}
 use Rattle.cops_replication.specs.declared.sender.Sender.{Sender}

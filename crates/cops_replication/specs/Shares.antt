@@ -1,7 +1,7 @@
 -- What a receiver's share gains.
 use Rattle.std.specs.Prelude.{◌≡◌, List, ◌++◌}
-use Rattle.cops_clients.specs.declared.share.Made.{Made}
-use Rattle.cops_clients.specs.declared.share.Share.{Share}
+use Rattle.cops_cluster.specs.declared.share.Made.{Made}
+use Rattle.cops_cluster.specs.declared.share.Share.{Share}
 
 -- the share of the same holder, with more entries after those that it had
 pub record Gains (before after : Share) : Type 0 where

@@ -1,7 +1,7 @@
 -- What is made to replicate: a sender and a receiver for each data centre, and a link from each sender to each other receiver.
 use Rattle.std.specs.Prelude.{◌≡◌, ◌≢◌, ℕ, ◌-◌, ◌<◌, if◌then◌else◌, nat_lt, List, [], length, map, slice_get, slice_index_or, Option, Some, None}
 use Rattle.std.specs.List.{All, range_with_len}
-use Rattle.cops_clients.specs.declared.share.Share.{Share}
+use Rattle.cops_cluster.specs.declared.share.Share.{Share}
 use Rattle.cops_link.specs.Link.{known_room, sent, taken, IsLink}
 use Rattle.cops_link.specs.declared.ends.LinkIn.{LinkIn}
 use Rattle.cops_link.specs.declared.ends.LinkOut.{LinkOut}

@@ -2,7 +2,7 @@ ghost use Rattle.cops_replication.specs.Receiving.{TakesUpTo};
 
 use crate::backlog::{Backlog, Question};
 use crate::turn::{Turn, TurnFault};
-use cops_clients::{Asked, Cluster, Share, Yes};
+use cops_cluster::{Asked, Cluster, Share, Yes};
 use cops_link::LinkOut;
 use cops_node::Outcome;
 use cops_types::{Gate, Memory, PutRecord, Version};

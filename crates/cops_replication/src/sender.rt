@@ -1,6 +1,6 @@
 use crate::outbox::Outbox;
 use crate::turn::{Turn, TurnFault};
-use cops_clients::Cluster;
+use cops_cluster::Cluster;
 use cops_link::LinkIn;
 use cops_types::Memory;
 use std::alloc::Global;

@@ -2,7 +2,7 @@
 ghost use Rattle.std.specs.Prelude.{◌≡◌};
 ghost use Rattle.cops_replication.specs.declared.turn.TurnFault.TheVariants.{Memory as OutOfMemory, Held as HeldByGate};
 
-use cops_clients::RECEIVER;
+use cops_cluster::RECEIVER;
 use cops_types::{GateHeld, Memory};
 use std::alloc::{AllocError, AllocFailed};
 use thiserror::Error;

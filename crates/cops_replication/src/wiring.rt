@@ -8,7 +8,7 @@ ghost use Rattle.cops_replication.specs.Wiring.{AreJoined, AreReceivers, AreSend
 
 use crate::receiver::Receiver;
 use crate::sender::Sender;
-use cops_clients::Share;
+use cops_cluster::Share;
 use cops_link::{LinkFault, LinkIn, LinkOut, link};
 use cops_types::Memory;
 use std::alloc::Global;

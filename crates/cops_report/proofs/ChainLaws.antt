@@ -2,7 +2,8 @@
 use Rattle.std.proofs.Common.{◌≡◌, ◌≤◌, List, [], ◌∷◌, length, refl, sym, ap, ap₂, subst, arith, inl, inr}
 use Rattle.cops_types.specs.declared.op.OpName.{OpName}
 use Rattle.cops_types.specs.Faults.{IsBefore}
-use Rattle.cops_types.specs.Histories.{Sessions, Past, step, more}
+use Rattle.cops_types.specs.Histories.{Sessions}
+use Rattle.cops_types.specs.Past.{Past, step, more}
 use Rattle.cops_report.specs.Chains.{ComesFirst, IsChain, IsFirstChain, LeadsTo}
 
 not_itself : (a b : OpName) → IsBefore a b → b ≡ a → ⊥

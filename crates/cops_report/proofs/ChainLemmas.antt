@@ -3,7 +3,8 @@ use Rattle.std.proofs.Common.{◌≡◌, ◌∙◌, ◌+◌, ◌<◌, ◌≤◌,
 use Rattle.std.proofs.lemmas.Bool.{cases_eq, cases_lt}
 use Rattle.std.proofs.lemmas.List.{append-nil}
 use Rattle.cops_types.specs.declared.op.OpName.{OpName}
-use Rattle.cops_types.specs.Histories.{Sessions, Step, Past, step, more, IsNamed}
+use Rattle.cops_types.specs.Histories.{Sessions, IsNamed}
+use Rattle.cops_types.specs.Past.{Step, Past, step, more}
 use Rattle.cops_types.specs.Faults.{IsBefore}
 use Rattle.cops_report.specs.declared.marks.Mark.{Mark}
 use Rattle.cops_report.specs.Marks.{Table, IsMarked, mark_at}

@@ -4,7 +4,8 @@ use Rattle.std.specs.Prelude.{Contains}
 use Rattle.std.proofs.lemmas.List.{length_push}
 use Rattle.std.proofs.lemmas.List.Elements.{Contains-append_left, Contains-push, Contains-push_cases}
 use Rattle.cops_types.specs.declared.op.OpName.{OpName}
-use Rattle.cops_types.specs.Histories.{Sessions, Step}
+use Rattle.cops_types.specs.Histories.{Sessions}
+use Rattle.cops_types.specs.Past.{Step}
 use Rattle.cops_report.specs.declared.marks.Mark.{Mark}
 use Rattle.cops_report.specs.Marks.{Table, Gains, HasPlace, IsMarked, mark_at, with_mark}
 use Rattle.cops_report.proofs.NameCases.{name_cases}

@@ -4,7 +4,8 @@ use Rattle.std.proofs.lemmas.Bool.{cases_lt}
 use Rattle.std.specs.Prelude.{slice_get}
 use Rattle.cops_types.specs.declared.op.Op.{Op}
 use Rattle.cops_types.specs.declared.op.OpName.{OpName}
-use Rattle.cops_types.specs.Histories.{Sessions, IsNamed, SessionStep, Step}
+use Rattle.cops_types.specs.Histories.{Sessions, IsNamed, SessionStep}
+use Rattle.cops_types.specs.Past.{Step}
 use Rattle.cops_report.specs.declared.marks.Mark.{Mark}
 use Rattle.cops_report.specs.Marks.{AreMarked, Table, Gains, IsMarked, IsNearer, SessionsMarked}
 use Rattle.cops_report.proofs.NameCases.{same_name}

@@ -1,7 +1,8 @@
 -- Chains: how the past of an operation reaches it, step by step.
 use Rattle.std.specs.Prelude.{◌≡◌, ◌≤◌, ◌⊎◌, List, [], ◌∷◌, length}
 use Rattle.cops_types.specs.declared.op.OpName.{OpName}
-use Rattle.cops_types.specs.Histories.{Sessions, IsNamed, Step}
+use Rattle.cops_types.specs.Histories.{Sessions, IsNamed}
+use Rattle.cops_types.specs.Past.{Step}
 use Rattle.cops_types.specs.Faults.{IsBefore}
 
 -- each name is one session step or one source step on from the name before it, and the last is `to`

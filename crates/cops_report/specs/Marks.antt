@@ -1,7 +1,8 @@
 -- Marks: what a search backwards from a name has found of each operation.
 use Rattle.std.specs.Prelude.{◌≡◌, ◌<◌, ◌+◌, ◌⊎◌, ◌↔◌, ℕ, List, [], map, length, sum_by, count_by, replicate, Contains, Option, Some, None, is_none, slice_index_or, slice_set}
 use Rattle.cops_types.specs.declared.op.OpName.{OpName}
-use Rattle.cops_types.specs.Histories.{Sessions, IsNamed, Step}
+use Rattle.cops_types.specs.Histories.{Sessions, IsNamed}
+use Rattle.cops_types.specs.Past.{Step}
 use Rattle.cops_report.specs.declared.marks.Mark.{Mark}
 
 -- a mark or none for each operation of each session

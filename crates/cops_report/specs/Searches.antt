@@ -1,7 +1,8 @@
 -- The search backwards from a name, by the number of steps that lead to it.
 use Rattle.std.specs.Prelude.{◌≡◌, ◌<◌, ◌≤◌, ◌+◌, ◌⊎◌, ◌↔◌, ℕ, List, [], ◌∷◌, Contains, Some, length, slice_index_or}
 use Rattle.cops_types.specs.declared.op.OpName.{OpName}
-use Rattle.cops_types.specs.Histories.{Sessions, Step}
+use Rattle.cops_types.specs.Histories.{Sessions}
+use Rattle.cops_types.specs.Past.{Step}
 use Rattle.cops_types.specs.Faults.{IsBefore}
 use Rattle.cops_report.specs.declared.marks.Mark.{Mark}
 use Rattle.cops_report.specs.Marks.{Table, IsMarked, mark_at}

@@ -1,6 +1,7 @@
 ghost use Rattle.std.specs.Prelude.{◌≡◌, ◌≤◌, List, length};
 ghost use Rattle.cops_types.specs.declared.op.OpName.{OpName};
-ghost use Rattle.cops_types.specs.Histories.{Past, Sessions};
+ghost use Rattle.cops_types.specs.Histories.{Sessions};
+ghost use Rattle.cops_types.specs.Past.{Past};
 ghost use Rattle.cops_report.specs.Chains.{IsChain, IsFirstChain};
 
 /// A law of the definitions: of the shortest chains from one operation to another, one is the first.

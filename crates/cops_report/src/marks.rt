@@ -25,6 +25,7 @@ impl Model for Marks {
 }
 
 impl Marks {
+    ghost use Rattle.cops_types.specs.declared.limits.TheConstants.{MAX_OPS};
     ghost use Rattle.std.specs.Prelude.{◌≡◌, ◌≤◌, IfOk};
     ghost use Rattle.cops_types.specs.Recorded.{count_of};
     ghost use Rattle.cops_report.specs.Marks.{mark_at, HasPlace, with_mark, unmarked};
@@ -32,7 +33,7 @@ impl Marks {
     /// No marks, with a place for each operation.
     pub fn new(alloc: Global, history: &History) -> Result<Self, AllocError>
         ensures unmarked { IfOk result (λ marks. marks ≡ unmarked history.now.sessions) }
-        ensures limit { IfOk result (λ _. count_of history.now.sessions ≤ 16000000) }
+        ensures limit { IfOk result (λ _. count_of history.now.sessions ≤ MAX_OPS) }
     {
         let mut sessions = Vec::new(alloc);
         for client in 0..history.clients() {

@@ -1,7 +1,9 @@
 //! The search backwards from an operation, by the number of steps that lead to it.
+ghost use Rattle.cops_types.specs.declared.limits.TheConstants.{MAX_OPS};
 ghost use Rattle.std.specs.Prelude.{◌≡◌, ℕ, ◌+◌, ◌<◌, ◌≤◌, OnOk, IfOk, IsTrue, ◌↔◌, [], length, slice_index_or};
 ghost use Rattle.std.specs.List.Sorted.{IsNonDecreasingBy};
-ghost use Rattle.cops_types.specs.Histories.{Sessions, Step, SessionStep, SourceStep, IsNamed};
+ghost use Rattle.cops_types.specs.Histories.{Sessions, SessionStep, SourceStep, IsNamed};
+ghost use Rattle.cops_types.specs.Past.{Step};
 ghost use Rattle.cops_types.specs.declared.op.OpName.{OpName};
 ghost use Rattle.cops_audit.specs.declared.table.VersionedPut.{VersionedPut};
 ghost use Rattle.cops_report.specs.Puts.{HasPut, IsPutTable};
@@ -154,7 +156,7 @@ fn mark_level(
     level: &[OpName],
     steps: u32,
 ) -> Result<Vec<OpName>, AllocError>
-    requires fits { steps ≤ 16000000 }
+    requires fits { steps ≤ MAX_OPS }
     requires puts { IsPutTable history.now.sessions puts.now }
     requires places { PlacesAll marks.old history.now.sessions }
     requires level { IsLevel marks.old steps level.now }

@@ -1,7 +1,7 @@
 -- A gate that may hold a step.
 use Rattle.std.specs.Prelude.{ℕ}
 use Rattle.cops_types.specs.declared.gate.Point.{Point}
-use Rattle.cops_clients.specs.Cluster.{MayHoldStep}
+use Rattle.cops_cluster.specs.Cluster.{MayHoldStep}
 
 -- there are a node and a client at whose step the gate may hold
 abbrev pub MayHold : (Point → Type 0) → Type 0

@@ -4,7 +4,7 @@ ghost use Rattle.cops_run.specs.Held.{MayHold};
 
 use crate::ends::{End, Returned};
 use crate::stage::Stage;
-use cops_clients::{Client, Cluster};
+use cops_cluster::{Client, Cluster};
 use cops_core::ScriptOp;
 use cops_node::{MEMORY, Outcome};
 use cops_outcomes::ClientOutcome;

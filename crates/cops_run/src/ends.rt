@@ -2,7 +2,7 @@
 ghost use Rattle.std.specs.Prelude.{◌≡◌};
 ghost use Rattle.cops_run.specs.Held.{MayHold};
 
-use cops_clients::Share;
+use cops_cluster::Share;
 use cops_outcomes::ClientOutcome;
 use cops_types::Gate;
 use std::snapshot::Snapshot;

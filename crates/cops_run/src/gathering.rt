@@ -1,7 +1,7 @@
 //! What the threads of a run handed back.
 use crate::ends::{End, HeldBy, Returned};
 use crate::fault::RunFault;
-use cops_clients::Share;
+use cops_cluster::Share;
 use cops_outcomes::ClientOutcome;
 use cops_types::Gate;
 use std::alloc::Global;

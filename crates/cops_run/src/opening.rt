@@ -1,6 +1,6 @@
 //! The clients of a scenario with their scripts.
 use crate::clients::Job;
-use cops_clients::Client;
+use cops_cluster::Client;
 use cops_core::ScriptedClient;
 use cops_types::Memory;
 use std::alloc::Global;

@@ -1,6 +1,6 @@
 ghost use Rattle.std.specs.Prelude.{◌≡◌, ◌<◌, ◌≤◌, ◌+◌, ◌*◌, Err, IfOk, IsErrOf, OnOk, length, map};
 ghost use Rattle.std.specs.List.Sorted.{IsPermutation};
-ghost use Rattle.cops_clients.specs.Close.{made_in, told};
+ghost use Rattle.cops_cluster.specs.Close.{made_in, told};
 ghost use Rattle.cops_core.specs.Invariants.{HasAcceptedVerdict};
 ghost use Rattle.cops_trace.specs.Text.{sessions_of};
 ghost use Rattle.cops_scenario.specs.Scenario.{setting_of};
@@ -13,7 +13,7 @@ use crate::gathering::Gathered;
 use crate::opening::jobs;
 use crate::ran::Run;
 use crate::stage::Stage;
-use cops_clients::{CloseFault, Closed, Cluster, Opened, Share, Uncompared, difference_of_lists};
+use cops_cluster::{CloseFault, Closed, Cluster, Opened, Share, Uncompared, difference_of_lists};
 use cops_core::{Event, ScriptedClient, Setting};
 use cops_outcomes::{CheckFault, checked};
 use cops_replication::wired;

@@ -1,4 +1,4 @@
-use cops_clients::Cluster;
+use cops_cluster::Cluster;
 use std::sync::Wait;
 use std::sync::atomic::{AtomicBool, AtomicU64, Ordering};
 use std::time::Duration;

@@ -6,7 +6,7 @@ use Rattle.std.proofs.Common.{Result, Ok, Err, ◌≡◌, ℕ, List, [], ◌++�
 use Rattle.std.proofs.lemmas.List.{length-map}
 use Rattle.cops_node.specs.declared.outcome.Outcome.{Outcome}
 use Rattle.cops_core.specs.declared.event.Event.{Event}
-use Rattle.cops_core.specs.World.{Cluster, IsSetting, Setting, World, Run, opened_cluster, opening}
+use Rattle.cops_core.specs.World.{AWorld, IsSetting, Setting, World, Run, opened_world, opening}
 use Rattle.cops_core.specs.Invariants.{HasAcceptedVerdict, IsReached}
 use Rattle.cops_trace.specs.Text.{ATrace, IsTrace, sessions_after, sessions_of}
 use Rattle.cops_core.specs.declared.script.ScriptedClient.{ScriptedClient}
@@ -20,18 +20,18 @@ use Rattle.cops_run_stream.specs.Running.{all_seen, IsEventRun, IsRunOf, IsLeft}
 use Rattle.cops_run_stream.proofs.Recording.{run_saw}
 
 -- a world that was opened, and events came
-answered : (s : AScenario) (c : Cluster) (d : Setting) (events : List Event) (outcomes : List Outcome) (end : World)
+answered : (s : AScenario) (c : AWorld) (d : Setting) (events : List Event) (outcomes : List Outcome) (end : World)
     → ((t : Setting) (w : World) → IsSetting t → IsReached t w → HasAcceptedVerdict w.sessions)
-    → c ≡ opened_cluster s.place (homes_of s) → d ≡ c.setting → IsSetting d → Run c.setting c.world events outcomes end → AreAnswers (setting_of s) events outcomes
+    → c ≡ opened_world s.place (homes_of s) → d ≡ c.setting → IsSetting d → Run c.setting c.world events outcomes end → AreAnswers (setting_of s) events outcomes
 answered s c d events outcomes end law opened same legal ran =
     let t = setting_of s in
-    let legal_t : IsSetting t = subst (λ (k : Cluster). IsSetting k.setting) opened (subst IsSetting same legal) in
-    let ran_t : Run t (opening t) events outcomes end = subst (λ (k : Cluster). Run k.setting k.world events outcomes end) opened ran in
+    let legal_t : IsSetting t = subst (λ (k : AWorld). IsSetting k.setting) opened (subst IsSetting same legal) in
+    let ran_t : Run t (opening t) events outcomes end = subst (λ (k : AWorld). Run k.setting k.world events outcomes end) opened ran in
     (end, ran_t, law t end legal_t (events, outcomes, ran_t))
 
-pub answered_if : (s : AScenario) (c : Cluster) (d : Setting) (events : List Event) (r : Result (Vec Outcome) Memory) (end : World)
+pub answered_if : (s : AScenario) (c : AWorld) (d : Setting) (events : List Event) (r : Result (Vec Outcome) Memory) (end : World)
     → ((t : Setting) (w : World) → IsSetting t → IsReached t w → HasAcceptedVerdict w.sessions)
-    → c ≡ opened_cluster s.place (homes_of s) → d ≡ c.setting → IsSetting d → IfOk r (λ outcomes. Run c.setting c.world events outcomes.items end)
+    → c ≡ opened_world s.place (homes_of s) → d ≡ c.setting → IsSetting d → IfOk r (λ outcomes. Run c.setting c.world events outcomes.items end)
     → IfOk r (λ outcomes. AreAnswers (setting_of s) events outcomes.items)
 answered_if s c d events (Ok outcomes) end law opened same legal ran = answered s c d events outcomes.items end law opened same legal ran
 answered_if s c d events (Err e) end law opened same legal ran = tt

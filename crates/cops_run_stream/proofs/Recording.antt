@@ -1,7 +1,6 @@
 -- What clients saw of a world's events is what its sessions gain.
 use Rattle.std.proofs.Common.{◌≡◌, ℕ, zero, suc, ◌+◌, ◌<◌, List, [], ◌∷◌, ◌++◌, length, take, slice_index_or, Option, None, Some, inl, inr, refl, sym, ap, ◌∙◌, arith, append_assoc, append-nil}
-use Rattle.cops_types.specs.Histories.{Sessions}
-use Rattle.cops_types.specs.Recorded.{with_op}
+use Rattle.cops_types.specs.Histories.{Sessions, with_op}
 use Rattle.cops_types.specs.declared.put_record.PutRecord.{PutRecord}
 use Rattle.cops_node.specs.declared.event.NodeEvent.{NodeEvent}
 use Rattle.cops_node.specs.declared.event.NodeEvent.TheVariants.{Put as NodePut, Get as NodeGet, Deliver as NodeDeliver, Ask as NodeAsk, Mark as NodeMark, Settle as NodeSettle}
@@ -10,7 +9,8 @@ use Rattle.cops_node.specs.declared.outcome.Outcome.TheVariants.{PutDone, Got, M
 use Rattle.cops_node.specs.Node.{Node, node_step}
 use Rattle.cops_core.specs.declared.event.Event.{Event}
 use Rattle.cops_core.specs.declared.event.Event.TheVariants.{Put as PutBy, Get as GetBy, Deliver as DeliverTo, Ask as AskAt, Mark as MarkAt, Settle as SettleAt}
-use Rattle.cops_core.specs.World.{Setting, World, Happens, Run, asks, checks, context_in, delivers, done, home, keeps, node_at, place_of, primary, refusal, sent, unless}
+use Rattle.cops_core.specs.World.{Setting, World, Happens, Run, asks, checks, context_in, delivers, done, home, keeps, node_at, primary, refusal, sent, unless}
+use Rattle.cops_types.specs.NodeNumber.{place_of}
 use Rattle.cops_trace.specs.declared.record.Record.{Record}
 use Rattle.cops_trace.specs.Text.{sessions_after}
 use Rattle.cops_run_stream.specs.Running.{saw, all_seen}

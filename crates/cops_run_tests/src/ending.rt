@@ -1,7 +1,7 @@
+use cops_clients::*;
 use cops_core::Setting;
 use cops_node::Outcome;
 use cops_outcomes::*;
-use cops_run::*;
 use cops_scenario::{Scenario, ScenarioFault};
 use cops_tie::Entry;
 use cops_types::OpenGate;

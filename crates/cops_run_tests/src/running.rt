@@ -1,6 +1,6 @@
+use cops_clients::*;
 use cops_gates::{HoldsAt, Meeting, TURNS, waits_for};
 use cops_outcomes::*;
-use cops_run::*;
 use cops_scenario::{Scenario, ScenarioFault};
 use cops_types::{Gate, GateHeld, OpenGate, Point};
 use std::alloc::Global;

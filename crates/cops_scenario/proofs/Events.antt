@@ -2,9 +2,8 @@
 use Rattle.std.proofs.Common.{◌≡◌, ◌≤◌, ◌∙◌, ℕ, List, [], ◌∷◌, ap, arith, get_or, sym}
 use Rattle.std.specs.Prelude.{◌≢◌, codes}
 use Rattle.serde_json.specs.Data.{Data}
-use Rattle.cops_types.specs.Key.{IsKey}
+use Rattle.cops_types.specs.KeyValue.{IsKey, IsValue}
 use Rattle.cops_types.specs.Texts.{version_text}
-use Rattle.cops_types.specs.Value.{IsValue}
 use Rattle.cops_types.specs.Version.{IsVersion}
 use Rattle.cops_core.specs.declared.event.Event.{Event}
 use Rattle.cops_core.specs.declared.event.Event.TheVariants.{Put, Get, Deliver, Ask, Mark, Settle}

@@ -1,9 +1,8 @@
 //! Events, and the operations of a script: objects of one member, which names what happens.
 ghost use Rattle.std.specs.Prelude.{◌≡◌, ◌≢◌, ◌≤◌, ℕ, List, [], ◌∷◌, length, map, codes, All, Err, IfOk, OnErr};
 ghost use Rattle.serde_json.specs.View.{view};
-ghost use Rattle.cops_types.specs.Key.{IsKey};
+ghost use Rattle.cops_types.specs.KeyValue.{IsKey, IsValue};
 ghost use Rattle.cops_types.specs.Texts.{version_text};
-ghost use Rattle.cops_types.specs.Value.{IsValue};
 ghost use Rattle.cops_types.specs.Version.{IsVersion};
 ghost use Rattle.cops_core.specs.declared.event.Event.{Event as AnEvent};
 ghost use Rattle.cops_scenario.specs.File.{event_json, op_json, list_json, number_json, text_json, kind_of, parts_of};

@@ -3,9 +3,8 @@ ghost use Rattle.std.specs.Prelude.{◌≡◌, ◌≢◌, ◌≤◌, ◌<◌, �
 ghost use Rattle.serde_json.specs.Data.{Data};
 ghost use Rattle.serde_json.specs.Find.{as_number, as_u64};
 ghost use Rattle.serde_json.specs.View.{view};
-ghost use Rattle.cops_types.specs.Key.{IsKey};
+ghost use Rattle.cops_types.specs.KeyValue.{IsKey, IsValue};
 ghost use Rattle.cops_types.specs.Texts.{version_text};
-ghost use Rattle.cops_types.specs.Value.{IsValue};
 ghost use Rattle.cops_types.specs.Version.{IsVersion};
 ghost use Rattle.cops_scenario.specs.declared.field.Unread.TheVariants.{Memory as OutOfMemory};
 ghost use Rattle.cops_scenario.specs.File.{number_json, text_json, list_json, one_json, IsNoNumber};

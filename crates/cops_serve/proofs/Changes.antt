@@ -6,12 +6,12 @@ use Rattle.std.proofs.lemmas.Option.{slice_get_read}
 use Rattle.cops_node.specs.declared.event.NodeEvent.TheVariants.{Ask}
 use Rattle.cops_node.specs.declared.outcome.Outcome.{Outcome}
 use Rattle.cops_node.specs.declared.outcome.Outcome.TheVariants.{Refused}
-use Rattle.cops_clients.specs.declared.client.Client.{Client}
-use Rattle.cops_clients.specs.declared.cluster.Cluster.{Cluster}
-use Rattle.cops_clients.specs.declared.share.Share.{Share}
-use Rattle.cops_clients.specs.Cluster.{node_of}
-use Rattle.cops_clients.specs.Lending.{with_share}
-use Rattle.cops_clients.specs.Shares.{Adds}
+use Rattle.cops_cluster.specs.declared.client.Client.{Client}
+use Rattle.cops_cluster.specs.declared.cluster.Cluster.{Cluster}
+use Rattle.cops_cluster.specs.declared.share.Share.{Share}
+use Rattle.cops_cluster.specs.Cluster.{node_of}
+use Rattle.cops_cluster.specs.Lending.{with_share}
+use Rattle.cops_cluster.specs.Shares.{Adds}
 use Rattle.cops_serve.specs.declared.front_end.FrontEnd.{FrontEnd}
 use Rattle.cops_serve.specs.declared.front_end.Greeted.{Greeted}
 use Rattle.cops_serve.specs.FrontEnd.{DoneByGreeted, HasPut, HasGot, HasAsked, IsSame}

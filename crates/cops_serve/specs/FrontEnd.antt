@@ -4,11 +4,11 @@ use Rattle.cops_types.specs.declared.put_record.NodeStatus.{NodeStatus}
 use Rattle.cops_node.specs.declared.event.NodeEvent.TheVariants.{Put, Get, Ask}
 use Rattle.cops_node.specs.declared.outcome.Outcome.{Outcome}
 use Rattle.cops_node.specs.declared.outcome.Outcome.TheVariants.{Wait, Refused}
-use Rattle.cops_clients.specs.declared.client.Client.{Client}
-use Rattle.cops_clients.specs.declared.cluster.Cluster.{Cluster}
-use Rattle.cops_clients.specs.Cluster.{IsNode, IsSameClient, after_get, after_put, node_of}
-use Rattle.cops_clients.specs.Lending.{with_share}
-use Rattle.cops_clients.specs.Shares.{Adds}
+use Rattle.cops_cluster.specs.declared.client.Client.{Client}
+use Rattle.cops_cluster.specs.declared.cluster.Cluster.{Cluster}
+use Rattle.cops_cluster.specs.Cluster.{IsNode, IsSameClient, after_get, after_put, node_of}
+use Rattle.cops_cluster.specs.Lending.{with_share}
+use Rattle.cops_cluster.specs.Shares.{Adds}
 use Rattle.cops_net.specs.declared.reply.Reply.{Reply}
 use Rattle.cops_serve.specs.declared.front_end.FrontEnd.{FrontEnd}
 use Rattle.cops_serve.specs.declared.front_end.Greeted.{Greeted}

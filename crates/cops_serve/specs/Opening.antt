@@ -1,7 +1,7 @@
 -- A front end in which nothing has happened.
 use Rattle.std.specs.Prelude.{◌≡◌, ◌-◌, List, [], length, map, IsNone}
-use Rattle.cops_clients.specs.Opening.{AreClientsAt, AreReceivers as AreSharesOfReceivers}
-use Rattle.cops_clients.specs.declared.share.Share.{Share}
+use Rattle.cops_cluster.specs.Opening.{AreClientsAt, AreReceivers as AreSharesOfReceivers}
+use Rattle.cops_cluster.specs.declared.share.Share.{Share}
 use Rattle.cops_replication.specs.Receiving.{ends}
 use Rattle.cops_replication.specs.Sending.{lanes}
 use Rattle.cops_replication.specs.Wiring.{AreJoined, AreReceivers, AreSenders}

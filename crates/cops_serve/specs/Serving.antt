@@ -17,9 +17,9 @@ use Rattle.cops_scenario.specs.Scenario.{AScenario, setting_of}
 use Rattle.cops_scenario.specs.File.{IsTextOf}
 use Rattle.cops_tie.specs.declared.entry.Entry.{Entry}
 use Rattle.cops_tie.specs.Tie.{IsTied}
-use Rattle.cops_clients.specs.Close.{made_in, told}
-use Rattle.cops_clients.specs.declared.client.Client.{Client}
-use Rattle.cops_clients.specs.declared.share.Made.{Made}
+use Rattle.cops_cluster.specs.Close.{made_in, told}
+use Rattle.cops_cluster.specs.declared.client.Client.{Client}
+use Rattle.cops_cluster.specs.declared.share.Made.{Made}
 use Rattle.cops_net.specs.Listening.{AreSessions}
 use Rattle.cops_replication.specs.declared.receiver.Receiver.{Receiver}
 use Rattle.cops_serve.specs.declared.front_end.FrontEnd.{FrontEnd}

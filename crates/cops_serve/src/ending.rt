@@ -2,12 +2,12 @@
 ghost use Rattle.std.specs.Prelude.{◌≡◌, ◌+◌, ◌*◌, ◌++◌, ◌↔◌, length, map, IfOk, IsTrue};
 ghost use Rattle.std.specs.List.Sorted.{IsPermutation};
 ghost use Rattle.cops_scenario.specs.Scenario.{setting_of};
-ghost use Rattle.cops_clients.specs.Close.{made_in, told as told_in};
+ghost use Rattle.cops_cluster.specs.Close.{made_in, told as told_in};
 ghost use Rattle.cops_serve.specs.Serving.{HasNodesOf, IsTiedReport};
 
 use crate::fault::ServeFault;
 use crate::front_end::FrontEnd;
-use cops_clients::{Client, CloseFault, Closed, Cluster, Share};
+use cops_cluster::{Client, CloseFault, Closed, Cluster, Share};
 use cops_command::reported;
 use cops_core::Setting;
 use cops_replication::Receiver;

@@ -3,7 +3,7 @@ ghost use Rattle.std.specs.Option.{ForSome};
 ghost use Rattle.std.specs.Prelude.{◌≡◌, ◌<◌, vec_len};
 
 use crate::replying::{Replies, check_replies, get_replies, not_yet, put_replies};
-use cops_clients::{Client, Cluster};
+use cops_cluster::{Client, Cluster};
 use cops_net::{Call, Reply, Session};
 use cops_node::{MEMORY, Outcome};
 use cops_replication::{Receiver, Sender, Turn};
@@ -55,7 +55,7 @@ pub struct FrontEnd {
 
 impl FrontEnd {
     ghost use Rattle.std.specs.Prelude.{◌≡◌, ◌<◌, ◌++◌, ◌∷◌, [], ℕ, IfNone, IfSome, vec_len, vec_capacity};
-    ghost use Rattle.cops_clients.specs.Outcomes.{IsGetOutcome, IsPutOutcome};
+    ghost use Rattle.cops_cluster.specs.Outcomes.{IsGetOutcome, IsPutOutcome};
     ghost use Rattle.cops_net.specs.Answers.{IsCheckReply};
     ghost use Rattle.cops_serve.specs.FrontEnd.{Checks, GetsAs, IsHome, IsSame, IsUnnoted, PutsAs};
 

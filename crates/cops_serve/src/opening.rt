@@ -1,6 +1,6 @@
 //! The cluster of a scenario behind the front door.
 use crate::front_end::FrontEnd;
-use cops_clients::{Cluster, Opened};
+use cops_cluster::{Cluster, Opened};
 use cops_replication::{Replicas, wired};
 use cops_scenario::Scenario;
 use cops_types::Memory;

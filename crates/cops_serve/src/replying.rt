@@ -1,12 +1,12 @@
 //! A cluster's answers as replies.
 ghost use Rattle.std.specs.Prelude.{◌≡◌};
-ghost use Rattle.cops_clients.specs.Outcomes.{IsAskOutcome, IsGetOutcome, IsPutOutcome};
-ghost use Rattle.cops_clients.specs.Receiving.{outcome_of};
+ghost use Rattle.cops_cluster.specs.Outcomes.{IsAskOutcome, IsGetOutcome, IsPutOutcome};
+ghost use Rattle.cops_cluster.specs.Receiving.{outcome_of};
 ghost use Rattle.cops_net.specs.Answers.{IsCheckReply, IsGetReply, IsPutReply};
 ghost use Rattle.cops_node.specs.declared.outcome.Outcome.TheVariants.{Wait as NotYet};
 ghost use Rattle.cops_serve.specs.Replying.{IsReplyTo};
 
-use cops_clients::Asked;
+use cops_cluster::Asked;
 use cops_net::Reply;
 use cops_node::Outcome;
 use cops_types::ValueRoom;

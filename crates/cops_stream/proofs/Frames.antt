@@ -10,12 +10,13 @@ use Rattle.cops_wire.specs.declared.fault.WireFault.{WireFault}
 use Rattle.cops_wire.specs.declared.fault.WireFault.TheVariants as wire
 use Rattle.cops_wire.specs.declared.message.Message.{Message}
 use Rattle.cops_wire.specs.declared.decoding.Decoded.{Decoded}
-use Rattle.cops_wire.specs.Grammar.{grammar, Parts, IsMessage}
+use Rattle.cops_wire.specs.Grammar.{grammar, Parts}
+use Rattle.cops_wire.specs.Legal.{IsMessage}
 use Rattle.cops_wire.specs.Message.{parts}
 use Rattle.cops_wire.specs.Answer.{Answers, IsAnswer}
 use Rattle.cops_trace.specs.Text.{spelled}
 use Rattle.cops_trace.proofs.Lists.{all_both, all_back}
-use Rattle.cops_trace.proofs.Writings.{appends_more}
+use Rattle.cops_types.proofs.Devices.{appends_more}
 use Rattle.cops_stream.proofs.Shown.{appends_none}
 use Rattle.cops_stream.specs.NextLine.{AppendsNext}
 use Rattle.cops_stream.specs.Show.{line_of, lines_of, frames_of, StandBefore, AreShown}

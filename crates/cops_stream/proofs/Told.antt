@@ -9,7 +9,8 @@ use Rattle.cops_trace.specs.Text.{ATrace}
 use Rattle.cops_trace.specs.Answer.{HasFault, Says, Agrees}
 use Rattle.cops_stream.specs.declared.audit.Answer.{Answer}
 use Rattle.cops_stream.specs.declared.audit.Answer.TheVariants.{Accepted}
-use Rattle.cops_stream.specs.Audit.{AuditSays, Writes, WritesFront, SpellsConvergent, Converges}
+use Rattle.cops_stream.specs.Audit.{AuditSays, Writes, WritesFront, Converges}
+use Rattle.cops_stream.specs.Convergent.{SpellsConvergent}
 
 pub told_writes : (a : Option (List ℕ)) (read : Result ATrace TraceFault) (answer : Answer) (told : List ℕ) (old new : Option (List ℕ)) → IfSome a (λ bytes. Agrees bytes read)
     → ((bytes : List ℕ) → Agrees bytes read → AuditSays bytes answer told) → Appends old new told → IfSome a (λ bytes. Writes bytes answer old new)

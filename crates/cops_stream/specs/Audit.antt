@@ -6,7 +6,7 @@ use Rattle.cops_audit.specs.declared.verdict.Verdict.{Verdict}
 use Rattle.cops_audit.specs.declared.verdict.Verdict.TheVariants as verdict
 use Rattle.cops_command.specs.Told.{IsReportOf}
 use Rattle.cops_trace.specs.declared.fault.TraceFault.{TraceFault}
-use Rattle.cops_trace.specs.Text.{ATrace, IsTrace, sessions_of, text}
+use Rattle.cops_trace.specs.Text.{ATrace, sessions_of}
 use Rattle.cops_trace.specs.Answer.{Says}
 use Rattle.cops_trace.specs.Lines.{fault_line}
 use Rattle.cops_stream.specs.declared.audit.Answer.{Answer}
@@ -41,11 +41,3 @@ Writes bytes answer old new = (told : List ℕ) × AuditSays bytes answer told �
 -- the writer gained a front of the text
 abbrev pub WritesFront : List ℕ → Option (List ℕ) → Option (List ℕ) → Type 0
 WritesFront bytes old new = (answer : Answer) × (front : List ℕ) × (rest : List ℕ) × AuditSays bytes answer (front ++ rest) × Appends old new front
-
--- the bytes are the text of one trace and no other, and its history is causally convergent
-pub record SpellsConvergent (bytes : List ℕ) : Type 0 where
-  pub trace : ATrace
-  pub is_trace : IsTrace trace
-  pub spells : bytes ≡ text trace
-  pub one : (other : ATrace) → IsTrace other → bytes ≡ text other → other ≡ trace
-  pub convergent : IsCausallyConvergent (sessions_of trace)

@@ -1,3 +1,4 @@
+pub mod Convergent
 pub mod Audit
 pub mod Show
 pub mod NextLine

@@ -5,7 +5,8 @@ use Rattle.std.specs.Io.KnownBytes.{Appends}
 use Rattle.cops_types.specs.declared.format.Format.TheVariants.{One}
 use Rattle.cops_types.specs.Texts.{◌⧺◌}
 use Rattle.cops_wire.specs.declared.message.Message.{Message}
-use Rattle.cops_wire.specs.Grammar.{grammar, IsMessage}
+use Rattle.cops_wire.specs.Grammar.{grammar}
+use Rattle.cops_wire.specs.Legal.{IsMessage}
 use Rattle.cops_wire.specs.Message.{parts}
 use Rattle.cops_wire.specs.Shown.{shown}
 use Rattle.cops_command.specs.Status.{number}

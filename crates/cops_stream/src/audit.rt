@@ -5,14 +5,15 @@ ghost use Rattle.cops_types.specs.Failures.{Failed};
 ghost use Rattle.cops_types.specs.Counted.{failures, inner};
 ghost use Rattle.cops_trace.specs.Answer.{Agrees};
 ghost use Rattle.cops_batch.specs.Pieces.{MayHoldPiece};
-ghost use Rattle.cops_stream.specs.Audit.{AuditSays, Writes, WritesFront, SpellsConvergent, IsTold, Converges};
+ghost use Rattle.cops_stream.specs.Audit.{AuditSays, Writes, WritesFront, IsTold, Converges};
+ghost use Rattle.cops_stream.specs.Convergent.{SpellsConvergent};
 ghost use Rattle.cops_stream.specs.declared.audit.StreamFault.TheVariants.{Memory as OutOfMemory};
 
 use cops_audit::Verdict;
 use cops_batch::{BatchFault, judge_with};
 use cops_report::report;
-use cops_trace::{Trace, TraceFault, fault_line, read_trace, write_text};
-use cops_types::{Counted, Gate, Memory};
+use cops_trace::{Trace, TraceFault, fault_line, read_trace};
+use cops_types::{Counted, Gate, Memory, write_text};
 use std::alloc::Global;
 use std::io::{Read, Write};
 use std::sync::Wait;

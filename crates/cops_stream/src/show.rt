@@ -12,8 +12,8 @@ ghost use Rattle.cops_stream.specs.NextLine.{AppendsNext};
 ghost use Rattle.cops_stream.specs.Show.{HasFirst, Shows, AreShown, end_of, line_of, lines_of};
 
 use cops_command::{PIECE, Status, failed, print, read_all};
-use cops_trace::{Trace, TraceFault, fault_line, read_trace, write_text};
-use cops_types::{Counted, Memory};
+use cops_trace::{Trace, TraceFault, fault_line, read_trace};
+use cops_types::{Counted, Memory, write_text};
 use cops_wire::{Decoded, Message, WireFault, decode, show};
 use std::alloc::Global;
 use std::io::{Read, Write};

@@ -6,7 +6,8 @@ use Rattle.cops_node.specs.declared.event.NodeEvent.{NodeEvent}
 use Rattle.cops_node.specs.declared.event.NodeEvent.TheVariants.{Put, Get, Deliver, Ask, Mark, Settle}
 use Rattle.cops_core.specs.declared.event.Event.{Event}
 use Rattle.cops_core.specs.declared.event.Event.TheVariants.{Put as PutBy, Get as GetBy, Deliver as DeliverTo, Ask as AskAt, Mark as MarkAt, Settle as SettleAt}
-use Rattle.cops_core.specs.World.{Setting, World, Happens, context_in, home, opening, place_of, primary, sent}
+use Rattle.cops_core.specs.World.{Setting, World, Happens, context_in, home, opening, primary, sent}
+use Rattle.cops_types.specs.NodeNumber.{place_of}
 use Rattle.cops_tie.specs.declared.entry.Entry.{Entry}
 
 -- an entry, in the book of the node at a place of a data centre

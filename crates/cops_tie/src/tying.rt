@@ -187,23 +187,23 @@ fn is_answered(world: &mut World, event: &Event, answer: &Outcome) -> Result<boo
 fn is_from(setting: &Setting, world: &World, turn: &Turn<'_>) -> Result<bool, Memory>
     ensures { IfOk result (λ is. IsTrue is ↔ StandsRight setting.now world.now.world (shown turn.now)) }
 {
-    if place_of_event(setting, &turn.entry.event) != u16::from(turn.place) {
+    if place_of_event(setting, &turn.entry.event) != turn.place {
         return Ok(false);
     }
     is_told(setting, world, turn.dc, &turn.entry.event)
 }
 
 /// The place of the key's node, or of the node that gave the version.
-fn place_of_event(setting: &Setting, event: &NodeEvent) -> u16
+fn place_of_event(setting: &Setting, event: &NodeEvent) -> u8
     ensures { result ≡ place_asked setting.now event.now }
 {
     match event {
-        NodeEvent::Put { key, .. } => u16::from(setting.primary(key)),
-        NodeEvent::Get { key, .. } => u16::from(setting.primary(key)),
-        NodeEvent::Deliver(put) => u16::from(setting.primary(&put.key)),
-        NodeEvent::Ask { key, .. } => u16::from(setting.primary(key)),
-        NodeEvent::Mark { version, .. } => version.node() % 64,
-        NodeEvent::Settle { version } => version.node() % 64,
+        NodeEvent::Put { key, .. } => setting.primary(key),
+        NodeEvent::Get { key, .. } => setting.primary(key),
+        NodeEvent::Deliver(put) => setting.primary(&put.key),
+        NodeEvent::Ask { key, .. } => setting.primary(key),
+        NodeEvent::Mark { version, .. } => version.place(),
+        NodeEvent::Settle { version } => version.place(),
     }
 }
 

@@ -3,7 +3,7 @@ use Rattle.std.proofs.Common.{◌≡◌, ◌≢◌, ℕ, zero, suc, ◌+◌, ◌
 use Rattle.std.specs.Prelude.{◌⊎◌, IfSome, IfOk, unwrap_or}
 use Rattle.std.specs.Io.KnownBytes.{Consumes, IsAtEnd}
 use Rattle.std.proofs.lemmas.List.{length-append, length-drop, append-nil}
-use Rattle.cops_wire.specs.Field.{IsBytes}
+use Rattle.cops_wire.specs.Answer.{IsBytes}
 use Rattle.cops_wire.specs.Message.{parts}
 use Rattle.cops_trace.specs.declared.fault.TraceFault.{TraceFault}
 use Rattle.cops_trace.specs.declared.fault.TraceFault.TheVariants.{Memory, ReadFailed, Cut, BytesAfterEnd}
@@ -12,7 +12,8 @@ use Rattle.cops_trace.specs.declared.found.Item.{Item}
 use Rattle.cops_trace.specs.declared.found.Item.TheVariants.{Head, Entry, End}
 use Rattle.cops_trace.specs.declared.found.Found.{Found}
 use Rattle.cops_trace.specs.declared.found.Found.TheVariants.{Gives, Waits, Fails}
-use Rattle.cops_trace.specs.Text.{ATrace, IsTrace, spelled, beginning, end_text, text}
+use Rattle.cops_trace.specs.Text.{ATrace, IsTrace, spelled, beginning, text}
+use Rattle.cops_trace.proofs.Ends.{end_text}
 use Rattle.cops_trace.specs.Next.{Progress, Stands}
 use Rattle.cops_trace.specs.Answer.{progress_of, progress_at, front, Begins, HasFault, Says, IsCutAfter, BeginsAs, Agrees}
 use Rattle.cops_trace.specs.Answer as answer
@@ -209,16 +210,6 @@ advance_no_cut fed e new offset (inr h) r = h.no_cut offset r
 -- ---- what a reader has left
 
 -- bytes that were taken, and then more
-pub consumed : (a b c : Option (List ℕ)) (xs ys : List ℕ) → Consumes a b xs → Consumes b c ys → Consumes a c (xs ++ ys)
-consumed None b c xs ys p q = tt
-consumed (Some u) None c xs ys p q = absurd p
-consumed (Some u) (Some v) None xs ys p q = absurd q
-consumed (Some u) (Some v) (Some w) xs ys p q = p ∙ ap (λ (t : List ℕ). xs ++ t) q ∙ sym (append_assoc xs ys w)
-
-pub consumed_none : (a : Option (List ℕ)) → Consumes a a []
-consumed_none None = tt
-consumed_none (Some u) = refl
-
 -- what was read before the end is all there was
 pub all_read : (a b c : Option (List ℕ)) (fed : List ℕ) (s : Stage) → Consumes a b fed → Consumes b c [] → IsAtEnd c → Fed fed s → IsSettled s → IfSome a (λ bytes. Fed bytes s × IsSettled s)
 all_read None b c fed s p q r h settled = tt

@@ -1,8 +1,10 @@
 -- A trace that grows by a record, and the beginnings of a trace.
 use Rattle.std.proofs.Common.{◌≡◌, ℕ, ◌^◌, ◌<◌, ◌≤◌, List, [], ◌∷◌, ◌++◌, length, sym, ap, subst, ◌∙◌, append_assoc, arith, inl, inr}
 use Rattle.std.proofs.lemmas.List.{length-append, append-nil}
+use Rattle.cops_types.specs.declared.limits.TheConstants.{MAX_CLIENT_OPS, MAX_OPS}
 use Rattle.cops_trace.specs.declared.record.Record.{Record}
-use Rattle.cops_trace.specs.Text.{ATrace, IsTrace, IsOp, turn, head_text, record_text, records_text, beginning}
+use Rattle.cops_trace.specs.Text.{ATrace, IsTrace, IsOp, turn, record_text, records_text, beginning}
+use Rattle.cops_trace.proofs.Ends.{head_text}
 use Rattle.cops_trace.specs.Kept.{grown}
 use Rattle.cops_trace.proofs.Lists.{all_both, all_front, same_or_other, turn-append, turn-same, turn-other}
 
@@ -12,12 +14,12 @@ with_records clients records = record { clients = clients; records = records }
 pub IsTrace-none : (clients : ℕ) → clients < 2 ^ 16 → IsTrace (with_records clients [])
 IsTrace-none clients h = record { clients = h; named = tt; each = λ c. omega arith; all = omega arith }
 
-pub IsTrace-grown : (t : ATrace) (r : Record) → IsTrace t → r.client < t.clients → IsOp r.op → turn r.client t.records < 1000000 → length t.records < 16000000 → IsTrace (grown t r)
+pub IsTrace-grown : (t : ATrace) (r : Record) → IsTrace t → r.client < t.clients → IsOp r.op → turn r.client t.records < MAX_CLIENT_OPS → length t.records < MAX_OPS → IsTrace (grown t r)
 IsTrace-grown t r h client op room all_room = record {
   clients = h.clients;
   named = all_both (λ (s : Record). (s.client < t.clients) × IsOp s.op) t.records (r ∷ []) h.named ((client, op), tt);
   each = λ c. elim (same_or_other r.client c) [
-    | inl p ↦ subst (λ (n : ℕ). turn n (t.records ++ r ∷ []) ≤ 1000000) p (omega (arith, turn-same t.records r))
+    | inl p ↦ subst (λ (n : ℕ). turn n (t.records ++ r ∷ []) ≤ MAX_CLIENT_OPS) p (omega (arith, turn-same t.records r))
     | inr p ↦ omega (arith, turn-other t.records r c p, h.each c)
   ];
   all = omega (arith, length-append t.records (r ∷ []));

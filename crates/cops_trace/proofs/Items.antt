@@ -2,6 +2,7 @@
 use Rattle.std.proofs.Common.{◌≡◌, ◌≢◌, ℕ, ◌+◌, ◌^◌, ◌<◌, ◌≤◌, Bool, true, false, cond, ltb, eqb, List, [], ◌++◌, length, drop, Option, Some, None, Result, Ok, Err, refl, sym, ap, subst, ◌∙◌, arith, inl, inr, eq-eqb}
 use Rattle.std.specs.Prelude.{◌&&◌, IfSome}
 use Rattle.std.proofs.lemmas.Bool.{ltb-true, lt-ltb, eqb-true}
+use Rattle.cops_types.specs.declared.limits.TheConstants.{MAX_CLIENT_OPS, MAX_OPS}
 use Rattle.cops_types.specs.declared.format.Format.TheVariants.{One}
 use Rattle.cops_types.specs.declared.op.Op.{Op}
 use Rattle.cops_types.specs.declared.op.Op.TheVariants.{Put, Got, Missed}
@@ -9,10 +10,10 @@ use Rattle.cops_wire.specs.declared.fault.WireFault.{WireFault}
 use Rattle.cops_wire.specs.declared.fault.WireFault.TheVariants as wire
 use Rattle.cops_wire.specs.declared.message.Message.{Message}
 use Rattle.cops_wire.specs.declared.message.Message.TheVariants.{TraceHead, TracePut, TraceGot, TraceMissed, TraceEnd, ByeOk}
-use Rattle.cops_wire.specs.Field.{IsBytes}
-use Rattle.cops_wire.specs.Grammar.{grammar, Parts, IsMessage}
+use Rattle.cops_wire.specs.Answer.{IsBytes, IsShort}
+use Rattle.cops_wire.specs.Grammar.{grammar, Parts}
+use Rattle.cops_wire.specs.Legal.{IsMessage}
 use Rattle.cops_wire.specs.Message.{parts}
-use Rattle.cops_wire.specs.Answer.{IsShort}
 use Rattle.cops_wire.proofs.Messages.{parts-same}
 use Rattle.cops_wire.proofs.Codec.{same_answer, spelling_answered, answer_splits, spelling_bounds}
 use Rattle.cops_wire.proofs.Frames.{answer_stays}
@@ -51,7 +52,7 @@ item_message _ _ = ByeOk
 -- the item may stand there
 abbrev pub Allows : Option Progress → Item → Type 0
 Allows None (Head clients) = Unit {0}
-Allows (Some p) (Entry r) = (r.client < p.clients) × (p.turn r.client < 1000000) × (p.total < 16000000)
+Allows (Some p) (Entry r) = (r.client < p.clients) × (p.turn r.client < MAX_CLIENT_OPS) × (p.total < MAX_OPS)
 Allows (Some p) End = Unit {0}
 Allows _ _ = ⊥
 
@@ -83,11 +84,11 @@ first_given _ n i used e = absurd cc
 
 record_given : (p : Progress) (s : Record) (index n : ℕ) (i : Item) (used : ℕ) → record_found p s index n ≡ Gives i used → IsItem (Some p) (Ok (op_message s.client index s.op, n)) i used
 record_given p s index n i used e =
-    let inner = cond (ltb (p.turn s.client) 1000000 && ltb p.total 16000000) (Gives (Entry s) n) (Fails (fault.TooLong p.at)) in
+    let inner = cond (ltb (p.turn s.client) MAX_CLIENT_OPS && ltb p.total MAX_OPS) (Gives (Entry s) n) (Fails (fault.TooLong p.at)) in
     let a = then_is (ltb s.client p.clients) (cond (eqb index (p.turn s.client)) inner (Fails (fault.IndexOutOfTurn p.at))) (Fails (fault.ClientOutOfRange p.at)) (Gives i used) (λ h. absurd cc) e in
     let b = then_is (eqb index (p.turn s.client)) inner (Fails (fault.IndexOutOfTurn p.at)) (Gives i used) (λ h. absurd cc) a.1 in
-    let c = then_is (ltb (p.turn s.client) 1000000 && ltb p.total 16000000) (Gives (Entry s) n) (Fails (fault.TooLong p.at)) (Gives i used) (λ h. absurd cc) b.1 in
-    let d = and_is (ltb (p.turn s.client) 1000000) (ltb p.total 16000000) c.0 in
+    let c = then_is (ltb (p.turn s.client) MAX_CLIENT_OPS && ltb p.total MAX_OPS) (Gives (Entry s) n) (Fails (fault.TooLong p.at)) (Gives i used) (λ h. absurd cc) b.1 in
+    let d = and_is (ltb (p.turn s.client) MAX_CLIENT_OPS) (ltb p.total MAX_OPS) c.0 in
     moved (IsItem (Some p) (Ok (op_message s.client index s.op, n))) (Entry s) i n used c.1
     ((ltb-true _ _ a.0, ltb-true _ _ d.0, ltb-true _ _ d.1), ap (λ (k : ℕ). Ok (op_message s.client k s.op, n)) (eqb-true _ _ b.0))
 
@@ -202,8 +203,8 @@ neither false x y z p q = q
 
 record_there : (p : Progress) (s : Record) (index n : ℕ) → record_found p s index n ≢ Waits
 record_there p s index n =
-    let inner = cond (ltb (p.turn s.client) 1000000 && ltb p.total 16000000) (Gives (Entry s) n) (Fails (fault.TooLong p.at)) in
-    let first = neither (ltb (p.turn s.client) 1000000 && ltb p.total 16000000) (Gives (Entry s) n) (Fails (fault.TooLong p.at)) Waits (λ q. cc) (λ q. cc) in
+    let inner = cond (ltb (p.turn s.client) MAX_CLIENT_OPS && ltb p.total MAX_OPS) (Gives (Entry s) n) (Fails (fault.TooLong p.at)) in
+    let first = neither (ltb (p.turn s.client) MAX_CLIENT_OPS && ltb p.total MAX_OPS) (Gives (Entry s) n) (Fails (fault.TooLong p.at)) Waits (λ q. cc) (λ q. cc) in
     let second = neither (eqb index (p.turn s.client)) inner (Fails (fault.IndexOutOfTurn p.at)) Waits first (λ q. cc) in
     neither (ltb s.client p.clients) (cond (eqb index (p.turn s.client)) inner (Fails (fault.IndexOutOfTurn p.at))) (Fails (fault.ClientOutOfRange p.at)) Waits second (λ q. cc)
 
@@ -273,8 +274,8 @@ gives_so i n d q = absurd cc
 
 record_fails : (p : Progress) (s : Record) (index n : ℕ) → FailsAsFrame (record_found p s index n)
 record_fails p s index n =
-    let inner = cond (ltb (p.turn s.client) 1000000 && ltb p.total 16000000) (Gives (Entry s) n) (Fails (fault.TooLong p.at)) in
-    let first = either_fails (ltb (p.turn s.client) 1000000 && ltb p.total 16000000) (Gives (Entry s) n) (Fails (fault.TooLong p.at)) (gives_so (Entry s) n) (fails_so (fault.TooLong p.at) refl) in
+    let inner = cond (ltb (p.turn s.client) MAX_CLIENT_OPS && ltb p.total MAX_OPS) (Gives (Entry s) n) (Fails (fault.TooLong p.at)) in
+    let first = either_fails (ltb (p.turn s.client) MAX_CLIENT_OPS && ltb p.total MAX_OPS) (Gives (Entry s) n) (Fails (fault.TooLong p.at)) (gives_so (Entry s) n) (fails_so (fault.TooLong p.at) refl) in
     let second = either_fails (eqb index (p.turn s.client)) inner (Fails (fault.IndexOutOfTurn p.at)) first (fails_so (fault.IndexOutOfTurn p.at) refl) in
     either_fails (ltb s.client p.clients) (cond (eqb index (p.turn s.client)) inner (Fails (fault.IndexOutOfTurn p.at))) (Fails (fault.ClientOutOfRange p.at)) second (fails_so (fault.ClientOutOfRange p.at) refl)
 

@@ -4,10 +4,11 @@ use Rattle.std.specs.List.{AllByRecursion}
 use Rattle.std.proofs.Math.ListN.{set, length-set}
 use Rattle.std.proofs.lemmas.Bool.{eqb-false, eq-eqb}
 use Rattle.std.proofs.lemmas.List.{length-append, append-nil, length-replicate}
+use Rattle.cops_types.specs.declared.limits.TheConstants.{MAX_CLIENT_OPS, MAX_OPS}
 use Rattle.cops_types.specs.declared.op.Op.{Op}
 use Rattle.cops_types.specs.declared.op.Op.TheVariants.{Missed}
-use Rattle.cops_types.specs.Histories.{Sessions}
-use Rattle.cops_types.specs.Recorded.{count_of, with_op}
+use Rattle.cops_types.specs.Histories.{Sessions, with_op}
+use Rattle.cops_types.specs.Recorded.{count_of}
 use Rattle.cops_types.specs.Recorded as types
 use Rattle.cops_types.proofs.Sessions.{count-with_op, count-none}
 use Rattle.cops_trace.specs.declared.record.Record.{Record}
@@ -141,7 +142,7 @@ trace_grown h cs c op k inside =
     records_push g [] cs c ∙ ap (λ (rs : List Record). made rs (op_in g c (times c cs))) stay ∙ ap (made (records_from h [] cs)) last in
     ap (λ (n : ℕ). with_records n (records_from g [] (cs ++ c ∷ []))) (length-set h c (s ++ op ∷ [])) ∙ ap (with_records (length h)) all
 
-pub kept_grown : (h : Sessions) (cs : List ℕ) (c : ℕ) (op : Op) → IsKept h cs → c < length h → IsOp op → turn c (trace_of h cs).records < 1000000 → length (trace_of h cs).records < 16000000
+pub kept_grown : (h : Sessions) (cs : List ℕ) (c : ℕ) (op : Op) → IsKept h cs → c < length h → IsOp op → turn c (trace_of h cs).records < MAX_CLIENT_OPS → length (trace_of h cs).records < MAX_OPS
     → IsKept (with_op h c op) (cs ++ c ∷ [])
 kept_grown h cs c op k inside is room all_room =
     let r : Record = record { client = c; op = op } in

@@ -1,4 +1,5 @@
 pub mod Lists
+pub mod Ends
 pub mod Growth
 pub mod Keeping
 pub mod Spellings
@@ -6,4 +7,3 @@ pub mod Items
 pub mod Founds
 pub mod Readings
 pub mod Feeding
-pub mod Writings

@@ -3,10 +3,11 @@ use Rattle.std.proofs.Common.{◌≡◌, ◌≢◌, ℕ, suc, ◌+◌, ◌*◌, 
 use Rattle.std.specs.Prelude.{IfSome}
 use Rattle.std.proofs.lemmas.Bool.{ne_eqb}
 use Rattle.std.proofs.lemmas.List.{length-append, append-nil}
+use Rattle.cops_types.specs.declared.limits.TheConstants.{MAX_CLIENT_OPS, MAX_OPS}
 use Rattle.cops_types.specs.declared.format.Format.TheVariants.{One}
 use Rattle.cops_wire.specs.declared.message.Message.{Message}
 use Rattle.cops_wire.specs.declared.message.Message.TheVariants.{TraceEnd}
-use Rattle.cops_wire.specs.Field.{IsBytes}
+use Rattle.cops_wire.specs.Answer.{IsBytes}
 use Rattle.cops_wire.proofs.Fields.{IsBytes-right}
 use Rattle.cops_wire.proofs.Codec.{one_message}
 use Rattle.cops_trace.specs.declared.record.Record.{Record}
@@ -16,7 +17,8 @@ use Rattle.cops_trace.specs.declared.found.Item.{Item}
 use Rattle.cops_trace.specs.declared.found.Item.TheVariants.{Head, Entry, End}
 use Rattle.cops_trace.specs.declared.found.Found.{Found}
 use Rattle.cops_trace.specs.declared.found.Found.TheVariants.{Gives, Waits, Fails}
-use Rattle.cops_trace.specs.Text.{ATrace, IsTrace, IsOp, turn, spelled, head_text, records_text, beginning, end_text, text}
+use Rattle.cops_trace.specs.Text.{ATrace, IsTrace, IsOp, turn, spelled, records_text, beginning, text}
+use Rattle.cops_trace.proofs.Ends.{head_text, end_text}
 use Rattle.cops_trace.specs.Next.{Stands}
 use Rattle.cops_trace.specs.Answer.{progress_of, progress_at, front, Begins, HasWrongFrame, IsCut, HasMore, HasFault, Says, Agrees}
 use Rattle.cops_trace.specs.Answer as answer
@@ -97,8 +99,8 @@ entries_stand c earlier (r ∷ rs) h =
     let each = here.each r.client in
     let long = length-append earlier (r ∷ []) in
     let all = here.all in
-    let room : turn r.client earlier < 1000000 = omega (arith, same, each) in
-    let all_room : length earlier < 16000000 = omega (arith, long, all) in
+    let room : turn r.client earlier < MAX_CLIENT_OPS = omega (arith, same, each) in
+    let all_room : length earlier < MAX_OPS = omega (arith, long, all) in
     ((named.0, room, all_room), op_legal r.client (turn r.client earlier) r.op (omega (arith, h.clients, named.0)) (omega (arith, room)) named.1, refl, entries_stand c (earlier ++ r ∷ []) rs grouped)
 
 entries_text : (c : ℕ) (earlier rs : List Record) → items_text (Some (with_records c earlier)) (entries rs) ≡ records_text earlier rs

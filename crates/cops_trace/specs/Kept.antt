@@ -1,5 +1,6 @@
 -- How a trace is kept: the sessions, and the clients in order of arrival.
 use Rattle.std.specs.Prelude.{◌≡◌, ℕ, ◌<◌, ◌==◌, List, [], ◌∷◌, ◌++◌, length, count_by, slice_index_or}
+use Rattle.cops_types.specs.declared.limits.TheConstants.{MAX_CLIENT_OPS, MAX_OPS}
 use Rattle.cops_types.specs.declared.op.Op.{Op}
 use Rattle.cops_types.specs.declared.op.Op.TheVariants.{Missed}
 use Rattle.cops_types.specs.Histories.{Sessions}
@@ -30,4 +31,4 @@ grown t r = record { clients = t.clients; records = t.records ++ r ∷ [] }
 
 -- the client, or the trace, has the most operations that it may have
 abbrev pub IsFull : ATrace → ℕ → Type 0
-IsFull t client = (turn client t.records < 1000000 × length t.records < 16000000) → ⊥
+IsFull t client = (turn client t.records < MAX_CLIENT_OPS × length t.records < MAX_OPS) → ⊥

@@ -1,5 +1,6 @@
 -- What stands next in a trace's text: a frame, and what it means there.
 use Rattle.std.specs.Prelude.{◌≡◌, ℕ, ◌+◌, List, Option, Some, None, Result, Ok, Err, nat_lt, ◌==◌, ◌&&◌, if◌then◌else◌}
+use Rattle.cops_types.specs.declared.limits.TheConstants.{MAX_CLIENT_OPS, MAX_OPS}
 use Rattle.cops_types.specs.declared.format.Format.TheVariants.{One}
 use Rattle.cops_types.specs.declared.op.Op.TheVariants.{Put, Got, Missed}
 use Rattle.cops_wire.specs.declared.fault.WireFault.{WireFault}
@@ -43,7 +44,7 @@ abbrev pub record_found : Progress → Record → ℕ → ℕ → Found
 record_found p r index used =
     if nat_lt r.client p.clients then
     if index == p.turn r.client then
-    if nat_lt (p.turn r.client) 1000000 && nat_lt p.total 16000000 then Gives (Entry r) used
+    if nat_lt (p.turn r.client) MAX_CLIENT_OPS && nat_lt p.total MAX_OPS then Gives (Entry r) used
     else Fails (fault.TooLong p.at)
     else Fails (fault.IndexOutOfTurn p.at)
     else Fails (fault.ClientOutOfRange p.at)

@@ -1,6 +1,7 @@
 -- What is kept while a trace's text comes in pieces.
 use Rattle.std.specs.Prelude.{◌≡◌, ◌≢◌, ℕ, ◌+◌, ◌<◌, ◌≤◌, ◌⊎◌, Bool, true, false, List, [], ◌++◌, length, drop, Option, Some, None, Result, Ok, Err, option_map}
-use Rattle.cops_wire.specs.Field.{IsBytes}
+use Rattle.cops_types.specs.declared.limits.TheConstants.{MAX_CLIENT_OPS, MAX_OPS}
+use Rattle.cops_wire.specs.Answer.{IsBytes}
 use Rattle.cops_trace.specs.declared.fault.TraceFault.{TraceFault}
 use Rattle.cops_trace.specs.declared.fault.TraceFault.TheVariants.{Memory, ReadFailed, Cut}
 use Rattle.cops_trace.specs.declared.found.Item.{Item}
@@ -52,7 +53,7 @@ after item used s = record { begun = with_item item s.begun; at = s.at + used; e
 abbrev pub ItemHasRoom : Item → Option ATrace → Type 0
 ItemHasRoom (Head clients) begun = Unit {0}
 ItemHasRoom (Entry r) None = ⊥
-ItemHasRoom (Entry r) (Some t) = (r.client < t.clients) × (turn r.client t.records < 1000000) × (length t.records < 16000000)
+ItemHasRoom (Entry r) (Some t) = (r.client < t.clients) × (turn r.client t.records < MAX_CLIENT_OPS) × (length t.records < MAX_OPS)
 ItemHasRoom End begun = Unit {0}
 
 abbrev pub HasRoom : Found → Option ATrace → Type 0

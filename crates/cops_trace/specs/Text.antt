@@ -1,14 +1,13 @@
 -- What a trace is, its one text, and the sessions that it records.
 use Rattle.std.specs.Prelude.{ℕ, ◌<◌, ◌≤◌, ◌^◌, List, [], ◌∷◌, ◌++◌, length, count_by, replicate, ◌==◌}
 use Rattle.std.specs.List.{AllByRecursion}
+use Rattle.cops_types.specs.declared.limits.TheConstants.{MAX_CLIENT_OPS, MAX_OPS}
 use Rattle.cops_types.specs.declared.format.Format.TheVariants.{One}
 use Rattle.cops_types.specs.declared.op.Op.{Op}
 use Rattle.cops_types.specs.declared.op.Op.TheVariants.{Put, Got, Missed}
-use Rattle.cops_types.specs.Key.{IsKey}
-use Rattle.cops_types.specs.Value.{IsValue}
+use Rattle.cops_types.specs.KeyValue.{IsKey, IsValue}
 use Rattle.cops_types.specs.Version.{IsVersion}
-use Rattle.cops_types.specs.Histories.{Sessions}
-use Rattle.cops_types.specs.Recorded.{with_op}
+use Rattle.cops_types.specs.Histories.{Sessions, with_op}
 use Rattle.cops_wire.specs.declared.message.Message.{Message}
 use Rattle.cops_wire.specs.declared.message.Message.TheVariants.{TraceHead, TracePut, TraceGot, TraceMissed, TraceEnd}
 use Rattle.cops_wire.specs.Grammar.{grammar, spelling}
@@ -43,16 +42,12 @@ IsOp (Missed key) = IsKey key
 pub record IsTrace (t : ATrace) : Type 0 where
   pub clients : t.clients < 2 ^ 16
   pub named : AllByRecursion (λ r. (r.client < t.clients) × IsOp r.op) t.records
-  pub each : (client : ℕ) → turn client t.records ≤ 1000000
-  pub all : length t.records ≤ 16000000
+  pub each : (client : ℕ) → turn client t.records ≤ MAX_CLIENT_OPS
+  pub all : length t.records ≤ MAX_OPS
 
 -- the bytes of a message of format 1
 unfoldable pub spelled : Message → List ℕ
 spelled m = spelling (grammar One) (parts m)
-
--- the head of format 1
-abbrev pub head_text : ℕ → List ℕ
-head_text clients = spelled (TraceHead 1 clients)
 
 -- an operation as the client's record with this index
 abbrev pub op_message : ℕ → ℕ → Op → Message
@@ -69,14 +64,10 @@ abbrev pub records_text : List Record → List Record → List ℕ
 records_text earlier [] = []
 records_text earlier (r ∷ rs) = record_text earlier r ++ records_text (earlier ++ r ∷ []) rs
 
--- head and records
+-- head, of format 1, and records
 unfoldable pub beginning : ATrace → List ℕ
-beginning t = head_text t.clients ++ records_text [] t.records
+beginning t = spelled (TraceHead 1 t.clients) ++ records_text [] t.records
 
--- the end counts the records
-abbrev pub end_text : ATrace → List ℕ
-end_text t = spelled (TraceEnd (length t.records))
-
--- head, records and end
+-- head, records and end, which counts the records
 abbrev pub text : ATrace → List ℕ
-text t = beginning t ++ end_text t
+text t = beginning t ++ spelled (TraceEnd (length t.records))

@@ -8,14 +8,9 @@ use crate::fault::TraceFault;
 use crate::found::{Found, Item};
 use crate::record::Record;
 use crate::trace::Trace;
-use cops_types::{Memory, Op};
+use cops_types::{MAX_CLIENT_OPS, MAX_OPS, Memory, Op};
 use cops_wire::{Message, WireFault, decode};
 use std::alloc::Global;
-
-/// The most operations of one client, and of a trace.
-const CLIENT_LIMIT: usize = 1_000_000;
-
-const TRACE_LIMIT: usize = 16_000_000;
 
 /// A frame at this place that is no message: it is waited for, or a fault stands there.
 fn unread(at: u64, fault: WireFault) -> Result<Found, Memory>
@@ -76,7 +71,7 @@ fn record_fault(trace: &Trace, at: u64, client: u16, index: u32) -> Option<Trace
     if index as usize != turn {
         return Some(TraceFault::IndexOutOfTurn { offset: at });
     }
-    if turn < CLIENT_LIMIT && trace.len() < TRACE_LIMIT {
+    if turn < MAX_CLIENT_OPS && trace.len() < MAX_OPS {
         None
     } else {
         Some(TraceFault::TooLong { offset: at })

@@ -19,4 +19,4 @@ pub use lines::fault_line;
 pub use reading::{read_so_far, read_trace};
 pub use record::Record;
 pub use trace::{Partial, Trace};
-pub use writing::{write_text, write_trace};
+pub use writing::write_trace;

@@ -3,7 +3,7 @@ ghost use Rattle.std.specs.Prelude.{◌≡◌, ◌≢◌, ◌⊎◌, ℕ, ◌<�
 ghost use Rattle.cops_types.specs.Failures.{Failed};
 ghost use Rattle.cops_types.specs.Counted.{failures, inner};
 ghost use Rattle.cops_trace.specs.declared.fault.TraceFault.{TraceFault as AFault};
-ghost use Rattle.cops_wire.specs.Field.{IsBytes};
+ghost use Rattle.cops_wire.specs.Answer.{IsBytes};
 ghost use Rattle.cops_trace.specs.Text.{ATrace};
 ghost use Rattle.cops_trace.specs.Answer.{Says, Agrees, AgreesSoFar, Gives, HasFault};
 ghost use Rattle.cops_trace.specs.Parsing.{Fed, IsSettled};

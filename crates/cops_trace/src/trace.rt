@@ -1,6 +1,7 @@
 ghost use Rattle.std.specs.Prelude.{◌≡◌, ◌++◌, IfOk, OnOk};
 ghost use Rattle.cops_types.specs.declared.format.Format.TheVariants.{One};
-ghost use Rattle.cops_wire.specs.Grammar.{grammar, IsMessage};
+ghost use Rattle.cops_wire.specs.Grammar.{grammar};
+ghost use Rattle.cops_wire.specs.Legal.{IsMessage};
 ghost use Rattle.cops_wire.specs.Message.{parts};
 ghost use Rattle.cops_trace.specs.Text.{IsOp, op_message, spelled};
 

@@ -1,6 +1,7 @@
 ghost use Rattle.std.specs.Prelude.{◌≡◌, ◌≢◌, ◌≤◌, ◌<◌, ◌++◌, ℕ, length, take, OnOk, IfOk, IfErr, IsErrOf};
 ghost use Rattle.std.specs.Io.KnownBytes.{Appends, Keeps};
-ghost use Rattle.cops_wire.specs.Grammar.{grammar, IsMessage};
+ghost use Rattle.cops_wire.specs.Grammar.{grammar};
+ghost use Rattle.cops_wire.specs.Legal.{IsMessage};
 ghost use Rattle.cops_wire.specs.Message.{parts};
 ghost use Rattle.cops_types.specs.declared.format.Format.TheVariants.{One};
 ghost use Rattle.cops_trace.specs.Text.{spelled, text};
@@ -9,7 +10,7 @@ ghost use Rattle.cops_types.specs.Counted.{failures, inner};
 
 use crate::fault::WriteFault;
 use crate::trace::Trace;
-use cops_types::{Counted, Memory};
+use cops_types::{Counted, Memory, write_text};
 use cops_wire::{Message, encode};
 use std::alloc::Global;
 use std::io::Write;
@@ -63,24 +64,4 @@ pub fn write_trace<W: Write>(
         Ok(()) => Ok(()),
         Err(written) => Err(WriteFault::WriteFailed { written }),
     }
-}
-
-/// Writes all of a text, or tells how many of its first bytes were written, fewer than all. A failed write is not tried
-/// again.
-pub fn write_text<W: Write>(writer: &mut Counted<W>, text: &[u8]) -> Result<(), usize>
-    ensures ok { OnOk result (Appends (W.contents (inner writer.old)) (W.contents (inner writer.new)) text.now) }
-    ensures err { IfErr result (λ n. Appends (W.contents (inner writer.old)) (W.contents (inner writer.new)) (take n text.now)) }
-    ensures failed { IfErr result (λ n. (n < length text.now) × Failed (failures writer.old) (failures writer.new)) }
-    ensures heard { OnOk result (failures writer.new ≡ failures writer.old) }
-{
-    let mut written = 0;
-    while written < text.len() {
-        let (_, rest) = text.split_at(written);
-        match writer.write(rest) {
-            Ok(0) => return Err(written),
-            Ok(count) => written += count,
-            Err(_) => return Err(written),
-        }
-    }
-    Ok(())
 }

@@ -1,2 +1,3 @@
 pub mod DepLemmas
 pub mod Sessions
+pub mod Devices

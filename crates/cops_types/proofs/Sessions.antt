@@ -9,8 +9,8 @@ use Rattle.std.proofs.lemmas.List.{map-set, get_or-map, length-append, length-re
 use Rattle.std.proofs.lemmas.List.Sums.{sum_by-set}
 use Rattle.std.proofs.lemmas.List.Folds.{sum_by-replicate}
 use Rattle.cops_types.specs.declared.op.Op.{Op}
-use Rattle.cops_types.specs.Histories.{Sessions}
-use Rattle.cops_types.specs.Recorded.{IsWithinLimits, count_of, with_op}
+use Rattle.cops_types.specs.Histories.{Sessions, with_op}
+use Rattle.cops_types.specs.Recorded.{IsWithinLimits, count_of}
 
 -- ---- sessions as lists
 

@@ -1,7 +1,7 @@
 -- Causal convergence: a causal order and an arbitration by which each get returns the last put that it can know of.
 use Rattle.std.specs.Prelude.{◌≡◌, ◌≢◌, ◌<◌, ◌↔◌, ℕ, List, Some, slice_get, Contains}
 use Rattle.cops_types.specs.declared.op.OpName.{OpName}
-use Rattle.cops_types.specs.Histories.{Sessions, IsGot, IsMissed, Puts, PutsKey, PutsVersion, SessionStep, SourceStep}
+use Rattle.cops_types.specs.Histories.{Sessions, IsGot, IsMissed, Puts, PutsKey, SessionStep, SourceStep}
 
 -- a finite set of pairs of names
 abbrev pub Order : Type 0
@@ -49,8 +49,3 @@ ConvergesBy h arbitration = (order : Order) × IsCausalOrder h order × IsArbitr
 
 abbrev pub IsCausallyConvergent : Sessions → Type 0
 IsCausallyConvergent h = (arbitration : List OpName) × ConvergesBy h arbitration
-
--- all puts, with rising versions
-pub record IsVersionOrder (h : Sessions) (names : List OpName) : Type 0 where
-  pub members : (p : OpName) → Contains names p ↔ Puts h p
-  pub rising : (p q : OpName) (v w : ℕ) → StandsBefore names p q → PutsVersion h p v → PutsVersion h q w → v < w

@@ -1,7 +1,8 @@
 -- The four classes of faults.
 use Rattle.std.specs.Prelude.{◌≡◌, ◌≢◌, ◌<◌, ◌≤◌, ◌⊎◌, ◌↔◌, ℕ, List, Contains, AllPairs}
 use Rattle.cops_types.specs.declared.op.OpName.{OpName}
-use Rattle.cops_types.specs.Histories.{Sessions, IsGot, IsMissed, PutsKey, PutsVersion, SourceStep, Past}
+use Rattle.cops_types.specs.Histories.{Sessions, IsGot, IsMissed, PutsKey, PutsVersion, SourceStep}
+use Rattle.cops_types.specs.Past.{Past}
 
 -- a put whose version another put bears
 pub record IsDoubled (h : Sessions) (name : OpName) : Type 0 where

@@ -2,14 +2,15 @@
 use Rattle.std.specs.Prelude.{ℕ}
 use Rattle.cops_types.specs.declared.format.Format.{Format}
 use Rattle.cops_types.specs.declared.format.Format.TheVariants.{One}
+use Rattle.cops_types.specs.declared.limits.TheConstants.{MAX_VALUE, MAX_DEPS}
 
 -- the most bytes of a value
 abbrev pub most_value : Format → ℕ
-most_value One = 4096
+most_value One = MAX_VALUE
 
 -- the most pairs of dependencies
 abbrev pub most_deps : Format → ℕ
-most_deps One = 256
+most_deps One = MAX_DEPS
 
 -- the most bytes of a frame's body
 abbrev pub longest_body : Format → ℕ

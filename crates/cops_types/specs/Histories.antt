@@ -1,5 +1,5 @@
 -- Histories, the names of operations, and the steps from one operation to another.
-use Rattle.std.specs.Prelude.{◌≡◌, ◌<◌, ◌⊎◌, ℕ, List, [], Option, Some, slice_get, slice_index_or}
+use Rattle.std.specs.Prelude.{◌≡◌, ◌<◌, ℕ, List, [], ◌∷◌, ◌++◌, Option, Some, slice_get, slice_index_or, slice_set}
 use Rattle.cops_types.specs.declared.op.Op.{Op}
 use Rattle.cops_types.specs.declared.op.Op.TheVariants.{Put, Got, Missed}
 use Rattle.cops_types.specs.declared.op.OpName.{OpName}
@@ -11,6 +11,10 @@ Sessions = List (List Op)
 -- the operation of that name, if there is one
 abbrev pub op_at : Sessions → OpName → Option Op
 op_at h name = slice_get (slice_index_or h name.client []) name.index
+
+-- the client's session with one more operation
+abbrev pub with_op : Sessions → ℕ → Op → Sessions
+with_op h client op = slice_set h client (slice_index_or h client [] ++ op ∷ [])
 
 -- an operation has that name
 abbrev pub IsNamed : Sessions → OpName → Type 0
@@ -50,11 +54,3 @@ pub record SourceStep (h : Sessions) (from to : OpName) : Type 0 where
   pub version : ℕ
   pub put : IsPut h from key value version
   pub got : IsGot h to key value version
-
-abbrev pub Step : Sessions → OpName → OpName → Type 0
-Step h from to = SessionStep h from to ⊎ SourceStep h from to
-
--- one or more steps lead from the one to the other: the first is in the past of the second
-pub data Past (h : Sessions) (from : OpName) : OpName → Type 0 where
-  step : {to : OpName} → Step h from to → Past h from to
-  more : {by to : OpName} → Past h from by → Step h by to → Past h from to

@@ -1,12 +1,13 @@
 pub mod TypeFaults
 pub mod Format
-pub mod Key
-pub mod Value
+pub mod KeyValue
 pub mod Version
+pub mod NodeNumber
 pub mod Dep
 pub mod Clock
 pub mod Texts
 pub mod Histories
+pub mod Past
 pub mod Convergence
 pub mod Faults
 pub mod Verdicts

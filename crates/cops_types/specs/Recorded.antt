@@ -1,6 +1,6 @@
 -- What a history holds.
-use Rattle.std.specs.Prelude.{◌≡◌, ℕ, ◌<◌, ◌≤◌, List, [], ◌∷◌, ◌++◌, length, sum_by, slice_index_or, slice_set, Bool, true, false}
-use Rattle.cops_types.specs.declared.op.Op.{Op}
+use Rattle.std.specs.Prelude.{◌≡◌, ℕ, ◌<◌, ◌≤◌, List, [], length, sum_by, slice_index_or, Bool, true, false}
+use Rattle.cops_types.specs.declared.limits.TheConstants.{MAX_CLIENT_OPS, MAX_OPS}
 use Rattle.cops_types.specs.Histories.{Sessions}
 
 -- the sessions, and of each client whether its next operation takes no memory
@@ -12,19 +12,15 @@ pub record Recorded : Type 0 where
 abbrev pub count_of : Sessions → ℕ
 count_of h = sum_by length h
 
--- the client's session with one more operation
-abbrev pub with_op : Sessions → ℕ → Op → Sessions
-with_op h client op = slice_set h client (slice_index_or h client [] ++ op ∷ [])
-
--- the client has room by the limits: 1,000,000 operations of a client, 16,000,000 of all
+-- the client has no room by the limits: 1,000,000 operations of a client, 16,000,000 of all
 abbrev pub IsFull : Sessions → ℕ → Type 0
-IsFull h client = (length (slice_index_or h client []) < 1000000 × count_of h < 16000000) → ⊥
+IsFull h client = (length (slice_index_or h client []) < MAX_CLIENT_OPS × count_of h < MAX_OPS) → ⊥
 
 -- within the limits
 pub record IsWithinLimits (h : Sessions) : Type 0 where
   pub clients : length h ≤ 65535
-  pub each : (client : ℕ) → length (slice_index_or h client []) ≤ 1000000
-  pub all : count_of h ≤ 16000000
+  pub each : (client : ℕ) → length (slice_index_or h client []) ≤ MAX_CLIENT_OPS
+  pub all : count_of h ≤ MAX_OPS
 
 -- the client's next operation takes no memory
 abbrev pub HasRoom : Recorded → ℕ → Type 0

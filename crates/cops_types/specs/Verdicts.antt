@@ -1,8 +1,8 @@
 -- The verdict: the first class of faults that is not empty, or that none has any.
-use Rattle.std.specs.Prelude.{◌≢◌, List, []}
+use Rattle.std.specs.Prelude.{◌≢◌, ◌<◌, ◌↔◌, ℕ, List, [], Contains}
 use Rattle.cops_types.specs.declared.op.OpName.{OpName}
-use Rattle.cops_types.specs.Histories.{Sessions}
-use Rattle.cops_types.specs.Convergence.{IsVersionOrder}
+use Rattle.cops_types.specs.Histories.{Sessions, Puts, PutsVersion}
+use Rattle.cops_types.specs.Convergence.{StandsBefore}
 use Rattle.cops_types.specs.Faults.{IsDoubled, HasNoSource, IsNotAbove, IsStale, Lists}
 
 -- no two puts bear one version
@@ -17,6 +17,11 @@ AllAbove h = (name earlier : OpName) → ¬ IsNotAbove h name earlier
 
 abbrev pub NoneStale : Sessions → Type 0
 NoneStale h = (name newer : OpName) → ¬ IsStale h name newer
+
+-- all puts, with rising versions
+pub record IsVersionOrder (h : Sessions) (names : List OpName) : Type 0 where
+  pub members : (p : OpName) → Contains names p ↔ Puts h p
+  pub rising : (p q : OpName) (v w : ℕ) → StandsBefore names p q → PutsVersion h p v → PutsVersion h q w → v < w
 
 -- no class has a fault, and these are the puts in order of versions
 pub record IsAccepted (h : Sessions) (puts : List OpName) : Type 0 where

@@ -1,19 +1,12 @@
 -- Versions as numbers.
-use Rattle.std.specs.Prelude.{ℕ, ◌<◌, ◌≤◌, ◌+◌, ◌*◌, ◌/◌, ◌%◌, ◌^◌}
+use Rattle.std.specs.Prelude.{ℕ, ◌<◌, ◌≤◌, ◌/◌, ◌%◌, ◌^◌}
 
--- the clock in the high bits, the node in the low 16
-abbrev pub version_of : ℕ → ℕ → ℕ
-version_of clock node = clock * 65536 + node
-
+-- the clock stands in the high bits, the node in the low 16
 abbrev pub clock_of : ℕ → ℕ
 clock_of raw = raw / 65536
 
 abbrev pub node_of : ℕ → ℕ
 node_of raw = raw % 65536
-
--- sixty-four nodes in each data centre
-abbrev pub data_centre_of : ℕ → ℕ
-data_centre_of raw = node_of raw / 64
 
 -- what is a version: a clock from 1 on, of 48 bits, and a node below 1024
 abbrev pub IsVersion : ℕ → Type 0

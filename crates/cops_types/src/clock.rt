@@ -1,5 +1,6 @@
 use crate::fault::TypeFault;
-use crate::version::{MAX_CLOCK, Version};
+use crate::limits::MAX_CLOCK;
+use crate::version::Version;
 use std::marker::Model;
 
 /// A node's Lamport clock, from 0 to 281,474,976,710,655 (COPS, section 4: versions are Lamport timestamps).
@@ -12,17 +13,20 @@ pub struct Clock {
 impl Model for Clock {
     ghost use Rattle.std.specs.Prelude.{◌≤◌, ◌<◌};
     ghost use Rattle.cops_types.specs.Clock.{AClock};
+    ghost use Rattle.cops_types.specs.declared.limits.TheConstants.{MAX_CLOCK};
 
     ghost Value = { AClock };
 
     ghost view = { λ c. record { clock = c.clock; node = c.node } };
 
-    ghost invariant = { λ c. (c.clock ≤ 281474976710655) × (c.node < 1024) };
+    ghost invariant = { λ c. (c.clock ≤ MAX_CLOCK) × (c.node < 1024) };
 }
 
 impl Clock {
     ghost use Rattle.std.specs.Prelude.{◌≡◌, ◌<◌, ◌≤◌, ◌+◌, ◌↔◌, IfOk, OnErr, IsErrOf, Err, max};
-    ghost use Rattle.cops_types.specs.Version.{version_of, clock_of};
+    ghost use Rattle.cops_types.specs.Version.{clock_of};
+    ghost use Rattle.cops_types.specs.Clock.{version_of};
+    ghost use Rattle.cops_types.specs.declared.limits.TheConstants.{MAX_CLOCK};
 
     /// The clock of a node, at 0.
     pub fn new(node: u16) -> Clock
@@ -43,7 +47,7 @@ impl Clock {
     pub fn next(&mut self) -> Result<Version, TypeFault>
         ensures ok { IfOk result (λ version. (version ≡ version_of (self.old.clock + 1) self.old.node) × (self.new ≡ record self.old { clock = self.old.clock + 1 })) }
         ensures err { OnErr result (self.new ≡ self.old) }
-        ensures exhausted { IsErrOf result TypeFault.ClockExhausted ↔ (self.old.clock ≡ 281474976710655) }
+        ensures exhausted { IsErrOf result TypeFault.ClockExhausted ↔ (self.old.clock ≡ MAX_CLOCK) }
         ensures only { OnErr result (result ≡ Err TypeFault.ClockExhausted) }
     {
         if self.clock >= MAX_CLOCK {
@@ -57,7 +61,7 @@ impl Clock {
     /// Where it stands.
     pub fn clock(&self) -> u64
         ensures value { result ≡ self.now.clock }
-        ensures range { result ≤ 281474976710655 }
+        ensures range { result ≤ MAX_CLOCK }
     {
         self.clock
     }

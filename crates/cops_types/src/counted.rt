@@ -1,7 +1,7 @@
-ghost use Rattle.std.specs.Prelude.{◌≡◌};
+ghost use Rattle.std.specs.Prelude.{◌≡◌, ◌<◌, length, take, OnOk, IfErr};
 ghost use Rattle.std.specs.Io.{ReadsAtMost, WritesAtMost};
-ghost use Rattle.std.specs.Io.KnownBytes.{Keeps, ReadConsumes, WriteAppends};
-ghost use Rattle.cops_types.specs.Failures.{counted, counted_write};
+ghost use Rattle.std.specs.Io.KnownBytes.{Appends, Keeps, ReadConsumes, WriteAppends};
+ghost use Rattle.cops_types.specs.Failures.{Failed, counted, counted_write};
 ghost use Rattle.cops_types.specs.Counted.{failures, inner};
 
 use std::io;
@@ -90,4 +90,24 @@ impl<T: Write> Write for Counted<T> {
         }
         answer
     }
+}
+
+/// Writes all of a text, or tells how many of its first bytes were written, fewer than all. A failed write is not tried
+/// again.
+pub fn write_text<W: Write>(writer: &mut Counted<W>, text: &[u8]) -> Result<(), usize>
+    ensures ok { OnOk result (Appends (W.contents (inner writer.old)) (W.contents (inner writer.new)) text.now) }
+    ensures err { IfErr result (λ n. Appends (W.contents (inner writer.old)) (W.contents (inner writer.new)) (take n text.now)) }
+    ensures failed { IfErr result (λ n. (n < length text.now) × Failed (failures writer.old) (failures writer.new)) }
+    ensures heard { OnOk result (failures writer.new ≡ failures writer.old) }
+{
+    let mut written = 0;
+    while written < text.len() {
+        let (_, rest) = text.split_at(written);
+        match writer.write(rest) {
+            Ok(0) => return Err(written),
+            Ok(count) => written += count,
+            Err(_) => return Err(written),
+        }
+    }
+    Ok(())
 }

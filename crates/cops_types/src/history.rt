@@ -1,13 +1,10 @@
+ghost use Rattle.cops_types.specs.declared.limits.TheConstants.{MAX_CLIENT_OPS, MAX_OPS};
+
 use crate::fault::{Memory, TypeFault};
+use crate::limits::{MAX_CLIENT_OPS, MAX_OPS};
 use crate::op::{Op, OpName};
 use std::alloc::Global;
 use std::marker::Model;
-
-/// The most operations of one client.
-pub const MAX_CLIENT_OPS: usize = 1_000_000;
-
-/// The most operations of a history.
-pub const MAX_OPS: usize = 16_000_000;
 
 /// A history (POPL 2017, section 3): a session for each client, each the list of its operations. There are at most
 /// 65,535 clients, 1,000,000 operations of one client and 16,000,000 in all.
@@ -34,8 +31,8 @@ impl Model for History {
 impl History {
     ghost use Rattle.std.specs.Prelude.{◌≡◌, ◌≢◌, ◌≤◌, ◌<◌, ◌↔◌, ℕ, length, slice_index_or, [], OnOk, OnErr, OnSome, IfOk, IfErr, IsErrOf, replicate, false, ◌==◌};
     ghost use Rattle.std.specs.Option.{option_copied};
-    ghost use Rattle.cops_types.specs.Histories.{op_at};
-    ghost use Rattle.cops_types.specs.Recorded.{count_of, with_op, IsFull, IsWithinLimits, HasRoom};
+    ghost use Rattle.cops_types.specs.Histories.{op_at, with_op};
+    ghost use Rattle.cops_types.specs.Recorded.{count_of, IsFull, IsWithinLimits, HasRoom};
     ghost use Rattle.cops_types.specs.TypeFaults.{IsHistoryFault};
 
     /// A history of so many clients, each with an empty session.
@@ -86,7 +83,7 @@ impl History {
     /// Whether the client may have one more operation.
     fn admit(&self, client: u16) -> Result<(), TypeFault>
         ensures ok { OnOk result (client < length self.now.sessions
-            × length (slice_index_or self.now.sessions client []) < 1000000 × count_of self.now.sessions < 16000000) }
+            × length (slice_index_or self.now.sessions client []) < MAX_CLIENT_OPS × count_of self.now.sessions < MAX_OPS) }
         ensures unknown { IsErrOf result TypeFault.UnknownClient ↔ (length self.now.sessions ≤ client) }
         ensures too_many { IsErrOf result TypeFault.TooManyOps ↔ (client < length self.now.sessions × IsFull self.now.sessions client) }
         ensures only { IfErr result IsHistoryFault }
@@ -127,7 +124,7 @@ impl History {
     /// The operations of a client, in their order: none for a client that is not there.
     pub fn session(&self, client: u16) -> &[Op]
         ensures operations { result.now ≡ slice_index_or self.now.sessions client [] }
-        ensures limit { length result.now ≤ 1000000 }
+        ensures limit { length result.now ≤ MAX_CLIENT_OPS }
     {
         match self.sessions.get(client as usize) {
             Some(session) => session.as_slice(),
@@ -138,7 +135,7 @@ impl History {
     /// The operation of that name, if there is one.
     pub fn op(&self, name: OpName) -> Option<&Op>
         ensures operation { option_copied result ≡ op_at self.now.sessions name }
-        ensures limit { OnSome result (name.index < 1000000) }
+        ensures limit { OnSome result (name.index < MAX_CLIENT_OPS) }
     {
         self.session(name.client).get(name.index as usize)
     }

@@ -1,16 +1,14 @@
 ghost use Rattle.std.specs.Prelude.{◌≡◌, ◌<◌, ◌≤◌, ◌↔◌, ◌==◌, List, ℕ, length, [], IfOk, IfErr, IsErrOf, IsTrue};
-ghost use Rattle.cops_types.specs.Key.{IsKey};
+ghost use Rattle.cops_types.specs.KeyValue.{IsKey};
 ghost use Rattle.cops_types.specs.TypeFaults.{IsKeyFault};
 
 use crate::fault::TypeFault;
+use crate::limits::MAX_KEY;
 use smallvec::SmallVec;
 use std::alloc::{AllocError, Global};
 use std::cmp::Ordering;
 use std::hash::{Hash, Hasher};
 use std::marker::Model;
-
-/// The most bytes that a key has.
-pub const MAX_KEY: usize = 64;
 
 /// The most bytes that lie in the key itself: those of a longer key lie in an allocation.
 const INLINE: usize = 16;

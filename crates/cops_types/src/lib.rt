@@ -13,21 +13,25 @@ mod format;
 mod gate;
 mod history;
 mod key;
+mod limits;
 mod op;
 mod put_record;
 mod value;
 mod version;
 
 pub use clock::Clock;
-pub use counted::Counted;
-pub use dep::{Dep, Deps, MAX_DEPS};
+pub use counted::{Counted, write_text};
+pub use dep::{Dep, Deps};
 pub use failing::{FailingReader, FailingWriter};
 pub use fault::{Memory, TypeFault};
 pub use format::Format;
 pub use gate::{Gate, GateHeld, OpenGate, Point};
-pub use history::{History, MAX_CLIENT_OPS, MAX_OPS};
-pub use key::{Key, KeyRoom, MAX_KEY};
+pub use history::History;
+pub use key::{Key, KeyRoom};
+pub use limits::{
+    MAX_CLIENT_OPS, MAX_CLOCK, MAX_DEPS, MAX_KEY, MAX_NODE, MAX_OPS, MAX_VALUE, PLACES,
+};
 pub use op::{Op, OpName};
 pub use put_record::{NodeStatus, PutRecord};
-pub use value::{MAX_VALUE, Value, ValueRoom};
-pub use version::{MAX_CLOCK, MAX_NODE, Version};
+pub use value::{Value, ValueRoom};
+pub use version::{Version, node_number};

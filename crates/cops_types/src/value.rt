@@ -1,16 +1,14 @@
 ghost use Rattle.std.specs.Prelude.{◌≡◌, ◌<◌, ◌≤◌, ◌↔◌, ◌==◌, List, ℕ, length, [], IfOk, IfErr, IsErrOf, IsTrue};
-ghost use Rattle.cops_types.specs.Value.{IsValue};
+ghost use Rattle.cops_types.specs.KeyValue.{IsValue};
 ghost use Rattle.cops_types.specs.Format.{most_value};
 ghost use Rattle.cops_types.specs.TypeFaults.{IsValueFault};
 
 use crate::fault::TypeFault;
 use crate::format::Format;
+use crate::limits::MAX_VALUE;
 use smallvec::SmallVec;
 use std::alloc::{AllocError, Global};
 use std::marker::Model;
-
-/// The most bytes that a value of any format has.
-pub const MAX_VALUE: usize = 4096;
 
 /// The most bytes that lie in the value itself: those of a longer value lie in an allocation.
 const INLINE: usize = 16;

@@ -1,15 +1,20 @@
 ghost use Rattle.std.specs.Prelude.{◌≡◌, ◌<◌, ◌≤◌, ◌↔◌, ◌+◌, ◌*◌, ◌/◌, ◌%◌, ℕ, IfOk, OnErr, IsErrOf, Err};
-ghost use Rattle.cops_types.specs.Version.{IsVersion, version_of, clock_of, node_of, data_centre_of};
+ghost use Rattle.cops_types.specs.declared.limits.TheConstants.{MAX_CLOCK};
+ghost use Rattle.cops_types.specs.Version.{IsVersion, clock_of, node_of};
+ghost use Rattle.cops_types.specs.Clock.{version_of};
+ghost use Rattle.cops_types.specs.NodeNumber.{node_number, data_centre_of, place_of};
 
 use crate::fault::TypeFault;
+use crate::limits::{MAX_CLOCK, MAX_NODE, PLACES};
 use std::fmt;
 use std::marker::Model;
 
-/// The greatest clock of a version.
-pub const MAX_CLOCK: u64 = 281_474_976_710_655;
-
-/// The greatest number of a node.
-pub const MAX_NODE: u16 = 1023;
+/// The number of the node at a place of a data centre: 64 times the data centre, and the place.
+pub fn node_number(dc: u8, place: u8) -> u16
+    ensures { result ≡ node_number dc place }
+{
+    u16::from(dc) * u16::from(PLACES) + u16::from(place)
+}
 
 /// The version of a put, which is the put's identity: a clock from 1 to 281,474,976,710,655 in the high bits, and the
 /// number of the node that gave it, below 1,024, in the low 16 bits. The greater version is the later one (COPS,
@@ -33,7 +38,7 @@ impl Version {
     /// The version of this clock and node, or `BadVersion` where one is out of its range.
     pub fn new(clock: u64, node: u16) -> Result<Self, TypeFault>
         ensures ok { IfOk result (λ version. version ≡ version_of clock node) }
-        ensures bad { IsErrOf result TypeFault.BadVersion ↔ ((1 ≤ clock × clock ≤ 281474976710655 × node < 1024) → ⊥) }
+        ensures bad { IsErrOf result TypeFault.BadVersion ↔ ((1 ≤ clock × clock ≤ MAX_CLOCK × node < 1024) → ⊥) }
         ensures only { OnErr result (result ≡ Err TypeFault.BadVersion) }
     {
         if clock >= 1 && clock <= MAX_CLOCK && node <= MAX_NODE {
@@ -69,7 +74,7 @@ impl Version {
     /// The clock, 1 to 281,474,976,710,655.
     pub fn clock(self) -> u64
         ensures value { result ≡ clock_of self }
-        ensures range { 1 ≤ result × result ≤ 281474976710655 }
+        ensures range { 1 ≤ result × result ≤ MAX_CLOCK }
     {
         self.raw / 65536
     }
@@ -87,7 +92,15 @@ impl Version {
         ensures value { result ≡ data_centre_of self }
         ensures range { result < 16 }
     {
-        (self.node() / 64) as u8
+        (self.node() / u16::from(PLACES)) as u8
+    }
+
+    /// The place of that node there, below 64.
+    pub fn place(self) -> u8
+        ensures value { result ≡ place_of self }
+        ensures range { result < 64 }
+    {
+        (self.node() % u16::from(PLACES)) as u8
     }
 }
 

@@ -8,9 +8,10 @@ use Rattle.cops_wire.specs.declared.fault.WireFault.{WireFault}
 use Rattle.cops_wire.specs.declared.fault.WireFault.TheVariants.{Memory, Short, BadLength, UnknownKind, BadField, TrailingBytes}
 use Rattle.cops_wire.specs.declared.reading.ReadFault.TheVariants as faults
 use Rattle.cops_wire.specs.declared.decoding.Decoded.{Decoded}
-use Rattle.cops_wire.specs.Field.{IsBytes, Field, spelled_all}
-use Rattle.cops_wire.specs.Grammar.{Grammar, Parts, grammar, fields_of, IsGrammar}
-use Rattle.cops_wire.specs.Answer.{IsAnswer, Answers}
+use Rattle.cops_wire.specs.Field.{Field, spelled_all}
+use Rattle.cops_wire.specs.Answer.{IsBytes, IsAnswer, Answers}
+use Rattle.cops_wire.specs.Grammar.{Grammar, Parts, grammar, fields_of}
+use Rattle.cops_wire.specs.Lengths.{IsGrammar}
 use Rattle.cops_wire.specs.Reading.{known_fields_at, contents_at, frame_at}
 use Rattle.cops_wire.proofs.Rows.{fields_stop}
 use Rattle.cops_wire.proofs.Frames.{frame_answers, only_answer}

@@ -8,10 +8,11 @@ use Rattle.cops_types.specs.Format.{longest_body}
 use Rattle.cops_wire.specs.declared.fault.WireFault.{WireFault}
 use Rattle.cops_wire.specs.declared.fault.WireFault.TheVariants.{Memory, Short, BadField}
 use Rattle.cops_wire.specs.declared.message.Message.{Message}
-use Rattle.cops_wire.specs.Field.{IsBytes, u32, spelled_number}
-use Rattle.cops_wire.specs.Grammar.{grammar, Parts, body, spelling, IsMessage}
+use Rattle.cops_wire.specs.Field.{u32, spelled_number}
+use Rattle.cops_wire.specs.Answer.{IsBytes, length_at, IsShort, BeginsWithKnown, IsAnswer, IsFromFields}
+use Rattle.cops_wire.specs.Grammar.{grammar, Parts, body, spelling}
+use Rattle.cops_wire.specs.Legal.{IsMessage}
 use Rattle.cops_wire.specs.Message.{parts}
-use Rattle.cops_wire.specs.Answer.{length_at, IsShort, BeginsWithKnown, IsAnswer, IsFromFields}
 use Rattle.cops_wire.specs.Reading.{frame_at}
 use Rattle.cops_wire.proofs.Fields.{wide}
 use Rattle.cops_wire.proofs.Frames.{short_again, bad_field_place, known_answer, answer_stays, body_fits, spelling_again, only_answer, frame_answers, one_spelling}

@@ -10,7 +10,9 @@ use Rattle.std.proofs.lemmas.Nat.{be_bytes_2, be_bytes_4, be_bytes_8, from_be_by
 use Rattle.cops_types.specs.declared.dep.Dep.{Dep}
 use Rattle.cops_types.specs.Dep.{is_same_dep, IsDep, ArePairs}
 use Rattle.cops_types.specs.Version.{IsVersion}
-use Rattle.cops_wire.specs.Field.{IsBytes, Size, u8, u16, u32, u64, width, limit, Field, number, number_in, string, version, pairs, Content, of_number, of_bytes, of_pairs, spelled_number, spelled_string, spelled_pair, spelled, IsLegal}
+use Rattle.cops_wire.specs.Field.{Size, u8, u16, u32, u64, width, Field, number, number_in, string, version, pairs, Content, of_number, of_bytes, of_pairs, spelled_number, spelled_string, spelled_pair, spelled}
+use Rattle.cops_wire.specs.Answer.{IsBytes}
+use Rattle.cops_wire.specs.Legal.{limit, IsLegal}
 use Rattle.cops_wire.specs.Reading.{◌>>=◌, only_if, number_at, number_in_at, string_at, version_at, pair_at, pairs_at, are_distinct, deps_at, with_content, field_at}
 
 pub IsBytes-drop : (n : ℕ) (bytes : List ℕ) → IsBytes bytes → IsBytes (drop n bytes)

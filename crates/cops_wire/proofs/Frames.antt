@@ -7,9 +7,11 @@ use Rattle.std.proofs.lemmas.List.{take_at, drop_at, take-append-drop, length-ap
 use Rattle.cops_wire.specs.declared.fault.WireFault.{WireFault}
 use Rattle.cops_wire.specs.declared.fault.WireFault.TheVariants.{Memory, Short, BadLength, UnknownKind, BadField, TrailingBytes}
 use Rattle.cops_wire.specs.declared.reading.ReadFault.TheVariants as faults
-use Rattle.cops_wire.specs.Field.{IsBytes, Field, Content, u32, spelled_number, spelled_all, AllLegal}
-use Rattle.cops_wire.specs.Grammar.{Grammar, Parts, fields_of, body, spelling, IsMessage, IsGrammar}
-use Rattle.cops_wire.specs.Answer.{length_at, IsShort, HasBadLength, BeginsWithFrame, BeginsWithKnown, BeginsWithTaking, NoneBegins, HasBadField, HasTrailingBytes, HasMessage, IsAnswer, IsFromFields}
+use Rattle.cops_wire.specs.Field.{Field, Content, u32, spelled_number, spelled_all}
+use Rattle.cops_wire.specs.Answer.{IsBytes, length_at, IsShort, HasBadLength, BeginsWithFrame, BeginsWithKnown, BeginsWithTaking, NoneBegins, HasBadField, HasTrailingBytes, HasMessage, IsAnswer, IsFromFields}
+use Rattle.cops_wire.specs.Legal.{AllLegal, IsMessage}
+use Rattle.cops_wire.specs.Grammar.{Grammar, Parts, fields_of, body, spelling}
+use Rattle.cops_wire.specs.Lengths.{IsGrammar}
 use Rattle.cops_wire.specs.Reading.{field_at, fields_at, known_fields_at, contents_at, whole, body_at, frame_at, comes_to_memory, body_takes}
 use Rattle.cops_wire.proofs.Fields.{IsBytes-take, IsBytes-drop, IsBytes-left, IsBytes-right, wide, field_takes, field_again}
 use Rattle.cops_wire.proofs.Rows.{Read, never_unknown, row_fits, length-spelled_all, fields_take, fields_again, fields_stop, fields_stop_again, ComesTo, fields_come}

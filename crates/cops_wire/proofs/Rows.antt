@@ -8,10 +8,14 @@ use Rattle.std.proofs.lemmas.List.Concat.{flat_map-cons}
 use Rattle.std.proofs.Math.Nat.{mul-le-mul_right}
 use Rattle.cops_types.specs.declared.dep.Dep.{Dep}
 use Rattle.cops_types.specs.Dep.{IsDep}
-use Rattle.cops_wire.specs.Grammar.{most_len, most_len_all, all_fit, row_of}
+use Rattle.cops_wire.specs.Grammar.{row_of}
+use Rattle.cops_wire.specs.Lengths.{most_len, most_len_all, all_fit}
 use Rattle.cops_wire.specs.declared.reading.ReadFault.{ReadFault}
 use Rattle.cops_wire.specs.declared.reading.ReadFault.TheVariants.{BadField, UnknownKind}
-use Rattle.cops_wire.specs.Field.{IsBytes, u8, u16, u64, Field, number, number_in, string, version, pairs, Content, of_number, of_bytes, of_pairs, spelled_number, spelled_string, spelled_pair, spelled, spelled_all, IsLegal, AllLegal, takes_memory, first_part}
+use Rattle.cops_wire.specs.Field.{u8, u16, u64, Field, number, number_in, string, version, pairs, Content, of_number, of_bytes, of_pairs, spelled_number, spelled_string, spelled_pair, spelled, spelled_all}
+use Rattle.cops_wire.specs.Answer.{IsBytes}
+use Rattle.cops_wire.specs.Memory.{takes_memory, first_part}
+use Rattle.cops_wire.specs.Legal.{IsLegal, AllLegal}
 use Rattle.cops_wire.specs.Reading.{put_first, field_at, then_read, fields_at, then_comes, takes_at, comes_to_memory}
 use Rattle.cops_wire.proofs.Fields.{wide, Takes, Takes-then, field_takes, field_again}
 

@@ -1,7 +1,8 @@
 -- A message's frame is taken off the front of the rest.
 use Rattle.std.proofs.Common.{◌≡◌, ℕ, ◌+◌, ◌-◌, List, ◌++◌, length, take, drop, sym, ap, ◌∙◌, arith}
 use Rattle.std.proofs.lemmas.List.{drop-drop, drop_at, take_all, length-drop}
-use Rattle.cops_wire.specs.Grammar.{Grammar, Parts, spelling, IsMessage}
+use Rattle.cops_wire.specs.Grammar.{Grammar, Parts, spelling}
+use Rattle.cops_wire.specs.Legal.{IsMessage}
 use Rattle.cops_wire.specs.Answer.{HasMessage}
 
 -- the text of a slice from a place on

@@ -7,14 +7,20 @@
 --    first byte, counted from the frame's first byte;
 -- 6. bytes of the body are left after the last field: TrailingBytes.
 -- Else it is the message, and how many bytes its frame has. What follows the frame is not looked at.
-use Rattle.std.specs.Prelude.{◌≡◌, ◌≢◌, ℕ, ◌+◌, ◌<◌, ◌≤◌, ◌⊎◌, List, [], ◌∷◌, ◌++◌, length, take, Some, None, IsSome, IsTrue, Result, Ok, Err}
+use Rattle.std.specs.Prelude.{◌≡◌, ◌≢◌, ℕ, ◌+◌, ◌<◌, ◌≤◌, ◌⊎◌, List, [], ◌∷◌, ◌++◌, length, take, slice_index, Some, None, IsSome, IsTrue, Result, Ok, Err}
 use Rattle.std.specs.Int.{w32, from_be_bytes}
 use Rattle.cops_wire.specs.declared.fault.WireFault.{WireFault}
 use Rattle.cops_wire.specs.declared.fault.WireFault.TheVariants.{Memory, Short, BadLength, UnknownKind, BadField, TrailingBytes}
 use Rattle.cops_wire.specs.declared.decoding.Decoded.{Decoded}
-use Rattle.cops_wire.specs.Field.{u32, Field, Content, spelled_number, spelled, spelled_all, IsLegal, AllLegal, takes_memory, first_part}
-use Rattle.cops_wire.specs.Grammar.{Grammar, Parts, fields_of, spelling, IsMessage}
+use Rattle.cops_wire.specs.Field.{u32, Field, Content, spelled_number, spelled, spelled_all}
+use Rattle.cops_wire.specs.Memory.{takes_memory, first_part}
+use Rattle.cops_wire.specs.Legal.{IsLegal, AllLegal, IsMessage}
+use Rattle.cops_wire.specs.Grammar.{Grammar, Parts, fields_of, spelling}
 use Rattle.cops_wire.specs.Message.{parts}
+
+-- a list of bytes
+abbrev pub IsBytes : List ℕ → Type 0
+IsBytes bytes = (i : ℕ) → slice_index bytes i < 256
 
 -- the number in the first four bytes
 abbrev pub length_at : List ℕ → ℕ

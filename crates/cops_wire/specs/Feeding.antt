@@ -4,7 +4,8 @@ use Rattle.cops_types.specs.declared.format.Format.TheVariants.{One}
 use Rattle.cops_wire.specs.declared.fault.WireFault.{WireFault}
 use Rattle.cops_wire.specs.declared.fault.WireFault.TheVariants.{Memory, Short, BadLength, UnknownKind, BadField, TrailingBytes}
 use Rattle.cops_wire.specs.declared.message.Message.{Message}
-use Rattle.cops_wire.specs.Grammar.{grammar, spelling, IsMessage}
+use Rattle.cops_wire.specs.Grammar.{grammar, spelling}
+use Rattle.cops_wire.specs.Legal.{IsMessage}
 use Rattle.cops_wire.specs.Message.{parts}
 use Rattle.cops_wire.specs.Answer.{IsAnswer, IsShort, BeginsWithTaking}
 

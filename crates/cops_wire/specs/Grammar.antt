@@ -1,9 +1,8 @@
 -- The grammar of a format: its kinds of messages with their fields, and how long a frame's body may be.
-use Rattle.std.specs.Prelude.{ℕ, ◌==◌, if◌then◌else◌, List, [], ◌∷◌, ◌++◌, length, Option, Some, None, MatchOption, unwrap_or, Bool, true, ◌&&◌, nat_le, ◌+◌, ◌*◌, ◌<◌, ◌^◌, IsTrue}
-use Rattle.std.specs.Int.{byte_len}
+use Rattle.std.specs.Prelude.{ℕ, ◌==◌, if◌then◌else◌, List, [], ◌∷◌, ◌++◌, length, Option, Some, None, unwrap_or}
 use Rattle.cops_types.specs.declared.format.Format.{Format}
 use Rattle.cops_types.specs.Format.{most_value, most_deps, longest_body}
-use Rattle.cops_wire.specs.Field.{Field, Content, u8, u16, u32, u64, width, number, number_in, string, version, pairs, key, spelled_number, spelled_all, AllLegal}
+use Rattle.cops_wire.specs.Field.{Field, Content, u8, u16, u32, u64, number, number_in, string, version, pairs, key, spelled_number, spelled_all}
 
 pub record Grammar : Type 0 where
   pub kinds : List (ℕ × List Field)
@@ -67,29 +66,3 @@ body g p = p.kind ∷ spelled_all (unwrap_or (fields_of g p.kind) []) p.contents
 -- the frame of a message: its body behind the body's length
 abbrev pub spelling : Grammar → Parts → List ℕ
 spelling g p = spelled_number u32 (length (body g p)) ++ body g p
-
--- a legal message of the grammar: its kind is in the table, and each field is within its range
-abbrev pub IsMessage : Grammar → Parts → Type 0
-IsMessage g p = MatchOption (fields_of g p.kind) ⊥ (λ fields. AllLegal fields p.contents)
-
--- the most bytes that a field takes
-abbrev pub most_len : Field → ℕ
-most_len (number s) = byte_len (width s)
-most_len (number_in s least greatest) = byte_len (width s)
-most_len (string s least greatest) = byte_len (width s) + greatest
-most_len version = 8
-most_len (pairs most) = 2 + most * 73
-
--- the same of fields in a row
-abbrev pub most_len_all : List Field → ℕ
-most_len_all [] = 0
-most_len_all (f ∷ fs) = most_len f + most_len_all fs
-
--- each message fits a frame
-abbrev pub all_fit : ℕ → List (ℕ × List Field) → Bool
-all_fit longest [] = true
-all_fit longest (row ∷ rows) = nat_le (1 + most_len_all row.1) longest && all_fit longest rows
-
--- a grammar whose messages all fit their frames
-abbrev pub IsGrammar : Grammar → Type 0
-IsGrammar g = (g.longest < 2 ^ 32) × IsTrue (all_fit g.longest g.kinds)

@@ -1,6 +1,11 @@
 pub mod Field
 pub mod Grammar
 pub mod Message
+pub mod Kind
+pub mod Legal
+pub mod Lengths
+pub mod Memory
+pub mod Replicated
 pub mod Answer
 pub mod Reading
 pub mod Written

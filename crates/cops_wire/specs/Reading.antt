@@ -8,9 +8,10 @@ use Rattle.cops_wire.specs.declared.fault.WireFault.{WireFault}
 use Rattle.cops_wire.specs.declared.fault.WireFault.TheVariants.{Memory, Short, BadLength, UnknownKind, BadField, TrailingBytes}
 use Rattle.cops_wire.specs.declared.reading.ReadFault.{ReadFault}
 use Rattle.cops_wire.specs.declared.reading.ReadFault.TheVariants as faults
-use Rattle.cops_wire.specs.Field.{Size, u8, u16, u64, width, Field, Content, number, number_in, string, version, pairs, takes_memory, first_part, of_number, of_bytes, of_pairs}
+use Rattle.cops_wire.specs.Field.{Size, u8, u16, u64, width, Field, Content, number, number_in, string, version, pairs, of_number, of_bytes, of_pairs}
+use Rattle.cops_wire.specs.Memory.{takes_memory, first_part}
 use Rattle.cops_wire.specs.declared.message.Message.{Message}
-use Rattle.cops_wire.specs.Message.{contents_of}
+use Rattle.cops_wire.specs.Kind.{contents_of}
 use Rattle.cops_wire.specs.Grammar.{Grammar, Parts, fields_of}
 
 -- a step, and then another on what it gave

@@ -1,7 +1,10 @@
 //! The one spelling of a message.
 ghost use Rattle.std.specs.Prelude.{◌≡◌, ◌++◌, length, OnOk, OnErr};
-ghost use Rattle.cops_wire.specs.Grammar.{grammar, body, spelling, IsMessage};
-ghost use Rattle.cops_wire.specs.Message.{kind_of, parts, put_after};
+ghost use Rattle.cops_wire.specs.Grammar.{grammar, body, spelling};
+ghost use Rattle.cops_wire.specs.Legal.{IsMessage};
+ghost use Rattle.cops_wire.specs.Message.{parts};
+ghost use Rattle.cops_wire.specs.Kind.{kind_of};
+ghost use Rattle.cops_wire.specs.Replicated.{put_after};
 
 use crate::field::{self, FieldRef, as_written};
 use crate::message::Message;

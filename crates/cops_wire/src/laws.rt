@@ -4,10 +4,10 @@ ghost use Rattle.cops_types.specs.declared.format.Format.{Format};
 ghost use Rattle.cops_types.specs.Format.{longest_body};
 ghost use Rattle.cops_wire.specs.declared.fault.WireFault.{WireFault};
 ghost use Rattle.cops_wire.specs.declared.message.Message.{Message};
-ghost use Rattle.cops_wire.specs.Field.{IsBytes};
-ghost use Rattle.cops_wire.specs.Grammar.{grammar, Parts, spelling, IsMessage};
+ghost use Rattle.cops_wire.specs.Answer.{IsBytes, IsAnswer, IsShort, BeginsWithKnown, BeginsWithTaking, IsFromFields};
+ghost use Rattle.cops_wire.specs.Grammar.{grammar, Parts, spelling};
+ghost use Rattle.cops_wire.specs.Legal.{IsMessage};
 ghost use Rattle.cops_wire.specs.Message.{parts};
-ghost use Rattle.cops_wire.specs.Answer.{IsAnswer, IsShort, BeginsWithKnown, BeginsWithTaking, IsFromFields};
 ghost use Rattle.cops_wire.specs.Reading.{frame_at};
 
 /// No spelling of a message begins another, and each is the spelling of one message.

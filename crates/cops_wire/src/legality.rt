@@ -1,6 +1,7 @@
 //! Whether a message is one of a format.
 ghost use Rattle.std.specs.Prelude.{◌↔◌, IsTrue};
-ghost use Rattle.cops_wire.specs.Grammar.{grammar, IsMessage};
+ghost use Rattle.cops_wire.specs.Grammar.{grammar};
+ghost use Rattle.cops_wire.specs.Legal.{IsMessage};
 ghost use Rattle.cops_wire.specs.Message.{parts};
 
 use crate::limits::Limits;

@@ -1,6 +1,7 @@
 //! Whether what stands in a field is within the format's limits.
 ghost use Rattle.std.specs.Prelude.{◌↔◌, IsTrue};
-ghost use Rattle.cops_wire.specs.Field.{u8 as one_byte, u16 as two_bytes, u32 as four_bytes, u64 as eight_bytes, number, number_in, key as a_key, version as a_version, of_number, of_bytes, of_pairs, IsLegal};
+ghost use Rattle.cops_wire.specs.Field.{u8 as one_byte, u16 as two_bytes, u32 as four_bytes, u64 as eight_bytes, number, number_in, key as a_key, version as a_version, of_number, of_bytes, of_pairs};
+ghost use Rattle.cops_wire.specs.Legal.{IsLegal};
 ghost use Rattle.cops_wire.specs.Grammar.{value as a_value, deps as some_deps};
 
 use cops_types::{Deps, Format, Key, Value, Version};

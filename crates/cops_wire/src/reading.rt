@@ -3,7 +3,7 @@ ghost use Rattle.std.specs.Prelude.{◌≡◌, ◌<◌, ◌≤◌, length, take,
 ghost use Rattle.cops_wire.specs.Field.{u8, u16, u32, u64, key};
 ghost use Rattle.cops_types.specs.Format.{most_value, most_deps};
 ghost use Rattle.cops_wire.specs.Grammar.{grammar, value, deps};
-ghost use Rattle.cops_wire.specs.Message.{kind_of};
+ghost use Rattle.cops_wire.specs.Kind.{kind_of};
 ghost use Rattle.cops_wire.specs.Reading.{GivesField, GivesNumber, GivesContents, number_at, number_in_at, string_at, version_at, pair_at, pairs_at, deps_at, GivesPart};
 
 use crate::message::Message;

@@ -1,5 +1,5 @@
 use Rattle.std.proofs.Common.{sym, subst}
-use Rattle.cops_types.specs.Convergence.{IsVersionOrder}
+use Rattle.cops_types.specs.Verdicts.{IsVersionOrder}
 use Rattle.cops_types.specs.Faults.{IsStale}
 use Rattle.cops_audit.specs.declared.verdict.Stale.{Stale}
 use Rattle.cops_audit.proofs.Classes.{none_doubled, stale_listed}

@@ -3,7 +3,7 @@ use Rattle.std.proofs.lemmas.List.{append-nil}
 use Rattle.std.proofs.lemmas.Result.{err_from_is_err_and}
 use Rattle.cops_types.specs.Counted.{failures, inner}
 use Rattle.cops_types.specs.Failures.{Failed}
-use Rattle.cops_trace.proofs.Feeding.{consumed_none}
+use Rattle.cops_types.proofs.Devices.{consumed_none}
 use Rattle.cops_net.proofs.Going.{begun, heard_ok, same_error}
 use Rattle.cops_net.proofs.Readings.{appends_none}
 use Rattle.cops_net.proofs.Underway.{starts, fails_reading, ends_there, is_full, fails_answering, says_bye, goes_further}

@@ -1,10 +1,10 @@
 use Rattle.std.proofs.Common.{◌≡◌, ap₂, subst}
 use Rattle.cops_node.specs.declared.outcome.Outcome.{Outcome}
-use Rattle.cops_core.specs.World.{Cluster, Setting, World, Happens}
+use Rattle.cops_core.specs.World.{AWorld, Setting, World, Happens}
 use Rattle.cops_outcomes.proofs.ending.is_event_refused.Goals as goal
 
-same_cluster : (a b : Cluster) → a.setting ≡ b.setting → a.world ≡ b.world → a ≡ b
-same_cluster a b e f = ap₂ (λ (s : Setting) (w : World). let c : Cluster = record { setting = s; world = w } in c) e f
+same_cluster : (a b : AWorld) → a.setting ≡ b.setting → a.world ≡ b.world → a ≡ b
+same_cluster a b e f = ap₂ (λ (s : Setting) (w : World). let c : AWorld = record { setting = s; world = w } in c) e f
 
 pub returns-in-Refused-clause-stays : goal.returns-in-Refused-clause-stays
 returns-in-Refused-clause-stays c = λ yes.

@@ -1,4 +1,5 @@
 use Rattle.std.proofs.Common.{◌+◌, ◌≤◌, [], length}
+use Rattle.cops_types.specs.declared.limits.TheConstants.{MAX_OPS}
 use Rattle.cops_report.specs.Marks.{PlacesAll, open_places}
 use Rattle.cops_report.specs.Searches.{IsLevel, IsRising, IsSearch}
 use Rattle.cops_report.proofs.search.search.Given as goal
@@ -10,7 +11,7 @@ invariant-loop-marks l = record {
   fresh : IsLevel l.marks (l.steps + 1) [];
   rising : IsRising l.level.items;
   places : PlacesAll l.marks l.history.sessions;
-  count : open_places l.marks + length l.level.items + l.steps ≤ 16000000;
+  count : open_places l.marks + length l.level.items + l.steps ≤ MAX_OPS;
 }
 
 abbrev pub decreases-loop-marks : goal.decreases-loop-marks

@@ -1,8 +1,7 @@
 use Rattle.std.proofs.Common.{◌∙◌, ℕ, List, [], ◌∷◌, map, lit≤, rules, sym}
 use Rattle.std.specs.Prelude.{◌≢◌}
 use Rattle.serde_json.specs.View.{view}
-use Rattle.cops_types.specs.Key.{IsKey}
-use Rattle.cops_types.specs.Value.{IsValue}
+use Rattle.cops_types.specs.KeyValue.{IsKey, IsValue}
 use Rattle.cops_scenario.specs.File.{text_json}
 use Rattle.cops_scenario.proofs.Events.{no_pair}
 use Rattle.cops_scenario.proofs.Forms.{same_list}

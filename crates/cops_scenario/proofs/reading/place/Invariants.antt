@@ -1,6 +1,6 @@
 use Rattle.std.proofs.Common.{◌≡◌, All, map, take}
 use Rattle.serde_json.specs.View.{view}
-use Rattle.cops_types.specs.Key.{IsKey}
+use Rattle.cops_types.specs.KeyValue.{IsKey}
 use Rattle.cops_scenario.specs.File.{text_json}
 use Rattle.cops_scenario.proofs.reading.place.Given as goal
 

@@ -1,5 +1,5 @@
 use Rattle.std.proofs.Common.{◌≡◌, ◌++◌, map}
-use Rattle.cops_clients.specs.declared.client.Client.{Client}
+use Rattle.cops_cluster.specs.declared.client.Client.{Client}
 use Rattle.cops_replication.specs.declared.receiver.Receiver.{Receiver}
 use Rattle.cops_serve.proofs.ending.shares.Given as goal
 

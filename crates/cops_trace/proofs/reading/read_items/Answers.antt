@@ -2,7 +2,8 @@ use Rattle.std.proofs.Common.{◌++◌, [], take, refl, sym, ◌∙◌, subst, a
 use Rattle.std.proofs.lemmas.Result.{err_from_is_err_and}
 use Rattle.std.proofs.lemmas.List.{length-append}
 use Rattle.cops_trace.specs.Parsing.{Fed, IsSettled}
-use Rattle.cops_trace.proofs.Feeding.{fed_none, none_settled, settled_len, consumed, consumed_none, all_read, fault_read, advance_device, advance_no_cut}
+use Rattle.cops_trace.proofs.Feeding.{fed_none, none_settled, settled_len, all_read, fault_read, advance_device, advance_no_cut}
+use Rattle.cops_types.proofs.Devices.{consumed, consumed_none}
 use Rattle.cops_trace.proofs.reading.read_items.Goals as goal
 
 pub loop-init : goal.loop-init

@@ -5,7 +5,7 @@ use Rattle.cops_core.proofs.state.State.settle.Goals as goal
 pub returns-then-place-nodes-clause-happens : goal.returns-then-place-nodes-clause-happens
 returns-then-place-nodes-clause-happens c =
     settles_nowhere (asked c.dcs.ensures.setting refl c.requires (omega (arith, c.if-dc-dcs.false, c.dcs.ensures.count)))
-    c.args.version c.place_of-place.result c.place_of-place.ensures.value (omega (arith, c.if-place-nodes.true, c.nodes.ensures.count))
+    c.args.version c.place-place.result c.place-place.ensures.value (omega (arith, c.if-place-nodes.true, c.nodes.ensures.count))
 
 pub node-node-requires-clause-dc : goal.node-node-requires-clause-dc
 node-node-requires-clause-dc c =
@@ -18,4 +18,4 @@ node-node-requires-clause-place c =
 pub returns-clause-happens : goal.returns-clause-happens
 returns-clause-happens c =
     settles (asked c.dcs.ensures.setting c.self.view_is c.requires (omega (arith, c.if-dc-dcs.false, c.dcs.ensures.count)))
-    c.args.version c.place_of-place.result c.settle.result c.node-node.result.now c.settle.new.self c.place_of-place.ensures.value c.node-node.ensures.value c.settle.ensures.happens
+    c.args.version c.place-place.result c.settle.result c.node-node.result.now c.settle.new.self c.place-place.ensures.value c.node-node.ensures.value c.settle.ensures.happens

@@ -3,7 +3,7 @@ use Rattle.std.proofs.lemmas.List.{set-get_or}
 use Rattle.cops_types.specs.declared.dep.Dep.{Dep}
 use Rattle.cops_types.specs.declared.op.Op.TheVariants.{Got, Missed}
 use Rattle.cops_types.proofs.Sessions.{at_error}
-use Rattle.cops_types.specs.Recorded.{with_op}
+use Rattle.cops_types.specs.Histories.{with_op}
 use Rattle.cops_context.specs.Context.{with_pair}
 use Rattle.cops_node.specs.declared.outcome.Outcome.TheVariants.{Got as Answered, Missed as Nothing}
 use Rattle.cops_core.specs.contracts.state.State.{the_view}

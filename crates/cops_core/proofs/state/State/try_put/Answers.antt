@@ -1,6 +1,6 @@
 use Rattle.std.proofs.Common.{◌≡◌, [], ◌∷◌, ◌++◌, slice_set, sym, ap, ◌∙◌}
 use Rattle.cops_types.specs.declared.op.Op.TheVariants.{Put as Wrote}
-use Rattle.cops_types.specs.Recorded.{with_op}
+use Rattle.cops_types.specs.Histories.{with_op}
 use Rattle.cops_node.specs.declared.outcome.Outcome.TheVariants.{PutDone}
 use Rattle.cops_core.specs.World.{sent}
 use Rattle.cops_core.specs.contracts.state.State.{the_view}

@@ -4,7 +4,7 @@ use Rattle.std.proofs.lemmas.Result.{err_from_is_err_and}
 use Rattle.std.specs.Io.KnownBytes.{IsAtEnd}
 use Rattle.cops_types.specs.Counted.{inner}
 use Rattle.cops_net.specs.Turns.{IsTaken}
-use Rattle.cops_trace.proofs.Feeding.{consumed}
+use Rattle.cops_types.proofs.Devices.{consumed}
 use Rattle.cops_net.proofs.Readings.{taken_at_end}
 use Rattle.cops_net.proofs.incoming.Incoming.next.Goals as goal
 

@@ -1,4 +1,5 @@
 use Rattle.std.proofs.Common.{◌≡◌, ◌<◌, length, get_or, sym, ap, subst, ◌∙◌, arith}
+use Rattle.cops_types.specs.declared.limits.TheConstants.{MAX_CLIENT_OPS, MAX_OPS}
 use Rattle.cops_trace.specs.Text.{ATrace, turn}
 use Rattle.cops_record.specs.Records.{State}
 use Rattle.cops_record.proofs.Turns.{front, only_memory, room_before}
@@ -14,4 +15,4 @@ want_of_memory-requires c =
     let same : c.loop-record.trace ≡ front (record { records = c.self.inside.records.items; seats = c.self.inside.seats.items }) i = c.loop-record.invariant.1 ∙ ap (λ (s : State). front s i) (sym c.self.view_is) in
     only_memory c.in-Err.fault _ _ c.in-Err.ensures.only c.in-Err.ensures.unknown c.in-Err.ensures.too_many
     (λ le. absurd (omega (arith, room.0, le, ap (λ (t : ATrace). t.clients) same)))
-    (λ full. full.1 (subst (λ (t : ATrace). turn r.client t.records < 1000000 × length t.records < 16000000) (sym same) (room.1, room.2)))
+    (λ full. full.1 (subst (λ (t : ATrace). turn r.client t.records < MAX_CLIENT_OPS × length t.records < MAX_OPS) (sym same) (room.1, room.2)))

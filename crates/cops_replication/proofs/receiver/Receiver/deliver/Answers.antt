@@ -1,5 +1,5 @@
 use Rattle.std.proofs.Common.{subst, sym}
-use Rattle.cops_clients.specs.declared.share.Share.{Share}
+use Rattle.cops_cluster.specs.declared.share.Share.{Share}
 use Rattle.cops_replication.specs.Shares.{Gains}
 use Rattle.cops_replication.proofs.Gained.{gains_one}
 use Rattle.cops_replication.proofs.receiver.Receiver.deliver.Goals as goal

@@ -1,7 +1,7 @@
 use Rattle.std.proofs.Common.{refl}
 use Rattle.cops_node.specs.declared.outcome.Outcome.TheVariants.{Wait}
-use Rattle.cops_clients.specs.Lending.{with_share}
-use Rattle.cops_clients.specs.Receiving.{outcome_of}
+use Rattle.cops_cluster.specs.Lending.{with_share}
+use Rattle.cops_cluster.specs.Receiving.{outcome_of}
 use Rattle.cops_serve.proofs.Changes.{changed, asked_of}
 use Rattle.cops_serve.proofs.front_end.FrontEnd.checked.Goals as goal
 

@@ -2,8 +2,8 @@ use Rattle.std.proofs.Common.{ℕ, ◌+◌, List, length, refl, subst}
 use Rattle.std.proofs.lemmas.Result.{IfOk-weaker}
 use Rattle.std.specs.List.Sorted.{IsPermutation}
 use Rattle.cops_scenario.specs.Scenario.{setting_of}
-use Rattle.cops_clients.specs.Close.{made_in, told}
-use Rattle.cops_clients.specs.declared.share.Share.{Share}
+use Rattle.cops_cluster.specs.Close.{made_in, told}
+use Rattle.cops_cluster.specs.declared.share.Share.{Share}
 use Rattle.cops_serve.specs.Serving.{IsReportOn, IsTiedReport, told_to}
 use Rattle.cops_serve.proofs.front_end.FrontEnd.finish.Goals as goal
 

@@ -1,5 +1,0 @@
-use Rattle.cops_clients.specs.Opening.{AreClientsAt}
-use Rattle.cops_clients.proofs.cluster.opened_clients.Given as goal
-
-abbrev pub invariant-loop-k : goal.invariant-loop-k
-invariant-loop-k l = AreClientsAt l.dcs l.k l.clients.items

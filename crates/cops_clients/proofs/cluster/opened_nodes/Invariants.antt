@@ -1,5 +1,0 @@
-use Rattle.std.proofs.Common.{◌≡◌, ◌*◌, vec_len}
-use Rattle.cops_clients.proofs.cluster.opened_nodes.Given as goal
-
-abbrev pub invariant-loop-dc : goal.invariant-loop-dc
-invariant-loop-dc l = vec_len l.nodes ≡ l.dc * l.places

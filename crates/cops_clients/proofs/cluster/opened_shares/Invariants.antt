@@ -1,5 +1,0 @@
-use Rattle.cops_clients.specs.Opening.{AreReceivers}
-use Rattle.cops_clients.proofs.cluster.opened_shares.Given as goal
-
-abbrev pub invariant-loop-dc : goal.invariant-loop-dc
-invariant-loop-dc l = AreReceivers l.dc l.shares.items

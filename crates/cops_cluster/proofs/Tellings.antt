@@ -1,0 +1,97 @@
+-- What a caller is told of a step, and what its share gained.
+use Rattle.std.proofs.Common.{◌≡◌, ◌⊎◌, inl, inr, ℕ, Bool, true, false, List, refl, sym, ap, subst, ◌∙◌}
+use Rattle.std.specs.Prelude.{Result, Ok, Err, IfOk, IfErr, OnErr}
+use Rattle.cops_types.specs.declared.dep.Dep.{Dep}
+use Rattle.cops_types.specs.declared.gate.GateHeld.{GateHeld}
+use Rattle.cops_types.specs.declared.gate.Point.{Point}
+use Rattle.cops_node.specs.declared.event.NodeEvent.{NodeEvent}
+use Rattle.cops_node.specs.declared.outcome.Outcome.{Outcome}
+use Rattle.cops_node.specs.declared.outcome.Outcome.TheVariants.{Refused as RefusedWith}
+use Rattle.cops_cluster.specs.declared.share.Made.{Made}
+use Rattle.cops_cluster.specs.declared.fault.Stop.{Stop}
+use Rattle.cops_cluster.specs.declared.fault.Stop.TheVariants.{Refused, Held}
+use Rattle.cops_cluster.specs.declared.stepping.Answer.{Answer}
+use Rattle.cops_cluster.specs.declared.stepping.Reply.{Reply}
+use Rattle.cops_cluster.specs.declared.stepping.Seen.{Seen}
+use Rattle.cops_cluster.specs.Shares.{Adds, AddsEntry, AddsAtMostOne, is_of_node, is_code_of_node}
+use Rattle.cops_cluster.specs.Cluster.{IsStop}
+use Rattle.cops_cluster.specs.Replies.{IsReplyOf, IsReplyOfSeen, IsSpent}
+use Rattle.cops_cluster.specs.Outcomes.{IsNodeAnswer, IsWant, StopsWith}
+
+true_is_false : {A : Type 0} (b : Bool) → b ≡ true → b ≡ false → A
+true_is_false b e f = absurd (let h : true ≡ false = sym e ∙ f in cc)
+
+module _ (before after : List Made) (node : ℕ) (event : NodeEvent) where
+  -- a node's answer was added, or nothing where there is none
+  abbrev pub IsKept : Result Reply Stop → Type 0
+  IsKept (Ok r) = AddsEntry before after node event r.outcome × (is_of_node r.outcome ≡ true)
+  IsKept (Err (Refused code)) = (after ≡ before) × (is_code_of_node code ≡ false)
+  IsKept (Err Held) = after ≡ before
+
+  kept_stop : (may_hold : Point → Type 0) (at client : ℕ) (stop same : Stop) → same ≡ stop → after ≡ before → IsStop may_hold at client stop → IsKept (Err same)
+  kept_stop may_hold at client (Refused code) same e none other = subst (λ (s : Stop). IsKept (Err s)) (sym e) (none, other)
+  kept_stop may_hold at client Held same e none other = subst (λ (s : Stop). IsKept (Err s)) (sym e) none
+
+  pub seen_kept : (may_hold : Point → Type 0) (at client number : ℕ) (answered : Result Seen Stop) (reply : Result Reply Stop)
+      → IfOk answered (λ t. AddsEntry before after node event t.outcome) → IfOk answered (λ t. (t.seen ≡ t.outcome) × (is_of_node t.outcome ≡ true))
+      → OnErr answered (after ≡ before) → IfErr answered (IsStop may_hold at client) → IsReplyOfSeen number answered reply → IsKept reply
+  seen_kept may_hold at client number (Ok t) (Ok r) told is none stop same =
+      (subst (λ (o : Outcome). AddsEntry before after node event o) (sym same.0) told, ap is_of_node same.0 ∙ is.1)
+  seen_kept may_hold at client number (Ok t) (Err s) told is none stop same = absurd same
+  seen_kept may_hold at client number (Err s) (Ok r) told is none stop same = absurd same
+  seen_kept may_hold at client number (Err s) (Err t) told is none stop same = kept_stop may_hold at client s t same none stop
+
+  pub answer_kept : (may_hold : Point → Type 0) (at client number : ℕ) (answered : Result Answer Stop) (reply : Result Reply Stop)
+      → IfOk answered (λ a. AddsEntry before after node event a.outcome) → IfOk answered (λ a. (is_of_node a.outcome ≡ true) × (a.node ≡ number))
+      → OnErr answered (after ≡ before) → IfErr answered (IsStop may_hold at client) → IsSpent answered reply → IsKept reply
+  answer_kept may_hold at client number (Ok t) (Ok r) told is none stop same =
+      (subst (λ (o : Outcome). AddsEntry before after node event o) (sym same.0) told, ap is_of_node same.0 ∙ is.0)
+  answer_kept may_hold at client number (Ok t) (Err s) told is none stop same = absurd same
+  answer_kept may_hold at client number (Err s) (Ok r) told is none stop same = absurd same
+  answer_kept may_hold at client number (Err s) (Err t) told is none stop same = kept_stop may_hold at client s t same none stop
+
+  -- what is told is what the share gained
+  pub told_adds : (reply : Result Reply Stop) (result : Result Outcome GateHeld) → IsKept reply → IfOk result (IsReplyOf reply) → IfOk result (λ out. Adds before after node event out)
+  told_adds reply (Err e) kept is = tt
+  told_adds (Ok r) (Ok out) kept is =
+      (λ _. subst (λ (o : Outcome). AddsEntry before after node event o) (sym is) kept.0, λ other. true_is_false (is_of_node out) (ap is_of_node is ∙ kept.1) other)
+  told_adds (Err (Refused code)) (Ok out) kept is = (λ h. true_is_false (is_of_node out) h (ap is_of_node is ∙ kept.1), λ _. kept.0)
+  told_adds (Err Held) (Ok out) kept is = absurd is
+
+  -- in any case it gained one entry at most
+  pub most_adds : (reply : Result Reply Stop) → IsKept reply → AddsAtMostOne before after node event
+  most_adds (Ok r) kept = inr (r.outcome, kept.0)
+  most_adds (Err (Refused code)) kept = inl kept.0
+  most_adds (Err Held) kept = inl kept
+
+-- the context is the one after what is told
+pub told_context : (after : Outcome → List Dep) (pairs new : List Dep) (answered : Result Answer Stop) (reply : Result Reply Stop) (result : Result Outcome GateHeld)
+    → ((code : ℕ) → after (RefusedWith code) ≡ pairs) → IfOk answered (λ a. new ≡ after a.outcome) → OnErr answered (new ≡ pairs) → IsSpent answered reply
+    → IfOk result (IsReplyOf reply) → IfOk result (λ out. new ≡ after out)
+told_context after pairs new answered reply (Err e) refused is none same told = tt
+told_context after pairs new (Ok a) (Ok r) (Ok out) refused is none same told = is ∙ ap after (sym (told ∙ same.0))
+told_context after pairs new (Ok a) (Err s) (Ok out) refused is none same told = absurd same
+told_context after pairs new (Err s) (Ok r) (Ok out) refused is none same told = absurd same
+told_context after pairs new (Err s) (Err (Refused code)) (Ok out) refused is none same told = none ∙ sym (refused code) ∙ ap after (sym told)
+told_context after pairs new (Err s) (Err Held) (Ok out) refused is none same told = absurd told
+
+-- the same node and event by other names
+pub adds_at : (before after : List Made) (n m : ℕ) (e f : NodeEvent) (out : Outcome) → n ≡ m → e ≡ f → Adds before after n e out → Adds before after m f out
+adds_at before after n m e f out p q h = subst (λ (k : ℕ). Adds before after k f out) p (subst (λ (x : NodeEvent). Adds before after n x out) q h)
+
+pub most_at : (before after : List Made) (n m : ℕ) (e f : NodeEvent) → n ≡ m → e ≡ f → AddsAtMostOne before after n e → AddsAtMostOne before after m f
+most_at before after n m e f p q h = subst (λ (k : ℕ). AddsAtMostOne before after k f) p (subst (λ (x : NodeEvent). AddsAtMostOne before after n x) q h)
+
+want_of : (stop : Stop) (out : Outcome) → StopsWith IsWant stop → IsReplyOf (Err stop) out → IsWant out
+want_of (Refused code) out want told = told ∙ want
+want_of Held out want told = absurd told
+
+-- what is told is some node's answer, or want of memory
+pub told_answers : (event : NodeEvent) (number : ℕ) (answered : Result Seen Stop) (reply : Result Reply Stop) (result : Result Outcome GateHeld)
+    → IfOk answered (λ t. IsNodeAnswer event t.outcome) → IfErr answered (StopsWith IsWant) → IsReplyOfSeen number answered reply → IfOk result (IsReplyOf reply)
+    → IfOk result (λ out. IsNodeAnswer event out ⊎ IsWant out)
+told_answers event number answered reply (Err e) is want same told = tt
+told_answers event number (Ok t) (Ok r) (Ok out) is want same told = inl (subst (λ (o : Outcome). IsNodeAnswer event o) (sym (told ∙ same.0)) is)
+told_answers event number (Ok t) (Err s) (Ok out) is want same told = absurd same
+told_answers event number (Err s) (Ok r) (Ok out) is want same told = absurd same
+told_answers event number (Err s) (Err t) (Ok out) is want same told = inr (want_of s out want (subst (λ (x : Stop). IsReplyOf (Err x) out) same told))

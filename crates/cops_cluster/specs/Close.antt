@@ -1,0 +1,55 @@
+-- What a closed cluster's books and shares say of each other.
+use Rattle.std.specs.Prelude.{◌≡◌, ℕ, ◌+◌, ◌<◌, ◌/◌, ◌%◌, ◌==◌, ◌&&◌, nat_lt, Bool, true, if◌then◌else◌, List, [], ◌∷◌, ◌++◌, length, map, slice_index_or}
+use Rattle.std.specs.List.{list_any}
+use Rattle.std.specs.Global.{Vec}
+use Rattle.cops_node.specs.Node.{Node, opened}
+use Rattle.cops_types.specs.NodeNumber.{node_number}
+use Rattle.cops_tie.specs.Book.{ABook, Replays}
+use Rattle.cops_tie.specs.declared.entry.Entry.{Entry}
+use Rattle.cops_cluster.specs.declared.share.Holder.{Holder}
+use Rattle.cops_cluster.specs.declared.share.Holder.TheVariants.{Client as HeldByClient, Receiver as HeldByReceiver}
+use Rattle.cops_cluster.specs.declared.share.Made.{Made}
+use Rattle.cops_cluster.specs.declared.share.Share.{Share}
+use Rattle.cops_cluster.specs.Shares.{made}
+
+-- the number of the nth node, where each data centre has so many
+abbrev pub number_of : ℕ → ℕ → ℕ
+number_of places n = node_number (n / places) (n % places)
+
+-- the entries lead from the opened node of this number to some node
+abbrev pub IsReplay : ℕ → List Entry → Type 0
+IsReplay number entries = (end : Node) × Replays (opened number) entries end
+
+-- the entries of a book that is the nth node's, and none of another
+abbrev pub entries_at : ℕ → ℕ → ABook → List Entry
+entries_at places n b = if b.node.number == number_of places n then b.entries else []
+
+-- all entries of the books from the nth node's on, each with its node
+abbrev pub made_by : ℕ → ℕ → List ABook → List Made
+made_by places n [] = []
+made_by places n (b ∷ bs) = map (made (number_of places n)) (entries_at places n b) ++ made_by places (n + 1) bs
+
+-- all entries of the lists from the nth node's on, each with its node
+abbrev pub made_in : ℕ → ℕ → List (Vec Entry) → List Made
+made_in places n [] = []
+made_in places n (v ∷ rest) = map (made (number_of places n)) v.items ++ made_in places (n + 1) rest
+
+-- each list replays, as that of its node
+abbrev pub AllReplay : ℕ → List (Vec Entry) → Type 0
+AllReplay places lists = (n : ℕ) (d : Vec Entry) → n < length lists → IsReplay (number_of places n) (slice_index_or lists n d).items
+
+-- all entries of the shares
+abbrev pub told : List Share → List Made
+told [] = []
+told (s ∷ ss) = s.entries.items ++ told ss
+
+-- a holder by its seat: the clients have the first, and then come the receivers
+abbrev pub is_seat : ℕ → ℕ → Holder → Bool
+is_seat clients seat (HeldByClient number) = (number == seat) && nat_lt number clients
+is_seat clients seat (HeldByReceiver dc) = clients + dc == seat
+
+-- a share for each client and each receiver, and no other
+abbrev pub AreAll : ℕ → ℕ → List Share → Type 0
+AreAll clients dcs shares =
+    (length shares ≡ clients + dcs)
+    × ((seat : ℕ) → seat < clients + dcs → list_any (λ (s : Share). is_seat clients seat s.holder) shares ≡ true)

@@ -1,0 +1,23 @@
+-- What a cluster that is not closed hands back.
+use Rattle.std.specs.Prelude.{◌≡◌, ◌≤◌, ℕ, vec_len, vec_capacity}
+use Rattle.std.specs.Global.{Vec}
+use Rattle.cops_cluster.specs.declared.share.Share.{Share}
+use Rattle.cops_cluster.specs.declared.cluster.Cluster.{Cluster}
+use Rattle.cops_cluster.specs.declared.closing.Rooms.{Rooms}
+use Rattle.cops_cluster.specs.declared.closing.CloseFault.{CloseFault}
+use Rattle.cops_cluster.specs.declared.closing.CloseFault.TheVariants.{Memory, SharesMissing, NotKept}
+use Rattle.cops_cluster.specs.Close.{AreAll}
+
+-- at want of memory a cluster of the same place and clients, and the shares; where a share is missing all as it was; where the
+-- entries differ all shares were there
+abbrev pub HandsBack : Cluster → Vec Share → CloseFault → Type 0
+HandsBack c shares (Memory cluster back) = (cluster.place ≡ c.place) × ((cluster.clients ≡ c.clients) × (back ≡ shares))
+HandsBack c shares (SharesMissing cluster back) = (cluster ≡ c) × ((back ≡ shares) × (AreAll c.clients c.place.dcs shares.items → ⊥))
+HandsBack c shares (NotKept ticket) = AreAll c.clients c.place.dcs shares.items
+
+-- empty, with room for so many nodes
+abbrev pub HasRooms : ℕ → Rooms → Type 0
+HasRooms nodes r =
+    (vec_len r.books ≡ 0) × ((nodes ≤ vec_capacity r.books)
+    × ((vec_len r.locks ≡ 0) × ((nodes ≤ vec_capacity r.locks)
+    × ((vec_len r.lists ≡ 0) × (nodes ≤ vec_capacity r.lists)))))

@@ -1,0 +1,43 @@
+-- What a caller is told of a step.
+use Rattle.std.specs.Prelude.{◌≡◌, ℕ, Option, None, Some, Result, Ok, Err}
+use Rattle.cops_types.specs.declared.gate.Point.{Point}
+use Rattle.cops_types.specs.declared.gate.Point.TheVariants.{Answered}
+use Rattle.cops_node.specs.declared.outcome.Outcome.{Outcome}
+use Rattle.cops_node.specs.declared.outcome.Outcome.TheVariants.{PutDone, Refused as RefusedWith}
+use Rattle.cops_cluster.specs.declared.fault.Stop.{Stop}
+use Rattle.cops_cluster.specs.declared.fault.Stop.TheVariants.{Refused, Held}
+use Rattle.cops_cluster.specs.declared.stepping.Answer.{Answer}
+use Rattle.cops_cluster.specs.declared.stepping.Reply.{Reply}
+use Rattle.cops_cluster.specs.declared.stepping.Seen.{Seen}
+
+-- the version of a put that was done
+abbrev pub version_of : Outcome → Option ℕ
+version_of (PutDone version) = Some version
+version_of _ = None
+
+abbrev pub IsVersionOf : Outcome → Option ℕ → Type 0
+IsVersionOf outcome version = version ≡ version_of outcome
+
+-- the caller is told what the node answered, or the code of the refusal before it
+abbrev pub IsReplyOf : Result Reply Stop → Outcome → Type 0
+IsReplyOf (Ok reply) outcome = outcome ≡ reply.outcome
+IsReplyOf (Err (Refused code)) outcome = outcome ≡ RefusedWith code
+IsReplyOf (Err Held) outcome = ⊥
+
+-- the gate held the step, or may hold its caller after the node's answer
+abbrev pub WasHeld : (Point → Type 0) → ℕ → Result Reply Stop → Type 0
+WasHeld may_hold client (Ok reply) = may_hold (Answered reply.node client)
+WasHeld may_hold client (Err (Refused code)) = ⊥
+WasHeld may_hold client (Err Held) = Unit {0}
+
+-- the same answer, without what the client saw
+abbrev pub IsSpent : Result Answer Stop → Result Reply Stop → Type 0
+IsSpent (Ok a) (Ok reply) = (reply.outcome ≡ a.outcome) × (reply.node ≡ a.node)
+IsSpent (Err stop) (Err same) = same ≡ stop
+IsSpent _ _ = ⊥
+
+-- the same answer, with the node's number
+abbrev pub IsReplyOfSeen : ℕ → Result Seen Stop → Result Reply Stop → Type 0
+IsReplyOfSeen node (Ok seen) (Ok reply) = (reply.outcome ≡ seen.outcome) × (reply.node ≡ node)
+IsReplyOfSeen node (Err stop) (Err same) = same ≡ stop
+IsReplyOfSeen node _ _ = ⊥

@@ -1,0 +1,34 @@
+-- What a caller's share gains by a call.
+use Rattle.std.specs.Prelude.{◌≡◌, ℕ, Bool, true, false, ◌==◌, ◌||◌, List, [], ◌∷◌, ◌++◌, ◌⊎◌}
+use Rattle.cops_tie.specs.Book.{entry}
+use Rattle.cops_tie.specs.declared.entry.Entry.{Entry}
+use Rattle.cops_node.specs.declared.event.NodeEvent.{NodeEvent}
+use Rattle.cops_node.specs.declared.outcome.Outcome.{Outcome}
+use Rattle.cops_node.specs.declared.outcome.Outcome.TheVariants.{Refused}
+use Rattle.cops_cluster.specs.declared.share.Made.{Made}
+
+-- a node refuses so: 1 the clock is exhausted, 5 not held, 6 no such dependency, 8 dependencies are open
+abbrev pub is_code_of_node : ℕ → Bool
+is_code_of_node code = (code == 1) || ((code == 5) || ((code == 6) || (code == 8)))
+
+-- a node answers so, and makes an entry of it
+abbrev pub is_of_node : Outcome → Bool
+is_of_node (Refused code) = is_code_of_node code
+is_of_node _ = true
+
+abbrev pub made : ℕ → Entry → Made
+made node e = record { entry = e; node = node }
+
+-- one entry is added, of this node, event and outcome
+abbrev pub AddsEntry : List Made → List Made → ℕ → NodeEvent → Outcome → Type 0
+AddsEntry before after node event outcome =
+    (ticket : ℕ) × (after ≡ before ++ made node (entry ticket event outcome) ∷ [])
+
+-- what a call that answers an outcome adds: an entry where a node answered, else nothing
+abbrev pub Adds : List Made → List Made → ℕ → NodeEvent → Outcome → Type 0
+Adds before after node event outcome =
+    (is_of_node outcome ≡ true → AddsEntry before after node event outcome) × (is_of_node outcome ≡ false → after ≡ before)
+
+-- at most one entry is added, of this node and event
+abbrev pub AddsAtMostOne : List Made → List Made → ℕ → NodeEvent → Type 0
+AddsAtMostOne before after node event = (after ≡ before) ⊎ ((outcome : Outcome) × AddsEntry before after node event outcome)

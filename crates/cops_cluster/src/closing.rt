@@ -1,0 +1,325 @@
+//! Ending a cluster: what the books have against what their callers were told.
+ghost use Rattle.std.specs.Prelude.{◌≡◌, ◌≤◌, ◌<◌, ◌+◌, ◌↔◌, ◌||◌, ℕ, true, length, vec_len, vec_capacity, IfOk, IsTrue, slice_index_or};
+ghost use Rattle.std.specs.List.{list_any};
+ghost use Rattle.cops_cluster.specs.declared.share.Share.{Share};
+ghost use Rattle.cops_cluster.specs.Close.{AllReplay, AreAll, IsReplay, entries_at, is_seat, made_by, made_in, number_of};
+
+use crate::cluster::Cluster;
+use crate::differing::difference;
+use crate::share::{Holder, Share};
+use cops_record::IntoTraceFault;
+use cops_tie::{Book, Entry};
+use cops_trace::Trace;
+use cops_types::{Memory, PLACES};
+use std::alloc::{AllocError, Global};
+use std::sync::Mutex;
+
+/// What is left of a cluster: the entries, a list for each node in order of node numbers, and what the clients saw.
+#[derive(Drop)]
+pub struct Closed {
+    pub books: Vec<Vec<Entry>>,
+    pub trace: Trace,
+}
+
+/// What is left of a cluster whose books nobody has compared with the shares yet.
+#[derive(Drop)]
+pub struct Uncompared {
+    pub closed: Closed,
+    pub shares: Vec<Share>,
+}
+
+/// Why a cluster was not closed.
+#[derive(Drop)]
+pub enum CloseFault {
+    /// Memory was refused. The cluster and the shares come back.
+    Memory(Cluster, Vec<Share>),
+    /// There is not one share of each client and of each receiver, or there are others. The cluster and the shares come back.
+    SharesMissing(Cluster, Vec<Share>),
+    /// The books have other entries than the shares. The least ticket whose entries differ.
+    NotKept { ticket: u64 },
+}
+
+impl Cluster {
+    ghost use Rattle.std.specs.Prelude.{◌≡◌, ◌+◌, ◌*◌, length, vec_len, IfOk, IfErr, IfSome, IfNone};
+    ghost use Rattle.std.specs.List.Sorted.{IsPermutation};
+    ghost use Rattle.cops_cluster.specs.Close.{AllReplay, AreAll, made_in, told};
+    ghost use Rattle.cops_cluster.specs.HandedBack.{HandsBack, HasRooms};
+
+    /// Ends the cluster. The lists replay, and their entries are those of the shares, each as often. `SharesMissing` unless the
+    /// share of each client and of each receiver is there once, then `NotKept` where the entries differ.
+    pub fn close(self, shares: Vec<Share>) -> Result<Closed, CloseFault>
+        ensures len { IfOk result (λ closed. length closed.books.items ≡ self.place.dcs * (length self.place.splits + 1)) }
+        ensures replays { IfOk result (λ closed. AllReplay (length self.place.splits + 1) closed.books.items) }
+        ensures told { IfOk result (λ closed. IsPermutation (made_in (length self.place.splits + 1) 0 closed.books.items) (told shares.items)) }
+        ensures all { IfOk result (λ _. AreAll self.clients self.place.dcs shares.items) }
+        ensures back { IfErr result (HandsBack self shares) }
+    {
+        let rooms = match self.rooms_for(&shares) {
+            Ok(Some(rooms)) => rooms,
+            Ok(None) => return Err(CloseFault::SharesMissing(self, shares)),
+            Err(_) => return Err(CloseFault::Memory(self, shares)),
+        };
+        self.closed_in(rooms, shares)
+    }
+
+    /// Ends the cluster as `close` does, for whoever compares the books with the shares by `difference_of_lists`. The lists replay.
+    /// `SharesMissing` unless the share of each client and of each receiver is there once.
+    pub fn close_uncompared(self, shares: Vec<Share>) -> Result<Uncompared, CloseFault>
+        ensures len { IfOk result (λ u. length u.closed.books.items ≡ self.place.dcs * (length self.place.splits + 1)) }
+        ensures replays { IfOk result (λ u. AllReplay (length self.place.splits + 1) u.closed.books.items) }
+        ensures shares { IfOk result (λ u. u.shares ≡ shares) }
+        ensures all { IfOk result (λ _. AreAll self.clients self.place.dcs shares.items) }
+        ensures back { IfErr result (HandsBack self shares) }
+    {
+        let rooms = match self.rooms_for(&shares) {
+            Ok(Some(rooms)) => rooms,
+            Ok(None) => return Err(CloseFault::SharesMissing(self, shares)),
+            Err(_) => return Err(CloseFault::Memory(self, shares)),
+        };
+        self.uncompared_in(rooms, shares)
+    }
+
+    /// Lists with room for what each node gives; `None` unless the share of each client and of each receiver is there once.
+    fn rooms_for(&self, shares: &[Share]) -> Result<Option<Rooms>, AllocError>
+        ensures some { IfOk result (λ o. IfSome o (λ rooms. HasRooms (vec_len self.now.nodes) rooms × AreAll self.now.clients self.now.place.dcs shares.now)) }
+        ensures none { IfOk result (λ o. IfNone o (AreAll self.now.clients self.now.place.dcs shares.now → ⊥)) }
+    {
+        if has_all(self.alloc, self.clients, self.place.dcs(), shares)? {
+            Ok(Some(Rooms::of(self.alloc, self.nodes.len())?))
+        } else {
+            Ok(None)
+        }
+    }
+}
+
+impl Cluster {
+    ghost use Rattle.std.specs.Prelude.{◌≡◌, ◌≤◌, ◌+◌, ◌*◌, length, vec_len, vec_capacity, IfOk, IfErr};
+    ghost use Rattle.std.specs.List.Sorted.{IsPermutation};
+    ghost use Rattle.cops_cluster.specs.Close.{AllReplay, AreAll, made_in, told};
+    ghost use Rattle.cops_cluster.specs.HandedBack.{HandsBack, HasRooms};
+
+    /// The same where all shares are there and lists have room.
+    fn closed_in(self, rooms: Rooms, shares: Vec<Share>) -> Result<Closed, CloseFault>
+        requires rooms { HasRooms (vec_len self.nodes) rooms }
+        requires all { AreAll self.clients self.place.dcs shares.items }
+        ensures len { IfOk result (λ closed. length closed.books.items ≡ vec_len self.nodes) }
+        ensures replays { IfOk result (λ closed. AllReplay (length self.place.splits + 1) closed.books.items) }
+        ensures told { IfOk result (λ closed. IsPermutation (made_in (length self.place.splits + 1) 0 closed.books.items) (told shares.items)) }
+        ensures back { IfErr result (HandsBack self shares) }
+    {
+        let Cluster {
+            place,
+            clients,
+            nodes,
+            tickets,
+            recorder,
+            alloc,
+        } = self;
+        let Rooms {
+            books,
+            locks,
+            lists,
+        } = rooms;
+        let places = usize::from(place.nodes());
+        let books = taken_out(books, nodes);
+        let recorder = match difference(alloc, places, &books, &shares) {
+            Ok(Some(ticket)) => return Err(CloseFault::NotKept { ticket }),
+            Ok(None) => match recorder.into_trace() {
+                Ok(trace) => {
+                    let books = listed(alloc, places, lists, books);
+                    return Ok(Closed { books, trace });
+                }
+                Err(IntoTraceFault::Memory(recorder)) => recorder,
+            },
+            Err(_) => recorder,
+        };
+        let cluster = Cluster {
+            place,
+            clients,
+            nodes: locked(locks, books),
+            tickets,
+            recorder,
+            alloc,
+        };
+        Err(CloseFault::Memory(cluster, shares))
+    }
+
+    /// The same without the comparison.
+    fn uncompared_in(self, rooms: Rooms, shares: Vec<Share>) -> Result<Uncompared, CloseFault>
+        requires rooms { HasRooms (vec_len self.nodes) rooms }
+        requires all { AreAll self.clients self.place.dcs shares.items }
+        ensures len { IfOk result (λ u. length u.closed.books.items ≡ vec_len self.nodes) }
+        ensures replays { IfOk result (λ u. AllReplay (length self.place.splits + 1) u.closed.books.items) }
+        ensures shares { IfOk result (λ u. u.shares ≡ shares) }
+        ensures back { IfErr result (HandsBack self shares) }
+    {
+        let Cluster {
+            place,
+            clients,
+            nodes,
+            tickets,
+            recorder,
+            alloc,
+        } = self;
+        let Rooms {
+            books,
+            locks: _,
+            lists,
+        } = rooms;
+        let places = usize::from(place.nodes());
+        match recorder.into_trace() {
+            Ok(trace) => {
+                let books = listed(alloc, places, lists, taken_out(books, nodes));
+                let closed = Closed { books, trace };
+                Ok(Uncompared { closed, shares })
+            }
+            Err(IntoTraceFault::Memory(recorder)) => {
+                let cluster = Cluster {
+                    place,
+                    clients,
+                    nodes,
+                    tickets,
+                    recorder,
+                    alloc,
+                };
+                Err(CloseFault::Memory(cluster, shares))
+            }
+        }
+    }
+}
+
+/// Empty lists with room for what each node gives.
+#[derive(Drop)]
+pub(crate) struct Rooms {
+    pub(crate) books: Vec<Book>,
+    pub(crate) locks: Vec<Mutex<Book>>,
+    pub(crate) lists: Vec<Vec<Entry>>,
+}
+
+impl Rooms {
+    ghost use Rattle.std.specs.Prelude.{IfOk};
+    ghost use Rattle.cops_cluster.specs.HandedBack.{HasRooms};
+
+    fn of(alloc: Global, nodes: usize) -> Result<Rooms, AllocError>
+        ensures { IfOk result (HasRooms nodes) }
+    {
+        Ok(Rooms {
+            books: Vec::with_capacity(alloc, nodes)?,
+            locks: Vec::with_capacity(alloc, nodes)?,
+            lists: Vec::with_capacity(alloc, nodes)?,
+        })
+    }
+}
+
+/// Whether there is a share for each client and each receiver, and no other.
+fn has_all(alloc: Global, clients: u16, dcs: u8, shares: &[Share]) -> Result<bool, AllocError>
+    ensures { IfOk result (λ is. IsTrue is ↔ AreAll clients dcs shares.now) }
+{
+    let seats = usize::from(clients) + usize::from(dcs);
+    if shares.len() != seats {
+        return Ok(false);
+    }
+    let mut taken = vec![in alloc; false; seats]?;
+    for share in shares {
+        take_seat(&mut taken, clients, share.holder);
+    }
+    Ok(are_taken(&taken))
+}
+
+/// Whether each seat is taken.
+fn are_taken(taken: &[bool]) -> bool
+    ensures { IsTrue result ↔ ((seat : ℕ) → seat < length taken.now → slice_index_or taken.now seat true ≡ true) }
+{
+    for i in 0..taken.len() {
+        if !taken[i] {
+            return false;
+        }
+    }
+    true
+}
+
+/// A holder takes its seat, where it is there.
+fn take_seat(taken: &mut [bool], clients: u16, holder: Holder)
+    ensures len { length taken.new ≡ length taken.old }
+    ensures seat { (seat : ℕ) → seat < length taken.old → slice_index_or taken.new seat true ≡ (is_seat clients seat holder || slice_index_or taken.old seat true) }
+{
+    let seat = match holder {
+        Holder::Client(number) => {
+            if number >= clients {
+                return;
+            }
+            usize::from(number)
+        }
+        Holder::Receiver(dc) => usize::from(clients) + usize::from(dc),
+    };
+    if seat < taken.len() {
+        taken[seat] = true;
+    }
+}
+
+/// The books out of their locks.
+fn taken_out(room: Vec<Book>, nodes: Vec<Mutex<Book>>) -> Vec<Book>
+    requires empty { vec_len room ≡ 0 }
+    requires room { vec_len nodes ≤ vec_capacity room }
+    ensures { vec_len result ≡ vec_len nodes }
+{
+    let mut books = room;
+    for node in nodes {
+        books.push_reserved(node.into_inner());
+    }
+    books
+}
+
+/// Each book under a lock.
+fn locked(room: Vec<Mutex<Book>>, books: Vec<Book>) -> Vec<Mutex<Book>>
+    requires empty { vec_len room ≡ 0 }
+    requires room { vec_len books ≤ vec_capacity room }
+    ensures { vec_len result ≡ vec_len books }
+{
+    let mut nodes = room;
+    for book in books {
+        nodes.push_reserved(Mutex::new(book));
+    }
+    nodes
+}
+
+/// The entries of the books, a list for each node.
+fn listed(alloc: Global, places: usize, room: Vec<Vec<Entry>>, books: Vec<Book>) -> Vec<Vec<Entry>>
+    requires places { 0 < places × places ≤ 64 }
+    requires few { vec_len books ≤ 1024 }
+    requires empty { vec_len room ≡ 0 }
+    requires room { vec_len books ≤ vec_capacity room }
+    ensures len { vec_len result ≡ vec_len books }
+    ensures replays { AllReplay places result.items }
+    ensures made { made_in places 0 result.items ≡ made_by places 0 books.items }
+{
+    let mut lists = room;
+    for book in books {
+        let n = lists.len();
+        lists.push_reserved(list_at(alloc, places, n, book));
+    }
+    lists
+}
+
+/// The entries of a book that is the nth node's.
+fn list_at(alloc: Global, places: usize, n: usize, book: Book) -> Vec<Entry>
+    requires places { 0 < places × places ≤ 64 }
+    requires few { n < 1024 }
+    ensures entries { result.items ≡ entries_at places n book }
+    ensures replays { IsReplay (number_of places n) result.items }
+{
+    if usize::from(book.node().number()) == number_at(places, n) {
+        book.into_entries()
+    } else {
+        Vec::new(alloc)
+    }
+}
+
+/// The number of the nth node, where each data centre has so many.
+pub(crate) fn number_at(places: usize, n: usize) -> usize
+    requires places { 0 < places × places ≤ 64 }
+    requires few { n < 1024 }
+    ensures { result ≡ number_of places n }
+{
+    (n / places) * usize::from(PLACES) + n % places
+}

@@ -1,0 +1,238 @@
+//! The nodes, each under a lock of its own.
+ghost use Rattle.std.specs.Prelude.{◌≡◌, ◌≤◌, ◌<◌, ◌+◌, ◌*◌, ◌↔◌, All, IfOk, IsTrue, OnOk, [], length, vec_len};
+ghost use Rattle.cops_cluster.specs.Opening.{AreClientsAt, AreReceivers};
+
+use crate::client::Client;
+use crate::fault::OpenFault;
+use crate::share::{Holder, Share};
+use crate::spot::Spot;
+use cops_context::Context;
+use cops_core::{Setting, WorldFault};
+use cops_place::Place;
+use cops_record::Recorder;
+use cops_tie::{Book, Puts};
+use cops_types::{Key, Memory, NodeStatus};
+use std::alloc::{AllocError, Global};
+use std::sync::atomic::AtomicU64;
+use std::sync::{Mutex, Wait};
+
+/// The nodes of a cluster, each under a lock of its own, by data centre and place; one counter of tickets; and the recorder
+/// of what clients see.
+#[derive(Drop)]
+pub struct Cluster {
+    pub(crate) place: Place,
+    pub(crate) clients: u16,
+    pub(crate) nodes: Vec<Mutex<Book>>,
+    pub(crate) tickets: AtomicU64,
+    pub(crate) recorder: Recorder,
+    pub(crate) alloc: Global,
+    ghost sized: { vec_len nodes ≡ place.dcs * (length place.splits + 1) },
+}
+
+/// A cluster in which nothing has happened, its clients in order of their numbers, and a share for the receiver of each data
+/// centre.
+#[derive(Drop)]
+pub struct Opened {
+    pub cluster: Cluster,
+    pub clients: Vec<Client>,
+    pub shares: Vec<Share>,
+}
+
+impl Cluster {
+    ghost use Rattle.std.specs.Prelude.{◌≡◌, ◌<◌, ◌≤◌, ◌+◌, ◌*◌, ◌↔◌, All, length, vec_len, IfOk, OnErr, IsErrOf, IsSome, IfSome, IfNone};
+    ghost use Rattle.cops_core.specs.World.{AreClients};
+    ghost use Rattle.cops_place.specs.Place.{primary};
+    ghost use Rattle.cops_cluster.specs.Opening.{AreClientsAt, AreReceivers};
+    ghost use Rattle.cops_cluster.specs.Cluster.{IsNode, IsPutsFrom};
+
+    /// A cluster of these data centres and nodes, with a client at each of these data centres: `BadClient` where one of those
+    /// is not there, or there are more than 65,535 clients.
+    pub fn open(alloc: Global, place: Place, client_dcs: Vec<u8>) -> Result<Opened, OpenFault>
+        ensures place { IfOk result (λ o. o.cluster.place ≡ place) }
+        ensures clients { IfOk result (λ o. AreClientsAt client_dcs.items (length client_dcs.items) o.clients.items) }
+        ensures shares { IfOk result (λ o. AreReceivers place.dcs o.shares.items) }
+        ensures bad { IsErrOf result OpenFault.BadClient ↔ (AreClients place client_dcs.items → ⊥) }
+    {
+        match Setting::new(place, client_dcs) {
+            Ok(setting) => Ok(Cluster::of(alloc, &setting)?),
+            Err(WorldFault::Memory) => Err(OpenFault::Memory),
+            Err(WorldFault::BadClient) => Err(OpenFault::BadClient),
+        }
+    }
+
+    /// The same of a setting, whose clients' data centres are there.
+    pub fn of(alloc: Global, setting: &Setting) -> Result<Opened, Memory>
+        ensures place { IfOk result (λ o. o.cluster.place ≡ setting.now.place) }
+        ensures clients { IfOk result (λ o. AreClientsAt setting.now.homes (length setting.now.homes) o.clients.items) }
+        ensures shares { IfOk result (λ o. AreReceivers setting.now.place.dcs o.shares.items) }
+    {
+        let nodes = opened_nodes(alloc, setting.dcs(), setting.nodes())?;
+        let recorder = Recorder::new(alloc, setting.clients() as u16)?;
+        let clients = opened_clients(alloc, setting.homes())?;
+        let shares = opened_shares(alloc, setting.dcs())?;
+        let cluster = Cluster {
+            place: setting.place().clone()?,
+            clients: setting.clients() as u16,
+            nodes,
+            tickets: AtomicU64::new(0),
+            recorder,
+            alloc,
+        };
+        Ok(Opened {
+            cluster,
+            clients,
+            shares,
+        })
+    }
+
+    /// How many data centres there are, 1 to 16.
+    pub fn dcs(&self) -> u8
+        ensures value { result ≡ self.now.place.dcs }
+        ensures range { (1 ≤ result) × (result ≤ 16) }
+    {
+        self.place.dcs()
+    }
+
+    /// How many nodes each data centre has, 1 to 64.
+    pub fn nodes(&self) -> u8
+        ensures value { result ≡ length self.now.place.splits + 1 }
+        ensures range { (1 ≤ result) × (result ≤ 64) }
+    {
+        self.place.nodes()
+    }
+
+    /// What the node at a place of a data centre tells of itself; `None` where there is no such node.
+    pub fn status<R: Wait>(&self, rt: &R, dc: u8, place: u8) -> Option<NodeStatus>
+        ensures there { IsSome result ↔ IsNode self.now dc place }
+        ensures clock { IfSome result (λ status. status.clock ≤ 281474976710655) }
+    {
+        let spot = self.spot_at(dc, place)?;
+        let status = self.lock_of(spot).lock(rt).node().status();
+        Some(status)
+    }
+
+    /// Copies of the puts that were issued at the node at a place of a data centre, from the entry at a place of its book on, and
+    /// how many entries that has: from there on the next copies are to be made. `None` where there is no such node.
+    pub fn puts_from<R: Wait>(
+        &self,
+        rt: &R,
+        dc: u8,
+        place: u8,
+        from: usize,
+    ) -> Result<Option<Puts>, Memory>
+        ensures node { IfOk result (λ puts. IsSome puts ↔ IsNode self.now dc place) }
+        ensures puts { IfOk result (λ puts. IfSome puts (IsPutsFrom from)) }
+        ensures err { OnErr result (IsNode self.now dc place) }
+    {
+        let Some(spot) = self.spot_at(dc, place) else {
+            return Ok(None);
+        };
+        let puts = self.lock_of(spot).lock(rt).puts_from(self.alloc, from)?;
+        Ok(Some(puts))
+    }
+
+    /// The node at a place of a data centre, where it is there.
+    pub(crate) fn spot_at(&self, dc: u8, place: u8) -> Option<Spot>
+        ensures some { IfSome result (λ spot. (spot.dc ≡ dc) × (spot.place ≡ place) × IsNode self.now dc place) }
+        ensures none { IfNone result (IsNode self.now dc place → ⊥) }
+    {
+        if dc >= self.place.dcs() {
+            return None;
+        }
+        if place >= self.place.nodes() {
+            return None;
+        }
+        Some(Spot { dc, place })
+    }
+
+    /// A key's node in a data centre, where that is there.
+    pub(crate) fn spot_of(&self, dc: u8, key: &Key) -> Option<Spot>
+        ensures some { IfSome result (λ spot. (spot.dc ≡ dc) × (spot.place ≡ primary self.now.place.splits key.now) × IsNode self.now spot.dc spot.place) }
+        ensures none { IfNone result (self.now.place.dcs ≤ dc) }
+    {
+        if dc >= self.place.dcs() {
+            return None;
+        }
+        let place = self.place.primary(key);
+        Some(Spot { dc, place })
+    }
+
+    /// The lock of a node.
+    pub(crate) fn lock_of(&self, spot: Spot) -> &Mutex<Book>
+        requires { IsNode self.now spot.dc spot.place }
+    {
+        let nodes = usize::from(self.place.nodes());
+        let at = usize::from(spot.dc) * nodes + usize::from(spot.place);
+        &self.nodes[at]
+    }
+}
+
+/// The books of opened nodes, by data centre and place.
+fn opened_nodes(alloc: Global, dcs: u8, places: u8) -> Result<Vec<Mutex<Book>>, AllocError>
+    requires dcs { dcs ≤ 16 }
+    requires places { places ≤ 64 }
+    ensures { IfOk result (λ nodes. vec_len nodes ≡ dcs * places) }
+{
+    let mut nodes = Vec::new(alloc);
+    for dc in 0..dcs {
+        add_nodes(alloc, &mut nodes, dc, places)?;
+    }
+    Ok(nodes)
+}
+
+/// Those of one data centre more.
+fn add_nodes(
+    alloc: Global,
+    nodes: &mut Vec<Mutex<Book>>,
+    dc: u8,
+    places: u8,
+) -> Result<(), AllocError>
+    requires dc { dc < 16 }
+    requires places { places ≤ 64 }
+    ensures { OnOk result (vec_len nodes.new ≡ vec_len nodes.old + places) }
+{
+    for place in 0..places {
+        let spot = Spot { dc, place };
+        nodes.push(Mutex::new(Book::open(alloc, spot.number())))?;
+    }
+    Ok(())
+}
+
+/// A client at each of these data centres, with nothing in its context and in its share.
+fn opened_clients(alloc: Global, dcs: &[u8]) -> Result<Vec<Client>, AllocError>
+    requires { length dcs.now ≤ 65535 }
+    ensures { IfOk result (λ clients. AreClientsAt dcs.now (length dcs.now) clients.items) }
+{
+    let mut clients = Vec::with_capacity(alloc, dcs.len())?;
+    for k in 0..dcs.len() {
+        let number = k as u16;
+        clients.push(Client {
+            number,
+            dc: dcs[k],
+            context: Context::new(alloc),
+            share: empty_share(alloc, Holder::Client(number)),
+        })?;
+    }
+    Ok(clients)
+}
+
+/// A share for the receiver of each data centre.
+fn opened_shares(alloc: Global, dcs: u8) -> Result<Vec<Share>, AllocError>
+    ensures { IfOk result (λ shares. AreReceivers dcs shares.items) }
+{
+    let mut shares = Vec::new(alloc);
+    for dc in 0..dcs {
+        shares.push(empty_share(alloc, Holder::Receiver(dc)))?;
+    }
+    Ok(shares)
+}
+
+fn empty_share(alloc: Global, holder: Holder) -> Share
+    ensures holder { result.holder ≡ holder }
+    ensures entries { result.entries.items ≡ [] }
+{
+    Share {
+        holder,
+        entries: Vec::new(alloc),
+    }
+}

@@ -1,0 +1,196 @@
+//! Whether the entries of books are those of shares.
+ghost use Rattle.std.specs.Prelude.{◌≡◌, ◌≤◌, ◌<◌, ◌+◌, ◌++◌, ◌∷◌, [], ◌↔◌, length, map, take, drop, IfOk, OnOk, IsFalse, IsTrue, slice_index_or};
+ghost use Rattle.std.specs.List.{Contains};
+ghost use Rattle.std.specs.List.Sorted.{IsNonDecreasingBy, IsPermutation};
+ghost use Rattle.cops_cluster.specs.Close.{entries_at, made_by, made_in, number_of, told};
+ghost use Rattle.cops_cluster.specs.Shares.{made};
+ghost use Rattle.cops_cluster.specs.declared.noted.Noted.{Noted};
+ghost use Rattle.cops_cluster.specs.Differences.{Compares};
+ghost use Rattle.cops_cluster.specs.Differing.{shown, ticket_of};
+
+use crate::closing::number_at;
+use crate::noted::Noted;
+use crate::share::Share;
+use cops_tie::{Book, Entry};
+use std::alloc::{AllocError, Global};
+
+/// The least ticket whose entries in the books are not those in the shares; `None` where the entries are the same, each as
+/// often.
+pub(crate) fn difference(
+    alloc: Global,
+    places: usize,
+    books: &[Book],
+    shares: &[Share],
+) -> Result<Option<u64>, AllocError>
+    requires places { 0 < places × places ≤ 64 }
+    requires few { length books.now ≤ 1024 }
+    ensures { IfOk result (Compares (made_by places 0 books.now) (told shares.now)) }
+{
+    compared(kept_in(alloc, places, books)?, told_in(alloc, shares)?)
+}
+
+/// The same of lists of entries, one for each node in order of node numbers, where each data centre has so many nodes.
+pub fn difference_of_lists(
+    alloc: Global,
+    places: u8,
+    lists: &[Vec<Entry>],
+    shares: &[Share],
+) -> Result<Option<u64>, AllocError>
+    requires places { (0 < places) × (places ≤ 64) }
+    requires few { length lists.now ≤ 1024 }
+    ensures { IfOk result (Compares (made_in places 0 lists.now) (told shares.now)) }
+{
+    compared(
+        listed_in(alloc, usize::from(places), lists)?,
+        told_in(alloc, shares)?,
+    )
+}
+
+/// The least ticket whose entries in two lists are not the same, each as often.
+fn compared(kept: Vec<Noted<'_>>, heard: Vec<Noted<'_>>) -> Result<Option<u64>, AllocError>
+    ensures { IfOk result (Compares (map shown kept.entry.items) (map shown heard.entry.items)) }
+{
+    let mut kept = kept;
+    let mut heard = heard;
+    kept.sort_by_key(|noted| noted.ticket)?;
+    heard.sort_by_key(|noted| noted.ticket)?;
+    Ok(first_difference(&kept, &mut heard))
+}
+
+/// The entries of the lists, each with its node.
+fn listed_in<'a>(
+    alloc: Global,
+    places: usize,
+    lists: &'a [Vec<Entry>],
+) -> Result<Vec<Noted<'a>>, AllocError>
+    requires places { 0 < places × places ≤ 64 }
+    requires few { length lists.now ≤ 1024 }
+    ensures { IfOk result (λ all. map shown all.items ≡ made_in places 0 lists.now) }
+{
+    let mut all = Vec::new(alloc);
+    for n in 0..lists.len() {
+        add_entries(&mut all, number_at(places, n) as u16, &lists[n])?;
+    }
+    Ok(all)
+}
+
+/// The entries of the books, each with its node.
+fn kept_in<'a>(
+    alloc: Global,
+    places: usize,
+    books: &'a [Book],
+) -> Result<Vec<Noted<'a>>, AllocError>
+    requires places { 0 < places × places ≤ 64 }
+    requires few { length books.now ≤ 1024 }
+    ensures { IfOk result (λ all. map shown all.items ≡ made_by places 0 books.now) }
+{
+    let mut all = Vec::new(alloc);
+    for n in 0..books.len() {
+        add_book(&mut all, places, n, &books[n])?;
+    }
+    Ok(all)
+}
+
+/// Those of a book more, where it is the nth node's.
+fn add_book<'a>(
+    all: &mut Vec<Noted<'a>>,
+    places: usize,
+    n: usize,
+    book: &'a Book,
+) -> Result<(), AllocError>
+    requires places { 0 < places × places ≤ 64 }
+    requires few { n < 1024 }
+    ensures { OnOk result (map shown all.new.items ≡ map shown all.old.items ++ map (made (number_of places n)) (entries_at places n book.now)) }
+{
+    let node = book.node().number();
+    if usize::from(node) == number_at(places, n) {
+        add_entries(all, node, book.entries())?;
+    }
+    Ok(())
+}
+
+fn add_entries<'a>(
+    all: &mut Vec<Noted<'a>>,
+    node: u16,
+    entries: &'a [Entry],
+) -> Result<(), AllocError>
+    ensures { OnOk result (map shown all.new.items ≡ map shown all.old.items ++ map (made node) entries.now) }
+{
+    all.reserve(entries.len())?;
+    for entry in entries {
+        all.push(Noted::new(entry, node))?;
+    }
+    Ok(())
+}
+
+/// The entries of the shares.
+fn told_in<'a>(alloc: Global, shares: &'a [Share]) -> Result<Vec<Noted<'a>>, AllocError>
+    ensures { IfOk result (λ all. map shown all.items ≡ told shares.now) }
+{
+    let mut all = Vec::new(alloc);
+    for share in shares {
+        add_share(&mut all, share)?;
+    }
+    Ok(all)
+}
+
+/// Those of a share more.
+fn add_share<'a>(all: &mut Vec<Noted<'a>>, share: &'a Share) -> Result<(), AllocError>
+    ensures { OnOk result (map shown all.new.items ≡ map shown all.old.items ++ share.now.entries.items) }
+{
+    all.reserve(share.entries.len())?;
+    for made in &share.entries {
+        all.push(Noted::new(&made.entry, made.node))?;
+    }
+    Ok(())
+}
+
+/// The least ticket at which two lists in order of tickets differ. Entries of one ticket may come in any order.
+fn first_difference(kept: &[Noted<'_>], heard: &mut [Noted<'_>]) -> Option<u64>
+    requires kept { IsNonDecreasingBy ticket_of kept.now }
+    requires heard { IsNonDecreasingBy ticket_of heard.old }
+    ensures { Compares (map shown kept.now) (map shown heard.old) result }
+{
+    let both = kept.len().min(heard.len());
+    for i in 0..both {
+        let noted = &kept[i];
+        let ticket = heard[i].ticket;
+        if ticket < noted.ticket {
+            return Some(ticket);
+        }
+        if !bring(noted, heard, i) {
+            return Some(noted.ticket);
+        }
+    }
+    if both < kept.len() {
+        return Some(kept[both].ticket);
+    }
+    if both < heard.len() {
+        return Some(heard[both].ticket);
+    }
+    None
+}
+
+/// Brings the same entry to a place, from among those of its ticket that stand there and behind it, if it is there.
+fn bring(noted: &Noted<'_>, heard: &mut [Noted<'_>], i: usize) -> bool
+    requires place { i < length heard.old }
+    requires sorted { IsNonDecreasingBy ticket_of heard.old }
+    requires behind { (d : Noted) → ticket_of noted.now ≤ ticket_of (slice_index_or heard.old i d) }
+    ensures order { IsPermutation heard.old heard.new }
+    ensures sorted { IsNonDecreasingBy ticket_of heard.new }
+    ensures before { take i heard.new ≡ take i heard.old }
+    ensures len { length heard.new ≡ length heard.old }
+    ensures found { IsTrue result → (d : Noted) × ((slice_index_or heard.new i d ≡ d) × (shown d ≡ shown noted.now)) }
+    ensures missing { IsFalse result → Contains (drop i (map shown heard.old)) (shown noted.now) → ⊥ }
+{
+    for j in i..heard.len() {
+        if heard[j].ticket != noted.ticket {
+            return false;
+        }
+        if heard[j].is(noted) {
+            heard.swap(i, j);
+            return true;
+        }
+    }
+    false
+}

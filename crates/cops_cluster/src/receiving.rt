@@ -1,0 +1,300 @@
+//! The steps by which puts of other data centres come into one: deliveries, questions, marks and settlements.
+ghost use Rattle.std.specs.Prelude.{◌≡◌};
+ghost use Rattle.cops_cluster.specs.Receiving.{IsAskedOf, outcome_of};
+ghost use Rattle.cops_cluster.specs.Replies.{IsReplyOfSeen};
+
+use crate::cluster::Cluster;
+use crate::fault::Stop;
+use crate::refusal::{NO_YES, UNKNOWN_DC};
+use crate::share::Share;
+use crate::spot::Spot;
+use crate::stepping::{Reply, Seen, gained, passed};
+use cops_node::{MEMORY, NOT_HELD, NodeEvent, Outcome};
+use cops_tie::{Book, Told};
+use cops_types::{Dep, Gate, GateHeld, Key, PutRecord, Version};
+use std::sync::Wait;
+
+/// The client's number that a gate is told for a receiver's steps.
+pub const RECEIVER: u16 = 65_535;
+
+/// An answer Yes: exactly this pair is settled in this data centre.
+#[derive(Debug, Drop)]
+pub struct Yes {
+    dc: u8,
+    key: Key,
+    version: Version,
+}
+
+/// What a node answers to the question whether a pair is settled.
+#[derive(Debug, Drop)]
+pub enum Asked {
+    /// It is.
+    Yes(Yes),
+    /// It is not, or the question was refused.
+    Other(Outcome),
+}
+
+impl Yes {
+    ghost use Rattle.std.specs.Prelude.{◌↔◌, IsTrue};
+    ghost use Rattle.cops_cluster.specs.Receiving.{IsFor};
+
+    /// Whether the answer is one for this pair, in this data centre.
+    fn is_for(&self, dc: u8, pair: &Dep) -> bool
+        ensures { IsTrue result ↔ IsFor self.now dc pair.now }
+    {
+        if self.dc != dc {
+            return false;
+        }
+        if self.version != pair.version {
+            return false;
+        }
+        self.key.is(&pair.key)
+    }
+}
+
+impl Cluster {
+    ghost use Rattle.std.specs.Prelude.{◌≡◌, ◌<◌, ◌≤◌, ◌⊎◌, ◌++◌, [], ◌∷◌, ℕ, true, length, Ok, IfOk, IfErr, OnOk, OnErr};
+    ghost use Rattle.cops_types.specs.NodeNumber.{place_of, node_number};
+    ghost use Rattle.cops_node.specs.declared.outcome.Outcome.TheVariants.{Refused as RefusedWith};
+    ghost use Rattle.cops_held.specs.Held.{waiting};
+    ghost use Rattle.cops_node.specs.declared.event.NodeEvent.TheVariants.{Ask, Deliver, Mark, Settle};
+    ghost use Rattle.cops_node.specs.Node.{dep_at, node_step};
+    ghost use Rattle.cops_place.specs.Place.{primary};
+    ghost use Rattle.cops_tie.specs.Book.{entry};
+    ghost use Rattle.cops_cluster.specs.Shares.{Adds, AddsAtMostOne, AddsEntry, is_of_node};
+    ghost use Rattle.cops_cluster.specs.Cluster.{IsNode, IsStop, MayHoldStep, node_of};
+    ghost use Rattle.cops_cluster.specs.Outcomes.{IsAskOutcome, IsNodeAnswer, IsWant};
+    ghost use Rattle.cops_cluster.specs.Receiving.{Allows, IsAskedOf, outcome_of};
+
+    /// A put of another data centre comes to its key's node in a data centre. Refused 10 where there is no such data centre,
+    /// and 9 for want of memory.
+    pub fn deliver<R: Wait, G: Gate>(
+        &self,
+        rt: &R,
+        share: &mut Share,
+        gate: &G,
+        dc: u8,
+        put: PutRecord,
+    ) -> Result<Outcome, GateHeld>
+        ensures who { share.new.holder ≡ share.old.holder }
+        ensures told { IfOk result (λ out. Adds share.old.entries.items share.new.entries.items (node_of self.now dc put.key) (Deliver put) out) }
+        ensures most { AddsAtMostOne share.old.entries.items share.new.entries.items (node_of self.now dc put.key) (Deliver put) }
+        ensures unknown { self.now.place.dcs ≤ dc → result ≡ Ok (RefusedWith 10) }
+        ensures node { OnErr result (IsNode self.now dc (primary self.now.place.splits put.key)) }
+        ensures held { OnErr result (MayHoldStep (G.may_hold gate.now) (node_of self.now dc put.key) 65535) }
+    {
+        let Some(spot) = self.spot_of(dc, &put.key) else {
+            drop(put);
+            return Ok(Outcome::Refused(UNKNOWN_DC));
+        };
+        self.received(rt, share, gate, spot, NodeEvent::Deliver(put))
+    }
+
+    /// Asks a key's node in a data centre whether exactly this pair is settled. Refused 10 where there is no such data
+    /// centre, and 9 for want of memory.
+    pub fn ask<R: Wait, G: Gate>(
+        &self,
+        rt: &R,
+        share: &mut Share,
+        gate: &G,
+        dc: u8,
+        key: &Key,
+        version: Version,
+    ) -> Result<Asked, GateHeld>
+        ensures who { share.new.holder ≡ share.old.holder }
+        ensures told { IfOk result (λ asked. Adds share.old.entries.items share.new.entries.items (node_of self.now dc key.now) (Ask key.now version) (outcome_of asked)) }
+        ensures most { AddsAtMostOne share.old.entries.items share.new.entries.items (node_of self.now dc key.now) (Ask key.now version) }
+        ensures names { IfOk result (IsAskedOf dc key.now version) }
+        ensures outcome { dc < self.now.place.dcs → IfOk result (λ asked. IsAskOutcome (outcome_of asked)) }
+        ensures unknown { self.now.place.dcs ≤ dc → result ≡ Ok (Asked.Other (RefusedWith 10)) }
+        ensures node { OnErr result (IsNode self.now dc (primary self.now.place.splits key.now)) }
+        ensures held { OnErr result (MayHoldStep (G.may_hold gate.now) (node_of self.now dc key.now) 65535) }
+    {
+        let Some(spot) = self.spot_of(dc, key) else {
+            return Ok(Asked::Other(Outcome::Refused(UNKNOWN_DC)));
+        };
+        let Ok(asked) = key.clone() else {
+            return Ok(Asked::Other(Outcome::Refused(MEMORY)));
+        };
+        let Ok(named) = key.clone() else {
+            drop(asked);
+            return Ok(Asked::Other(Outcome::Refused(MEMORY)));
+        };
+        let event = NodeEvent::Ask {
+            key: asked,
+            version,
+        };
+        match self.received(rt, share, gate, spot, event) {
+            Ok(outcome) => Ok(asked_of(dc, named, version, outcome)),
+            Err(held) => {
+                drop(named);
+                Err(held)
+            }
+        }
+    }
+
+    /// Marks a dependency, by its index, of a put that waits at the node of its version in a data centre, for which this
+    /// answer Yes was given. Refused 10 where there is no such data centre, 5 where no put waits at the version, 6 where it
+    /// has no such dependency, 7 where the answer is one for another pair or of another data centre, and 9 for want of memory.
+    pub fn mark<R: Wait, G: Gate>(
+        &self,
+        rt: &R,
+        share: &mut Share,
+        gate: &G,
+        dc: u8,
+        version: Version,
+        dep: u16,
+        yes: &Yes,
+    ) -> Result<Outcome, GateHeld>
+        ensures who { share.new.holder ≡ share.old.holder }
+        ensures told { IsNode self.now dc (place_of version) → IfOk result (λ out. Adds share.old.entries.items share.new.entries.items (node_number dc (place_of version)) (Mark version dep) out) }
+        ensures most { AddsAtMostOne share.old.entries.items share.new.entries.items (node_number dc (place_of version)) (Mark version dep) }
+        ensures no_node { (IsNode self.now dc (place_of version) → ⊥) → share.new.entries.items ≡ share.old.entries.items }
+        ensures unknown { self.now.place.dcs ≤ dc → result ≡ Ok (RefusedWith 10) }
+        ensures not_held { dc < self.now.place.dcs → length self.now.place.splits < place_of version → result ≡ Ok (RefusedWith 5) }
+        ensures node { OnErr result (IsNode self.now dc (place_of version)) }
+        ensures held { OnErr result (MayHoldStep (G.may_hold gate.now) (node_number dc (place_of version)) 65535) }
+    {
+        let Some(spot) = self.spot_at(dc, version.place()) else {
+            return Ok(Outcome::Refused(self.code_of_no_node(dc)));
+        };
+        let answered = self.mark_step(rt, share, gate, spot, version, dep, yes);
+        passed(rt, gate, RECEIVER, replied(spot.number(), answered))
+    }
+
+    /// Settles a put that waits at the node of its version in a data centre. Refused 10 where there is no such data centre, 5
+    /// where no put waits at the version, 8 where not all its dependencies are marked, and 9 for want of memory.
+    pub fn settle<R: Wait, G: Gate>(
+        &self,
+        rt: &R,
+        share: &mut Share,
+        gate: &G,
+        dc: u8,
+        version: Version,
+    ) -> Result<Outcome, GateHeld>
+        ensures who { share.new.holder ≡ share.old.holder }
+        ensures told { IsNode self.now dc (place_of version) → IfOk result (λ out. Adds share.old.entries.items share.new.entries.items (node_number dc (place_of version)) (Settle version) out) }
+        ensures most { AddsAtMostOne share.old.entries.items share.new.entries.items (node_number dc (place_of version)) (Settle version) }
+        ensures no_node { (IsNode self.now dc (place_of version) → ⊥) → share.new.entries.items ≡ share.old.entries.items }
+        ensures unknown { self.now.place.dcs ≤ dc → result ≡ Ok (RefusedWith 10) }
+        ensures not_held { dc < self.now.place.dcs → length self.now.place.splits < place_of version → result ≡ Ok (RefusedWith 5) }
+        ensures node { OnErr result (IsNode self.now dc (place_of version)) }
+        ensures held { OnErr result (MayHoldStep (G.may_hold gate.now) (node_number dc (place_of version)) 65535) }
+    {
+        let Some(spot) = self.spot_at(dc, version.place()) else {
+            return Ok(Outcome::Refused(self.code_of_no_node(dc)));
+        };
+        self.received(rt, share, gate, spot, NodeEvent::Settle { version })
+    }
+
+    /// Why there is no node at some place of a data centre: there is no such data centre, or else no put waits there.
+    fn code_of_no_node(&self, dc: u8) -> u8
+        ensures unknown { self.now.place.dcs ≤ dc → result ≡ 10 }
+        ensures not_held { dc < self.now.place.dcs → result ≡ 5 }
+    {
+        if dc < self.place.dcs() {
+            NOT_HELD
+        } else {
+            UNKNOWN_DC
+        }
+    }
+
+    /// A step for which the gate is told of a receiver.
+    fn received<R: Wait, G: Gate>(
+        &self,
+        rt: &R,
+        share: &mut Share,
+        gate: &G,
+        spot: Spot,
+        event: NodeEvent,
+    ) -> Result<Outcome, GateHeld>
+        requires { IsNode self.now spot.dc spot.place }
+        ensures who { share.new.holder ≡ share.old.holder }
+        ensures told { IfOk result (λ out. Adds share.old.entries.items share.new.entries.items (node_number spot.dc spot.place) event out) }
+        ensures most { AddsAtMostOne share.old.entries.items share.new.entries.items (node_number spot.dc spot.place) event }
+        ensures outcome { IfOk result (λ out. IsNodeAnswer event out ⊎ IsWant out) }
+        ensures held { OnErr result (MayHoldStep (G.may_hold gate.now) (node_number spot.dc spot.place) 65535) }
+    {
+        let answered = self.step(rt, share, gate, RECEIVER, spot, event);
+        passed(rt, gate, RECEIVER, replied(spot.number(), answered))
+    }
+
+    /// A mark under the node's lock.
+    fn mark_step<R: Wait, G: Gate>(
+        &self,
+        rt: &R,
+        share: &mut Share,
+        gate: &G,
+        spot: Spot,
+        version: Version,
+        dep: u16,
+        yes: &Yes,
+    ) -> Result<Seen, Stop>
+        requires { IsNode self.now spot.dc spot.place }
+        ensures who { share.new.holder ≡ share.old.holder }
+        ensures told { IfOk result (λ t. AddsEntry share.old.entries.items share.new.entries.items (node_number spot.dc spot.place) (Mark version dep) t.outcome) }
+        ensures answers { IfOk result (λ t. (t.seen ≡ t.outcome) × (is_of_node t.outcome ≡ true)) }
+        ensures none { OnErr result (share.new.entries.items ≡ share.old.entries.items) }
+        ensures stop { IfErr result (IsStop (G.may_hold gate.now) (node_number spot.dc spot.place) 65535) }
+    {
+        if share.entries.reserve(1).is_err() {
+            return Err(Stop::Refused(MEMORY));
+        }
+        let mut book = self.lock_of(spot).lock(rt);
+        let told = self.marked(rt, gate, spot, &mut book, version, dep, yes)?;
+        drop(book);
+        Ok(gained(share, spot.number(), told))
+    }
+
+    /// A mark at a node whose lock is held.
+    fn marked<R: Wait, G: Gate>(
+        &self,
+        rt: &R,
+        gate: &G,
+        spot: Spot,
+        book: &mut Book,
+        version: Version,
+        dep: u16,
+        yes: &Yes,
+    ) -> Result<Told, Stop>
+        ensures allowed { OnOk result (Allows yes.now spot.dc (dep_at (waiting book.old.node.held version) dep)) }
+        ensures stepped { IfOk result (λ t. node_step book.old.node (Mark version dep) ≡ (t.outcome, book.new.node)) }
+        ensures entered { IfOk result (λ t. book.new.entries ≡ book.old.entries ++ t.entry ∷ []) }
+        ensures told { IfOk result (λ t. (t.seen ≡ t.outcome) × ((ticket : ℕ) × (t.entry ≡ entry ticket (Mark version dep) t.outcome))) }
+        ensures answers { IfOk result (λ t. is_of_node t.outcome ≡ true) }
+        ensures none { OnErr result (book.new ≡ book.old) }
+        ensures stop { IfErr result (IsStop (G.may_hold gate.now) (node_number spot.dc spot.place) 65535) }
+    {
+        if let Some(pair) = book.node().dep_of(version, dep) {
+            if !yes.is_for(spot.dc, pair) {
+                return Err(Stop::Refused(NO_YES));
+            }
+        }
+        let event = NodeEvent::Mark { version, dep };
+        self.asked(rt, gate, RECEIVER, spot, book, event)
+    }
+}
+
+/// What was asked, with the outcome of the question.
+fn asked_of(dc: u8, key: Key, version: Version, outcome: Outcome) -> Asked
+    ensures told { outcome_of result ≡ outcome }
+    ensures names { IsAskedOf dc key version result }
+{
+    match outcome {
+        Outcome::Yes => Asked::Yes(Yes { dc, key, version }),
+        other => Asked::Other(other),
+    }
+}
+
+/// A node's answer, with its number.
+fn replied(node: u16, answered: Result<Seen, Stop>) -> Result<Reply, Stop>
+    ensures { IsReplyOfSeen node answered result }
+{
+    match answered {
+        Ok(seen) => Ok(Reply {
+            outcome: seen.outcome,
+            node,
+        }),
+        Err(stop) => Err(stop),
+    }
+}

@@ -1,0 +1,518 @@
+//! A client's put and get, and the one way in which all steps go to a node.
+ghost use Rattle.std.specs.Prelude.{◌≡◌, ◌<◌, ◌++◌, [], ◌∷◌, IfOk, OnErr, vec_capacity, vec_len};
+ghost use Rattle.cops_node.specs.declared.event.NodeEvent.TheVariants.{Get, Put};
+ghost use Rattle.cops_cluster.specs.Replies.{IsReplyOf, IsVersionOf, WasHeld};
+ghost use Rattle.cops_cluster.specs.Shares.{made};
+
+use crate::client::Client;
+use crate::cluster::Cluster;
+use crate::fault::Stop;
+use crate::refusal::{CONTEXT_FULL, UNKNOWN_CLIENT, code_of};
+use crate::share::{Made, Share};
+use crate::spot::Spot;
+use cops_node::{MEMORY, NodeEvent, Outcome};
+use cops_record::Slot;
+use cops_tie::{Book, Told};
+use cops_types::{Dep, Deps, Gate, GateHeld, Key, Memory, Op, Point, Value, Version};
+use std::alloc::AllocError;
+use std::sync::Wait;
+use std::sync::atomic::Ordering;
+
+/// What a node answered, and a copy of it.
+#[derive(Drop)]
+pub(crate) struct Seen {
+    pub(crate) outcome: Outcome,
+    pub(crate) seen: Outcome,
+}
+
+/// What a node answered to a client, and what the client saw, where that is an operation.
+#[derive(Drop)]
+pub(crate) struct Answer {
+    pub(crate) outcome: Outcome,
+    pub(crate) node: u16,
+    pub(crate) op: Option<Op>,
+}
+
+/// What a node answered.
+#[derive(Drop)]
+pub(crate) struct Reply {
+    pub(crate) outcome: Outcome,
+    pub(crate) node: u16,
+}
+
+/// What is copied for a client's put: its dependencies, and what it notes of the put.
+#[derive(Drop)]
+struct PutCopies {
+    deps: Deps,
+    notes: PutNotes,
+}
+
+/// What a client notes of a put: the key for its context, and what it saw.
+#[derive(Drop)]
+struct PutNotes {
+    pair_key: Key,
+    key: Key,
+    value: Value,
+}
+
+/// What a node is told of a put, and what the client notes of it.
+#[derive(Drop)]
+struct PutTold {
+    event: NodeEvent,
+    notes: PutNotes,
+}
+
+/// What a client notes of a get: the key for its context, and what it saw.
+#[derive(Drop)]
+struct GetNotes {
+    pair_key: Key,
+    key: Key,
+}
+
+/// What a node is told of a get, and what the client notes of it.
+#[derive(Drop)]
+struct GetTold {
+    event: NodeEvent,
+    notes: GetNotes,
+}
+
+fn put_copies(client: &Client, key: &Key, value: &Value) -> Result<PutCopies, Memory>
+    ensures deps { IfOk result (λ c. c.deps ≡ client.now.context.pairs) }
+    ensures noted { IfOk result (λ c. (c.notes.pair_key ≡ key.now) × (c.notes.key ≡ key.now) × (c.notes.value ≡ value.now)) }
+{
+    let deps = client.context.deps()?;
+    match put_notes(key, value) {
+        Ok(notes) => Ok(PutCopies { deps, notes }),
+        Err(fault) => {
+            drop(deps);
+            Err(Memory::from(fault))
+        }
+    }
+}
+
+fn put_notes(key: &Key, value: &Value) -> Result<PutNotes, AllocError>
+    ensures { IfOk result (λ notes. (notes.pair_key ≡ key.now) × (notes.key ≡ key.now) × (notes.value ≡ value.now)) }
+{
+    Ok(PutNotes {
+        pair_key: key.clone()?,
+        key: key.clone()?,
+        value: value.clone()?,
+    })
+}
+
+fn put_told(client: &Client, key: Key, value: Value) -> Result<PutTold, Memory>
+    ensures event { IfOk result (λ t. t.event ≡ Put client.now.number key value client.now.context.pairs) }
+    ensures noted { IfOk result (λ t. (t.notes.pair_key ≡ key) × (t.notes.key ≡ key) × (t.notes.value ≡ value)) }
+{
+    let PutCopies { deps, notes } = match put_copies(client, &key, &value) {
+        Ok(copies) => copies,
+        Err(fault) => {
+            drop(key);
+            drop(value);
+            return Err(fault);
+        }
+    };
+    let event = NodeEvent::Put {
+        client: client.number,
+        key,
+        value,
+        deps,
+    };
+    Ok(PutTold { event, notes })
+}
+
+fn get_notes(key: &Key) -> Result<GetNotes, AllocError>
+    ensures { IfOk result (λ notes. (notes.pair_key ≡ key.now) × (notes.key ≡ key.now)) }
+{
+    Ok(GetNotes {
+        pair_key: key.clone()?,
+        key: key.clone()?,
+    })
+}
+
+fn get_told(client: u16, key: Key) -> Result<GetTold, AllocError>
+    ensures event { IfOk result (λ t. t.event ≡ Get client key) }
+    ensures noted { IfOk result (λ t. (t.notes.pair_key ≡ key) × (t.notes.key ≡ key)) }
+{
+    match get_notes(&key) {
+        Ok(notes) => {
+            let event = NodeEvent::Get { client, key };
+            Ok(GetTold { event, notes })
+        }
+        Err(fault) => {
+            drop(key);
+            Err(fault)
+        }
+    }
+}
+
+impl Cluster {
+    ghost use Rattle.std.specs.Prelude.{◌≡◌, ◌<◌, ◌++◌, [], ◌∷◌, ℕ, true, false, length, IfOk, IfErr, OnOk, OnErr};
+    ghost use Rattle.cops_node.specs.declared.event.NodeEvent.TheVariants.{Put, Get};
+    ghost use Rattle.cops_node.specs.declared.outcome.Outcome.TheVariants.{Refused as RefusedWith};
+    ghost use Rattle.cops_node.specs.Node.{node_step};
+    ghost use Rattle.cops_place.specs.Place.{primary};
+    ghost use Rattle.cops_types.specs.NodeNumber.{node_number};
+    ghost use Rattle.cops_tie.specs.Book.{entry};
+    ghost use Rattle.cops_cluster.specs.Shares.{Adds, AddsAtMostOne, AddsEntry, is_code_of_node, is_of_node};
+    ghost use Rattle.cops_cluster.specs.Cluster.{IsNode, IsSameClient, IsStop, MayHoldStep, after_get, after_put, get_seen, node_of, put_seen};
+    ghost use Rattle.cops_cluster.specs.Outcomes.{IsGetOutcome, IsNodeAnswer, IsPutOutcome, IsWant, StopsWith};
+    ghost use Rattle.cops_cluster.specs.Replies.{IsSpent};
+
+    /// A client puts a value. Refused 3 where the client is of another cluster, 11 where its session is full, 1 where the
+    /// clock of the key's node can rise no further, and 9 for want of memory.
+    pub fn put<R: Wait, G: Gate>(
+        &self,
+        rt: &R,
+        client: &mut Client,
+        gate: &G,
+        key: Key,
+        value: Value,
+    ) -> Result<Outcome, GateHeld>
+        ensures who { IsSameClient client.old client.new }
+        ensures told { IfOk result (λ out. Adds client.old.share.entries.items client.new.share.entries.items (node_of self.now client.old.dc key) (Put client.old.number key value client.old.context.pairs) out) }
+        ensures most { AddsAtMostOne client.old.share.entries.items client.new.share.entries.items (node_of self.now client.old.dc key) (Put client.old.number key value client.old.context.pairs) }
+        ensures context { IfOk result (λ out. client.new.context.pairs ≡ after_put client.old.context.pairs key out) }
+        ensures outcome { IfOk result IsPutOutcome }
+        ensures held { OnErr result (MayHoldStep (G.may_hold gate.now) (node_of self.now client.old.dc key) client.old.number) }
+    {
+        let number = client.number;
+        let slot = match self.recorder.reserve(rt, number) {
+            Ok(slot) => slot,
+            Err(fault) => {
+                drop(key);
+                drop(value);
+                return Ok(Outcome::Refused(code_of(fault)));
+            }
+        };
+        let answered = self.put_step(rt, client, gate, key, value);
+        let reply = self.spent(rt, slot, answered);
+        passed(rt, gate, number, reply)
+    }
+
+    /// A client gets the value of a key. Refused 3 where the client is of another cluster, 11 where its session is full, 2
+    /// where its context holds 256 pairs, and 9 for want of memory.
+    pub fn get<R: Wait, G: Gate>(
+        &self,
+        rt: &R,
+        client: &mut Client,
+        gate: &G,
+        key: Key,
+    ) -> Result<Outcome, GateHeld>
+        ensures who { IsSameClient client.old client.new }
+        ensures told { IfOk result (λ out. Adds client.old.share.entries.items client.new.share.entries.items (node_of self.now client.old.dc key) (Get client.old.number key) out) }
+        ensures most { AddsAtMostOne client.old.share.entries.items client.new.share.entries.items (node_of self.now client.old.dc key) (Get client.old.number key) }
+        ensures context { IfOk result (λ out. client.new.context.pairs ≡ after_get client.old.context.pairs key out) }
+        ensures full { length client.old.context.pairs ≡ 256 → client.new.share.entries.items ≡ client.old.share.entries.items }
+        ensures outcome { IfOk result IsGetOutcome }
+        ensures held { OnErr result (MayHoldStep (G.may_hold gate.now) (node_of self.now client.old.dc key) client.old.number) }
+    {
+        let number = client.number;
+        let slot = match self.recorder.reserve(rt, number) {
+            Ok(slot) => slot,
+            Err(fault) => {
+                drop(key);
+                return Ok(Outcome::Refused(code_of(fault)));
+            }
+        };
+        let answered = self.get_step(rt, client, gate, key);
+        let reply = self.spent(rt, slot, answered);
+        passed(rt, gate, number, reply)
+    }
+
+    /// A put while a slot is reserved for it.
+    fn put_step<R: Wait, G: Gate>(
+        &self,
+        rt: &R,
+        client: &mut Client,
+        gate: &G,
+        key: Key,
+        value: Value,
+    ) -> Result<Answer, Stop>
+        ensures who { IsSameClient client.old client.new }
+        ensures told { IfOk result (λ a. AddsEntry client.old.share.entries.items client.new.share.entries.items (node_of self.now client.old.dc key) (Put client.old.number key value client.old.context.pairs) a.outcome) }
+        ensures answers { IfOk result (λ a. (is_of_node a.outcome ≡ true) × (a.node ≡ node_of self.now client.old.dc key)) }
+        ensures context { IfOk result (λ a. client.new.context.pairs ≡ after_put client.old.context.pairs key a.outcome) }
+        ensures seen { IfOk result (λ a. a.op ≡ put_seen key value a.outcome) }
+        ensures outcome { IfOk result (λ a. IsPutOutcome a.outcome) }
+        ensures stops { IfErr result (StopsWith IsPutOutcome) }
+        ensures none { OnErr result (client.new.share.entries.items ≡ client.old.share.entries.items) }
+        ensures kept { OnErr result (client.new.context.pairs ≡ client.old.context.pairs) }
+        ensures stop { IfErr result (IsStop (G.may_hold gate.now) (node_of self.now client.old.dc key) client.old.number) }
+    {
+        let Some(spot) = self.spot_of(client.dc, &key) else {
+            drop(key);
+            drop(value);
+            return Err(Stop::Refused(UNKNOWN_CLIENT));
+        };
+        let number = client.number;
+        let PutTold { event, notes } = put_told(client, key, value)?;
+        match self.step(rt, &mut client.share, gate, number, spot, event) {
+            Ok(Seen { outcome, seen }) => {
+                let op = client.wrote(notes, &seen);
+                drop(seen);
+                let node = spot.number();
+                Ok(Answer { outcome, node, op })
+            }
+            Err(stop) => {
+                drop(notes);
+                Err(stop)
+            }
+        }
+    }
+
+    /// A get while a slot is reserved for it.
+    fn get_step<R: Wait, G: Gate>(
+        &self,
+        rt: &R,
+        client: &mut Client,
+        gate: &G,
+        key: Key,
+    ) -> Result<Answer, Stop>
+        ensures who { IsSameClient client.old client.new }
+        ensures told { IfOk result (λ a. AddsEntry client.old.share.entries.items client.new.share.entries.items (node_of self.now client.old.dc key) (Get client.old.number key) a.outcome) }
+        ensures answers { IfOk result (λ a. (is_of_node a.outcome ≡ true) × (a.node ≡ node_of self.now client.old.dc key)) }
+        ensures context { IfOk result (λ a. client.new.context.pairs ≡ after_get client.old.context.pairs key a.outcome) }
+        ensures seen { IfOk result (λ a. a.op ≡ get_seen key a.outcome) }
+        ensures outcome { IfOk result (λ a. IsGetOutcome a.outcome) }
+        ensures stops { IfErr result (StopsWith IsGetOutcome) }
+        ensures full { OnOk result (length client.old.context.pairs ≡ 256 → ⊥) }
+        ensures none { OnErr result (client.new.share.entries.items ≡ client.old.share.entries.items) }
+        ensures kept { OnErr result (client.new.context.pairs ≡ client.old.context.pairs) }
+        ensures stop { IfErr result (IsStop (G.may_hold gate.now) (node_of self.now client.old.dc key) client.old.number) }
+    {
+        let spot = match self.spot_with_room(client, &key) {
+            Ok(spot) => spot,
+            Err(code) => {
+                drop(key);
+                return Err(Stop::Refused(code));
+            }
+        };
+        let number = client.number;
+        let GetTold { event, notes } = get_told(number, key)?;
+        match self.step(rt, &mut client.share, gate, number, spot, event) {
+            Ok(Seen { outcome, seen }) => {
+                let op = client.saw(notes.pair_key, notes.key, seen);
+                let node = spot.number();
+                Ok(Answer { outcome, node, op })
+            }
+            Err(stop) => {
+                drop(notes);
+                Err(stop)
+            }
+        }
+    }
+
+    /// The key's node in the client's data centre, where the client's context has room for one more pair: else the code of why
+    /// the get is refused.
+    fn spot_with_room(&self, client: &mut Client, key: &Key) -> Result<Spot, u8>
+        ensures spot { IfOk result (λ spot. (spot.dc ≡ client.old.dc) × (spot.place ≡ primary self.now.place.splits key.now) × IsNode self.now spot.dc spot.place) }
+        ensures room { OnOk result ((length client.old.context.pairs < 256) × (client.new.context.room ≡ true)) }
+        ensures same { (client.new.number ≡ client.old.number) × (client.new.dc ≡ client.old.dc) × (client.new.share ≡ client.old.share) }
+        ensures pairs { client.new.context.pairs ≡ client.old.context.pairs }
+        ensures code { IfErr result (λ code. (is_code_of_node code ≡ false) × IsGetOutcome (RefusedWith code)) }
+    {
+        let Some(spot) = self.spot_of(client.dc, key) else {
+            return Err(UNKNOWN_CLIENT);
+        };
+        if !client.context.has_room() {
+            return Err(CONTEXT_FULL);
+        }
+        match client.context.reserve() {
+            Ok(()) => Ok(spot),
+            Err(_) => Err(MEMORY),
+        }
+    }
+
+    /// Spends a slot: what the client saw fills it, and where that is no operation it is cancelled.
+    fn spent<R: Wait>(
+        &self,
+        rt: &R,
+        slot: Slot,
+        answered: Result<Answer, Stop>,
+    ) -> Result<Reply, Stop>
+        ensures { IsSpent answered result }
+    {
+        match answered {
+            Ok(Answer { outcome, node, op }) => {
+                match op {
+                    Some(op) => self.recorder.fill(rt, slot, op),
+                    None => self.recorder.cancel(rt, slot),
+                }
+                Ok(Reply { outcome, node })
+            }
+            Err(stop) => {
+                self.recorder.cancel(rt, slot);
+                Err(stop)
+            }
+        }
+    }
+
+    /// One step of a node, under its lock: the holder's share gains its entry.
+    pub(crate) fn step<R: Wait, G: Gate>(
+        &self,
+        rt: &R,
+        share: &mut Share,
+        gate: &G,
+        client: u16,
+        spot: Spot,
+        event: NodeEvent,
+    ) -> Result<Seen, Stop>
+        requires { IsNode self.now spot.dc spot.place }
+        ensures who { share.new.holder ≡ share.old.holder }
+        ensures told { IfOk result (λ t. AddsEntry share.old.entries.items share.new.entries.items (node_number spot.dc spot.place) event t.outcome) }
+        ensures answers { IfOk result (λ t. (t.seen ≡ t.outcome) × (is_of_node t.outcome ≡ true)) }
+        ensures outcome { IfOk result (λ t. IsNodeAnswer event t.outcome) }
+        ensures stops { IfErr result (StopsWith IsWant) }
+        ensures none { OnErr result (share.new.entries.items ≡ share.old.entries.items) }
+        ensures stop { IfErr result (IsStop (G.may_hold gate.now) (node_number spot.dc spot.place) client) }
+    {
+        if share.entries.reserve(1).is_err() {
+            drop(event);
+            return Err(Stop::Refused(MEMORY));
+        }
+        let mut book = self.lock_of(spot).lock(rt);
+        let told = self.asked(rt, gate, client, spot, &mut book, event)?;
+        drop(book);
+        Ok(gained(share, spot.number(), told))
+    }
+
+    /// One step of a node whose lock is held: its book gains the entry.
+    pub(crate) fn asked<R: Wait, G: Gate>(
+        &self,
+        rt: &R,
+        gate: &G,
+        client: u16,
+        spot: Spot,
+        book: &mut Book,
+        event: NodeEvent,
+    ) -> Result<Told, Stop>
+        ensures stepped { IfOk result (λ t. node_step book.old.node event ≡ (t.outcome, book.new.node)) }
+        ensures entered { IfOk result (λ t. book.new.entries ≡ book.old.entries ++ t.entry ∷ []) }
+        ensures told { IfOk result (λ t. (t.seen ≡ t.outcome) × ((ticket : ℕ) × (t.entry ≡ entry ticket event t.outcome))) }
+        ensures answers { IfOk result (λ t. is_of_node t.outcome ≡ true) }
+        ensures none { OnErr result (book.new ≡ book.old) }
+        ensures stops { IfErr result (StopsWith IsWant) }
+        ensures stop { IfErr result (IsStop (G.may_hold gate.now) (node_number spot.dc spot.place) client) }
+    {
+        let node = spot.number();
+        if gate.pass(rt, Point::InStep { node, client }).is_err() {
+            drop(event);
+            return Err(Stop::Held);
+        }
+        let ticket = self.tickets.fetch_add(1, Ordering::SeqCst);
+        match book.step_told(ticket, event) {
+            Ok(told) => Ok(told),
+            Err(_) => Err(Stop::Refused(MEMORY)),
+        }
+    }
+}
+
+impl Client {
+    ghost use Rattle.std.specs.Prelude.{◌≡◌, ◌<◌, true, length};
+    ghost use Rattle.cops_cluster.specs.Cluster.{after_get, after_put, get_seen, put_seen};
+
+    /// The client's put was answered: what it saw, which its context then has alone.
+    fn wrote(&mut self, notes: PutNotes, answer: &Outcome) -> Option<Op>
+        requires { notes.pair_key ≡ notes.key }
+        ensures context { self.new.context.pairs ≡ after_put self.old.context.pairs notes.key answer.now }
+        ensures seen { result ≡ put_seen notes.key notes.value answer.now }
+        ensures same { (self.new.number ≡ self.old.number) × (self.new.dc ≡ self.old.dc) × (self.new.share ≡ self.old.share) }
+    {
+        let Some(version) = version_of(answer) else {
+            drop(notes);
+            return None;
+        };
+        let PutNotes {
+            pair_key,
+            key,
+            value,
+        } = notes;
+        self.context.replace(Dep {
+            key: pair_key,
+            version,
+        });
+        Some(Op::Put {
+            key,
+            value,
+            version,
+        })
+    }
+
+    /// The client's get was answered: what it saw, whose pair its context gains.
+    fn saw(&mut self, pair_key: Key, key: Key, answer: Outcome) -> Option<Op>
+        requires key { pair_key ≡ key }
+        requires room { self.old.context.room ≡ true }
+        requires few { length self.old.context.pairs < 256 }
+        ensures context { self.new.context.pairs ≡ after_get self.old.context.pairs key answer }
+        ensures seen { result ≡ get_seen key answer }
+        ensures same { (self.new.number ≡ self.old.number) × (self.new.dc ≡ self.old.dc) × (self.new.share ≡ self.old.share) }
+    {
+        match answer {
+            Outcome::Got(value, version) => {
+                self.context
+                    .add(Dep {
+                        key: pair_key,
+                        version,
+                    })
+                    .unwrap();
+                Some(Op::Got {
+                    key,
+                    value,
+                    version,
+                })
+            }
+            Outcome::Missed => Some(Op::Missed { key }),
+            _ => None,
+        }
+    }
+}
+
+/// The share gains the entry of a step of the node with this number.
+pub(crate) fn gained(share: &mut Share, node: u16, told: Told) -> Seen
+    requires { vec_len share.old.entries < vec_capacity share.old.entries }
+    ensures who { share.new.holder ≡ share.old.holder }
+    ensures entries { share.new.entries.items ≡ share.old.entries.items ++ made node told.entry ∷ [] }
+    ensures answer { (result.outcome ≡ told.outcome) × (result.seen ≡ told.seen) }
+{
+    let Told {
+        outcome,
+        seen,
+        entry,
+    } = told;
+    share.entries.push_reserved(Made { entry, node });
+    Seen { outcome, seen }
+}
+
+/// The version that a put was given.
+fn version_of(answer: &Outcome) -> Option<Version>
+    ensures { IsVersionOf answer.now result }
+{
+    match answer {
+        Outcome::PutDone(version) => Some(*version),
+        _ => None,
+    }
+}
+
+/// What the caller is told, once it has passed the gate after a node's answer.
+pub(crate) fn passed<R: Wait, G: Gate>(
+    rt: &R,
+    gate: &G,
+    client: u16,
+    reply: Result<Reply, Stop>,
+) -> Result<Outcome, GateHeld>
+    ensures told { IfOk result (IsReplyOf reply) }
+    ensures held { OnErr result (WasHeld (G.may_hold gate.now) client reply) }
+{
+    match reply {
+        Ok(Reply { outcome, node }) => {
+            if gate.pass(rt, Point::Answered { node, client }).is_err() {
+                drop(outcome);
+                return Err(GateHeld);
+            }
+            Ok(outcome)
+        }
+        Err(Stop::Refused(code)) => Ok(Outcome::Refused(code)),
+        Err(Stop::Held) => Err(GateHeld),
+    }
+}

@@ -1,0 +1,16 @@
+-- The numbers of nodes: 64 for each data centre.
+use Rattle.std.specs.Prelude.{ℕ, ◌+◌, ◌*◌, ◌/◌, ◌%◌}
+use Rattle.cops_types.specs.declared.limits.TheConstants.{PLACES}
+use Rattle.cops_types.specs.Version.{node_of}
+
+-- that of the node at a place of a data centre
+abbrev pub node_number : ℕ → ℕ → ℕ
+node_number dc place = dc * PLACES + place
+
+-- the data centre of the node that gave a version
+abbrev pub data_centre_of : ℕ → ℕ
+data_centre_of version = node_of version / PLACES
+
+-- that node's place there
+abbrev pub place_of : ℕ → ℕ
+place_of version = node_of version % PLACES
