@@ -18,7 +18,7 @@ use Rattle.cops_audit.specs.Notes.{AreMarks, IsNoted, StandsAt, note_at}
 use Rattle.cops_audit.specs.Sweeps as sweep
 use Rattle.cops_audit.specs.Sweeps.{ArePlaces, AreRising, IsNewestIn, NoneFrom, NotePast, NoteStep}
 use Rattle.cops_audit.specs.Tables.{IsVersionTable}
-use Rattle.cops_audit.specs.Turns.{IsNotedSuspect}
+use Rattle.cops_audit.specs.Floors.{IsNotedSuspect}
 use Rattle.cops_audit.specs.Windows.{HasFirst, IsSuspect}
 use Rattle.cops_audit.proofs.Clearing.{stands_for}
 use Rattle.cops_audit.proofs.Learning.{one_put_at}

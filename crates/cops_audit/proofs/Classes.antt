@@ -4,8 +4,9 @@ use Rattle.std.proofs.lemmas.List.{length-map, get_or-map}
 use Rattle.std.proofs.lemmas.List.Elements.{Contains-get_or}
 use Rattle.cops_types.specs.declared.op.OpName.{OpName}
 use Rattle.cops_types.specs.Histories.{Sessions, IsNamed}
-use Rattle.cops_types.specs.Faults.{HasNoSource, IsDoubled, IsNewer, IsNotAbove, IsStale, Lists}
-use Rattle.cops_types.specs.Verdicts.{AllHaveSources, NoneDoubled, NoneStale}
+use Rattle.cops_types.specs.Faults.{HasNoSource, IsNewer, IsNotAbove, IsStale, Lists}
+use Rattle.cops_types.specs.VersionOrder.{IsDoubled, NoneDoubled}
+use Rattle.cops_types.specs.Verdicts.{AllHaveSources, NoneStale}
 use Rattle.cops_audit.specs.SoFar.{HaveSourcesOrWait}
 use Rattle.cops_audit.specs.declared.table.VersionedPut.{VersionedPut}
 use Rattle.cops_audit.specs.declared.notes.Note.{Note}

@@ -3,7 +3,8 @@ use Rattle.std.proofs.Common.{◌↔◌, List}
 use Rattle.cops_types.specs.declared.op.OpName.{OpName}
 use Rattle.cops_types.specs.Histories.{Sessions}
 use Rattle.cops_types.specs.Convergence.{IsCausallyConvergent}
-use Rattle.cops_types.specs.Faults.{IsDoubled, HasNoSource, IsNotAbove, IsStale}
+use Rattle.cops_types.specs.Faults.{HasNoSource, IsNotAbove, IsStale}
+use Rattle.cops_types.specs.VersionOrder.{IsDoubled}
 use Rattle.cops_types.specs.Verdicts.{IsAccepted}
 use Rattle.cops_audit.specs.declared.verdict.NotAbove.{NotAbove}
 use Rattle.cops_audit.specs.declared.verdict.Stale.{Stale}

@@ -4,7 +4,8 @@ use Rattle.cops_types.specs.declared.op.Op.TheVariants.{Put, Got}
 use Rattle.cops_types.specs.declared.op.OpName.{OpName}
 use Rattle.cops_types.specs.Histories.{Sessions, PutsVersion, SourceStep}
 use Rattle.cops_types.specs.Past.{Step, Past, step, more}
-use Rattle.cops_types.specs.Faults.{HasNoSource, IsDoubled, IsNewer, IsNotAbove, IsNotBelow, IsStale}
+use Rattle.cops_types.specs.Faults.{HasNoSource, IsNewer, IsNotAbove, IsNotBelow, IsStale}
+use Rattle.cops_types.specs.VersionOrder.{IsDoubled}
 use Rattle.cops_types.specs.Verdicts.{IsAccepted}
 use Rattle.cops_audit.specs.declared.verdict.NotAbove.{NotAbove}
 use Rattle.cops_audit.specs.declared.verdict.Stale.{Stale}

@@ -5,7 +5,7 @@ use Rattle.std.proofs.lemmas.List.{length-map, get_or-map}
 use Rattle.cops_types.specs.declared.op.OpName.{OpName}
 use Rattle.cops_types.specs.Histories.{Sessions, Puts, PutsVersion}
 use Rattle.cops_types.specs.Convergence.{StandsBefore}
-use Rattle.cops_types.specs.Verdicts.{IsVersionOrder}
+use Rattle.cops_types.specs.VersionOrder.{IsVersionOrder}
 use Rattle.cops_types.specs.Faults.{Lists}
 use Rattle.cops_audit.specs.declared.table.VersionedPut.{VersionedPut}
 use Rattle.cops_audit.specs.Tables.{IsVersionTable}

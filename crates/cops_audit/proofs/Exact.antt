@@ -5,7 +5,8 @@ use Rattle.cops_types.specs.declared.op.OpName.{OpName}
 use Rattle.cops_types.specs.Histories.{Sessions, op_at, IsPut, IsGot, IsMissed, PutsVersion, SessionStep, SourceStep}
 use Rattle.cops_types.specs.Past.{Step, Past, step, more}
 use Rattle.cops_types.specs.Convergence.{Order, Precedes, IsCausalOrder, StandsBefore, IsArbitration, ReturnsLast, Explains, ConvergesBy}
-use Rattle.cops_types.specs.Verdicts.{IsVersionOrder, NoneDoubled, AllHaveSources, IsAccepted}
+use Rattle.cops_types.specs.Verdicts.{AllHaveSources, IsAccepted}
+use Rattle.cops_types.specs.VersionOrder.{IsVersionOrder, NoneDoubled}
 use Rattle.cops_types.specs.Faults.{IsNotBelow, IsNewer}
 use Rattle.cops_audit.proofs.Acyclic.{VersionsRise, one_version, irreflexive, past_below}
 use Rattle.cops_audit.proofs.Firsts.{versions_rise, none_newer}

@@ -9,7 +9,7 @@ use Rattle.cops_audit.specs.Searches.{Finds, IsPast, IsSearching, ListsCounts, T
 use Rattle.cops_audit.specs.Sweeps.{Counted, IsFresh, Raises}
 use Rattle.cops_audit.proofs.Closing.{none_in_nothing}
 use Rattle.cops_audit.proofs.Searching.{past_through}
-use Rattle.cops_audit.proofs.Turning.{zero_at}
+use Rattle.cops_audit.proofs.Flooring.{zero_at}
 
 module _ (h : Sessions) (op : OpName) where
   -- what was raised to an operation, and its sources, is all still to be looked at, and in its past

@@ -10,7 +10,7 @@ use Rattle.cops_types.specs.declared.op.Op.{Op}
 use Rattle.cops_types.specs.declared.op.Op.TheVariants.{Put}
 use Rattle.cops_types.specs.declared.op.OpName.{OpName}
 use Rattle.cops_types.specs.Histories.{Sessions, op_at, with_op}
-use Rattle.cops_types.specs.Recorded.{count_of}
+use Rattle.cops_types.specs.Counts.{count_of}
 use Rattle.cops_audit.specs.declared.notes.Note.{Note}
 use Rattle.cops_audit.specs.declared.numbers.Numbers.{Numbers}
 use Rattle.cops_audit.specs.declared.room.Room.{Room}
@@ -21,7 +21,7 @@ use Rattle.cops_audit.specs.Numbers.{AreNumbers, HasNumber, KnowsKeys}
 use Rattle.cops_audit.specs.Rooms.{Fits, HasSpace, IsSameButSpace}
 use Rattle.cops_audit.specs.Sweeps.{HasRoom, IsFresh, IsIdle}
 use Rattle.cops_audit.proofs.Marks.{slice_get_push}
-use Rattle.cops_audit.proofs.Turning.{zero_at}
+use Rattle.cops_audit.proofs.Flooring.{zero_at}
 
 -- sessions without operations
 pub empty_at : {A : Type 0} (n c : ℕ) → get_or (replicate {A = List A} n []) c [] ≡ []

@@ -3,7 +3,8 @@ use Rattle.std.proofs.Common.{◌≡◌, ◌∙◌, ◌<◌, ℕ, Bool, true, fa
 use Rattle.cops_types.specs.declared.op.OpName.{OpName}
 use Rattle.cops_types.specs.Histories.{Sessions, IsNamed, PutsVersion, SourceStep}
 use Rattle.cops_types.specs.Faults.{HasNoSource, Lists}
-use Rattle.cops_types.specs.Verdicts.{AllAbove, NoneDoubled, NoneStale}
+use Rattle.cops_types.specs.Verdicts.{AllAbove, NoneStale}
+use Rattle.cops_types.specs.VersionOrder.{NoneDoubled}
 use Rattle.cops_audit.specs.declared.notes.Note.{Note}
 use Rattle.cops_audit.specs.declared.table.VersionedPut.{VersionedPut}
 use Rattle.cops_audit.specs.Names.{ListsAmong}

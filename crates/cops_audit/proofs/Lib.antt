@@ -6,6 +6,7 @@ pub mod PastOrder
 pub mod Exact
 pub mod Listing
 pub mod Collect
+pub mod Ranges
 pub mod Sorting
 pub mod Emptiness
 pub mod Unique
@@ -30,7 +31,7 @@ pub mod Fitting
 pub mod Learning
 pub mod Sweeping
 pub mod Closing
-pub mod Turning
+pub mod Flooring
 pub mod Bridging
 pub mod Telling
 pub mod Classes

@@ -2,8 +2,8 @@
 use Rattle.std.proofs.Common.{◌≡◌, ◌≢◌, ◌<◌, ℕ, zero, suc, List, [], ◌∷◌, length, get_or, refl, sym, ◌∙◌, subst, inl, inr, arith, AllPairs, slice_get, Some}
 use Rattle.cops_types.specs.declared.op.OpName.{OpName}
 use Rattle.cops_types.specs.Histories.{Sessions, Puts, PutsVersion}
-use Rattle.cops_types.specs.Verdicts.{IsVersionOrder}
-use Rattle.cops_types.specs.Faults.{IsBefore, Lists, IsDoubled, HasNoSource, IsNotAbove, IsStale}
+use Rattle.cops_types.specs.VersionOrder.{IsVersionOrder, IsDoubled}
+use Rattle.cops_types.specs.Faults.{IsBefore, Lists, HasNoSource, IsNotAbove, IsStale}
 use Rattle.cops_audit.specs.declared.verdict.NotAbove.{NotAbove}
 use Rattle.cops_audit.specs.declared.verdict.Stale.{Stale}
 use Rattle.cops_audit.specs.declared.verdict.Verdict.{Verdict}

@@ -2,7 +2,7 @@
 use Rattle.std.specs.Prelude.{◌≡◌, ◌≤◌, ℕ, [], length, vec_capacity}
 use Rattle.cops_types.specs.Histories.{Sessions, IsNamed}
 use Rattle.cops_types.specs.Faults.{Lists}
-use Rattle.cops_types.specs.Recorded.{count_of}
+use Rattle.cops_types.specs.Counts.{count_of}
 use Rattle.cops_audit.specs.declared.room.Room.{Room}
 use Rattle.cops_audit.specs.Notes.{AreAsLong}
 use Rattle.cops_audit.specs.Numbers.{AreNumbers, KnowsKeys}

@@ -1,5 +1,5 @@
 -- The puts by their versions.
-use Rattle.std.specs.Prelude.{◌≢◌, ◌<◌, ◌≤◌, ◌↔◌, ℕ, List, length, Contains, AllPairs}
+use Rattle.std.specs.Prelude.{◌≢◌, ◌<◌, ◌≤◌, ◌+◌, ◌↔◌, ℕ, List, length, slice_index_or, Contains, AllPairs}
 use Rattle.cops_types.specs.declared.limits.TheConstants.{MAX_OPS}
 use Rattle.cops_types.specs.declared.op.OpName.{OpName}
 use Rattle.cops_types.specs.Histories.{Sessions, IsGot, PutsVersion}
@@ -16,6 +16,10 @@ VersionsNeverFall puts = AllPairs (λ p q. p.version ≤ q.version) puts
 -- in order of versions, none twice
 abbrev pub Rises : List VersionedPut → Type 0
 Rises puts = AllPairs (λ p q. p.version < q.version) puts
+
+-- a put has no later version than the one before it
+abbrev pub Repeats : List VersionedPut → Type 0
+Repeats puts = (k : ℕ) × (k + 1 < length puts) × ((d : VersionedPut) → (slice_index_or puts (k + 1) d).version ≤ (slice_index_or puts k d).version)
 
 -- all puts with their versions, each once, in order of versions
 pub record IsPutTable (h : Sessions) (puts : List VersionedPut) : Type 0 where

@@ -1,7 +1,7 @@
--- Numbers that count only in the turn that they were written in.
+-- Numbers that count only in the age that they were written in.
 use Rattle.std.specs.Prelude.{ℕ, ◌==◌, if◌then◌else◌}
 use Rattle.cops_audit.specs.declared.tally.Entry.{Entry}
 
--- the number, or 0 where it was written in another turn
+-- the number, or 0 where it was written in another age
 abbrev pub number_in : ℕ → Entry → ℕ
-number_in turn entry = if entry.turn == turn then entry.number else 0
+number_in age entry = if entry.age == age then entry.number else 0

@@ -3,7 +3,8 @@ use Rattle.std.specs.Prelude.{◌≡◌, List}
 use Rattle.cops_types.specs.declared.op.OpName.{OpName}
 use Rattle.cops_types.specs.Histories.{Sessions}
 use Rattle.cops_types.specs.Convergence.{ConvergesBy}
-use Rattle.cops_types.specs.Verdicts.{IsVersionOrder, IsAccepted, NoneDoubled, RefusesDoubled, RefusesNoSource, RefusesNotAbove, RefusesStale}
+use Rattle.cops_types.specs.Verdicts.{IsAccepted, RefusesDoubled, RefusesNoSource, RefusesNotAbove, RefusesStale}
+use Rattle.cops_types.specs.VersionOrder.{IsVersionOrder, NoneDoubled}
 use Rattle.cops_audit.specs.declared.verdict.Verdict.{Verdict}
 use Rattle.cops_audit.specs.declared.verdict.Verdict.TheVariants.{Accepted, Refused}
 use Rattle.cops_audit.specs.declared.verdict.Faults.{Faults}

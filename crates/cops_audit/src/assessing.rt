@@ -8,6 +8,7 @@ ghost use Rattle.cops_audit.specs.Rooms.{Fits, IsFilled};
 ghost use Rattle.cops_audit.specs.SoFar.{HaveSourcesOrWait, IsMismatched, IsSoFar, IsWaiting};
 ghost use Rattle.cops_audit.specs.Tables.{IsVersionTable};
 
+use crate::floors::set_floors;
 use crate::keys::set_firsts;
 use crate::known::Firsts;
 use crate::names::set_names;
@@ -17,7 +18,6 @@ use crate::rising::has_not_above;
 use crate::room::Room;
 use crate::stale::has_stale;
 use crate::table::{VersionedPut, is_rising, place_of, set_puts};
-use crate::turns::set_floors;
 use crate::verdict::SoFar;
 use crate::window::push_suspects;
 use cops_types::{History, OpName};
@@ -82,7 +82,7 @@ impl Room {
         let names = self.names.as_slice();
         self.numbers.link(&mut self.nexts, history, table)?;
         let nexts = self.nexts.as_slice();
-        set_firsts(&mut self.firsts, history, table, nexts)?;
+        set_firsts(&mut self.firsts, table, nexts)?;
         let firsts = self.firsts.as_slice();
         let known = Firsts::Numbered(&self.numbers);
         self.suspects.clear();

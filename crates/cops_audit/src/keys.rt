@@ -1,6 +1,6 @@
 ghost use Rattle.cops_types.specs.declared.limits.TheConstants.{MAX_OPS};
 ghost use Rattle.std.specs.Prelude.{◌≡◌, ◌<◌, ◌≤◌, ◌+◌, ℕ, IfOk, IsOk, OnOk, length, slice_get, vec_capacity, Some};
-ghost use Rattle.cops_types.specs.Histories.{PutsKey, Puts};
+ghost use Rattle.cops_types.specs.Histories.{Sessions, PutsKey, Puts};
 ghost use Rattle.cops_audit.specs.Keys.{AreAhead, AreFirsts, AreNexts, KnowsFirsts, OnKey};
 ghost use Rattle.cops_audit.specs.Tables.{IsVersionTable};
 
@@ -114,17 +114,14 @@ fn set_own_places(places: &mut Vec<u32>, count: usize) -> Result<(), AllocError>
 /// key. It takes no memory where there is room for as many as there are puts.
 pub fn set_firsts(
     places: &mut Vec<u32>,
-    history: &History,
     table: &[VersionedPut],
     nexts: &[Option<u32>],
 ) -> Result<(), AllocError>
-    requires table { IsVersionTable history.now.sessions table.now }
-    requires nexts { AreNexts history.now.sessions table.now nexts.now }
-    ensures firsts { OnOk result (AreFirsts history.now.sessions table.now places.new.items) }
+    requires { (h : Sessions) × IsVersionTable h table.now × AreNexts h table.now nexts.now }
+    ensures firsts { (h : Sessions) → IsVersionTable h table.now → AreNexts h table.now nexts.now → OnOk result (AreFirsts h table.now places.new.items) }
     ensures capacity { vec_capacity places.old ≤ vec_capacity places.new }
     ensures succeeds { length table.now ≤ vec_capacity places.old → IsOk result }
 {
-    let _history = history;
     set_own_places(places, table.len())?;
     for place in 0..table.len() {
         if let Some(next) = nexts[place] {
@@ -137,15 +134,13 @@ pub fn set_firsts(
 /// Of each put, the place of the first put on its key, from the links alone.
 pub fn passed_firsts(
     alloc: Global,
-    history: &History,
     table: &[VersionedPut],
     nexts: &[Option<u32>],
 ) -> Result<Vec<u32>, AllocError>
-    requires table { IsVersionTable history.now.sessions table.now }
-    requires nexts { AreNexts history.now.sessions table.now nexts.now }
-    ensures { IfOk result (λ v. AreFirsts history.now.sessions table.now v.items) }
+    requires { (h : Sessions) × IsVersionTable h table.now × AreNexts h table.now nexts.now }
+    ensures { (h : Sessions) → IsVersionTable h table.now → AreNexts h table.now nexts.now → IfOk result (λ v. AreFirsts h table.now v.items) }
 {
     let mut places = Vec::new(alloc);
-    set_firsts(&mut places, history, table, nexts)?;
+    set_firsts(&mut places, table, nexts)?;
     Ok(places)
 }

@@ -1,7 +1,8 @@
 ghost use Rattle.cops_types.specs.declared.limits.TheConstants.{MAX_OPS};
 ghost use Rattle.std.specs.Prelude.{IfOk, ◌≡◌, ◌+◌, ◌≤◌, length, vec_len, vec_capacity, slice_index_or, []};
 ghost use Rattle.cops_types.specs.Histories.{IsNamed};
-ghost use Rattle.cops_types.specs.Recorded.{IsWithinLimits, count_of};
+ghost use Rattle.cops_types.specs.Recorded.{IsWithinLimits};
+ghost use Rattle.cops_types.specs.Counts.{count_of};
 ghost use Rattle.cops_types.specs.Faults.{Lists};
 ghost use Rattle.cops_audit.specs.Names.{ListsBefore};
 

@@ -34,7 +34,7 @@ pub struct Note {
     pub mark: u32,
 }
 
-/// How many places the sessions' marks rise in a turn, in which each session is noted on: operations that are near in time
+/// How many places the sessions' marks rise in a round, in which each session is noted on: operations that are near in time
 /// look up what lies near together.
 const STEP: usize = 4096;
 
@@ -216,7 +216,9 @@ impl Model for Notes {
 }
 
 impl Notes {
-    ghost use Rattle.std.specs.Prelude.{◌≡◌, ◌<◌, ◌≤◌, ℕ, IfOk, OnOk, OnErr, length, replicate, slice_index_or, []};
+    ghost use Rattle.cops_types.specs.Histories.{Sessions};
+    ghost use Rattle.cops_audit.specs.declared.table.VersionedPut.{VersionedPut};
+    ghost use Rattle.std.specs.Prelude.{◌≡◌, ◌<◌, ◌≤◌, ℕ, List, IfOk, OnOk, OnErr, length, replicate, slice_index_or, []};
     ghost use Rattle.std.specs.Option.{option_copied};
     ghost use Rattle.cops_audit.specs.Notes.{note_at, AreAsLong, AreNoted, IsNoted, LengthensBy};
     ghost use Rattle.cops_audit.specs.Tables.{IsVersionTable};
@@ -249,25 +251,18 @@ impl Notes {
         let end = end.min(history.clients());
         let mut sessions = no_notes(alloc, history, first, end)?;
         let step = STEP.max(4 * sessions.len());
-        for turn in 0..table.len() / step {
-            note_all(&mut sessions, history, table, hints, first, step * turn)?;
+        for round in 0..table.len() / step {
+            note_all(&mut sessions, history, table, hints, first, step * round)?;
         }
         note_all(&mut sessions, history, table, hints, first, table.len())?;
         Ok(Notes { sessions })
     }
 
     /// The notes on all operations, of those on the clients below one and those on the others.
-    pub fn joined(
-        history: &History,
-        table: &[VersionedPut],
-        low: Notes,
-        high: Notes,
-    ) -> Result<Self, AllocError>
-        requires { (mid : ℕ) × AreNoted history.now.sessions table.now 0 mid low × AreNoted history.now.sessions table.now mid (length history.now.sessions) high }
-        ensures { IfOk result (λ notes. IsNoted history.now.sessions table.now notes) }
+    pub fn joined(low: Notes, high: Notes) -> Result<Self, AllocError>
+        ensures { (h : Sessions) (table : List VersionedPut) (mid : ℕ) → AreNoted h table 0 mid low → AreNoted h table mid (length h) high
+            → IfOk result (λ notes. IsNoted h table notes) }
     {
-        let _history = history;
-        let _table = table;
         let Notes { mut sessions } = low;
         let Notes {
             sessions: mut later,

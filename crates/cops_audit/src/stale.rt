@@ -5,20 +5,22 @@ ghost use Rattle.cops_types.specs.Recorded.{IsWithinLimits};
 ghost use Rattle.cops_types.specs.Verdicts.{AllAbove};
 ghost use Rattle.cops_audit.specs.SoFar.{HaveSourcesOrWait};
 ghost use Rattle.cops_audit.specs.declared.window.Suspect.{Suspect};
-ghost use Rattle.cops_audit.specs.Keys.{AreFirsts, AreNexts, KnowsFirsts};
+ghost use Rattle.cops_audit.specs.Keys.{AreFirsts};
+ghost use Rattle.cops_audit.specs.Links.{AreLinks};
 ghost use Rattle.cops_audit.specs.Names.{ListsAmong};
 ghost use Rattle.cops_audit.specs.Notes.{IsNoted};
 ghost use Rattle.cops_audit.specs.Sweeps.{HasRoom, IsIdle};
 ghost use Rattle.cops_audit.specs.Tables.{IsVersionTable};
-ghost use Rattle.cops_audit.specs.Turns.{AreFloors};
+ghost use Rattle.cops_audit.specs.Floors.{AreFloors};
 ghost use Rattle.cops_audit.specs.Windows.{IsSuspect};
 
-use crate::keys::{Keys, link, passed_firsts};
+use crate::floors::{judge_next, set_floors};
+use crate::keys::passed_firsts;
 use crate::known::Firsts;
+use crate::links::Links;
 use crate::notes::Notes;
 use crate::sweep::Sweep;
 use crate::table::VersionedPut;
-use crate::turns::{judge_next, set_floors};
 use crate::verdict::Stale;
 use crate::window::{Suspect, push_suspects};
 use cops_types::{History, OpName};
@@ -67,60 +69,31 @@ pub fn stale_among(
     history: &History,
     table: &[VersionedPut],
     notes: &Notes,
+    links: &Links,
     names: &[OpName],
 ) -> Result<Vec<Stale>, AllocError>
     requires table { IsVersionTable history.now.sessions table.now }
     requires notes { IsNoted history.now.sessions table.now notes.now }
     requires sources { HaveSourcesOrWait history.now.sessions }
     requires above { AllAbove history.now.sessions }
+    requires links { AreLinks history.now.sessions table.now links.now }
     requires in_order { AllPairs IsBefore names.now }
     ensures { IfOk result (λ v. ListsAmong (λ f. f.op) (λ f. IsStale history.now.sessions f.op f.newer) names.now v.items) }
 {
-    let keys = link(alloc, history, table)?;
-    let nexts = keys.nexts.as_slice();
+    let nexts = links.keys.nexts.as_slice();
     let mut found = Vec::new(alloc);
-    let known = Firsts::Mapped(&keys.firsts);
+    let known = Firsts::Mapped(&links.keys.firsts);
     push_suspects(&mut found, history, table, notes, nexts, &known, names)?;
     let suspects = found.as_slice();
     if suspects.is_empty() {
         return Ok(Vec::new(alloc));
     }
-    let places = passed_firsts(alloc, history, table, nexts)?;
-    let firsts = places.as_slice();
-    let faults = judge_suspects(alloc, history, table, notes, firsts, suspects)?;
-    Ok(faults)
-}
-
-/// The stale gets among these names, each with the newest put on its key in its past, by links and first places that were
-/// made before.
-pub fn stale_by(
-    alloc: Global,
-    history: &History,
-    table: &[VersionedPut],
-    notes: &Notes,
-    keys: &Keys,
-    firsts: &[u32],
-    names: &[OpName],
-) -> Result<Vec<Stale>, AllocError>
-    requires table { IsVersionTable history.now.sessions table.now }
-    requires notes { IsNoted history.now.sessions table.now notes.now }
-    requires sources { HaveSourcesOrWait history.now.sessions }
-    requires above { AllAbove history.now.sessions }
-    requires nexts { AreNexts history.now.sessions table.now keys.now.nexts.items }
-    requires knows { KnowsFirsts history.now.sessions table.now keys.now.firsts }
-    requires firsts { AreFirsts history.now.sessions table.now firsts.now }
-    requires in_order { AllPairs IsBefore names.now }
-    ensures { IfOk result (λ v. ListsAmong (λ f. f.op) (λ f. IsStale history.now.sessions f.op f.newer) names.now v.items) }
-{
-    let nexts = keys.nexts.as_slice();
-    let mut found = Vec::new(alloc);
-    let known = Firsts::Mapped(&keys.firsts);
-    push_suspects(&mut found, history, table, notes, nexts, &known, names)?;
-    let suspects = found.as_slice();
-    if suspects.is_empty() {
-        return Ok(Vec::new(alloc));
+    if let Some(places) = &links.firsts {
+        let faults = judge_suspects(alloc, history, table, notes, places.as_slice(), suspects)?;
+        return Ok(faults);
     }
-    let faults = judge_suspects(alloc, history, table, notes, firsts, suspects)?;
+    let places = passed_firsts(alloc, table, nexts)?;
+    let faults = judge_suspects(alloc, history, table, notes, places.as_slice(), suspects)?;
     Ok(faults)
 }
 

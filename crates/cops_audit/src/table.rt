@@ -2,10 +2,11 @@ ghost use Rattle.cops_types.specs.declared.limits.TheConstants.{MAX_OPS};
 ghost use Rattle.std.specs.Prelude.{◌≡◌, ◌≢◌, ◌⊎◌, ◌<◌, ◌≤◌, ◌+◌, ◌↔◌, ℕ, IfOk, IfSome, IfNone, IsOk, IsTrue, OnOk, [], length, map, AllPairs, vec_len, vec_capacity, slice_index_or};
 ghost use Rattle.cops_types.specs.declared.op.OpName.{OpName};
 ghost use Rattle.cops_types.specs.Histories.{IsNamed, PutsVersion};
-ghost use Rattle.cops_types.specs.Faults.{IsBefore, IsDoubled, Lists};
+ghost use Rattle.cops_types.specs.Faults.{IsBefore, Lists};
+ghost use Rattle.cops_types.specs.VersionOrder.{IsDoubled};
 ghost use Rattle.cops_audit.specs.Names.{ListsAmong};
 ghost use Rattle.cops_audit.specs.declared.table.VersionedPut.{VersionedPut};
-ghost use Rattle.cops_audit.specs.Tables.{IsPutTable, Rises, VersionsNeverFall};
+ghost use Rattle.cops_audit.specs.Tables.{IsPutTable, Repeats, Rises, VersionsNeverFall};
 
 use crate::ops::put_version;
 use cops_types::{History, OpName, Version};
@@ -80,7 +81,7 @@ pub fn puts_by_version(
 /// Whether no version stands twice in a table of puts in order of versions.
 pub fn is_rising(table: &[VersionedPut]) -> bool
     ensures rising { IsTrue result → Rises table.now }
-    ensures equal { ¬ IsTrue result → (k : ℕ) × (k + 1 < length table.now) × ((d : VersionedPut) → (slice_index_or table.now (k + 1) d).version ≤ (slice_index_or table.now k d).version) }
+    ensures equal { ¬ IsTrue result → Repeats table.now }
 {
     for k in 1..table.len() {
         let before = &table[k - 1];

@@ -6,24 +6,24 @@ use std::marker::Model;
 /// A number, and when it was written.
 #[derive(Clone, Copy)]
 struct Entry {
-    turn: u32,
+    age: u32,
     number: u32,
 }
 
-/// Numbers that only grow, and that all become 0 at once at no cost: those that were written in earlier turns count
+/// Numbers that only grow, and that all become 0 at once at no cost: those that were written in earlier ages count
 /// as 0.
 #[derive(Drop)]
 pub struct Tally {
     entries: Vec<Entry>,
-    turn: u32,
+    age: u32,
 }
 
-/// Makes each the entry of turn 0 with the number 0.
+/// Makes each the entry of age 0 with the number 0.
 fn clear(entries: &mut Vec<Entry>)
-    ensures all { All (λ e. e.turn ≡ 0) entries.new.items }
+    ensures all { All (λ e. e.age ≡ 0) entries.new.items }
     ensures len { vec_len entries.new ≡ vec_len entries.old }
 {
-    entries.as_mut_slice().fill(Entry { turn: 0, number: 0 });
+    entries.as_mut_slice().fill(Entry { age: 0, number: 0 });
 }
 
 impl Model for Tally {
@@ -32,9 +32,9 @@ impl Model for Tally {
 
     ghost Value = { List ℕ };
 
-    ghost view = { λ a. map (number_in a.turn) a.entries.items };
+    ghost view = { λ a. map (number_in a.age) a.entries.items };
 
-    ghost invariant = { λ a. All (λ e. e.turn ≤ a.turn) a.entries.items };
+    ghost invariant = { λ a. All (λ e. e.age ≤ a.age) a.entries.items };
 }
 
 impl Tally {
@@ -44,19 +44,19 @@ impl Tally {
     pub fn new(alloc: Global, len: usize) -> Result<Self, AllocError>
         ensures { IfOk result (λ tally. tally ≡ replicate len 0) }
     {
-        let entries = vec![in alloc; Entry { turn: 0, number: 0 }; len]?;
-        Ok(Tally { entries, turn: 0 })
+        let entries = vec![in alloc; Entry { age: 0, number: 0 }; len]?;
+        Ok(Tally { entries, age: 0 })
     }
 
     /// Makes all numbers 0.
     pub fn restart(&mut self)
         ensures { self.new ≡ replicate (length self.old) 0 }
     {
-        if self.turn == u32::MAX {
+        if self.age == u32::MAX {
             clear(&mut self.entries);
-            self.turn = 0;
+            self.age = 0;
         }
-        self.turn += 1;
+        self.age += 1;
     }
 
     /// The number at a place, 0 past the end.
@@ -64,7 +64,7 @@ impl Tally {
         ensures { result ≡ slice_index self.now place }
     {
         match self.entries.get(place) {
-            Some(entry) if entry.turn == self.turn => entry.number,
+            Some(entry) if entry.age == self.age => entry.number,
             _ => 0,
         }
     }
@@ -75,7 +75,7 @@ impl Tally {
         ensures { self.new ≡ slice_set self.old place number }
     {
         self.entries[place] = Entry {
-            turn: self.turn,
+            age: self.age,
             number,
         };
     }
@@ -92,7 +92,7 @@ impl Tally {
         ensures ok { OnOk result (length self.new ≡ length self.old + 1) }
         ensures err { OnErr result (self.new ≡ self.old) }
     {
-        self.entries.push(Entry { turn: 0, number: 0 })?;
+        self.entries.push(Entry { age: 0, number: 0 })?;
         Ok(())
     }
 }

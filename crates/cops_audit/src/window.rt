@@ -61,7 +61,7 @@ fn got_suspect(
     }
     let put = &table[place as usize];
     let key = put_key(history, put.name);
-    let Some(first) = firsts.on(history, table, key) else {
+    let Some(first) = firsts.on(key) else {
         return None;
     };
     Some(Suspect { op, first, from })
@@ -82,7 +82,7 @@ fn missed_suspect(
     ensures none { IfNone result (NoneWithin history.now.sessions table.now op mark) }
 {
     let key = missed_key(history, op);
-    let Some(first) = firsts.on(history, table, key) else {
+    let Some(first) = firsts.on(key) else {
         return None;
     };
     if first >= mark {
@@ -127,7 +127,7 @@ fn waiting_suspect(
         return None;
     }
     let key = got_key(history, op);
-    let Some(first) = firsts.on(history, table, key) else {
+    let Some(first) = firsts.on(key) else {
         return None;
     };
     Some(Suspect {

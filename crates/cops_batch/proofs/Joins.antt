@@ -77,12 +77,6 @@ module _ {A : Type 0} (name_of : A → OpName) (F : A → Type 0) where
 pairs_drop : (names : List OpName) (a : ℕ) → AllPairs IsBefore names → AllPairs IsBefore (drop a names)
 pairs_drop names a in_order = pairs_back IsBefore (take a names) (drop a names) (subst (AllPairs IsBefore) (sym (take-append-drop a names)) in_order)
 
--- the names of a piece are in order
-pub piece_in_order : (names : List OpName) (p : Piece) → AllPairs IsBefore names → AllPairs IsBefore (names_of names p)
-piece_in_order names p in_order =
-    pairs_front IsBefore (names_of names p) (drop (p.start + p.len) names)
-    (subst (AllPairs IsBefore) (drop_split names p.start (p.start + p.len) (omega arith)) (pairs_drop names p.start in_order))
-
 module _ {A : Type 0} (name_of : A → OpName) (F : A → Type 0) (list_of : Piece → List A) (names : List OpName) (in_order : AllPairs IsBefore names) where
   -- the faults of the pieces from a on
   joined_from : (i a b : ℕ) (ps : List Piece) → IsCut i a ps b → b ≡ length names → Each (λ p. ListsAmong name_of F (names_of names p) (list_of p)) ps

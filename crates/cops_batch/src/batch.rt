@@ -1,26 +1,17 @@
-ghost use Rattle.std.specs.Prelude.{◌≡◌, ◌≢◌, ◌<◌, ◌≤◌, ◌+◌, ◌⊎◌, ◌↔◌, ℕ, IfOk, IfErr, IsErrOf, IsTrue, OnOk, length, All, slice_index_or};
+ghost use Rattle.std.specs.Prelude.{◌≡◌, ◌≢◌, ◌<◌, ◌⊎◌, ◌↔◌, ℕ, IfOk, IfErr, IsErrOf, length, All};
 ghost use Rattle.cops_types.specs.Convergence.{IsCausallyConvergent};
-ghost use Rattle.cops_types.specs.Histories.{IsNamed};
-ghost use Rattle.cops_types.specs.Faults.{Lists};
 ghost use Rattle.cops_types.specs.Verdicts.{AllAbove, AllHaveSources};
-ghost use Rattle.cops_audit.specs.declared.table.VersionedPut.{VersionedPut};
-ghost use Rattle.cops_audit.specs.Tables.{IsPutTable};
+ghost use Rattle.cops_audit.specs.Tables.{Repeats};
 ghost use Rattle.cops_audit.specs.Verdicts.{Accepts, ConvergesByVersions, IsVerdict};
-ghost use Rattle.cops_batch.specs.Pieces.{Each, IsCut, IsReady, LiesWithin, MayHoldPiece};
-ghost use Rattle.cops_batch.specs.Tables.{AreTables, IsSearchedForStale};
-ghost use Rattle.cops_batch.specs.declared.pieces.State.TheVariants.{Fine};
+ghost use Rattle.cops_batch.specs.Pieces.{IsCut, IsHeldByGate, IsReady, LiesWithin, MayHoldPiece};
 ghost use Rattle.cops_batch.specs.declared.fault.BatchFault.TheVariants.{BadWorkers, Held};
 
 use crate::fault::BatchFault;
 use crate::joining::{finished, joined_before_stale, joined_names, joined_stale};
 use crate::pieces::{Piece, cut};
-use crate::rounds::{round_before_stale, round_of_doubled, round_of_stale};
-use crate::tables::Tables;
-use cops_audit::{
-    Verdict, VersionedPut, all_names, is_rising, puts_by_version, refused_doubled,
-    verdict_by_stale, verdict_on_convergence,
-};
-use cops_types::{Gate, History, OpName};
+use crate::rounds::{round_before_stale, round_of_doubled, round_of_stale, round_without_search};
+use cops_audit::{Puts, Tables, Verdict, verdict_on_convergence};
+use cops_types::{Gate, History};
 use std::alloc::Global;
 use std::sync::Wait;
 use std::thread::Threads;
@@ -65,23 +56,12 @@ fn judge_in_pieces<R: Threads + Wait + Sync, G: Gate>(
     ensures bad { IfErr result (λ e. e ≢ BadWorkers) }
     ensures held { IsErrOf result Held → (i : ℕ) × (i < workers) × MayHoldPiece (G.may_hold gate.now) i }
 {
-    let list = all_names(alloc, history)?;
-    let names = list.as_slice();
-    let puts = puts_by_version(alloc, history, names)?;
-    let table = puts.as_slice();
-    let mut pieces = cut(alloc, names.len(), workers)?;
-    if !is_rising(table) {
-        return judge_doubled(
-            rt,
-            alloc,
-            history,
-            names,
-            table,
-            gate,
-            pieces.as_mut_slice(),
-        );
+    let puts = Puts::new(alloc, history)?;
+    let mut pieces = cut(alloc, puts.count(), workers)?;
+    if !puts.is_rising() {
+        return judge_doubled(rt, alloc, &puts, gate, pieces.as_mut_slice());
     }
-    let tables = Tables::new(rt, alloc, history, names, table, workers)?;
+    let tables = Tables::linked(rt, alloc, puts, workers)?;
     judge_gets(rt, alloc, &tables, gate, pieces.as_mut_slice())
 }
 
@@ -89,26 +69,22 @@ fn judge_in_pieces<R: Threads + Wait + Sync, G: Gate>(
 fn judge_doubled<R: Threads + Wait + Sync, G: Gate>(
     rt: &R,
     alloc: Global,
-    history: &History,
-    names: &[OpName],
-    table: &[VersionedPut],
+    puts: &Puts,
     gate: &G,
     pieces: &mut [Piece],
 ) -> Result<Verdict, BatchFault>
-    requires names { Lists (λ n. n) (IsNamed history.now.sessions) names.now }
-    requires table { IsPutTable history.now.sessions table.now }
-    requires falls { (k : ℕ) × (k + 1 < length table.now) × ((d : VersionedPut) → (slice_index_or table.now (k + 1) d).version ≤ (slice_index_or table.now k d).version) }
-    requires cut { IsCut 0 0 pieces.old (length names.now) }
-    requires within { All (LiesWithin (length names.now)) pieces.old }
+    requires repeats { Repeats puts.now.table }
+    requires cut { IsCut 0 0 pieces.old (length puts.now.names) }
+    requires within { All (LiesWithin (length puts.now.names)) pieces.old }
     requires some { 0 < length pieces.old }
-    ensures ok { IfOk result (IsVerdict history.now.sessions) }
+    ensures ok { IfOk result (IsVerdict puts.now.sessions) }
     ensures bad { IfErr result (λ e. e ≢ BadWorkers) }
     ensures held { IsErrOf result Held → (i : ℕ) × (i < length pieces.old) × MayHoldPiece (G.may_hold gate.now) i }
 {
-    round_of_doubled(rt, alloc, history, names, table, gate, pieces);
-    finished(gate, pieces, names.len())?;
+    round_of_doubled(rt, alloc, puts, gate, pieces);
+    finished(gate, pieces, puts.count())?;
     let faults = joined_names(alloc, pieces)?;
-    Ok(refused_doubled(history, names, table, faults))
+    Ok(puts.refused_doubled(faults))
 }
 
 /// The verdict where no version is borne by two puts. Whether the stale gets are to be looked for is known only once all
@@ -120,11 +96,10 @@ fn judge_gets<R: Threads + Wait + Sync, G: Gate>(
     gate: &G,
     pieces: &mut [Piece],
 ) -> Result<Verdict, BatchFault>
-    requires tables { AreTables tables.now }
-    requires cut { IsCut 0 0 pieces.old (length tables.now.names.now) }
-    requires within { All (LiesWithin (length tables.now.names.now)) pieces.old }
+    requires cut { IsCut 0 0 pieces.old (length tables.now.names) }
+    requires within { All (LiesWithin (length tables.now.names)) pieces.old }
     requires some { 0 < length pieces.old }
-    ensures ok { IfOk result (IsVerdict tables.now.history.now.sessions) }
+    ensures ok { IfOk result (IsVerdict tables.now.sessions) }
     ensures bad { IfErr result (λ e. e ≢ BadWorkers) }
     ensures held { IsErrOf result Held → (i : ℕ) × (i < length pieces.old) × MayHoldPiece (G.may_hold gate.now) i }
 {
@@ -132,14 +107,31 @@ fn judge_gets<R: Threads + Wait + Sync, G: Gate>(
     match joined_before_stale(alloc, tables, gate, pieces) {
         Ok(None) => judge_stale(rt, alloc, tables, gate, pieces),
         Ok(Some(verdict)) => {
-            last_round(rt, alloc, tables, false, gate, pieces)?;
+            last_round(rt, gate, pieces, tables.count())?;
             Ok(verdict)
         }
         Err(fault) => {
-            last_round(rt, alloc, tables, false, gate, pieces)?;
+            last_round(rt, gate, pieces, tables.count())?;
             Err(fault)
         }
     }
+}
+
+/// The second round where no stale gets are looked for, and whether nothing went wrong up to its end.
+fn last_round<R: Threads + Wait + Sync, G: Gate>(
+    rt: &R,
+    gate: &G,
+    pieces: &mut [Piece],
+    count: usize,
+) -> Result<(), BatchFault>
+    requires cut { IsCut 0 0 pieces.old count }
+    requires held { All (IsHeldByGate (G.may_hold gate.now)) pieces.old }
+    requires some { 0 < length pieces.old }
+    ensures bad { IfErr result (λ e. e ≢ BadWorkers) }
+    ensures held { IsErrOf result Held → (i : ℕ) × (i < length pieces.old) × MayHoldPiece (G.may_hold gate.now) i }
+{
+    round_without_search(rt, gate, pieces);
+    finished(gate, pieces, count)
 }
 
 /// The verdict where the classes before the stale gets are empty.
@@ -150,43 +142,18 @@ fn judge_stale<R: Threads + Wait + Sync, G: Gate>(
     gate: &G,
     pieces: &mut [Piece],
 ) -> Result<Verdict, BatchFault>
-    requires tables { AreTables tables.now }
-    requires sources { AllHaveSources tables.now.history.now.sessions }
-    requires above { AllAbove tables.now.history.now.sessions }
-    requires cut { IsCut 0 0 pieces.old (length tables.now.names.now) }
-    requires ready { All (IsReady (length tables.now.names.now) (G.may_hold gate.now)) pieces.old }
+    requires sources { AllHaveSources tables.now.sessions }
+    requires above { AllAbove tables.now.sessions }
+    requires cut { IsCut 0 0 pieces.old (length tables.now.names) }
+    requires ready { All (IsReady (length tables.now.names) (G.may_hold gate.now)) pieces.old }
     requires some { 0 < length pieces.old }
-    ensures ok { IfOk result (IsVerdict tables.now.history.now.sessions) }
+    ensures ok { IfOk result (IsVerdict tables.now.sessions) }
     ensures bad { IfErr result (λ e. e ≢ BadWorkers) }
     ensures held { IsErrOf result Held → (i : ℕ) × (i < length pieces.old) × MayHoldPiece (G.may_hold gate.now) i }
 {
-    last_round(rt, alloc, tables, true, gate, pieces)?;
+    round_of_stale(rt, alloc, tables, gate, pieces);
+    finished(gate, pieces, tables.count())?;
     let stale = joined_stale(alloc, pieces)?;
-    let verdict = verdict_by_stale(alloc, tables.history, tables.names, tables.table, stale)?;
+    let verdict = tables.verdict(alloc, stale)?;
     Ok(verdict)
-}
-
-/// The second round, with the search for stale gets or without it, and whether nothing went wrong up to its end.
-fn last_round<R: Threads + Wait + Sync, G: Gate>(
-    rt: &R,
-    alloc: Global,
-    tables: &Tables,
-    search: bool,
-    gate: &G,
-    pieces: &mut [Piece],
-) -> Result<(), BatchFault>
-    requires tables { AreTables tables.now }
-    requires sources { IsTrue search → AllHaveSources tables.now.history.now.sessions }
-    requires above { IsTrue search → AllAbove tables.now.history.now.sessions }
-    requires cut { IsCut 0 0 pieces.old (length tables.now.names.now) }
-    requires ready { All (IsReady (length tables.now.names.now) (G.may_hold gate.now)) pieces.old }
-    requires some { 0 < length pieces.old }
-    ensures cut { IsCut 0 0 pieces.new (length tables.now.names.now) }
-    ensures fine { OnOk result (Each (λ p. p.state ≡ Fine) pieces.new) }
-    ensures found { Each (λ p. IsTrue search → p.state ≡ Fine → IsSearchedForStale tables.now p) pieces.new }
-    ensures bad { IfErr result (λ e. e ≢ BadWorkers) }
-    ensures held { IsErrOf result Held → (i : ℕ) × (i < length pieces.old) × MayHoldPiece (G.may_hold gate.now) i }
-{
-    round_of_stale(rt, alloc, tables, search, gate, pieces);
-    finished(gate, pieces, tables.names.len())
 }

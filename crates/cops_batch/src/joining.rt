@@ -2,14 +2,13 @@ ghost use Rattle.std.specs.Prelude.{◌≡◌, ◌≢◌, ◌<◌, ℕ, IfOk, If
 ghost use Rattle.cops_types.specs.Verdicts.{AllAbove, AllHaveSources};
 ghost use Rattle.cops_audit.specs.Verdicts.{IsVerdict};
 ghost use Rattle.cops_batch.specs.Pieces.{Each, IsCut, IsHeldByGate, MayHoldPiece};
-ghost use Rattle.cops_batch.specs.Tables.{AreTables, IsSearched};
+ghost use Rattle.cops_batch.specs.Found.{IsSearched};
 ghost use Rattle.cops_batch.specs.declared.pieces.State.TheVariants.{Fine};
 ghost use Rattle.cops_batch.specs.declared.fault.BatchFault.TheVariants.{BadWorkers, Held};
 
 use crate::fault::BatchFault;
 use crate::pieces::{Piece, State};
-use crate::tables::Tables;
-use cops_audit::{NotAbove, Stale, Verdict, refused_before_stale};
+use cops_audit::{NotAbove, Stale, Tables, Verdict};
 use cops_types::{Gate, OpName};
 use std::alloc::{AllocError, Global};
 
@@ -76,25 +75,17 @@ pub fn joined_before_stale<G: Gate>(
     gate: &G,
     pieces: &[Piece],
 ) -> Result<Option<Verdict>, BatchFault>
-    requires tables { AreTables tables.now }
-    requires cut { IsCut 0 0 pieces.now (length tables.now.names.now) }
+    requires cut { IsCut 0 0 pieces.now (length tables.now.names) }
     requires held { Each (IsHeldByGate (G.may_hold gate.now)) pieces.now }
     requires found { Each (λ p. p.state ≡ Fine → IsSearched tables.now p) pieces.now }
-    ensures refused { IfOk result (λ r. IfSome r (IsVerdict tables.now.history.now.sessions)) }
-    ensures sources { IfOk result (λ r. IfNone r (AllHaveSources tables.now.history.now.sessions)) }
-    ensures above { IfOk result (λ r. IfNone r (AllAbove tables.now.history.now.sessions)) }
+    ensures refused { IfOk result (λ r. IfSome r (IsVerdict tables.now.sessions)) }
+    ensures sources { IfOk result (λ r. IfNone r (AllHaveSources tables.now.sessions)) }
+    ensures above { IfOk result (λ r. IfNone r (AllAbove tables.now.sessions)) }
     ensures bad { IfErr result (λ e. e ≢ BadWorkers) }
     ensures held { IsErrOf result Held → (i : ℕ) × (i < length pieces.now) × MayHoldPiece (G.may_hold gate.now) i }
 {
-    finished(gate, pieces, tables.names.len())?;
+    finished(gate, pieces, tables.count())?;
     let sourceless = joined_names(alloc, pieces)?;
     let not_above = joined_not_above(alloc, pieces)?;
-    Ok(refused_before_stale(
-        tables.history,
-        tables.names,
-        tables.table,
-        &tables.notes,
-        sourceless,
-        not_above,
-    ))
+    Ok(tables.verdict_before_stale(sourceless, not_above))
 }

@@ -1,17 +1,12 @@
-ghost use Rattle.std.specs.Prelude.{◌≡◌, ◌<◌, ◌≤◌, ℕ, IfOk, IsTrue, OnOk, length, vec_len, All, AllPairs, slice_index_or};
-ghost use Rattle.cops_types.specs.Faults.{IsBefore, IsDoubled, IsStale};
+ghost use Rattle.std.specs.Prelude.{◌≡◌, ◌<◌, ℕ, IfOk, OnOk, length, vec_len, All, slice_index_or};
 ghost use Rattle.cops_types.specs.Verdicts.{AllAbove, AllHaveSources};
-ghost use Rattle.cops_audit.specs.Names.{ListsAmong};
-ghost use Rattle.cops_audit.specs.Notes.{IsSourceless, SeesNotAbove};
-ghost use Rattle.cops_audit.specs.Tables.{IsPutTable};
-ghost use Rattle.cops_batch.specs.Pieces.{IsCut, IsHeldByGate, IsReady, LiesWithin, SamePlace, names_of, piece_len};
-ghost use Rattle.cops_batch.specs.Tables.{AreTables, IsSearched, IsSearchedForStale};
+ghost use Rattle.cops_batch.specs.Found.{HasDoubled, HasStale, IsSearched};
+ghost use Rattle.cops_batch.specs.Pieces.{IsCut, IsHeldByGate, IsReady, LiesWithin, SamePlace, piece_len};
 ghost use Rattle.cops_batch.specs.declared.pieces.Piece.{Piece};
 ghost use Rattle.cops_batch.specs.declared.pieces.State.TheVariants.{Fine};
 
-use crate::tables::Tables;
-use cops_audit::{NotAbove, Stale, VersionedPut, doubled, not_above, stale_by, without_source};
-use cops_types::{Gate, History, OpName, Point};
+use cops_audit::{NotAbove, Puts, Stale, Tables};
+use cops_types::{Gate, OpName, Point};
 use std::alloc::{AllocError, Global};
 use std::sync::Wait;
 
@@ -54,14 +49,6 @@ impl Piece {
             stale: Vec::new(alloc),
         }
     }
-
-    /// The names of its operations.
-    fn of<'a>(&self, names: &'a [OpName]) -> &'a [OpName]
-        requires { LiesWithin (length names.now) self.now }
-        ensures { result.now ≡ names_of names.entry.now self.now }
-    {
-        &names[self.start..self.start + self.len]
-    }
 }
 
 /// Cuts so many operations into so many pieces, the longer ones first.
@@ -88,78 +75,63 @@ pub fn cut(alloc: Global, count: usize, workers: u8) -> Result<Vec<Piece>, Alloc
     Ok(pieces)
 }
 
-/// A worker's whole work where a version is borne by two puts.
-pub fn look_for_doubled<R: Wait, G: Gate>(
-    rt: &R,
-    alloc: Global,
-    history: &History,
-    names: &[OpName],
-    table: &[VersionedPut],
-    gate: &G,
-    piece: &mut Piece,
-)
-    requires in_order { AllPairs IsBefore names.now }
-    requires table { IsPutTable history.now.sessions table.now }
-    requires within { LiesWithin (length names.now) piece.old }
+/// The end of a worker's piece, where the gate may hold it, unless it was held before.
+pub fn leave<R: Wait, G: Gate>(rt: &R, gate: &G, piece: &mut Piece)
+    requires { IsHeldByGate (G.may_hold gate.now) piece.old }
     ensures place { SamePlace piece.old piece.new }
     ensures held { IsHeldByGate (G.may_hold gate.now) piece.new }
-    ensures found { piece.new.state ≡ Fine → ListsAmong (λ n. n) (IsDoubled history.now.sessions) (names_of names.now piece.new) piece.new.names.items }
+    ensures found { piece.new.state ≡ Fine → piece.new ≡ piece.old }
 {
-    if gate.pass(rt, Point::PieceStart(piece.number)).is_err() {
-        piece.state = State::Held;
+    if let State::Held = piece.state {
         return;
-    }
-    match doubled(alloc, history, piece.of(names), table) {
-        Ok(faults) => {
-            piece.names = faults;
-            piece.state = State::Fine;
-        }
-        Err(_) => piece.state = State::Memory,
     }
     if gate.pass(rt, Point::PieceDone(piece.number)).is_err() {
         piece.state = State::Held;
     }
 }
 
-/// The gets without a source of a piece.
-fn found_sourceless(
-    alloc: Global,
-    tables: &Tables,
-    piece: &Piece,
-) -> Result<Vec<OpName>, AllocError>
-    requires tables { AreTables tables.now }
-    requires within { LiesWithin (length tables.now.names.now) piece.now }
-    ensures { IfOk result (λ v. ListsAmong (λ n. n) (IsSourceless tables.now.notes) (names_of tables.now.names.now piece.now) v.items) }
+/// Puts into a piece the puts of it whose versions other puts bear.
+fn search_for_doubled(alloc: Global, puts: &Puts, piece: &mut Piece) -> Result<(), AllocError>
+    requires { LiesWithin (length puts.now.names) piece.old }
+    ensures place { SamePlace piece.old piece.new }
+    ensures found { OnOk result (HasDoubled puts.now piece.new) }
 {
-    let names = piece.of(tables.names);
-    let faults = without_source(alloc, &tables.notes, names)?;
-    Ok(faults)
+    piece.names = puts.doubled(alloc, piece.start, piece.len)?;
+    Ok(())
 }
 
-/// The puts of a piece that are not above what their sessions saw before them.
-fn found_not_above(
+/// A worker's whole work where a version is borne by two puts.
+pub fn look_for_doubled<R: Wait, G: Gate>(
+    rt: &R,
     alloc: Global,
-    tables: &Tables,
-    piece: &Piece,
-) -> Result<Vec<NotAbove>, AllocError>
-    requires tables { AreTables tables.now }
-    requires within { LiesWithin (length tables.now.names.now) piece.now }
-    ensures { IfOk result (λ v. ListsAmong (λ f. f.op) (λ f. SeesNotAbove tables.now.notes f.op f.earlier) (names_of tables.now.names.now piece.now) v.items) }
+    puts: &Puts,
+    gate: &G,
+    piece: &mut Piece,
+)
+    requires { LiesWithin (length puts.now.names) piece.old }
+    ensures place { SamePlace piece.old piece.new }
+    ensures held { IsHeldByGate (G.may_hold gate.now) piece.new }
+    ensures found { piece.new.state ≡ Fine → HasDoubled puts.now piece.new }
 {
-    let names = piece.of(tables.names);
-    let faults = not_above(alloc, &tables.notes, names)?;
-    Ok(faults)
+    if gate.pass(rt, Point::PieceStart(piece.number)).is_err() {
+        piece.state = State::Held;
+        return;
+    }
+    match search_for_doubled(alloc, puts, piece) {
+        Ok(()) => piece.state = State::Fine,
+        Err(_) => piece.state = State::Memory,
+    }
+    leave(rt, gate, piece);
 }
 
 /// Puts into a piece what it has of the classes before the stale gets.
 fn search_before_stale(alloc: Global, tables: &Tables, piece: &mut Piece) -> Result<(), AllocError>
-    requires tables { AreTables tables.now }
-    requires within { LiesWithin (length tables.now.names.now) piece.old }
+    requires { LiesWithin (length tables.now.names) piece.old }
     ensures place { SamePlace piece.old piece.new }
     ensures found { OnOk result (IsSearched tables.now piece.new) }
 {
-    piece.names = found_sourceless(alloc, tables, piece)?;
-    piece.not_above = found_not_above(alloc, tables, piece)?;
+    piece.names = tables.without_source(alloc, piece.start, piece.len)?;
+    piece.not_above = tables.not_above(alloc, piece.start, piece.len)?;
     Ok(())
 }
 
@@ -171,8 +143,7 @@ pub fn look_before_stale<R: Wait, G: Gate>(
     gate: &G,
     piece: &mut Piece,
 )
-    requires tables { AreTables tables.now }
-    requires within { LiesWithin (length tables.now.names.now) piece.old }
+    requires { LiesWithin (length tables.now.names) piece.old }
     ensures place { SamePlace piece.old piece.new }
     ensures held { IsHeldByGate (G.may_hold gate.now) piece.new }
     ensures found { piece.new.state ≡ Fine → IsSearched tables.now piece.new }
@@ -187,61 +158,39 @@ pub fn look_before_stale<R: Wait, G: Gate>(
     }
 }
 
-/// The stale gets of a piece, where they are to be looked for.
-fn found_stale(
-    alloc: Global,
-    tables: &Tables,
-    search: bool,
-    piece: &Piece,
-) -> Result<Vec<Stale>, AllocError>
-    requires tables { AreTables tables.now }
-    requires sources { IsTrue search → AllHaveSources tables.now.history.now.sessions }
-    requires above { IsTrue search → AllAbove tables.now.history.now.sessions }
-    requires within { LiesWithin (length tables.now.names.now) piece.now }
-    ensures { IfOk result (λ v. IsTrue search → ListsAmong (λ f. f.op) (λ f. IsStale tables.now.history.now.sessions f.op f.newer) (names_of tables.now.names.now piece.now) v.items) }
+/// Puts into a piece its stale gets.
+fn search_for_stale(alloc: Global, tables: &Tables, piece: &mut Piece) -> Result<(), AllocError>
+    requires sources { AllHaveSources tables.now.sessions }
+    requires above { AllAbove tables.now.sessions }
+    requires within { LiesWithin (length tables.now.names) piece.old }
+    ensures place { SamePlace piece.old piece.new }
+    ensures found { OnOk result (HasStale tables.now piece.new) }
 {
-    if !search {
-        return Ok(Vec::new(alloc));
-    }
-    let names = piece.of(tables.names);
-    let firsts = tables.firsts.as_slice();
-    let faults = stale_by(
-        alloc,
-        tables.history,
-        tables.table,
-        &tables.notes,
-        &tables.keys,
-        firsts,
-        names,
-    )?;
-    Ok(faults)
+    piece.stale = tables.stale(alloc, piece.start, piece.len)?;
+    Ok(())
 }
 
-/// A worker's last work: the stale gets, where they are to be looked for.
+/// A worker's last work: the stale gets.
 pub fn look_for_stale<R: Wait, G: Gate>(
     rt: &R,
     alloc: Global,
     tables: &Tables,
-    search: bool,
     gate: &G,
     piece: &mut Piece,
 )
-    requires tables { AreTables tables.now }
-    requires sources { IsTrue search → AllHaveSources tables.now.history.now.sessions }
-    requires above { IsTrue search → AllAbove tables.now.history.now.sessions }
-    requires ready { IsReady (length tables.now.names.now) (G.may_hold gate.now) piece.old }
+    requires sources { AllHaveSources tables.now.sessions }
+    requires above { AllAbove tables.now.sessions }
+    requires ready { IsReady (length tables.now.names) (G.may_hold gate.now) piece.old }
     ensures place { SamePlace piece.old piece.new }
     ensures held { IsHeldByGate (G.may_hold gate.now) piece.new }
-    ensures found { IsTrue search → piece.new.state ≡ Fine → IsSearchedForStale tables.now piece.new }
+    ensures found { piece.new.state ≡ Fine → HasStale tables.now piece.new }
 {
     if let State::Held = piece.state {
         return;
     }
-    match found_stale(alloc, tables, search, piece) {
-        Ok(stale) => piece.stale = stale,
+    match search_for_stale(alloc, tables, piece) {
+        Ok(()) => piece.state = State::Fine,
         Err(_) => piece.state = State::Memory,
     }
-    if gate.pass(rt, Point::PieceDone(piece.number)).is_err() {
-        piece.state = State::Held;
-    }
+    leave(rt, gate, piece);
 }

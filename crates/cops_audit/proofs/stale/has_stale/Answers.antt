@@ -4,7 +4,7 @@ use Rattle.cops_types.specs.Faults.{IsNewer}
 use Rattle.cops_audit.specs.declared.window.Suspect.{Suspect}
 use Rattle.cops_audit.proofs.Bridging.{are_places, are_rising, noted_suspect, none_told, stale_told}
 use Rattle.cops_audit.proofs.Collect.{each_next}
-use Rattle.cops_audit.proofs.Turning.{none_at, some_at}
+use Rattle.cops_audit.proofs.Flooring.{none_at, some_at}
 use Rattle.cops_audit.proofs.stale.has_stale.Goals as goal
 
 pub judge_next-requires-clause-rising : goal.judge_next-requires-clause-rising

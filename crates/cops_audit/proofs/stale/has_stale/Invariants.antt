@@ -3,7 +3,7 @@ use Rattle.cops_types.specs.declared.op.OpName.{OpName}
 use Rattle.cops_types.specs.Faults.{IsNewer}
 use Rattle.cops_audit.specs.declared.window.Suspect.{Suspect}
 use Rattle.cops_audit.specs.Sweeps.{HasRoom}
-use Rattle.cops_audit.specs.Turns.{IsAfter}
+use Rattle.cops_audit.specs.Floors.{IsAfter}
 use Rattle.cops_audit.proofs.stale.has_stale.Given as goal
 
 abbrev pub invariant-loop-k : goal.invariant-loop-k

@@ -6,7 +6,7 @@ use Rattle.cops_audit.proofs.Bridging.{are_places, are_rising, noted_suspect}
 use Rattle.cops_audit.proofs.Collect.{among_here}
 use Rattle.cops_audit.proofs.Places.{inside_table}
 use Rattle.cops_audit.proofs.Telling.{tell_none, tell_stale}
-use Rattle.cops_audit.proofs.Turning.{none_at, some_at}
+use Rattle.cops_audit.proofs.Flooring.{none_at, some_at}
 use Rattle.cops_audit.proofs.stale.judge_suspects.Goals as goal
 use Rattle.cops_audit.proofs.stale.judge_suspects.Goals.{in-Some+in_ok-push, in_default}
 

@@ -1,7 +1,7 @@
 use Rattle.std.proofs.Common.{map, take}
 use Rattle.cops_types.specs.Faults.{IsStale}
 use Rattle.cops_audit.specs.Names.{ListsAmong}
-use Rattle.cops_audit.specs.Turns.{IsAfter}
+use Rattle.cops_audit.specs.Floors.{IsAfter}
 use Rattle.cops_audit.proofs.stale.judge_suspects.Given as goal
 
 abbrev pub invariant-loop-k : goal.invariant-loop-k

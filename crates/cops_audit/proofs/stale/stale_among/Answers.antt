@@ -1,5 +1,6 @@
-use Rattle.std.proofs.Common.{sym, ◌∙◌}
+use Rattle.std.proofs.Common.{sym, subst, ◌∙◌}
 use Rattle.std.proofs.lemmas.Bool.{eqb-true}
+use Rattle.cops_audit.specs.Keys.{AreFirsts, AreNexts}
 use Rattle.cops_audit.proofs.Classes.{each_suspect, no_stale, of_suspects, seen_suspects}
 use Rattle.cops_audit.proofs.stale.stale_among.Goals as goal
 
@@ -9,8 +10,18 @@ returns-then-is_empty c = no_stale (seen_suspects c.as_slice-suspects.ensures.va
 pub judge_suspects-requires-clause-suspects : goal.judge_suspects-requires-clause-suspects
 judge_suspects-requires-clause-suspects c = each_suspect (seen_suspects c.as_slice-suspects.ensures.value c.in_ok-push_suspects.ensures.suspects)
 
-pub judge_suspects-requires-clause-in_order : goal.judge_suspects-requires-clause-in_order
-judge_suspects-requires-clause-in_order c = (seen_suspects c.as_slice-suspects.ensures.value c.in_ok-push_suspects.ensures.suspects).in_order
+pub returns-in-Some : goal.returns-in-Some
+returns-in-Some c = of_suspects (seen_suspects c.as_slice-suspects.ensures.value c.in_ok-push_suspects.ensures.suspects) c.in_ok-faults.ensures
+
+pub judge_suspects-requires-2-clause-firsts : goal.judge_suspects-requires-2-clause-firsts
+judge_suspects-requires-2-clause-firsts c =
+    let h = c.args.history.now.sessions in
+    let table = c.args.table.now in
+    subst (AreFirsts h table) (sym c.as_slice-2.ensures.value)
+    (c.in_ok-places.ensures h c.requires.table (subst (AreNexts h table) (sym c.as_slice-nexts.ensures.value) c.requires.links.nexts))
+
+pub judge_suspects-requires-2-clause-suspects : goal.judge_suspects-requires-2-clause-suspects
+judge_suspects-requires-2-clause-suspects c = each_suspect (seen_suspects c.as_slice-suspects.ensures.value c.in_ok-push_suspects.ensures.suspects)
 
 pub returns : goal.returns
-returns c = of_suspects (seen_suspects c.as_slice-suspects.ensures.value c.in_ok-push_suspects.ensures.suspects) c.in_ok-faults.ensures
+returns c = of_suspects (seen_suspects c.as_slice-suspects.ensures.value c.in_ok-push_suspects.ensures.suspects) c.in_ok-faults-2.ensures

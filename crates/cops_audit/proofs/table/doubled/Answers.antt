@@ -1,5 +1,5 @@
 use Rattle.std.proofs.Common.{◌≡◌, arith, refl, subst, true}
-use Rattle.cops_types.specs.Faults.{IsDoubled}
+use Rattle.cops_types.specs.VersionOrder.{IsDoubled}
 use Rattle.cops_audit.proofs.Collect.{skip_next, push_next, among_here}
 use Rattle.cops_audit.proofs.table.doubled.Goals as goal
 use Rattle.cops_audit.proofs.table.doubled.Goals.{then-is_doubled+in_ok-push, else-is_doubled}

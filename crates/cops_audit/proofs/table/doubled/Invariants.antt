@@ -1,5 +1,5 @@
 use Rattle.std.proofs.Common.{take}
-use Rattle.cops_types.specs.Faults.{IsDoubled}
+use Rattle.cops_types.specs.VersionOrder.{IsDoubled}
 use Rattle.cops_audit.specs.Names.{ListsAmong}
 use Rattle.cops_audit.proofs.table.doubled.Given as goal
 

@@ -41,7 +41,7 @@ returns-in_default-on-clause-none c =
     let key = c.put_key-key.result in
     let inside = inside_table table c.args.place c.requires.got.0 c.requires.got.1 c.requires.got.2 in
     let here : OnKey h table c.args.place key.now = on_key h table c.requires.table c.args.place c.index-table-place.result key.now c.put_key-key.ensures.0 inside c.index-table-place.is c.put_key-key.ensures.1 in
-    let none : IsFirstFrom h table 0 key.now None = c.in_default-on.ensures in
+    let none : IsFirstFrom h table 0 key.now None = c.in_default-on.ensures h table c.requires.firsts in
     absurd (none c.args.place (omega arith) here)
 
 pub returns-clause-suspect : goal.returns-clause-suspect
@@ -52,7 +52,7 @@ returns-clause-suspect c =
     let inside = inside_table table c.args.place c.requires.got.0 c.requires.got.1 c.requires.got.2 in
     let here : OnKey h table c.args.place key.now = on_key h table c.requires.table c.args.place c.index-table-place.result key.now c.put_key-key.ensures.0 inside c.index-table-place.is c.put_key-key.ensures.1 in
     let same : key.now ≡ c.requires.got.4.key = same_key h table c.requires.table.rising c.args.place key.now c.requires.got.4.key here (on_source h table c.requires.table c.args.op c.args.place c.requires.got) in
-    let first : IsFirstFrom h table 0 key.now (Some c.in-Some-on.first) = c.in-Some-on.ensures in (
+    let first : IsFirstFrom h table 0 key.now (Some c.in-Some-on.first) = c.in-Some-on.ensures h table c.requires.firsts in (
       refl,
       got_is h table c.requires.table c.args.op c.args.place c.requires.got c.in-Some-on.first c.in-Some.from
           (next_at h table c.args.nexts.now c.requires.nexts c.args.place inside (get_or c.args.nexts.now c.args.place None) (Some c.in-Some.from) (read c.args.nexts.now c.args.place (omega (arith, inside, c.requires.nexts.whole))) c.in-Some.is)

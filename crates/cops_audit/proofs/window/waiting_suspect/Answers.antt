@@ -15,7 +15,7 @@ returns-in_default-clause-none c =
     let key = c.got_key-key.result in
     waiting_clear h c.args.table.now c.requires.table c.args.op c.args.place c.requires.seen c.requires.waiting c.args.mark
     (subst (λ k. IsFirstFrom h c.args.table.now 0 k None) (got_is_own h c.args.op key.now c.requires.seen.0 c.got_key-key.ensures)
-    c.in_default.ensures)
+    (c.in_default.ensures h c.args.table.now c.requires.firsts))
 
 pub returns-clause-suspect : goal.returns-clause-suspect
 returns-clause-suspect c =
@@ -24,5 +24,5 @@ returns-clause-suspect c =
       refl,
       waiting_is h c.args.table.now c.requires.table c.args.op c.args.place c.requires.seen c.requires.waiting c.in-Some.first
           (subst (λ k. IsFirstFrom h c.args.table.now 0 k (Some c.in-Some.first)) (got_is_own h c.args.op key.now c.requires.seen.0 c.got_key-key.ensures)
-          c.in-Some.ensures),
+          (c.in-Some.ensures h c.args.table.now c.requires.firsts)),
     )

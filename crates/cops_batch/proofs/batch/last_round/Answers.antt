@@ -3,8 +3,4 @@ use Rattle.cops_batch.proofs.batch.last_round.Goals as goal
 
 pub finished-requires-clause-cut : goal.finished-requires-clause-cut
 finished-requires-clause-cut g c κs within =
-    cut_same 0 0 _ c.args.pieces.now c.round_of_stale.new.pieces c.round_of_stale.ensures.len c.round_of_stale.ensures.places c.requires.cut
-
-pub returns-clause-cut : goal.returns-clause-cut
-returns-clause-cut g c =
-    cut_same 0 0 _ c.args.pieces.now c.round_of_stale.new.pieces c.round_of_stale.ensures.len c.round_of_stale.ensures.places c.requires.cut
+    cut_same 0 0 _ c.args.pieces.now c.round_without_search.new.pieces c.round_without_search.ensures.len c.round_without_search.ensures.places c.requires.cut

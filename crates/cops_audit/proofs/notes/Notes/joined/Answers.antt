@@ -6,10 +6,8 @@ use Rattle.cops_audit.proofs.Noting.{noted_joined}
 use Rattle.cops_audit.proofs.notes.Notes.joined.Goals as goal
 
 pub returns : goal.returns
-returns c =
+returns c = λ h table mid low high.
     let f = λ (s : Vec Note Global). s.items in
-    let h = c.args.history.now.sessions in
-    let table = c.args.table.now in
     subst (IsNoted h table)
     (sym (ap (map f) c.in_ok-append.ensures.items ∙ map-append f c.low.inside.sessions.items c.high.inside.sessions.items))
-    (noted_joined h table c.requires.0 _ _ (subst (AreNoted h table 0 c.requires.0) (sym c.low.view_is) c.requires.1) (subst (AreNoted h table c.requires.0 (length h)) (sym c.high.view_is) c.requires.2))
+    (noted_joined h table mid _ _ (subst (AreNoted h table 0 mid) (sym c.low.view_is) low) (subst (AreNoted h table mid (length h)) (sym c.high.view_is) high))

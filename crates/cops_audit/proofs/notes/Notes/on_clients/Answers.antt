@@ -3,8 +3,8 @@ use Rattle.cops_audit.specs.declared.notes.Note.{Note}
 use Rattle.cops_audit.proofs.Noting.{fronts_of_none, noted_all, noted_whole}
 use Rattle.cops_audit.proofs.notes.Notes.on_clients.Goals as goal
 
-pub loop-turn-init : goal.loop-turn-init
-loop-turn-init c =
+pub loop-round-init : goal.loop-round-init
+loop-round-init c =
     let count : c.args.first + length c.in_ok-sessions.sessions.items ≡ c.args.end = omega (arith, c.in_ok-sessions.ensures.0, c.min-end.ensures, c.clients.ensures.count, c.requires.first, c.requires.end) in
     record {
       count = count;
@@ -16,7 +16,7 @@ returns-clause-some c =
     let f = λ (s : Vec Note Global). s.items in
     let xs = c.note_all-2.new.sessions.items in
     let ensures = c.in_ok-note_all-2.ensures in
-    noted_whole c.args.history.now.sessions c.args.table.now c.args.first c.args.end f xs (omega (arith, ensures.count, c.loop-turn.invariant.count)) ensures.fronts (ensures.whole (omega arith))
+    noted_whole c.args.history.now.sessions c.args.table.now c.args.first c.args.end f xs (omega (arith, ensures.count, c.loop-round.invariant.count)) ensures.fronts (ensures.whole (omega arith))
 
 pub returns-clause-all : goal.returns-clause-all
 returns-clause-all c = λ from to. noted_all c.args.history.now.sessions c.args.table.now c.args.first c.args.end _ from to (returns-clause-some c)

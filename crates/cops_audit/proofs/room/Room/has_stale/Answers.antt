@@ -1,6 +1,8 @@
 use Rattle.std.proofs.Common.{length, sym, subst, ap, arith}
 use Rattle.cops_types.specs.Histories.{IsNamed}
 use Rattle.cops_types.specs.Faults.{Lists}
+use Rattle.cops_audit.specs.Keys.{AreFirsts, AreNexts}
+use Rattle.cops_audit.specs.Tables.{IsVersionTable}
 use Rattle.cops_audit.proofs.Classes.{each_suspect, none_stale, seen_suspects}
 use Rattle.cops_audit.proofs.Fitting.{no_ok}
 use Rattle.cops_audit.proofs.Growing.{count_notes, fresh_idle, fresh_room}
@@ -26,6 +28,14 @@ returns-in_err-set_floors-clause-ok c = no_ok (c.in_err-set_floors.ensures.succe
   ap length c.as_slice-suspects.ensures.value,
   ap length c.as_slice-names.ensures.value,
 )))
+
+pub has_stale-requires-clause-firsts : goal.has_stale-requires-clause-firsts
+has_stale-requires-clause-firsts c =
+    let h = c.args.history.now.sessions in
+    let table = c.as_slice-table.result.now in
+    subst (AreFirsts h table) (sym c.as_slice-firsts.ensures.value)
+    (c.in_ok-set_firsts.ensures.firsts h (subst (IsVersionTable h) (sym c.as_slice-table.ensures.value) c.requires.filled.table)
+    (subst (AreNexts h table) (sym c.as_slice-nexts.ensures.value) c.in_ok-link.ensures.nexts))
 
 pub has_stale-requires-clause-suspects : goal.has_stale-requires-clause-suspects
 has_stale-requires-clause-suspects c =

@@ -1,0 +1,87 @@
+use Rattle.std.proofs.Common.{◌≡◌, ◌≤◌, ℕ, get_or, true, refl, sym, subst, arith, rules, map, length}
+use Rattle.cops_audit.specs.declared.sweep.Sweep.{Sweep}
+use Rattle.cops_audit.specs.declared.window.Suspect.{Suspect}
+use Rattle.cops_audit.specs.Sweeps.{HasRoom, IsAbout, IsNewestIn, IsSweeping, NoneFrom}
+use Rattle.cops_audit.proofs.Clearing.{none_then}
+use Rattle.cops_audit.proofs.Collect.{get_or-default}
+use Rattle.cops_audit.proofs.Fitting.{no_ok}
+use Rattle.cops_audit.proofs.Flooring.{fresh_sweeping, fresh_about, next_sweeping, next_about, room_again, some_then}
+use Rattle.cops_audit.proofs.floors.judge_next.Goals as goal
+use Rattle.cops_audit.proofs.floors.judge_next.Goals.{then-not-follows, else-not-follows}
+
+pub newest_in_past-requires-clause-sweeping : goal.newest_in_past-requires-clause-sweeping
+newest_in_past-requires-clause-sweeping c =
+    let none : Suspect = record { op = record { client = 0; index = 0 }; first = 0; from = 0 } in
+    let floor = get_or c.args.floors.now c.args.k 0 in
+    elim c.if-not-follows.branch [
+      | then-not-follows w ↦ subst (λ (s : Sweep). IsSweeping c.args.table.now c.args.notes.now c.args.firsts.now floor s (λ _. ⊥)) (sym w.sweep-is)
+          (fresh_sweeping c.args.table.now c.args.notes.now c.args.firsts.now floor _ _ w.restart.new.self (w.restart.ensures.fresh c.requires.after.empty) c.requires.after.clients c.requires.after.places)
+      | else-not-follows w ↦ subst (λ (s : Sweep). IsSweeping c.args.table.now c.args.notes.now c.args.firsts.now floor s (λ _. ⊥)) (sym w.sweep-is)
+          (let follows : c.follows.result ≡ true = cc in
+          next_sweeping c.args.table.now c.args.notes.now c.args.firsts.now c.args.suspects.now c.args.floors.now c.requires.floors c.requires.in_order c.args.k c.requires.inside
+          (c.follows.ensures.before follows) (c.follows.ensures.same follows) c.args.sweep.now c.requires.after none)
+    ]
+
+pub newest_in_past-requires-clause-about : goal.newest_in_past-requires-clause-about
+newest_in_past-requires-clause-about c =
+    let none : Suspect = record { op = record { client = 0; index = 0 }; first = 0; from = 0 } in
+    let op = (get_or c.args.suspects.now c.args.k none).op in
+    elim c.if-not-follows.branch [
+      | then-not-follows w ↦ subst (λ (s : Sweep). IsAbout c.args.table.now c.args.notes.now s op) (sym w.sweep-is)
+          (fresh_about c.args.table.now c.args.notes.now c.args.firsts.now (get_or c.args.floors.now c.args.k 0) _ _ w.restart.new.self op (w.restart.ensures.fresh c.requires.after.empty))
+      | else-not-follows w ↦ subst (λ (s : Sweep). IsAbout c.args.table.now c.args.notes.now s op) (sym w.sweep-is)
+          (let follows : c.follows.result ≡ true = cc in
+          next_about c.args.table.now c.args.notes.now c.args.firsts.now c.args.suspects.now c.args.floors.now c.requires.floors c.requires.in_order c.args.k c.requires.inside
+          (c.follows.ensures.before follows) (c.follows.ensures.same follows) c.args.sweep.now c.requires.after none (c.requires.noted none))
+    ]
+
+pub returns-clause-found : goal.returns-clause-found
+returns-clause-found c =
+    let none : Suspect = record { op = record { client = 0; index = 0 }; first = 0; from = 0 } in
+    some_then c.in_ok-found.found c.in_ok-found.ensures.found
+    (λ place w d. subst (λ (s : Suspect). (s.from ≤ place) × IsNewestIn c.args.table.now c.args.notes.now c.args.firsts.now s.op s.first place) (get_or-default c.args.suspects.now c.args.k none d c.requires.inside) w)
+
+pub returns-clause-none : goal.returns-clause-none
+returns-clause-none c =
+    let none : Suspect = record { op = record { client = 0; index = 0 }; first = 0; from = 0 } in
+    none_then c.in_ok-found.found c.in_ok-found.ensures.none
+    (λ w d. subst (λ (s : Suspect). NoneFrom c.args.table.now c.args.notes.now c.args.firsts.now s.op s.first s.from) (get_or-default c.args.suspects.now c.args.k none d c.requires.inside) w)
+
+pub returns-clause-after : goal.returns-clause-after
+returns-clause-after c =
+    let none : Suspect = record { op = record { client = 0; index = 0 }; first = 0; from = 0 } in
+    let table = c.args.table.now in
+    let notes = c.args.notes.now in
+    let sweep = c.newest_in_past.new.self in
+    record {
+      empty = c.in_ok-found.ensures.empty;
+      clients = c.in_ok-found.ensures.sweeping.clients;
+      places = c.in_ok-found.ensures.sweeping.places;
+      sweeping = λ j e.
+          let same : c.args.k ≡ j = omega (arith, e) in
+          subst (λ (i : ℕ). IsSweeping table notes c.args.firsts.now (get_or c.args.floors.now i 0) sweep (λ _. ⊥)) same c.in_ok-found.ensures.sweeping;
+      about = λ j d e.
+          let same : c.args.k ≡ j = omega (arith, e) in
+          subst (λ (i : ℕ). IsAbout table notes sweep (get_or c.args.suspects.now i d).op) same
+          (subst (λ (s : Suspect). IsAbout table notes sweep s.op) (get_or-default c.args.suspects.now c.args.k none d c.requires.inside) c.in_ok-found.ensures.about);
+    }
+
+pub returns-clause-room : goal.returns-clause-room
+returns-clause-room c = λ room.
+    let lengths = map length c.args.notes.now in
+    let then : HasRoom lengths c.if-not-follows.sweep = elim c.if-not-follows.branch [
+      | then-not-follows w ↦ subst (HasRoom lengths) (sym w.sweep-is)
+          (room_again lengths _ _ c.args.sweep.now w.restart.new.self refl refl (w.restart.ensures.fresh c.requires.after.empty) w.restart.ensures.pending room)
+      | else-not-follows w ↦ subst (HasRoom lengths) (sym w.sweep-is) room
+    ] in
+    (search rules, (c.in_ok-found.ensures.room then).1)
+
+pub returns-in_err-found-clause-room : goal.returns-in_err-found-clause-room
+returns-in_err-found-clause-room c = λ room.
+    let lengths = map length c.args.notes.now in
+    let then : HasRoom lengths c.if-not-follows.sweep = elim c.if-not-follows.branch [
+      | then-not-follows w ↦ subst (HasRoom lengths) (sym w.sweep-is)
+          (room_again lengths _ _ c.args.sweep.now w.restart.new.self refl refl (w.restart.ensures.fresh c.requires.after.empty) w.restart.ensures.pending room)
+      | else-not-follows w ↦ subst (HasRoom lengths) (sym w.sweep-is) room
+    ] in
+    no_ok (c.in_err-found.ensures.room then).0

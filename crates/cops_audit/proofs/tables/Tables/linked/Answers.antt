@@ -1,0 +1,18 @@
+use Rattle.std.proofs.Common.{sym, subst}
+use Rattle.cops_audit.specs.Links.{AreLinks}
+use Rattle.cops_audit.specs.Notes.{IsNoted}
+use Rattle.cops_audit.specs.Sorted.{Sorted}
+use Rattle.cops_audit.specs.Tables.{Rises}
+use Rattle.cops_audit.proofs.tables.Tables.linked.Goals as goal
+
+pub invariant_of-result : goal.invariant_of-result
+invariant_of-result g c =
+    let h = c.puts.inside.history.now.sessions in
+    let seen = c.as_slice.ensures.value in (
+      record {
+        names = c.puts.invariant.names;
+        puts = record { table = c.puts.invariant.table; rising = subst (λ (s : Sorted). Rises s.table) (sym c.puts.view_is) c.requires };
+        notes = subst (λ table. IsNoted h table c.in_ok-notes.notes) seen c.in_ok-notes.ensures.notes;
+      },
+      subst (λ table. AreLinks h table c.in_ok-notes.links) seen c.in_ok-notes.ensures.links,
+    )

@@ -1,5 +1,0 @@
-use Rattle.cops_audit.proofs.Turning.{FloorsFrom}
-use Rattle.cops_audit.proofs.turns.set_floors.Given as goal
-
-abbrev pub invariant-loop-k : goal.invariant-loop-k
-invariant-loop-k l = FloorsFrom l.suspects l.floors.items l.k l.floor

@@ -1,0 +1,93 @@
+ghost use Rattle.std.specs.Prelude.{◌≤◌, IfOk, length};
+ghost use Rattle.cops_audit.specs.Links.{AreLinks};
+ghost use Rattle.cops_audit.specs.Notes.{AreNoted, IsNoted};
+ghost use Rattle.cops_audit.specs.Tables.{IsVersionTable};
+
+use crate::hints::Hints;
+use crate::links::Links;
+use crate::notes::Notes;
+use crate::table::VersionedPut;
+use cops_types::History;
+use std::alloc::{AllocError, Global};
+use std::thread;
+use std::thread::Threads;
+
+/// The notes on all operations, those on the first half of the clients beside those on the others.
+fn notes_in_halves<R: Threads + Sync>(
+    rt: &R,
+    alloc: Global,
+    history: &History,
+    table: &[VersionedPut],
+) -> Result<Notes, AllocError>
+    requires { IsVersionTable history.now.sessions table.now }
+    ensures { IfOk result (λ notes. IsNoted history.now.sessions table.now notes) }
+{
+    let hints = Hints::new(alloc, table)?;
+    let clients = history.clients();
+    let mid = clients / 2;
+    let (low, high) = thread::join(
+        rt,
+        || -> Result<Notes, AllocError>
+            requires table { IsVersionTable history.now.sessions table.now }
+            requires inside { mid ≤ length history.now.sessions }
+            ensures { IfOk result (AreNoted history.entry.now.sessions table.entry.now 0 mid) }
+        { Notes::on_clients(alloc, history, table, &hints, 0, mid) },
+        || -> Result<Notes, AllocError>
+            requires table { IsVersionTable history.now.sessions table.now }
+            requires inside { (mid ≤ clients) × (clients ≤ length history.now.sessions) }
+            ensures { IfOk result (AreNoted history.entry.now.sessions table.entry.now mid clients) }
+        { Notes::on_clients(alloc, history, table, &hints, mid, clients) },
+    );
+    let notes = Notes::joined(low?, high?)?;
+    Ok(notes)
+}
+
+/// The notes on all operations, by at most so many threads.
+fn notes_by<R: Threads + Sync>(
+    rt: &R,
+    alloc: Global,
+    history: &History,
+    table: &[VersionedPut],
+    threads: u8,
+) -> Result<Notes, AllocError>
+    requires { IsVersionTable history.now.sessions table.now }
+    ensures { IfOk result (λ notes. IsNoted history.now.sessions table.now notes) }
+{
+    if threads < 2 {
+        Notes::new(alloc, history, table)
+    } else {
+        notes_in_halves(rt, alloc, history, table)
+    }
+}
+
+/// The notes and the links, by at most so many threads: the ones beside the others where there are two.
+pub fn notes_and_links<'a, R: Threads + Sync>(
+    rt: &R,
+    alloc: Global,
+    history: &'a History,
+    table: &[VersionedPut],
+    threads: u8,
+) -> Result<(Notes, Links<'a>), AllocError>
+    requires { IsVersionTable history.now.sessions table.now }
+    ensures notes { IfOk result (λ r. IsNoted history.now.sessions table.now r.0) }
+    ensures links { IfOk result (λ r. AreLinks history.now.sessions table.now r.1) }
+{
+    if threads < 2 {
+        let notes = Notes::new(alloc, history, table)?;
+        let links = Links::new(alloc, history, table)?;
+        return Ok((notes, links));
+    }
+    let others = threads - 1;
+    let (notes, links) = thread::join(
+        rt,
+        || -> Result<Notes, AllocError>
+            requires { IsVersionTable history.now.sessions table.now }
+            ensures { IfOk result (λ notes. IsNoted history.entry.now.sessions table.entry.now notes) }
+        { notes_by(rt, alloc, history, table, others) },
+        || -> Result<Links, AllocError>
+            requires { IsVersionTable history.now.sessions table.now }
+            ensures { IfOk result (AreLinks history.entry.now.sessions table.entry.now) }
+        { Links::new(alloc, history, table) },
+    );
+    Ok((notes?, links?))
+}

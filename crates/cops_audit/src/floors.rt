@@ -1,0 +1,87 @@
+ghost use Rattle.std.specs.Prelude.{◌≡◌, ◌<◌, ◌≤◌, ◌+◌, ◌-◌, ℕ, IfOk, IfSome, IfNone, IsOk, OnOk, IsTrue, length, map, slice_index, slice_index_or, vec_capacity, AllPairs};
+ghost use Rattle.cops_types.specs.Faults.{IsBefore};
+ghost use Rattle.cops_audit.specs.declared.window.Suspect.{Suspect};
+ghost use Rattle.cops_audit.specs.Sweeps.{ArePlaces, AreRising, HasRoom, IsNewestIn, NoneFrom};
+ghost use Rattle.cops_audit.specs.Floors.{AreFloors, IsAfter, IsNotedSuspect};
+
+use crate::notes::Notes;
+use crate::sweep::Sweep;
+use crate::table::VersionedPut;
+use crate::window::Suspect;
+use std::alloc::{AllocError, Global};
+
+/// Whether the next suspect is of the same client.
+fn goes_on(suspects: &[Suspect], k: usize) -> bool
+    requires { k < length suspects.now }
+    ensures { k + 1 < length suspects.now → ((d : Suspect) → (slice_index_or suspects.now k d).op.client ≡ (slice_index_or suspects.now (k + 1) d).op.client) → IsTrue result }
+{
+    if k + 1 >= suspects.len() {
+        return false;
+    }
+    suspects[k + 1].op.client == suspects[k].op.client
+}
+
+/// Makes it, of each suspect, the least place that matters to it and to its client's later suspects. It takes no memory
+/// where there is room for as many as there are suspects.
+pub fn set_floors(floors: &mut Vec<u32>, suspects: &[Suspect]) -> Result<(), AllocError>
+    ensures floors { OnOk result (AreFloors suspects.now floors.new.items) }
+    ensures capacity { vec_capacity floors.old ≤ vec_capacity floors.new }
+    ensures succeeds { length suspects.now ≤ vec_capacity floors.old → IsOk result }
+{
+    floors.clear();
+    floors.resize(suspects.len(), 0)?;
+    let mut floor = 0u32;
+    for k in (0..suspects.len()).rev() {
+        let from = suspects[k].from;
+        if !goes_on(suspects, k) {
+            floor = from;
+        }
+        if from < floor {
+            floor = from;
+        }
+        floors[k] = floor;
+    }
+    Ok(())
+}
+
+/// Whether the suspect before is of the same client.
+fn follows(suspects: &[Suspect], k: usize) -> bool
+    requires { k < length suspects.now }
+    ensures before { IsTrue result → 0 < k }
+    ensures same { IsTrue result → (d : Suspect) → (slice_index_or suspects.now (k - 1) d).op.client ≡ (slice_index_or suspects.now k d).op.client }
+{
+    if k == 0 {
+        return false;
+    }
+    suspects[k - 1].op.client == suspects[k].op.client
+}
+
+/// The place of the newest put of a suspect's key in its past, if one stands where the suspect says or later; by a sweep
+/// that has come as far as the suspect before.
+pub fn judge_next(
+    sweep: &mut Sweep,
+    table: &[VersionedPut],
+    notes: &Notes,
+    firsts: &[u32],
+    suspects: &[Suspect],
+    floors: &[u32],
+    k: usize,
+) -> Result<Option<u32>, AllocError>
+    requires rising { AreRising table.now notes.now }
+    requires firsts { ArePlaces table.now firsts.now }
+    requires floors { AreFloors suspects.now floors.now }
+    requires in_order { AllPairs (λ s t. IsBefore s.op t.op) suspects.now }
+    requires inside { k < length suspects.now }
+    requires noted { (d : Suspect) → IsNotedSuspect notes.now (slice_index_or suspects.now k d) }
+    requires after { IsAfter table.now notes.now firsts.now suspects.now floors.now k sweep.old }
+    ensures after { OnOk result (IsAfter table.now notes.now firsts.now suspects.now floors.now (k + 1) sweep.new) }
+    ensures found { IfOk result (λ found. IfSome found (λ place. (d : Suspect) → ((slice_index_or suspects.now k d).from ≤ place) × IsNewestIn table.now notes.now firsts.now (slice_index_or suspects.now k d).op (slice_index_or suspects.now k d).first place)) }
+    ensures none { IfOk result (λ found. IfNone found ((d : Suspect) → NoneFrom table.now notes.now firsts.now (slice_index_or suspects.now k d).op (slice_index_or suspects.now k d).first (slice_index_or suspects.now k d).from)) }
+    ensures room { HasRoom (map length notes.now) sweep.old → IsOk result × HasRoom (map length notes.now) sweep.new }
+{
+    if !follows(suspects, k) {
+        sweep.restart();
+    }
+    let found = sweep.newest_in_past(table, notes, firsts, floors[k], suspects[k])?;
+    Ok(found)
+}

@@ -1,0 +1,185 @@
+use crate::beside::notes_and_links;
+use crate::links::Links;
+use crate::notes::{Notes, without_source};
+use crate::puts::Puts;
+use crate::rising::not_above;
+use crate::stale::stale_among;
+use crate::table::{VersionedPut, put_names};
+use crate::verdict::{Faults, NotAbove, Stale, Verdict};
+use cops_types::{History, Memory, OpName};
+use std::alloc::{AllocError, Global};
+use std::marker::Model;
+use std::thread::Threads;
+
+/// What faults are looked up in, of a history in which no version is borne by two puts: its puts, the notes on its
+/// operations, and where many look for stale gets the links between its puts.
+#[derive(Drop)]
+pub struct Tables<'a> {
+    history: &'a History,
+    names: Vec<OpName>,
+    table: Vec<VersionedPut>,
+    notes: Notes,
+    links: Option<Links<'a>>,
+}
+
+impl<'a> Model for Tables<'a> {
+    ghost use Rattle.std.specs.Prelude.{IfSome};
+    ghost use Rattle.cops_audit.specs.Links.{AreLinks};
+    ghost use Rattle.cops_audit.specs.Noted.{AreTables, Noted};
+
+    ghost Value = { Noted };
+
+    ghost view = { λ t. record { sessions = t.history.now.sessions; names = t.names.items; notes = t.notes } };
+
+    ghost invariant = { λ t. AreTables t.table.items (record { sessions = t.history.now.sessions; names = t.names.items; notes = t.notes })
+        × IfSome t.links (AreLinks t.history.now.sessions t.table.items) };
+}
+
+impl<'a> Tables<'a> {
+    ghost use Rattle.std.specs.Prelude.{◌≡◌, ◌≤◌, ◌+◌, IfOk, IfSome, IfNone, length, slice_range, AllPairs};
+    ghost use Rattle.cops_types.specs.Faults.{IsBefore, IsStale};
+    ghost use Rattle.cops_types.specs.Verdicts.{AllAbove, AllHaveSources};
+    ghost use Rattle.cops_audit.specs.Names.{ListsAmong};
+    ghost use Rattle.cops_audit.specs.Notes.{IsSourceless, SeesNotAbove};
+    ghost use Rattle.cops_audit.specs.Tables.{Rises};
+    ghost use Rattle.cops_audit.specs.Verdicts.{IsVerdict};
+
+    /// The puts and the notes, for one look at all operations.
+    pub fn new(alloc: Global, puts: Puts<'a>) -> Result<Self, AllocError>
+        requires { Rises puts.table }
+        ensures sessions { IfOk result (λ tables. tables.sessions ≡ puts.entry.sessions) }
+        ensures names { IfOk result (λ tables. tables.names ≡ puts.entry.names) }
+    {
+        let Puts {
+            history,
+            names,
+            table,
+        } = puts;
+        let notes = Notes::new(alloc, history, table.as_slice())?;
+        Ok(Tables {
+            history,
+            names,
+            table,
+            notes,
+            links: None,
+        })
+    }
+
+    /// The puts, the notes and the links, by at most so many threads, for a look at each piece of the operations.
+    pub fn linked<R: Threads + Sync>(
+        rt: &R,
+        alloc: Global,
+        puts: Puts<'a>,
+        threads: u8,
+    ) -> Result<Self, AllocError>
+        requires { Rises puts.table }
+        ensures sessions { IfOk result (λ tables. tables.sessions ≡ puts.entry.sessions) }
+        ensures names { IfOk result (λ tables. tables.names ≡ puts.entry.names) }
+    {
+        let Puts {
+            history,
+            names,
+            table,
+        } = puts;
+        let (notes, links) = notes_and_links(rt, alloc, history, table.as_slice(), threads)?;
+        Ok(Tables {
+            history,
+            names,
+            table,
+            notes,
+            links: Some(links),
+        })
+    }
+
+    /// How many operations there are.
+    pub fn count(&self) -> usize
+        ensures count { result ≡ length self.now.names }
+        ensures in_order { AllPairs IsBefore self.now.names }
+    {
+        self.names.len()
+    }
+
+    /// The gets without a source among so many names from a place on.
+    pub fn without_source(
+        &self,
+        alloc: Global,
+        start: usize,
+        len: usize,
+    ) -> Result<Vec<OpName>, AllocError>
+        requires { start + len ≤ length self.now.names }
+        ensures { IfOk result (λ v. ListsAmong (λ n. n) (IsSourceless self.now.notes) (slice_range self.now.names start (start + len)) v.items) }
+    {
+        let names = &self.names[start..start + len];
+        without_source(alloc, &self.notes, names)
+    }
+
+    /// The puts among so many names from a place on that are not above what their sessions saw, each with the first such
+    /// operation.
+    pub fn not_above(
+        &self,
+        alloc: Global,
+        start: usize,
+        len: usize,
+    ) -> Result<Vec<NotAbove>, AllocError>
+        requires { start + len ≤ length self.now.names }
+        ensures { IfOk result (λ v. ListsAmong (λ f. f.op) (λ f. SeesNotAbove self.now.notes f.op f.earlier) (slice_range self.now.names start (start + len)) v.items) }
+    {
+        let names = &self.names[start..start + len];
+        not_above(alloc, &self.notes, names)
+    }
+
+    /// The verdict by the classes before the stale gets, of the faults among all names: none where they are empty.
+    pub fn verdict_before_stale(
+        &self,
+        sourceless: Vec<OpName>,
+        not_above: Vec<NotAbove>,
+    ) -> Option<Verdict>
+        requires sourceless { ListsAmong (λ n. n) (IsSourceless self.now.notes) self.now.names sourceless.items }
+        requires not_above { ListsAmong (λ f. f.op) (λ f. SeesNotAbove self.now.notes f.op f.earlier) self.now.names not_above.items }
+        ensures refused { IfSome result (IsVerdict self.now.sessions) }
+        ensures sources { IfNone result (AllHaveSources self.now.sessions) }
+        ensures above { IfNone result (AllAbove self.now.sessions) }
+    {
+        let _ = &self.history;
+        if !sourceless.is_empty() {
+            return Some(Verdict::Refused(Faults::NoSource(sourceless)));
+        }
+        if !not_above.is_empty() {
+            return Some(Verdict::Refused(Faults::NotAbove(not_above)));
+        }
+        None
+    }
+
+    /// The stale gets among so many names from a place on, each with the newest put on its key in its past, where the
+    /// classes before them are empty.
+    pub fn stale(&self, alloc: Global, start: usize, len: usize) -> Result<Vec<Stale>, AllocError>
+        requires inside { start + len ≤ length self.now.names }
+        requires sources { AllHaveSources self.now.sessions }
+        requires above { AllAbove self.now.sessions }
+        ensures { IfOk result (λ v. ListsAmong (λ f. f.op) (λ f. IsStale self.now.sessions f.op f.newer) (slice_range self.now.names start (start + len)) v.items) }
+    {
+        let names = &self.names[start..start + len];
+        let table = self.table.as_slice();
+        let Some(links) = &self.links else {
+            let links = Links::once(alloc, self.history, table)?;
+            return stale_among(alloc, self.history, table, &self.notes, &links, names);
+        };
+        stale_among(alloc, self.history, table, &self.notes, links, names)
+    }
+
+    /// The verdict where the classes before the stale gets are empty: the stale gets among all names, or the puts in order
+    /// of versions.
+    pub fn verdict(&self, alloc: Global, stale: Vec<Stale>) -> Result<Verdict, Memory>
+        requires sources { AllHaveSources self.now.sessions }
+        requires above { AllAbove self.now.sessions }
+        requires stale { ListsAmong (λ f. f.op) (λ f. IsStale self.now.sessions f.op f.newer) self.now.names stale.items }
+        ensures { IfOk result (IsVerdict self.now.sessions) }
+    {
+        let table = self.table.as_slice();
+        if !stale.is_empty() {
+            return Ok(Verdict::Refused(Faults::Stale(stale)));
+        }
+        let puts = put_names(alloc, table)?;
+        Ok(Verdict::Accepted(puts))
+    }
+}
