@@ -676,7 +676,7 @@ def no_thread():
 
 def definition_files():
     """The page of proofs names files of definitions that are there, each with its number of lines that are not empty, and how many those of its
-    first list are together."""
+    lists are together."""
     with open(os.path.join(ROOT, "docs", "PROOFS.md"), encoding="utf-8") as page:
         text = page.read()
     row = re.compile(r"^\| `([\w/]+\.antt)` \| (\d+) \|", re.MULTILINE)
@@ -685,8 +685,12 @@ def definition_files():
     for name, lines in rows:
         with open(os.path.join(ROOT, "crates", name), encoding="utf-8") as file:
             check(f"the lines of {name}", sum(1 for line in file if line.strip()), int(lines))
-    told, first = re.search(r"has to believe these files, (\d+) lines.*?\n\n(.*?)\n\n", text, re.DOTALL).groups()
-    check("the lines of the first list", sum(int(lines) for _, lines in row.findall(first)), int(told))
+    lists = re.findall(r"these files, (\d+) lines.*?\n\n(.*?)\n\n", text, re.DOTALL)
+    check("the page has three lists of what is to be believed", len(lists), 3)
+    for told, files in lists:
+        check("the lines of a list", sum(int(lines) for _, lines in row.findall(files)), int(told))
+    whole = int(re.search(r"which makes (\d+) for the whole promise", text)[1])
+    check("the lines of the lists together", sum(int(told) for told, _ in lists), whole)
 
 
 def wrong_edits():

@@ -1,22 +1,63 @@
 -- What a caller is told of a step, and what its share gained.
-use Rattle.std.proofs.Common.{◌≡◌, ◌⊎◌, inl, inr, ℕ, Bool, true, false, List, refl, sym, ap, subst, ◌∙◌}
+use Rattle.std.proofs.Common.{◌≡◌, ◌⊎◌, inl, inr, ℕ, Bool, true, false, if◌then◌else◌, List, Option, None, Some, refl, sym, ap, subst, ◌∙◌}
 use Rattle.std.specs.Prelude.{Result, Ok, Err, IfOk, IfErr, OnErr}
 use Rattle.cops_types.specs.declared.dep.Dep.{Dep}
 use Rattle.cops_types.specs.declared.gate.GateHeld.{GateHeld}
 use Rattle.cops_types.specs.declared.gate.Point.{Point}
+use Rattle.cops_held.specs.Held.{Waiting, waiting}
+use Rattle.cops_store.specs.Store.{Stored, has_pair, shown}
 use Rattle.cops_node.specs.declared.event.NodeEvent.{NodeEvent}
+use Rattle.cops_node.specs.declared.event.NodeEvent.TheVariants.{Put, Get, Deliver, Ask, Mark, Settle}
+use Rattle.cops_node.specs.Node.{Node, answer, mark_at, node_step, settle_at}
+use Rattle.cops_types.specs.declared.refusal.Refusal.{Refusal}
 use Rattle.cops_node.specs.declared.outcome.Outcome.{Outcome}
-use Rattle.cops_node.specs.declared.outcome.Outcome.TheVariants.{Refused as RefusedWith}
+use Rattle.cops_node.specs.declared.outcome.Outcome.TheVariants.{Yes, Wait, Refused as RefusedWith}
 use Rattle.cops_cluster.specs.declared.share.Made.{Made}
 use Rattle.cops_cluster.specs.declared.fault.Stop.{Stop}
-use Rattle.cops_cluster.specs.declared.fault.Stop.TheVariants.{Refused, Held}
+use Rattle.cops_cluster.specs.declared.fault.Stop.TheVariants.{Refused, GateHeld as HeldThere}
 use Rattle.cops_cluster.specs.declared.stepping.Answer.{Answer}
 use Rattle.cops_cluster.specs.declared.stepping.Reply.{Reply}
 use Rattle.cops_cluster.specs.declared.stepping.Seen.{Seen}
-use Rattle.cops_cluster.specs.Shares.{Adds, AddsEntry, AddsAtMostOne, is_of_node, is_code_of_node}
+use Rattle.cops_cluster.specs.Shares.{Adds, AddsEntry, AddsAtMostOne, is_of_node, is_refusal_of_node}
 use Rattle.cops_cluster.specs.Cluster.{IsStop}
 use Rattle.cops_cluster.specs.Replies.{IsReplyOf, IsReplyOfSeen, IsSpent}
 use Rattle.cops_cluster.specs.Outcomes.{IsNodeAnswer, IsWant, StopsWith}
+
+-- a step of this node, whose number stays: what was answered is a node's
+abbrev IsStepOf : Node → Outcome × Node → Type 0
+IsStepOf n x = (x.1.number ≡ n.number) × (is_of_node x.0 ≡ true)
+
+if_step : (n : Node) (b : Bool) (x y : Outcome × Node) → IsStepOf n x → IsStepOf n y → IsStepOf n (if b then x else y)
+if_step n true x y p q = p
+if_step n false x y p q = q
+
+mark_step : (n : Node) (version dep : ℕ) (w : Option Waiting) → IsStepOf n (mark_at n version dep w)
+mark_step n version dep None = (refl, refl)
+mark_step n version dep (Some w) = if_step n _ _ _ (refl, refl) (refl, refl)
+
+settle_step : (n : Node) (w : Option Waiting) → IsStepOf n (settle_at n w)
+settle_step n None = (refl, refl)
+settle_step n (Some w) = if_step n _ _ _ (refl, refl) (refl, refl)
+
+get_step : (n : Node) (o : Option Stored) → IsStepOf n (answer o, n)
+get_step n None = (refl, refl)
+get_step n (Some s) = (refl, refl)
+
+ask_step : (n : Node) (b : Bool) → IsStepOf n (if b then Yes else Wait, n)
+ask_step n true = (refl, refl)
+ask_step n false = (refl, refl)
+
+a_step : (n : Node) (e : NodeEvent) → IsStepOf n (node_step n e)
+a_step n (Put client key value deps) = if_step n _ _ _ (refl, refl) (refl, refl)
+a_step n (Get client key) = get_step n (shown n.settled key)
+a_step n (Deliver put) = if_step n _ _ _ (refl, refl) (refl, refl)
+a_step n (Ask key version) = ask_step n (has_pair n.settled (record { key = key; version = version }))
+a_step n (Mark version dep) = mark_step n version dep (waiting n.held version)
+a_step n (Settle version) = settle_step n (waiting n.held version)
+
+-- what a node's step answers is a node's
+pub step_of_node : (n : Node) (e : NodeEvent) → is_of_node (node_step n e).0 ≡ true
+step_of_node n e = (a_step n e).1
 
 true_is_false : {A : Type 0} (b : Bool) → b ≡ true → b ≡ false → A
 true_is_false b e f = absurd (let h : true ≡ false = sym e ∙ f in cc)
@@ -25,12 +66,12 @@ module _ (before after : List Made) (node : ℕ) (event : NodeEvent) where
   -- a node's answer was added, or nothing where there is none
   abbrev pub IsKept : Result Reply Stop → Type 0
   IsKept (Ok r) = AddsEntry before after node event r.outcome × (is_of_node r.outcome ≡ true)
-  IsKept (Err (Refused code)) = (after ≡ before) × (is_code_of_node code ≡ false)
-  IsKept (Err Held) = after ≡ before
+  IsKept (Err (Refused code)) = (after ≡ before) × (is_refusal_of_node code ≡ false)
+  IsKept (Err HeldThere) = after ≡ before
 
   kept_stop : (may_hold : Point → Type 0) (at client : ℕ) (stop same : Stop) → same ≡ stop → after ≡ before → IsStop may_hold at client stop → IsKept (Err same)
   kept_stop may_hold at client (Refused code) same e none other = subst (λ (s : Stop). IsKept (Err s)) (sym e) (none, other)
-  kept_stop may_hold at client Held same e none other = subst (λ (s : Stop). IsKept (Err s)) (sym e) none
+  kept_stop may_hold at client HeldThere same e none other = subst (λ (s : Stop). IsKept (Err s)) (sym e) none
 
   pub seen_kept : (may_hold : Point → Type 0) (at client number : ℕ) (answered : Result Seen Stop) (reply : Result Reply Stop)
       → IfOk answered (λ t. AddsEntry before after node event t.outcome) → IfOk answered (λ t. (t.seen ≡ t.outcome) × (is_of_node t.outcome ≡ true))
@@ -56,24 +97,24 @@ module _ (before after : List Made) (node : ℕ) (event : NodeEvent) where
   told_adds (Ok r) (Ok out) kept is =
       (λ _. subst (λ (o : Outcome). AddsEntry before after node event o) (sym is) kept.0, λ other. true_is_false (is_of_node out) (ap is_of_node is ∙ kept.1) other)
   told_adds (Err (Refused code)) (Ok out) kept is = (λ h. true_is_false (is_of_node out) h (ap is_of_node is ∙ kept.1), λ _. kept.0)
-  told_adds (Err Held) (Ok out) kept is = absurd is
+  told_adds (Err HeldThere) (Ok out) kept is = absurd is
 
   -- in any case it gained one entry at most
   pub most_adds : (reply : Result Reply Stop) → IsKept reply → AddsAtMostOne before after node event
   most_adds (Ok r) kept = inr (r.outcome, kept.0)
   most_adds (Err (Refused code)) kept = inl kept.0
-  most_adds (Err Held) kept = inl kept
+  most_adds (Err HeldThere) kept = inl kept
 
 -- the context is the one after what is told
 pub told_context : (after : Outcome → List Dep) (pairs new : List Dep) (answered : Result Answer Stop) (reply : Result Reply Stop) (result : Result Outcome GateHeld)
-    → ((code : ℕ) → after (RefusedWith code) ≡ pairs) → IfOk answered (λ a. new ≡ after a.outcome) → OnErr answered (new ≡ pairs) → IsSpent answered reply
+    → ((code : Refusal) → after (RefusedWith code) ≡ pairs) → IfOk answered (λ a. new ≡ after a.outcome) → OnErr answered (new ≡ pairs) → IsSpent answered reply
     → IfOk result (IsReplyOf reply) → IfOk result (λ out. new ≡ after out)
 told_context after pairs new answered reply (Err e) refused is none same told = tt
 told_context after pairs new (Ok a) (Ok r) (Ok out) refused is none same told = is ∙ ap after (sym (told ∙ same.0))
 told_context after pairs new (Ok a) (Err s) (Ok out) refused is none same told = absurd same
 told_context after pairs new (Err s) (Ok r) (Ok out) refused is none same told = absurd same
 told_context after pairs new (Err s) (Err (Refused code)) (Ok out) refused is none same told = none ∙ sym (refused code) ∙ ap after (sym told)
-told_context after pairs new (Err s) (Err Held) (Ok out) refused is none same told = absurd told
+told_context after pairs new (Err s) (Err HeldThere) (Ok out) refused is none same told = absurd told
 
 -- the same node and event by other names
 pub adds_at : (before after : List Made) (n m : ℕ) (e f : NodeEvent) (out : Outcome) → n ≡ m → e ≡ f → Adds before after n e out → Adds before after m f out
@@ -84,7 +125,7 @@ most_at before after n m e f p q h = subst (λ (k : ℕ). AddsAtMostOne before a
 
 want_of : (stop : Stop) (out : Outcome) → StopsWith IsWant stop → IsReplyOf (Err stop) out → IsWant out
 want_of (Refused code) out want told = told ∙ want
-want_of Held out want told = absurd told
+want_of HeldThere out want told = absurd told
 
 -- what is told is some node's answer, or want of memory
 pub told_answers : (event : NodeEvent) (number : ℕ) (answered : Result Seen Stop) (reply : Result Reply Stop) (result : Result Outcome GateHeld)

@@ -16,8 +16,8 @@ use Rattle.cops_tie.specs.declared.told.Puts.{Puts}
 use Rattle.cops_cluster.specs.declared.client.Client.{Client}
 use Rattle.cops_cluster.specs.declared.cluster.Cluster.{Cluster}
 use Rattle.cops_cluster.specs.declared.fault.Stop.{Stop}
-use Rattle.cops_cluster.specs.declared.fault.Stop.TheVariants.{Refused, Held}
-use Rattle.cops_cluster.specs.Shares.{is_code_of_node}
+use Rattle.cops_cluster.specs.declared.fault.Stop.TheVariants.{Refused, GateHeld}
+use Rattle.cops_cluster.specs.Shares.{is_refusal_of_node}
 
 -- there is a node at this place of this data centre
 abbrev pub IsNode : Cluster → ℕ → ℕ → Type 0
@@ -60,7 +60,7 @@ get_seen key (Got value version) = Some (Saw key value version)
 get_seen key Missed = Some (SawNone key)
 get_seen key _ = None
 
--- why a step was not made: with a code that no node gives, or where the gate may hold it
+-- why a step was not made: refused as no node refuses, or where the gate may hold it
 abbrev pub IsStop : (Point → Type 0) → ℕ → ℕ → Stop → Type 0
-IsStop may_hold node client (Refused code) = is_code_of_node code ≡ false
-IsStop may_hold node client Held = may_hold (InStep node client)
+IsStop may_hold node client (Refused refused) = is_refusal_of_node refused ≡ false
+IsStop may_hold node client GateHeld = may_hold (InStep node client)

@@ -5,7 +5,7 @@ use Rattle.cops_types.specs.declared.gate.Point.TheVariants.{Answered}
 use Rattle.cops_node.specs.declared.outcome.Outcome.{Outcome}
 use Rattle.cops_node.specs.declared.outcome.Outcome.TheVariants.{PutDone, Refused as RefusedWith}
 use Rattle.cops_cluster.specs.declared.fault.Stop.{Stop}
-use Rattle.cops_cluster.specs.declared.fault.Stop.TheVariants.{Refused, Held}
+use Rattle.cops_cluster.specs.declared.fault.Stop.TheVariants.{Refused, GateHeld}
 use Rattle.cops_cluster.specs.declared.stepping.Answer.{Answer}
 use Rattle.cops_cluster.specs.declared.stepping.Reply.{Reply}
 use Rattle.cops_cluster.specs.declared.stepping.Seen.{Seen}
@@ -18,17 +18,17 @@ version_of _ = None
 abbrev pub IsVersionOf : Outcome → Option ℕ → Type 0
 IsVersionOf outcome version = version ≡ version_of outcome
 
--- the caller is told what the node answered, or the code of the refusal before it
+-- the caller is told what the node answered, or why it was refused before it
 abbrev pub IsReplyOf : Result Reply Stop → Outcome → Type 0
 IsReplyOf (Ok reply) outcome = outcome ≡ reply.outcome
-IsReplyOf (Err (Refused code)) outcome = outcome ≡ RefusedWith code
-IsReplyOf (Err Held) outcome = ⊥
+IsReplyOf (Err (Refused refused)) outcome = outcome ≡ RefusedWith refused
+IsReplyOf (Err GateHeld) outcome = ⊥
 
 -- the gate held the step, or may hold its caller after the node's answer
 abbrev pub WasHeld : (Point → Type 0) → ℕ → Result Reply Stop → Type 0
 WasHeld may_hold client (Ok reply) = may_hold (Answered reply.node client)
-WasHeld may_hold client (Err (Refused code)) = ⊥
-WasHeld may_hold client (Err Held) = Unit {0}
+WasHeld may_hold client (Err (Refused refused)) = ⊥
+WasHeld may_hold client (Err GateHeld) = Unit {0}
 
 -- the same answer, without what the client saw
 abbrev pub IsSpent : Result Answer Stop → Result Reply Stop → Type 0

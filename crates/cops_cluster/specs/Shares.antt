@@ -1,5 +1,7 @@
 -- What a caller's share gains by a call.
-use Rattle.std.specs.Prelude.{◌≡◌, ℕ, Bool, true, false, ◌==◌, ◌||◌, List, [], ◌∷◌, ◌++◌, ◌⊎◌}
+use Rattle.std.specs.Prelude.{◌≡◌, ℕ, Bool, true, false, List, [], ◌∷◌, ◌++◌, ◌⊎◌}
+use Rattle.cops_types.specs.declared.refusal.Refusal.{Refusal}
+use Rattle.cops_types.specs.declared.refusal.Refusal.TheVariants.{ClockExhausted, NotHeld, NoSuchDep, DepsOpen}
 use Rattle.cops_tie.specs.Book.{entry}
 use Rattle.cops_tie.specs.declared.entry.Entry.{Entry}
 use Rattle.cops_node.specs.declared.event.NodeEvent.{NodeEvent}
@@ -7,13 +9,17 @@ use Rattle.cops_node.specs.declared.outcome.Outcome.{Outcome}
 use Rattle.cops_node.specs.declared.outcome.Outcome.TheVariants.{Refused}
 use Rattle.cops_cluster.specs.declared.share.Made.{Made}
 
--- a node refuses so: 1 the clock is exhausted, 5 not held, 6 no such dependency, 8 dependencies are open
-abbrev pub is_code_of_node : ℕ → Bool
-is_code_of_node code = (code == 1) || ((code == 5) || ((code == 6) || (code == 8)))
+-- a node refuses so
+abbrev pub is_refusal_of_node : Refusal → Bool
+is_refusal_of_node ClockExhausted = true
+is_refusal_of_node NotHeld = true
+is_refusal_of_node NoSuchDep = true
+is_refusal_of_node DepsOpen = true
+is_refusal_of_node _ = false
 
 -- a node answers so, and makes an entry of it
 abbrev pub is_of_node : Outcome → Bool
-is_of_node (Refused code) = is_code_of_node code
+is_of_node (Refused refused) = is_refusal_of_node refused
 is_of_node _ = true
 
 abbrev pub made : ℕ → Entry → Made

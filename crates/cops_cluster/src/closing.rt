@@ -1,8 +1,10 @@
 //! Ending a cluster: what the books have against what their callers were told.
 ghost use Rattle.std.specs.Prelude.{◌≡◌, ◌≤◌, ◌<◌, ◌+◌, ◌↔◌, ◌||◌, ℕ, true, length, vec_len, vec_capacity, IfOk, IsTrue, slice_index_or};
 ghost use Rattle.std.specs.List.{list_any};
+ghost use Rattle.cops_types.specs.declared.limits.TheConstants.{NODES, PLACES};
 ghost use Rattle.cops_cluster.specs.declared.share.Share.{Share};
-ghost use Rattle.cops_cluster.specs.Close.{AllReplay, AreAll, IsReplay, entries_at, is_seat, made_by, made_in, number_of};
+ghost use Rattle.cops_cluster.specs.Close.{AllReplay, AreAll, IsReplay, entries_at, is_seat, made_by, made_in, number_of, told};
+ghost use Rattle.cops_cluster.specs.Differences.{Compares};
 
 use crate::cluster::Cluster;
 use crate::differing::difference;
@@ -40,7 +42,7 @@ pub enum CloseFault {
 }
 
 impl Cluster {
-    ghost use Rattle.std.specs.Prelude.{◌≡◌, ◌+◌, ◌*◌, length, vec_len, IfOk, IfErr, IfSome, IfNone};
+    ghost use Rattle.std.specs.Prelude.{◌≡◌, ◌+◌, ◌*◌, length, vec_len, IfOk, IfErr, IfSome, IfNone, IsTrue};
     ghost use Rattle.std.specs.List.Sorted.{IsPermutation};
     ghost use Rattle.cops_cluster.specs.Close.{AllReplay, AreAll, made_in, told};
     ghost use Rattle.cops_cluster.specs.HandedBack.{HandsBack, HasRooms};
@@ -54,12 +56,13 @@ impl Cluster {
         ensures all { IfOk result (λ _. AreAll self.clients self.place.dcs shares.items) }
         ensures back { IfErr result (HandsBack self shares) }
     {
-        let rooms = match self.rooms_for(&shares) {
-            Ok(Some(rooms)) => rooms,
-            Ok(None) => return Err(CloseFault::SharesMissing(self, shares)),
-            Err(_) => return Err(CloseFault::Memory(self, shares)),
-        };
-        self.closed_in(rooms, shares)
+        match self.ended(shares, true) {
+            Ok(Uncompared { closed, shares }) => {
+                drop(shares);
+                Ok(closed)
+            }
+            Err(fault) => Err(fault),
+        }
     }
 
     /// Ends the cluster as `close` does, for whoever compares the books with the shares by `difference_of_lists`. The lists replay.
@@ -71,12 +74,24 @@ impl Cluster {
         ensures all { IfOk result (λ _. AreAll self.clients self.place.dcs shares.items) }
         ensures back { IfErr result (HandsBack self shares) }
     {
+        self.ended(shares, false)
+    }
+
+    /// Ends the cluster, with the comparison of the books with the shares or without it.
+    fn ended(self, shares: Vec<Share>, compares: bool) -> Result<Uncompared, CloseFault>
+        ensures len { IfOk result (λ u. length u.closed.books.items ≡ self.place.dcs * (length self.place.splits + 1)) }
+        ensures replays { IfOk result (λ u. AllReplay (length self.place.splits + 1) u.closed.books.items) }
+        ensures told { IfOk result (λ u. IsTrue compares → IsPermutation (made_in (length self.place.splits + 1) 0 u.closed.books.items) (told shares.items)) }
+        ensures shares { IfOk result (λ u. u.shares ≡ shares) }
+        ensures all { IfOk result (λ _. AreAll self.clients self.place.dcs shares.items) }
+        ensures back { IfErr result (HandsBack self shares) }
+    {
         let rooms = match self.rooms_for(&shares) {
             Ok(Some(rooms)) => rooms,
             Ok(None) => return Err(CloseFault::SharesMissing(self, shares)),
             Err(_) => return Err(CloseFault::Memory(self, shares)),
         };
-        self.uncompared_in(rooms, shares)
+        self.ended_in(rooms, shares, compares)
     }
 
     /// Lists with room for what each node gives; `None` unless the share of each client and of each receiver is there once.
@@ -93,18 +108,24 @@ impl Cluster {
 }
 
 impl Cluster {
-    ghost use Rattle.std.specs.Prelude.{◌≡◌, ◌≤◌, ◌+◌, ◌*◌, length, vec_len, vec_capacity, IfOk, IfErr};
+    ghost use Rattle.std.specs.Prelude.{◌≡◌, ◌≤◌, ◌+◌, ◌*◌, length, vec_len, vec_capacity, IfOk, IfErr, IsTrue};
     ghost use Rattle.std.specs.List.Sorted.{IsPermutation};
     ghost use Rattle.cops_cluster.specs.Close.{AllReplay, AreAll, made_in, told};
     ghost use Rattle.cops_cluster.specs.HandedBack.{HandsBack, HasRooms};
 
     /// The same where all shares are there and lists have room.
-    fn closed_in(self, rooms: Rooms, shares: Vec<Share>) -> Result<Closed, CloseFault>
+    fn ended_in(
+        self,
+        rooms: Rooms,
+        shares: Vec<Share>,
+        compares: bool,
+    ) -> Result<Uncompared, CloseFault>
         requires rooms { HasRooms (vec_len self.nodes) rooms }
         requires all { AreAll self.clients self.place.dcs shares.items }
-        ensures len { IfOk result (λ closed. length closed.books.items ≡ vec_len self.nodes) }
-        ensures replays { IfOk result (λ closed. AllReplay (length self.place.splits + 1) closed.books.items) }
-        ensures told { IfOk result (λ closed. IsPermutation (made_in (length self.place.splits + 1) 0 closed.books.items) (told shares.items)) }
+        ensures len { IfOk result (λ u. length u.closed.books.items ≡ vec_len self.nodes) }
+        ensures replays { IfOk result (λ u. AllReplay (length self.place.splits + 1) u.closed.books.items) }
+        ensures told { IfOk result (λ u. IsTrue compares → IsPermutation (made_in (length self.place.splits + 1) 0 u.closed.books.items) (told shares.items)) }
+        ensures shares { IfOk result (λ u. u.shares ≡ shares) }
         ensures back { IfErr result (HandsBack self shares) }
     {
         let Cluster {
@@ -122,12 +143,13 @@ impl Cluster {
         } = rooms;
         let places = usize::from(place.nodes());
         let books = taken_out(books, nodes);
-        let recorder = match difference(alloc, places, &books, &shares) {
+        let recorder = match difference_where(compares, alloc, places, &books, &shares) {
             Ok(Some(ticket)) => return Err(CloseFault::NotKept { ticket }),
             Ok(None) => match recorder.into_trace() {
                 Ok(trace) => {
                     let books = listed(alloc, places, lists, books);
-                    return Ok(Closed { books, trace });
+                    let closed = Closed { books, trace };
+                    return Ok(Uncompared { closed, shares });
                 }
                 Err(IntoTraceFault::Memory(recorder)) => recorder,
             },
@@ -143,48 +165,24 @@ impl Cluster {
         };
         Err(CloseFault::Memory(cluster, shares))
     }
+}
 
-    /// The same without the comparison.
-    fn uncompared_in(self, rooms: Rooms, shares: Vec<Share>) -> Result<Uncompared, CloseFault>
-        requires rooms { HasRooms (vec_len self.nodes) rooms }
-        requires all { AreAll self.clients self.place.dcs shares.items }
-        ensures len { IfOk result (λ u. length u.closed.books.items ≡ vec_len self.nodes) }
-        ensures replays { IfOk result (λ u. AllReplay (length self.place.splits + 1) u.closed.books.items) }
-        ensures shares { IfOk result (λ u. u.shares ≡ shares) }
-        ensures back { IfErr result (HandsBack self shares) }
-    {
-        let Cluster {
-            place,
-            clients,
-            nodes,
-            tickets,
-            recorder,
-            alloc,
-        } = self;
-        let Rooms {
-            books,
-            locks: _,
-            lists,
-        } = rooms;
-        let places = usize::from(place.nodes());
-        match recorder.into_trace() {
-            Ok(trace) => {
-                let books = listed(alloc, places, lists, taken_out(books, nodes));
-                let closed = Closed { books, trace };
-                Ok(Uncompared { closed, shares })
-            }
-            Err(IntoTraceFault::Memory(recorder)) => {
-                let cluster = Cluster {
-                    place,
-                    clients,
-                    nodes,
-                    tickets,
-                    recorder,
-                    alloc,
-                };
-                Err(CloseFault::Memory(cluster, shares))
-            }
-        }
+/// The least ticket whose entries in the books and in the shares differ, where they are to be compared.
+fn difference_where(
+    compares: bool,
+    alloc: Global,
+    places: usize,
+    books: &[Book],
+    shares: &[Share],
+) -> Result<Option<u64>, AllocError>
+    requires places { 0 < places × places ≤ PLACES }
+    requires few { length books.now ≤ NODES }
+    ensures { IfOk result (λ o. IsTrue compares → Compares (made_by places 0 books.now) (told shares.now) o) }
+{
+    if compares {
+        difference(alloc, places, books, shares)
+    } else {
+        Ok(None)
     }
 }
 
@@ -285,8 +283,8 @@ fn locked(room: Vec<Mutex<Book>>, books: Vec<Book>) -> Vec<Mutex<Book>>
 
 /// The entries of the books, a list for each node.
 fn listed(alloc: Global, places: usize, room: Vec<Vec<Entry>>, books: Vec<Book>) -> Vec<Vec<Entry>>
-    requires places { 0 < places × places ≤ 64 }
-    requires few { vec_len books ≤ 1024 }
+    requires places { 0 < places × places ≤ PLACES }
+    requires few { vec_len books ≤ NODES }
     requires empty { vec_len room ≡ 0 }
     requires room { vec_len books ≤ vec_capacity room }
     ensures len { vec_len result ≡ vec_len books }
@@ -303,8 +301,8 @@ fn listed(alloc: Global, places: usize, room: Vec<Vec<Entry>>, books: Vec<Book>)
 
 /// The entries of a book that is the nth node's.
 fn list_at(alloc: Global, places: usize, n: usize, book: Book) -> Vec<Entry>
-    requires places { 0 < places × places ≤ 64 }
-    requires few { n < 1024 }
+    requires places { 0 < places × places ≤ PLACES }
+    requires few { n < NODES }
     ensures entries { result.items ≡ entries_at places n book }
     ensures replays { IsReplay (number_of places n) result.items }
 {
@@ -317,8 +315,8 @@ fn list_at(alloc: Global, places: usize, n: usize, book: Book) -> Vec<Entry>
 
 /// The number of the nth node, where each data centre has so many.
 pub(crate) fn number_at(places: usize, n: usize) -> usize
-    requires places { 0 < places × places ≤ 64 }
-    requires few { n < 1024 }
+    requires places { 0 < places × places ≤ PLACES }
+    requires few { n < NODES }
     ensures { result ≡ number_of places n }
 {
     (n / places) * usize::from(PLACES) + n % places

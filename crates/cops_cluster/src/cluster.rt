@@ -1,5 +1,6 @@
 //! The nodes, each under a lock of its own.
 ghost use Rattle.std.specs.Prelude.{◌≡◌, ◌≤◌, ◌<◌, ◌+◌, ◌*◌, ◌↔◌, All, IfOk, IsTrue, OnOk, [], length, vec_len};
+ghost use Rattle.cops_types.specs.declared.limits.TheConstants.{MAX_CLIENTS, MAX_DCS, PLACES};
 ghost use Rattle.cops_cluster.specs.Opening.{AreClientsAt, AreReceivers};
 
 use crate::client::Client;
@@ -40,7 +41,8 @@ pub struct Opened {
 
 impl Cluster {
     ghost use Rattle.std.specs.Prelude.{◌≡◌, ◌<◌, ◌≤◌, ◌+◌, ◌*◌, ◌↔◌, All, length, vec_len, IfOk, OnErr, IsErrOf, IsSome, IfSome, IfNone};
-    ghost use Rattle.cops_core.specs.World.{AreClients};
+    ghost use Rattle.cops_types.specs.declared.limits.TheConstants.{MAX_CLOCK, MAX_DCS, PLACES};
+    ghost use Rattle.cops_core.specs.Opened.{AreClients};
     ghost use Rattle.cops_place.specs.Place.{primary};
     ghost use Rattle.cops_cluster.specs.Opening.{AreClientsAt, AreReceivers};
     ghost use Rattle.cops_cluster.specs.Cluster.{IsNode, IsPutsFrom};
@@ -50,11 +52,12 @@ impl Cluster {
     pub fn open(alloc: Global, place: Place, client_dcs: Vec<u8>) -> Result<Opened, OpenFault>
         ensures place { IfOk result (λ o. o.cluster.place ≡ place) }
         ensures clients { IfOk result (λ o. AreClientsAt client_dcs.items (length client_dcs.items) o.clients.items) }
+        ensures count { IfOk result (λ o. o.cluster.clients ≡ length client_dcs.items) }
         ensures shares { IfOk result (λ o. AreReceivers place.dcs o.shares.items) }
         ensures bad { IsErrOf result OpenFault.BadClient ↔ (AreClients place client_dcs.items → ⊥) }
     {
         match Setting::new(place, client_dcs) {
-            Ok(setting) => Ok(Cluster::of(alloc, &setting)?),
+            Ok(setting) => Cluster::of(alloc, &setting).or(Err(OpenFault::Memory)),
             Err(WorldFault::Memory) => Err(OpenFault::Memory),
             Err(WorldFault::BadClient) => Err(OpenFault::BadClient),
         }
@@ -64,6 +67,7 @@ impl Cluster {
     pub fn of(alloc: Global, setting: &Setting) -> Result<Opened, Memory>
         ensures place { IfOk result (λ o. o.cluster.place ≡ setting.now.place) }
         ensures clients { IfOk result (λ o. AreClientsAt setting.now.homes (length setting.now.homes) o.clients.items) }
+        ensures count { IfOk result (λ o. o.cluster.clients ≡ length setting.now.homes) }
         ensures shares { IfOk result (λ o. AreReceivers setting.now.place.dcs o.shares.items) }
     {
         let nodes = opened_nodes(alloc, setting.dcs(), setting.nodes())?;
@@ -88,7 +92,7 @@ impl Cluster {
     /// How many data centres there are, 1 to 16.
     pub fn dcs(&self) -> u8
         ensures value { result ≡ self.now.place.dcs }
-        ensures range { (1 ≤ result) × (result ≤ 16) }
+        ensures range { (1 ≤ result) × (result ≤ MAX_DCS) }
     {
         self.place.dcs()
     }
@@ -96,7 +100,7 @@ impl Cluster {
     /// How many nodes each data centre has, 1 to 64.
     pub fn nodes(&self) -> u8
         ensures value { result ≡ length self.now.place.splits + 1 }
-        ensures range { (1 ≤ result) × (result ≤ 64) }
+        ensures range { (1 ≤ result) × (result ≤ PLACES) }
     {
         self.place.nodes()
     }
@@ -104,7 +108,7 @@ impl Cluster {
     /// What the node at a place of a data centre tells of itself; `None` where there is no such node.
     pub fn status<R: Wait>(&self, rt: &R, dc: u8, place: u8) -> Option<NodeStatus>
         ensures there { IsSome result ↔ IsNode self.now dc place }
-        ensures clock { IfSome result (λ status. status.clock ≤ 281474976710655) }
+        ensures clock { IfSome result (λ status. status.clock ≤ MAX_CLOCK) }
     {
         let spot = self.spot_at(dc, place)?;
         let status = self.lock_of(spot).lock(rt).node().status();
@@ -169,8 +173,8 @@ impl Cluster {
 
 /// The books of opened nodes, by data centre and place.
 fn opened_nodes(alloc: Global, dcs: u8, places: u8) -> Result<Vec<Mutex<Book>>, AllocError>
-    requires dcs { dcs ≤ 16 }
-    requires places { places ≤ 64 }
+    requires dcs { dcs ≤ MAX_DCS }
+    requires places { places ≤ PLACES }
     ensures { IfOk result (λ nodes. vec_len nodes ≡ dcs * places) }
 {
     let mut nodes = Vec::new(alloc);
@@ -187,8 +191,8 @@ fn add_nodes(
     dc: u8,
     places: u8,
 ) -> Result<(), AllocError>
-    requires dc { dc < 16 }
-    requires places { places ≤ 64 }
+    requires dc { dc < MAX_DCS }
+    requires places { places ≤ PLACES }
     ensures { OnOk result (vec_len nodes.new ≡ vec_len nodes.old + places) }
 {
     for place in 0..places {
@@ -200,7 +204,7 @@ fn add_nodes(
 
 /// A client at each of these data centres, with nothing in its context and in its share.
 fn opened_clients(alloc: Global, dcs: &[u8]) -> Result<Vec<Client>, AllocError>
-    requires { length dcs.now ≤ 65535 }
+    requires { length dcs.now ≤ MAX_CLIENTS }
     ensures { IfOk result (λ clients. AreClientsAt dcs.now (length dcs.now) clients.items) }
 {
     let mut clients = Vec::with_capacity(alloc, dcs.len())?;

@@ -2,6 +2,7 @@
 ghost use Rattle.std.specs.Prelude.{◌≡◌, ◌≤◌, ◌<◌, ◌+◌, ◌++◌, ◌∷◌, [], ◌↔◌, length, map, take, drop, IfOk, OnOk, IsFalse, IsTrue, slice_index_or};
 ghost use Rattle.std.specs.List.{Contains};
 ghost use Rattle.std.specs.List.Sorted.{IsNonDecreasingBy, IsPermutation};
+ghost use Rattle.cops_types.specs.declared.limits.TheConstants.{NODES, PLACES};
 ghost use Rattle.cops_cluster.specs.Close.{entries_at, made_by, made_in, number_of, told};
 ghost use Rattle.cops_cluster.specs.Shares.{made};
 ghost use Rattle.cops_cluster.specs.declared.noted.Noted.{Noted};
@@ -22,8 +23,8 @@ pub(crate) fn difference(
     books: &[Book],
     shares: &[Share],
 ) -> Result<Option<u64>, AllocError>
-    requires places { 0 < places × places ≤ 64 }
-    requires few { length books.now ≤ 1024 }
+    requires places { 0 < places × places ≤ PLACES }
+    requires few { length books.now ≤ NODES }
     ensures { IfOk result (Compares (made_by places 0 books.now) (told shares.now)) }
 {
     compared(kept_in(alloc, places, books)?, told_in(alloc, shares)?)
@@ -36,8 +37,8 @@ pub fn difference_of_lists(
     lists: &[Vec<Entry>],
     shares: &[Share],
 ) -> Result<Option<u64>, AllocError>
-    requires places { (0 < places) × (places ≤ 64) }
-    requires few { length lists.now ≤ 1024 }
+    requires places { (0 < places) × (places ≤ PLACES) }
+    requires few { length lists.now ≤ NODES }
     ensures { IfOk result (Compares (made_in places 0 lists.now) (told shares.now)) }
 {
     compared(
@@ -63,8 +64,8 @@ fn listed_in<'a>(
     places: usize,
     lists: &'a [Vec<Entry>],
 ) -> Result<Vec<Noted<'a>>, AllocError>
-    requires places { 0 < places × places ≤ 64 }
-    requires few { length lists.now ≤ 1024 }
+    requires places { 0 < places × places ≤ PLACES }
+    requires few { length lists.now ≤ NODES }
     ensures { IfOk result (λ all. map shown all.items ≡ made_in places 0 lists.now) }
 {
     let mut all = Vec::new(alloc);
@@ -80,8 +81,8 @@ fn kept_in<'a>(
     places: usize,
     books: &'a [Book],
 ) -> Result<Vec<Noted<'a>>, AllocError>
-    requires places { 0 < places × places ≤ 64 }
-    requires few { length books.now ≤ 1024 }
+    requires places { 0 < places × places ≤ PLACES }
+    requires few { length books.now ≤ NODES }
     ensures { IfOk result (λ all. map shown all.items ≡ made_by places 0 books.now) }
 {
     let mut all = Vec::new(alloc);
@@ -98,8 +99,8 @@ fn add_book<'a>(
     n: usize,
     book: &'a Book,
 ) -> Result<(), AllocError>
-    requires places { 0 < places × places ≤ 64 }
-    requires few { n < 1024 }
+    requires places { 0 < places × places ≤ PLACES }
+    requires few { n < NODES }
     ensures { OnOk result (map shown all.new.items ≡ map shown all.old.items ++ map (made (number_of places n)) (entries_at places n book.now)) }
 {
     let node = book.node().number();

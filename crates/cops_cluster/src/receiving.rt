@@ -5,13 +5,12 @@ ghost use Rattle.cops_cluster.specs.Replies.{IsReplyOfSeen};
 
 use crate::cluster::Cluster;
 use crate::fault::Stop;
-use crate::refusal::{NO_YES, UNKNOWN_DC};
 use crate::share::Share;
 use crate::spot::Spot;
 use crate::stepping::{Reply, Seen, gained, passed};
-use cops_node::{MEMORY, NOT_HELD, NodeEvent, Outcome};
+use cops_node::{NodeEvent, Outcome};
 use cops_tie::{Book, Told};
-use cops_types::{Dep, Gate, GateHeld, Key, PutRecord, Version};
+use cops_types::{Dep, Gate, GateHeld, Key, PutRecord, Refusal, Version};
 use std::sync::Wait;
 
 /// The client's number that a gate is told for a receiver's steps.
@@ -54,7 +53,9 @@ impl Yes {
 
 impl Cluster {
     ghost use Rattle.std.specs.Prelude.{◌≡◌, ◌<◌, ◌≤◌, ◌⊎◌, ◌++◌, [], ◌∷◌, ℕ, true, length, Ok, IfOk, IfErr, OnOk, OnErr};
+    ghost use Rattle.cops_types.specs.declared.refusal.Refusal.TheVariants.{NotHeld, UnknownDc};
     ghost use Rattle.cops_types.specs.NodeNumber.{place_of, node_number};
+    ghost use Rattle.cops_cluster.specs.declared.receiving.TheConstants.{RECEIVER};
     ghost use Rattle.cops_node.specs.declared.outcome.Outcome.TheVariants.{Refused as RefusedWith};
     ghost use Rattle.cops_held.specs.Held.{waiting};
     ghost use Rattle.cops_node.specs.declared.event.NodeEvent.TheVariants.{Ask, Deliver, Mark, Settle};
@@ -66,8 +67,8 @@ impl Cluster {
     ghost use Rattle.cops_cluster.specs.Outcomes.{IsAskOutcome, IsNodeAnswer, IsWant};
     ghost use Rattle.cops_cluster.specs.Receiving.{Allows, IsAskedOf, outcome_of};
 
-    /// A put of another data centre comes to its key's node in a data centre. Refused 10 where there is no such data centre,
-    /// and 9 for want of memory.
+    /// A put of another data centre comes to its key's node in a data centre. Refused where there is no such data centre,
+    /// and for want of memory.
     pub fn deliver<R: Wait, G: Gate>(
         &self,
         rt: &R,
@@ -79,19 +80,19 @@ impl Cluster {
         ensures who { share.new.holder ≡ share.old.holder }
         ensures told { IfOk result (λ out. Adds share.old.entries.items share.new.entries.items (node_of self.now dc put.key) (Deliver put) out) }
         ensures most { AddsAtMostOne share.old.entries.items share.new.entries.items (node_of self.now dc put.key) (Deliver put) }
-        ensures unknown { self.now.place.dcs ≤ dc → result ≡ Ok (RefusedWith 10) }
+        ensures unknown { self.now.place.dcs ≤ dc → result ≡ Ok (RefusedWith UnknownDc) }
         ensures node { OnErr result (IsNode self.now dc (primary self.now.place.splits put.key)) }
-        ensures held { OnErr result (MayHoldStep (G.may_hold gate.now) (node_of self.now dc put.key) 65535) }
+        ensures held { OnErr result (MayHoldStep (G.may_hold gate.now) (node_of self.now dc put.key) RECEIVER) }
     {
         let Some(spot) = self.spot_of(dc, &put.key) else {
             drop(put);
-            return Ok(Outcome::Refused(UNKNOWN_DC));
+            return Ok(Outcome::Refused(Refusal::UnknownDc));
         };
         self.received(rt, share, gate, spot, NodeEvent::Deliver(put))
     }
 
-    /// Asks a key's node in a data centre whether exactly this pair is settled. Refused 10 where there is no such data
-    /// centre, and 9 for want of memory.
+    /// Asks a key's node in a data centre whether exactly this pair is settled. Refused where there is no such data
+    /// centre, and for want of memory.
     pub fn ask<R: Wait, G: Gate>(
         &self,
         rt: &R,
@@ -106,19 +107,19 @@ impl Cluster {
         ensures most { AddsAtMostOne share.old.entries.items share.new.entries.items (node_of self.now dc key.now) (Ask key.now version) }
         ensures names { IfOk result (IsAskedOf dc key.now version) }
         ensures outcome { dc < self.now.place.dcs → IfOk result (λ asked. IsAskOutcome (outcome_of asked)) }
-        ensures unknown { self.now.place.dcs ≤ dc → result ≡ Ok (Asked.Other (RefusedWith 10)) }
+        ensures unknown { self.now.place.dcs ≤ dc → result ≡ Ok (Asked.Other (RefusedWith UnknownDc)) }
         ensures node { OnErr result (IsNode self.now dc (primary self.now.place.splits key.now)) }
-        ensures held { OnErr result (MayHoldStep (G.may_hold gate.now) (node_of self.now dc key.now) 65535) }
+        ensures held { OnErr result (MayHoldStep (G.may_hold gate.now) (node_of self.now dc key.now) RECEIVER) }
     {
         let Some(spot) = self.spot_of(dc, key) else {
-            return Ok(Asked::Other(Outcome::Refused(UNKNOWN_DC)));
+            return Ok(Asked::Other(Outcome::Refused(Refusal::UnknownDc)));
         };
         let Ok(asked) = key.clone() else {
-            return Ok(Asked::Other(Outcome::Refused(MEMORY)));
+            return Ok(Asked::Other(Outcome::Refused(Refusal::Memory)));
         };
         let Ok(named) = key.clone() else {
             drop(asked);
-            return Ok(Asked::Other(Outcome::Refused(MEMORY)));
+            return Ok(Asked::Other(Outcome::Refused(Refusal::Memory)));
         };
         let event = NodeEvent::Ask {
             key: asked,
@@ -134,8 +135,8 @@ impl Cluster {
     }
 
     /// Marks a dependency, by its index, of a put that waits at the node of its version in a data centre, for which this
-    /// answer Yes was given. Refused 10 where there is no such data centre, 5 where no put waits at the version, 6 where it
-    /// has no such dependency, 7 where the answer is one for another pair or of another data centre, and 9 for want of memory.
+    /// answer Yes was given. Refused where there is no such data centre, where no put waits at the version, where it has no
+    /// such dependency, where the answer is one for another pair or of another data centre, and for want of memory.
     pub fn mark<R: Wait, G: Gate>(
         &self,
         rt: &R,
@@ -150,20 +151,20 @@ impl Cluster {
         ensures told { IsNode self.now dc (place_of version) → IfOk result (λ out. Adds share.old.entries.items share.new.entries.items (node_number dc (place_of version)) (Mark version dep) out) }
         ensures most { AddsAtMostOne share.old.entries.items share.new.entries.items (node_number dc (place_of version)) (Mark version dep) }
         ensures no_node { (IsNode self.now dc (place_of version) → ⊥) → share.new.entries.items ≡ share.old.entries.items }
-        ensures unknown { self.now.place.dcs ≤ dc → result ≡ Ok (RefusedWith 10) }
-        ensures not_held { dc < self.now.place.dcs → length self.now.place.splits < place_of version → result ≡ Ok (RefusedWith 5) }
+        ensures unknown { self.now.place.dcs ≤ dc → result ≡ Ok (RefusedWith UnknownDc) }
+        ensures not_held { dc < self.now.place.dcs → length self.now.place.splits < place_of version → result ≡ Ok (RefusedWith NotHeld) }
         ensures node { OnErr result (IsNode self.now dc (place_of version)) }
-        ensures held { OnErr result (MayHoldStep (G.may_hold gate.now) (node_number dc (place_of version)) 65535) }
+        ensures held { OnErr result (MayHoldStep (G.may_hold gate.now) (node_number dc (place_of version)) RECEIVER) }
     {
         let Some(spot) = self.spot_at(dc, version.place()) else {
-            return Ok(Outcome::Refused(self.code_of_no_node(dc)));
+            return Ok(Outcome::Refused(self.refusal_of_no_node(dc)));
         };
         let answered = self.mark_step(rt, share, gate, spot, version, dep, yes);
         passed(rt, gate, RECEIVER, replied(spot.number(), answered))
     }
 
-    /// Settles a put that waits at the node of its version in a data centre. Refused 10 where there is no such data centre, 5
-    /// where no put waits at the version, 8 where not all its dependencies are marked, and 9 for want of memory.
+    /// Settles a put that waits at the node of its version in a data centre. Refused where there is no such data centre, where
+    /// no put waits at the version, where not all its dependencies are marked, and for want of memory.
     pub fn settle<R: Wait, G: Gate>(
         &self,
         rt: &R,
@@ -176,26 +177,26 @@ impl Cluster {
         ensures told { IsNode self.now dc (place_of version) → IfOk result (λ out. Adds share.old.entries.items share.new.entries.items (node_number dc (place_of version)) (Settle version) out) }
         ensures most { AddsAtMostOne share.old.entries.items share.new.entries.items (node_number dc (place_of version)) (Settle version) }
         ensures no_node { (IsNode self.now dc (place_of version) → ⊥) → share.new.entries.items ≡ share.old.entries.items }
-        ensures unknown { self.now.place.dcs ≤ dc → result ≡ Ok (RefusedWith 10) }
-        ensures not_held { dc < self.now.place.dcs → length self.now.place.splits < place_of version → result ≡ Ok (RefusedWith 5) }
+        ensures unknown { self.now.place.dcs ≤ dc → result ≡ Ok (RefusedWith UnknownDc) }
+        ensures not_held { dc < self.now.place.dcs → length self.now.place.splits < place_of version → result ≡ Ok (RefusedWith NotHeld) }
         ensures node { OnErr result (IsNode self.now dc (place_of version)) }
-        ensures held { OnErr result (MayHoldStep (G.may_hold gate.now) (node_number dc (place_of version)) 65535) }
+        ensures held { OnErr result (MayHoldStep (G.may_hold gate.now) (node_number dc (place_of version)) RECEIVER) }
     {
         let Some(spot) = self.spot_at(dc, version.place()) else {
-            return Ok(Outcome::Refused(self.code_of_no_node(dc)));
+            return Ok(Outcome::Refused(self.refusal_of_no_node(dc)));
         };
         self.received(rt, share, gate, spot, NodeEvent::Settle { version })
     }
 
     /// Why there is no node at some place of a data centre: there is no such data centre, or else no put waits there.
-    fn code_of_no_node(&self, dc: u8) -> u8
-        ensures unknown { self.now.place.dcs ≤ dc → result ≡ 10 }
-        ensures not_held { dc < self.now.place.dcs → result ≡ 5 }
+    fn refusal_of_no_node(&self, dc: u8) -> Refusal
+        ensures unknown { self.now.place.dcs ≤ dc → result ≡ UnknownDc }
+        ensures not_held { dc < self.now.place.dcs → result ≡ NotHeld }
     {
         if dc < self.place.dcs() {
-            NOT_HELD
+            Refusal::NotHeld
         } else {
-            UNKNOWN_DC
+            Refusal::UnknownDc
         }
     }
 
@@ -213,7 +214,7 @@ impl Cluster {
         ensures told { IfOk result (λ out. Adds share.old.entries.items share.new.entries.items (node_number spot.dc spot.place) event out) }
         ensures most { AddsAtMostOne share.old.entries.items share.new.entries.items (node_number spot.dc spot.place) event }
         ensures outcome { IfOk result (λ out. IsNodeAnswer event out ⊎ IsWant out) }
-        ensures held { OnErr result (MayHoldStep (G.may_hold gate.now) (node_number spot.dc spot.place) 65535) }
+        ensures held { OnErr result (MayHoldStep (G.may_hold gate.now) (node_number spot.dc spot.place) RECEIVER) }
     {
         let answered = self.step(rt, share, gate, RECEIVER, spot, event);
         passed(rt, gate, RECEIVER, replied(spot.number(), answered))
@@ -235,10 +236,10 @@ impl Cluster {
         ensures told { IfOk result (λ t. AddsEntry share.old.entries.items share.new.entries.items (node_number spot.dc spot.place) (Mark version dep) t.outcome) }
         ensures answers { IfOk result (λ t. (t.seen ≡ t.outcome) × (is_of_node t.outcome ≡ true)) }
         ensures none { OnErr result (share.new.entries.items ≡ share.old.entries.items) }
-        ensures stop { IfErr result (IsStop (G.may_hold gate.now) (node_number spot.dc spot.place) 65535) }
+        ensures stop { IfErr result (IsStop (G.may_hold gate.now) (node_number spot.dc spot.place) RECEIVER) }
     {
         if share.entries.reserve(1).is_err() {
-            return Err(Stop::Refused(MEMORY));
+            return Err(Stop::Refused(Refusal::Memory));
         }
         let mut book = self.lock_of(spot).lock(rt);
         let told = self.marked(rt, gate, spot, &mut book, version, dep, yes)?;
@@ -263,11 +264,11 @@ impl Cluster {
         ensures told { IfOk result (λ t. (t.seen ≡ t.outcome) × ((ticket : ℕ) × (t.entry ≡ entry ticket (Mark version dep) t.outcome))) }
         ensures answers { IfOk result (λ t. is_of_node t.outcome ≡ true) }
         ensures none { OnErr result (book.new ≡ book.old) }
-        ensures stop { IfErr result (IsStop (G.may_hold gate.now) (node_number spot.dc spot.place) 65535) }
+        ensures stop { IfErr result (IsStop (G.may_hold gate.now) (node_number spot.dc spot.place) RECEIVER) }
     {
         if let Some(pair) = book.node().dep_of(version, dep) {
             if !yes.is_for(spot.dc, pair) {
-                return Err(Stop::Refused(NO_YES));
+                return Err(Stop::Refused(Refusal::NoYes));
             }
         }
         let event = NodeEvent::Mark { version, dep };

@@ -7,13 +7,13 @@ ghost use Rattle.cops_cluster.specs.Shares.{made};
 use crate::client::Client;
 use crate::cluster::Cluster;
 use crate::fault::Stop;
-use crate::refusal::{CONTEXT_FULL, UNKNOWN_CLIENT, code_of};
+use crate::refusal::refusal;
 use crate::share::{Made, Share};
 use crate::spot::Spot;
-use cops_node::{MEMORY, NodeEvent, Outcome};
+use cops_node::{NodeEvent, Outcome};
 use cops_record::Slot;
 use cops_tie::{Book, Told};
-use cops_types::{Dep, Deps, Gate, GateHeld, Key, Memory, Op, Point, Value, Version};
+use cops_types::{Dep, Deps, Gate, GateHeld, Key, Memory, Op, Point, Refusal, Value, Version};
 use std::alloc::AllocError;
 use std::sync::Wait;
 use std::sync::atomic::Ordering;
@@ -130,7 +130,7 @@ fn get_notes(key: &Key) -> Result<GetNotes, AllocError>
     })
 }
 
-fn get_told(client: u16, key: Key) -> Result<GetTold, AllocError>
+fn get_told(client: u16, key: Key) -> Result<GetTold, Memory>
     ensures event { IfOk result (λ t. t.event ≡ Get client key) }
     ensures noted { IfOk result (λ t. (t.notes.pair_key ≡ key) × (t.notes.key ≡ key)) }
 {
@@ -141,26 +141,27 @@ fn get_told(client: u16, key: Key) -> Result<GetTold, AllocError>
         }
         Err(fault) => {
             drop(key);
-            Err(fault)
+            Err(Memory::from(fault))
         }
     }
 }
 
 impl Cluster {
     ghost use Rattle.std.specs.Prelude.{◌≡◌, ◌<◌, ◌++◌, [], ◌∷◌, ℕ, true, false, length, IfOk, IfErr, OnOk, OnErr};
+    ghost use Rattle.cops_types.specs.declared.limits.TheConstants.{MAX_DEPS};
     ghost use Rattle.cops_node.specs.declared.event.NodeEvent.TheVariants.{Put, Get};
     ghost use Rattle.cops_node.specs.declared.outcome.Outcome.TheVariants.{Refused as RefusedWith};
     ghost use Rattle.cops_node.specs.Node.{node_step};
     ghost use Rattle.cops_place.specs.Place.{primary};
     ghost use Rattle.cops_types.specs.NodeNumber.{node_number};
     ghost use Rattle.cops_tie.specs.Book.{entry};
-    ghost use Rattle.cops_cluster.specs.Shares.{Adds, AddsAtMostOne, AddsEntry, is_code_of_node, is_of_node};
+    ghost use Rattle.cops_cluster.specs.Shares.{Adds, AddsAtMostOne, AddsEntry, is_refusal_of_node, is_of_node};
     ghost use Rattle.cops_cluster.specs.Cluster.{IsNode, IsSameClient, IsStop, MayHoldStep, after_get, after_put, get_seen, node_of, put_seen};
     ghost use Rattle.cops_cluster.specs.Outcomes.{IsGetOutcome, IsNodeAnswer, IsPutOutcome, IsWant, StopsWith};
     ghost use Rattle.cops_cluster.specs.Replies.{IsSpent};
 
-    /// A client puts a value. Refused 3 where the client is of another cluster, 11 where its session is full, 1 where the
-    /// clock of the key's node can rise no further, and 9 for want of memory.
+    /// A client puts a value. Refused where the client is of another cluster, where its session is full, where the clock of
+    /// the key's node can rise no further, and for want of memory.
     pub fn put<R: Wait, G: Gate>(
         &self,
         rt: &R,
@@ -182,7 +183,7 @@ impl Cluster {
             Err(fault) => {
                 drop(key);
                 drop(value);
-                return Ok(Outcome::Refused(code_of(fault)));
+                return Ok(Outcome::Refused(refusal(fault)));
             }
         };
         let answered = self.put_step(rt, client, gate, key, value);
@@ -190,8 +191,8 @@ impl Cluster {
         passed(rt, gate, number, reply)
     }
 
-    /// A client gets the value of a key. Refused 3 where the client is of another cluster, 11 where its session is full, 2
-    /// where its context holds 256 pairs, and 9 for want of memory.
+    /// A client gets the value of a key. Refused where the client is of another cluster, where its session is full, where its
+    /// context holds 256 pairs, and for want of memory.
     pub fn get<R: Wait, G: Gate>(
         &self,
         rt: &R,
@@ -203,7 +204,7 @@ impl Cluster {
         ensures told { IfOk result (λ out. Adds client.old.share.entries.items client.new.share.entries.items (node_of self.now client.old.dc key) (Get client.old.number key) out) }
         ensures most { AddsAtMostOne client.old.share.entries.items client.new.share.entries.items (node_of self.now client.old.dc key) (Get client.old.number key) }
         ensures context { IfOk result (λ out. client.new.context.pairs ≡ after_get client.old.context.pairs key out) }
-        ensures full { length client.old.context.pairs ≡ 256 → client.new.share.entries.items ≡ client.old.share.entries.items }
+        ensures full { length client.old.context.pairs ≡ MAX_DEPS → client.new.share.entries.items ≡ client.old.share.entries.items }
         ensures outcome { IfOk result IsGetOutcome }
         ensures held { OnErr result (MayHoldStep (G.may_hold gate.now) (node_of self.now client.old.dc key) client.old.number) }
     {
@@ -212,7 +213,7 @@ impl Cluster {
             Ok(slot) => slot,
             Err(fault) => {
                 drop(key);
-                return Ok(Outcome::Refused(code_of(fault)));
+                return Ok(Outcome::Refused(refusal(fault)));
             }
         };
         let answered = self.get_step(rt, client, gate, key);
@@ -243,7 +244,7 @@ impl Cluster {
         let Some(spot) = self.spot_of(client.dc, &key) else {
             drop(key);
             drop(value);
-            return Err(Stop::Refused(UNKNOWN_CLIENT));
+            return Err(Stop::Refused(Refusal::UnknownClient));
         };
         let number = client.number;
         let PutTold { event, notes } = put_told(client, key, value)?;
@@ -276,16 +277,16 @@ impl Cluster {
         ensures seen { IfOk result (λ a. a.op ≡ get_seen key a.outcome) }
         ensures outcome { IfOk result (λ a. IsGetOutcome a.outcome) }
         ensures stops { IfErr result (StopsWith IsGetOutcome) }
-        ensures full { OnOk result (length client.old.context.pairs ≡ 256 → ⊥) }
+        ensures full { OnOk result (length client.old.context.pairs ≡ MAX_DEPS → ⊥) }
         ensures none { OnErr result (client.new.share.entries.items ≡ client.old.share.entries.items) }
         ensures kept { OnErr result (client.new.context.pairs ≡ client.old.context.pairs) }
         ensures stop { IfErr result (IsStop (G.may_hold gate.now) (node_of self.now client.old.dc key) client.old.number) }
     {
         let spot = match self.spot_with_room(client, &key) {
             Ok(spot) => spot,
-            Err(code) => {
+            Err(refused) => {
                 drop(key);
-                return Err(Stop::Refused(code));
+                return Err(Stop::Refused(refused));
             }
         };
         let number = client.number;
@@ -303,24 +304,24 @@ impl Cluster {
         }
     }
 
-    /// The key's node in the client's data centre, where the client's context has room for one more pair: else the code of why
-    /// the get is refused.
-    fn spot_with_room(&self, client: &mut Client, key: &Key) -> Result<Spot, u8>
+    /// The key's node in the client's data centre, where the client's context has room for one more pair: else why the get is
+    /// refused.
+    fn spot_with_room(&self, client: &mut Client, key: &Key) -> Result<Spot, Refusal>
         ensures spot { IfOk result (λ spot. (spot.dc ≡ client.old.dc) × (spot.place ≡ primary self.now.place.splits key.now) × IsNode self.now spot.dc spot.place) }
-        ensures room { OnOk result ((length client.old.context.pairs < 256) × (client.new.context.room ≡ true)) }
+        ensures room { OnOk result ((length client.old.context.pairs < MAX_DEPS) × (client.new.context.room ≡ true)) }
         ensures same { (client.new.number ≡ client.old.number) × (client.new.dc ≡ client.old.dc) × (client.new.share ≡ client.old.share) }
         ensures pairs { client.new.context.pairs ≡ client.old.context.pairs }
-        ensures code { IfErr result (λ code. (is_code_of_node code ≡ false) × IsGetOutcome (RefusedWith code)) }
+        ensures refused { IfErr result (λ refused. (is_refusal_of_node refused ≡ false) × IsGetOutcome (RefusedWith refused)) }
     {
         let Some(spot) = self.spot_of(client.dc, key) else {
-            return Err(UNKNOWN_CLIENT);
+            return Err(Refusal::UnknownClient);
         };
         if !client.context.has_room() {
-            return Err(CONTEXT_FULL);
+            return Err(Refusal::ContextFull);
         }
         match client.context.reserve() {
             Ok(()) => Ok(spot),
-            Err(_) => Err(MEMORY),
+            Err(_) => Err(Refusal::Memory),
         }
     }
 
@@ -369,7 +370,7 @@ impl Cluster {
     {
         if share.entries.reserve(1).is_err() {
             drop(event);
-            return Err(Stop::Refused(MEMORY));
+            return Err(Stop::Refused(Refusal::Memory));
         }
         let mut book = self.lock_of(spot).lock(rt);
         let told = self.asked(rt, gate, client, spot, &mut book, event)?;
@@ -398,18 +399,19 @@ impl Cluster {
         let node = spot.number();
         if gate.pass(rt, Point::InStep { node, client }).is_err() {
             drop(event);
-            return Err(Stop::Held);
+            return Err(Stop::GateHeld);
         }
         let ticket = self.tickets.fetch_add(1, Ordering::SeqCst);
         match book.step_told(ticket, event) {
             Ok(told) => Ok(told),
-            Err(_) => Err(Stop::Refused(MEMORY)),
+            Err(_) => Err(Stop::Refused(Refusal::Memory)),
         }
     }
 }
 
 impl Client {
     ghost use Rattle.std.specs.Prelude.{◌≡◌, ◌<◌, true, length};
+    ghost use Rattle.cops_types.specs.declared.limits.TheConstants.{MAX_DEPS};
     ghost use Rattle.cops_cluster.specs.Cluster.{after_get, after_put, get_seen, put_seen};
 
     /// The client's put was answered: what it saw, which its context then has alone.
@@ -443,7 +445,7 @@ impl Client {
     fn saw(&mut self, pair_key: Key, key: Key, answer: Outcome) -> Option<Op>
         requires key { pair_key ≡ key }
         requires room { self.old.context.room ≡ true }
-        requires few { length self.old.context.pairs < 256 }
+        requires few { length self.old.context.pairs < MAX_DEPS }
         ensures context { self.new.context.pairs ≡ after_get self.old.context.pairs key answer }
         ensures seen { result ≡ get_seen key answer }
         ensures same { (self.new.number ≡ self.old.number) × (self.new.dc ≡ self.old.dc) × (self.new.share ≡ self.old.share) }
@@ -512,7 +514,7 @@ pub(crate) fn passed<R: Wait, G: Gate>(
             }
             Ok(outcome)
         }
-        Err(Stop::Refused(code)) => Ok(Outcome::Refused(code)),
-        Err(Stop::Held) => Err(GateHeld),
+        Err(Stop::Refused(refused)) => Ok(Outcome::Refused(refused)),
+        Err(Stop::GateHeld) => Err(GateHeld),
     }
 }

@@ -3,7 +3,7 @@
 use anyhow::{Error, bail};
 use cops_node::NodeEvent;
 use cops_tie::{Book, Entry};
-use cops_types::{MAX_NODE, Version};
+use cops_types::{NODES, Version};
 use cops_words::Part::{At, Count, Number, Word};
 use cops_words::{
     no_node, no_row, node_event, outcome_text, text, told_outcome, u16_of, u64_of, usize_of,
@@ -18,7 +18,7 @@ pub fn entries_text(alloc: Global, count: usize) -> Result<String, Error> {
 /// Begins a book anew.
 fn begin(alloc: Global, book: &mut Book, number: &str) -> Result<String, Error> {
     let number = u16_of(number)?;
-    if number > MAX_NODE {
+    if number >= NODES {
         return Err(no_node());
     }
     *book = Book::open(alloc, number);

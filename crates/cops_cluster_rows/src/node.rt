@@ -2,7 +2,7 @@
 
 use anyhow::Error;
 use cops_node::{Node, NodeEvent, Outcome};
-use cops_types::MAX_NODE;
+use cops_types::NODES;
 use cops_words::Part::{Number, Word};
 use cops_words::{
     key, no_node, no_row, node_event, pair_text, text, told_outcome, u16_of, value_at, version,
@@ -13,7 +13,7 @@ use std::alloc::Global;
 /// Begins a node anew.
 fn begin(alloc: Global, node: &mut Node, number: &str) -> Result<String, Error> {
     let number = u16_of(number)?;
-    if number > MAX_NODE {
+    if number >= NODES {
         return Err(no_node());
     }
     *node = Node::open(alloc, number);

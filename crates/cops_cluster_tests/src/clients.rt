@@ -4,7 +4,9 @@ use cops_cluster::*;
 use cops_gates::{HoldsSteps, Meeting};
 use cops_node::Outcome;
 use cops_place::Place;
-use cops_types::{Dep, Deps, Gate, Key, OpenGate, Point, PutRecord, TypeFault, Value, Version};
+use cops_types::{
+    Dep, Deps, Gate, Key, OpenGate, Point, PutRecord, Refusal, TypeFault, Value, Version,
+};
 use std::alloc::Global;
 use std::process::Abort;
 use std::sync::Wait;
@@ -214,7 +216,9 @@ fn comes_once<R: Wait + Abort>(
     assert!(*rt; !is_settled(rt, alloc, cluster, share)?);
     assert!(*rt; cluster.settle(rt, share, &OpenGate, 1, version)? == Outcome::Settled);
     assert!(*rt; is_settled(rt, alloc, cluster, share)?);
-    assert!(*rt; cluster.settle(rt, share, &OpenGate, 2, version)? == Outcome::Refused(10));
+    assert!(*rt;
+        cluster.settle(rt, share, &OpenGate, 2, version)? == Outcome::Refused(Refusal::UnknownDc)
+    );
     Ok(())
 }
 
@@ -277,7 +281,7 @@ fn waits_for_x<R: Wait + Abort>(
 ) -> Result<(), Fail> {
     assert!(*rt; deliver_y(rt, alloc, cluster, share)? == Outcome::Held);
     let put = put_of(alloc, b'z', 3, Vec::new(alloc))?;
-    assert!(*rt; mark_y(rt, alloc, cluster, share, put)? == Outcome::Refused(7));
+    assert!(*rt; mark_y(rt, alloc, cluster, share, put)? == Outcome::Refused(Refusal::NoYes));
     assert!(*rt; mark_y(rt, alloc, cluster, share, sent(alloc)?)? == Outcome::Marked);
     let version = Version::new(2, 0)?;
     assert!(*rt; cluster.settle(rt, share, &OpenGate, 1, version)? == Outcome::Settled);

@@ -6,7 +6,8 @@ use Rattle.std.specs.Cmp.Rules.{comparing}
 use Rattle.std.specs.List.{AllByRecursion, IsDistinct, list_any}
 use Rattle.cops_types.specs.declared.dep.Dep.{Dep}
 use Rattle.cops_types.specs.Dep.{is_same_dep}
-use Rattle.cops_context.specs.Context.{IsContext, has_pair, with_pair, and_beside}
+use Rattle.cops_context.specs.Context.{has_pair, with_pair}
+use Rattle.cops_context.specs.Kept.{IsContext, and_beside}
 
 module _ {K : Type 0} {e : K → K → Bool} (o : IsEquivalence e) where
   each_push : (P : K → Type 0) (xs : List K) (y : K) → AllByRecursion P xs → P y → AllByRecursion P (xs ++ y ∷ [])

@@ -14,7 +14,7 @@ pub struct Context {
 
 impl Model for Context {
     ghost use Rattle.std.specs.Prelude.{is_none};
-    ghost use Rattle.cops_context.specs.Context.{AContext, IsContext, and_beside};
+    ghost use Rattle.cops_context.specs.Kept.{AContext, IsContext, and_beside};
 
     ghost Value = { AContext };
 
@@ -25,7 +25,9 @@ impl Model for Context {
 
 impl Context {
     ghost use Rattle.std.specs.Prelude.{◌≡◌, ◌≢◌, ◌↔◌, ◌≤◌, length, List, [], ◌∷◌, true, false, nat_lt, IsTrue, IsOk, IfOk, IfErr, OnOk, OnErr, IsErrOf};
-    ghost use Rattle.cops_context.specs.Context.{IsContext, has_pair, with_pair};
+    ghost use Rattle.cops_context.specs.Context.{has_pair, with_pair};
+    ghost use Rattle.cops_types.specs.declared.limits.TheConstants.{MAX_DEPS};
+    ghost use Rattle.cops_context.specs.Kept.{IsContext};
 
     /// An empty context. It takes no memory.
     pub fn new(alloc: Global) -> Self
@@ -55,7 +57,7 @@ impl Context {
 
     /// Whether there are fewer than 256 pairs.
     pub fn has_room(&self) -> bool
-        ensures value { result ≡ nat_lt (length self.now.pairs) 256 }
+        ensures value { result ≡ nat_lt (length self.now.pairs) MAX_DEPS }
         ensures context { IsContext self.now.pairs }
     {
         self.len() < MAX_DEPS
@@ -123,7 +125,7 @@ impl Context {
     pub fn add(&mut self, pair: Dep) -> Result<(), ContextFault>
         ensures ok { OnOk result (self.new.pairs ≡ with_pair self.old.pairs pair) }
         ensures err { OnErr result (self.new ≡ self.old) }
-        ensures full { IsErrOf result ContextFault.ContextFull ↔ (has_pair self.old.pairs pair ≡ false × length self.old.pairs ≡ 256) }
+        ensures full { IsErrOf result ContextFault.ContextFull ↔ (has_pair self.old.pairs pair ≡ false × length self.old.pairs ≡ MAX_DEPS) }
         ensures reserved { self.old.room ≡ true → ¬ IsErrOf result ContextFault.Memory }
         ensures there { has_pair self.old.pairs pair ≡ true → IsOk result }
     {
@@ -152,7 +154,7 @@ impl Context {
     fn put_last(&mut self, pair: Dep)
         requires room { self.old.room ≡ true }
         requires new { has_pair self.old.pairs pair ≡ false }
-        requires few { nat_lt (length self.old.pairs) 256 ≡ true }
+        requires few { nat_lt (length self.old.pairs) MAX_DEPS ≡ true }
         ensures { self.new.pairs ≡ with_pair self.old.pairs pair }
     {
         let is_full = self.pairs.len() == self.pairs.capacity();

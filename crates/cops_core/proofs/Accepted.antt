@@ -8,7 +8,8 @@ use Rattle.cops_types.specs.declared.op.Op.TheVariants.{Put as Wrote, Got, Misse
 use Rattle.cops_types.specs.Histories.{Sessions, op_at, IsPut, SessionStep, SourceStep}
 use Rattle.cops_types.specs.Past.{Step, Past}
 use Rattle.cops_types.specs.Faults.{HasVersion, IsNotBelow}
-use Rattle.cops_types.specs.Verdicts.{NoneDoubled, AllHaveSources, AllAbove, NoneStale}
+use Rattle.cops_types.specs.Verdicts.{AllHaveSources, AllAbove, NoneStale}
+use Rattle.cops_types.specs.VersionOrder.{NoneDoubled}
 use Rattle.cops_context.specs.Context.{with_pair}
 use Rattle.cops_core.specs.Dependencies.{Bears, IsConsistent, IsClosed}
 use Rattle.cops_core.specs.Machine.{State, context_of, session}

@@ -5,10 +5,12 @@ use Rattle.std.proofs.lemmas.Bool.{cases_eq, and_parts, ltb-true}
 use Rattle.cops_types.specs.declared.limits.TheConstants.{MAX_CLIENT_OPS, MAX_OPS}
 use Rattle.cops_types.specs.declared.dep.Dep.{Dep}
 use Rattle.cops_types.specs.declared.op.Op.{Op}
-use Rattle.cops_types.specs.Recorded.{count_of, IsWithinLimits}
+use Rattle.cops_types.specs.Recorded.{IsWithinLimits}
+use Rattle.cops_types.specs.Counts.{count_of}
 use Rattle.cops_types.specs.Histories.{with_op}
 use Rattle.cops_types.proofs.Sessions.{within_with_op}
-use Rattle.cops_context.specs.Context.{IsContext, has_pair, with_pair}
+use Rattle.cops_context.specs.Context.{has_pair, with_pair}
+use Rattle.cops_context.specs.Kept.{IsContext}
 use Rattle.cops_context.proofs.PairLists.{context_push}
 use Rattle.cops_core.specs.World.{World, context_in, has_room}
 

@@ -1,5 +1,8 @@
 -- What the code of an event does at one node is what the world does.
 use Rattle.std.proofs.Common.{◌≡◌, ℕ, ◌+◌, ◌*◌, ◌<◌, ◌≤◌, ◌⊎◌, inl, inr, List, ◌∷◌, [], Bool, true, false, cond, Some, None, is_some, slice_get, slice_index_or, flat_map, length, refl, sym, ap, ◌∙◌, arith, subst, nat_lt, lt-ltb}
+use Rattle.cops_types.specs.declared.limits.TheConstants.{MAX_CLOCK}
+use Rattle.cops_types.specs.declared.refusal.Refusal.{Refusal}
+use Rattle.cops_types.specs.declared.refusal.Refusal.TheVariants.{ClockExhausted, ContextFull, UnknownClient, NeverSent, NotHeld, NoYes, Memory, UnknownDc, SessionFull}
 use Rattle.std.proofs.lemmas.Option.{get_or_from_slice_get}
 use Rattle.std.proofs.lemmas.List.{get_or_past}
 use Rattle.std.proofs.lemmas.Bool.{and_from}
@@ -7,20 +10,19 @@ use Rattle.cops_types.specs.declared.limits.TheConstants.{MAX_CLIENT_OPS, MAX_OP
 use Rattle.cops_types.specs.declared.dep.Dep.{Dep}
 use Rattle.cops_types.specs.declared.put_record.PutRecord.{PutRecord}
 use Rattle.cops_types.specs.Histories.{Sessions}
-use Rattle.cops_types.specs.Recorded.{Recorded, count_of}
-use Rattle.cops_types.specs.Clock.{version_of}
+use Rattle.cops_types.specs.Recorded.{Recorded}
+use Rattle.cops_types.specs.Counts.{count_of}
+use Rattle.cops_types.specs.NodeNumber.{version_of, place_of}
 use Rattle.cops_store.specs.Store.{has_pair}
 use Rattle.cops_held.specs.Held.{waiting}
 use Rattle.cops_node.specs.declared.event.NodeEvent.{NodeEvent}
 use Rattle.cops_node.specs.declared.event.NodeEvent.TheVariants.{Put as NodePut, Get as NodeGet, Deliver as NodeDeliver, Ask as NodeAsk, Mark as NodeMark, Settle as NodeSettle}
 use Rattle.cops_node.specs.declared.outcome.Outcome.{Outcome}
 use Rattle.cops_node.specs.declared.outcome.Outcome.TheVariants.{PutDone, Got as Answered, Missed as Nothing, Yes, Refused}
-use Rattle.cops_node.specs.Node.{Node, opened, greatest_clock, raised, put_at, dep_at, NodeHappens}
+use Rattle.cops_node.specs.Node.{Node, opened, raised, put_at, dep_at, NodeHappens}
 use Rattle.cops_core.specs.declared.recording.Draft.{Draft}
-use Rattle.cops_core.specs.Invariants.{IsReached}
+use Rattle.cops_core.specs.World.{IsReached, Said, Setting, IsSetting, World, home, primary, node_at, with_node, context_in, sent, is_answered, knows, has_room, is_dc, checks, refusal, keeps, asks, delivers, done, settled_in, Happens, Event, PutBy, GetBy, DeliverTo, AskAt, MarkAt, SettleAt}
 use Rattle.cops_core.specs.Parts.{MayRecord}
-use Rattle.cops_core.specs.World.{Said, Setting, IsSetting, World, home, primary, node_at, with_node, context_in, sent, is_answered, knows, has_room, is_dc, checks, refusal, keeps, asks, delivers, done, settled_in, Happens, Event, PutBy, GetBy, DeliverTo, AskAt, MarkAt, SettleAt}
-use Rattle.cops_types.specs.NodeNumber.{place_of}
 use Rattle.cops_core.proofs.Nodes.{same_node}
 use Rattle.cops_core.proofs.Placed.{Placed}
 use Rattle.cops_core.proofs.Simulation.{home_within, settled_here}
@@ -49,10 +51,10 @@ admitted_room {w} {client} a =
     (lt-ltb (length (slice_index_or w.sessions client [])) MAX_CLIENT_OPS a.few) (lt-ltb (count_of w.sessions) MAX_OPS a.all)
 
 -- and neither test of the client refuses it
-pub client_passes : {w : World} {client : ℕ} (tests : List (Bool × ℕ)) → Admitted w client → refusal ((knows w client, 3) ∷ (has_room w client, 11) ∷ tests) ≡ refusal tests
+pub client_passes : {w : World} {client : ℕ} (tests : List (Bool × Refusal)) → Admitted w client → refusal ((knows w client, UnknownClient) ∷ (has_room w client, SessionFull) ∷ tests) ≡ refusal tests
 client_passes {w} {client} tests a =
-    ap (λ b. refusal ((b, 3) ∷ (has_room w client, 11) ∷ tests)) (lt-ltb client (length w.sessions) a.known)
-    ∙ ap (λ b. refusal ((b, 11) ∷ tests)) (admitted_room a)
+    ap (λ b. refusal ((b, UnknownClient) ∷ (has_room w client, SessionFull) ∷ tests)) (lt-ltb client (length w.sessions) a.known)
+    ∙ ap (λ b. refusal ((b, SessionFull) ∷ tests)) (admitted_room a)
 
 -- an answer that is not Yes is not kept
 pub keeps_wait : (w : World) (dc place d : ℕ) (key : List ℕ) (version : ℕ) (o : Outcome) (n : Node) → (o ≡ Yes → ⊥) → keeps w dc place (AskAt d key version) o n ≡ with_node w dc place n
@@ -114,15 +116,15 @@ sound {s} {w} ok view reached = reached_sound s ok w (subst (IsReached s) (sym v
 
 -- what the node at a place answers the world does
 node_happens : {w : World} {dc d place q : ℕ} {was : Node} (event : Event) (asked : NodeEvent) (o : Outcome) (n : Node) (new : World) → dc ≡ d → place ≡ q → node_at w dc place ≡ was
-    → NodeHappens was asked o n → new ≡ keeps w dc place event o n → (asks w event d q asked ≡ (o, new)) ⊎ ((o ≡ Refused 9) × (new ≡ w))
+    → NodeHappens was asked o n → new ≡ keeps w dc place event o n → (asks w event d q asked ≡ (o, new)) ⊎ ((o ≡ Refused Memory) × (new ≡ w))
 node_happens {w} {dc} {d} {place} {q} event asked o n new same_dc same_place is h kept =
-    subst (λ x. (asks w event x q asked ≡ (o, new)) ⊎ ((o ≡ Refused 9) × (new ≡ w))) same_dc
-    (subst (λ x. (asks w event dc x asked ≡ (o, new)) ⊎ ((o ≡ Refused 9) × (new ≡ w))) same_place
+    subst (λ x. (asks w event x q asked ≡ (o, new)) ⊎ ((o ≡ Refused Memory) × (new ≡ w))) same_dc
+    (subst (λ x. (asks w event dc x asked ≡ (o, new)) ⊎ ((o ≡ Refused Memory) × (new ≡ w))) same_place
     (asks_happens w event dc place asked o n new (subst (λ m. NodeHappens m asked o n) (sym is) h) kept))
 
 -- where the tests of a world pass, what its node does happens in each world that is the same
 passed : {w old : World} (s : Setting) (event : Event) (o : Outcome) (new : World) → w ≡ old → refusal (checks s w event) ≡ None
-    → (done s w event ≡ (o, new)) ⊎ ((o ≡ Refused 9) × (new ≡ w)) → Happens s old event o new
+    → (done s w event ≡ (o, new)) ⊎ ((o ≡ Refused Memory) × (new ≡ w)) → Happens s old event o new
 passed {w} s event o new view none h = subst (λ x. Happens s x event o new) view (passed_happens s w event o new none h)
 
 -- a data centre that is not there has nothing settled
@@ -162,8 +164,8 @@ module _ {s : Setting} {w old : World} {dc : ℕ} (a : Asked s w old dc) where
   no_node : (place : ℕ) → length s.place.splits + 1 ≤ place → node_at w dc place ≡ opened (dc * 64 + place)
   no_node place le = let e = placed.places dc a.there in get_or_past (slice_index_or w.nodes dc []) place (opened (dc * 64 + place)) (omega arith)
 
-  known_dc : (tests : List (Bool × ℕ)) → refusal ((is_dc s dc, 10) ∷ tests) ≡ refusal tests
-  known_dc tests = ap (λ b. refusal ((b, 10) ∷ tests)) (lt-ltb dc s.place.dcs a.there)
+  known_dc : (tests : List (Bool × Refusal)) → refusal ((is_dc s dc, UnknownDc) ∷ tests) ≡ refusal tests
+  known_dc tests = ap (λ b. refusal ((b, UnknownDc) ∷ tests)) (lt-ltb dc s.place.dcs a.there)
 
   stays_nowhere : (place : ℕ) → length s.place.splits + 1 ≤ place → w ≡ with_node w dc place (opened (dc * 64 + place))
   stays_nowhere place le = sym (same_node w dc place) ∙ ap (with_node w dc place) (no_node place le)
@@ -175,19 +177,19 @@ module _ {s : Setting} {w old : World} {dc : ℕ} (a : Asked s w old dc) where
       passed s (SettleAt dc version) o (with_node w dc place n) a.view (known_dc [])
       (node_happens (SettleAt dc version) (NodeSettle version) o n (with_node w dc place n) refl e (is_node w dc place was at) h refl)
 
-  pub settles_nowhere : (version place : ℕ) → place ≡ place_of version → length s.place.splits + 1 ≤ place → Happens s old (SettleAt dc version) (Refused 5) w
+  pub settles_nowhere : (version place : ℕ) → place ≡ place_of version → length s.place.splits + 1 ≤ place → Happens s old (SettleAt dc version) (Refused NotHeld) w
   settles_nowhere version place e le =
-      passed s (SettleAt dc version) (Refused 5) w a.view (known_dc [])
-      (node_happens (SettleAt dc version) (NodeSettle version) (Refused 5) (opened (dc * 64 + place)) w refl e (no_node place le) (inl refl) (stays_nowhere place le))
+      passed s (SettleAt dc version) (Refused NotHeld) w a.view (known_dc [])
+      (node_happens (SettleAt dc version) (NodeSettle version) (Refused NotHeld) (opened (dc * 64 + place)) w refl e (no_node place le) (inl refl) (stays_nowhere place le))
 
   -- mark
   tests_of_mark : (version dep place : ℕ) (was : Node) (b : Bool) → place ≡ place_of version → node_at w dc place ≡ was → is_answered w.said dc (dep_at (waiting was.held version) dep) ≡ b
-      → refusal (checks s w (MarkAt dc version dep)) ≡ refusal ((b, 7) ∷ [])
+      → refusal (checks s w (MarkAt dc version dep)) ≡ refusal ((b, NoYes) ∷ [])
   tests_of_mark version dep place was b e is answered =
-      known_dc ((is_answered w.said dc (dep_at (waiting (node_at w dc (place_of version)).held version) dep), 7) ∷ [])
-      ∙ ap (λ q. refusal ((is_answered w.said dc (dep_at (waiting (node_at w dc q).held version) dep), 7) ∷ [])) (sym e)
-      ∙ ap (λ (n : Node). refusal ((is_answered w.said dc (dep_at (waiting n.held version) dep), 7) ∷ [])) is
-      ∙ ap (λ x. refusal ((x, 7) ∷ [])) answered
+      known_dc ((is_answered w.said dc (dep_at (waiting (node_at w dc (place_of version)).held version) dep), NoYes) ∷ [])
+      ∙ ap (λ q. refusal ((is_answered w.said dc (dep_at (waiting (node_at w dc q).held version) dep), NoYes) ∷ [])) (sym e)
+      ∙ ap (λ (n : Node). refusal ((is_answered w.said dc (dep_at (waiting n.held version) dep), NoYes) ∷ [])) is
+      ∙ ap (λ x. refusal ((x, NoYes) ∷ [])) answered
 
   pub marks : (version dep place : ℕ) (o : Outcome) (was n : Node) → place ≡ place_of version → IsAt w dc place was → is_answered w.said dc (dep_at (waiting was.held version) dep) ≡ true
       → NodeHappens was (NodeMark version dep) o n → Happens s old (MarkAt dc version dep) o (with_node w dc place n)
@@ -197,23 +199,23 @@ module _ {s : Setting} {w old : World} {dc : ℕ} (a : Asked s w old dc) where
       (node_happens (MarkAt dc version dep) (NodeMark version dep) o n (with_node w dc place n) refl e is h refl)
 
   pub marks_unanswered : (version dep place : ℕ) (was : Node) → place ≡ place_of version → IsAt w dc place was → is_answered w.said dc (dep_at (waiting was.held version) dep) ≡ false
-      → Happens s old (MarkAt dc version dep) (Refused 7) old
+      → Happens s old (MarkAt dc version dep) (Refused NoYes) old
   marks_unanswered version dep place was e at answered =
-      subst (λ x. Happens s x (MarkAt dc version dep) (Refused 7) x) a.view
-      (refused_happens s w (MarkAt dc version dep) 7 (tests_of_mark version dep place was false e (is_node w dc place was at) answered))
+      subst (λ x. Happens s x (MarkAt dc version dep) (Refused NoYes) x) a.view
+      (refused_happens s w (MarkAt dc version dep) NoYes (tests_of_mark version dep place was false e (is_node w dc place was at) answered))
 
-  pub marks_nowhere : (version dep place : ℕ) → place ≡ place_of version → length s.place.splits + 1 ≤ place → Happens s old (MarkAt dc version dep) (Refused 5) w
+  pub marks_nowhere : (version dep place : ℕ) → place ≡ place_of version → length s.place.splits + 1 ≤ place → Happens s old (MarkAt dc version dep) (Refused NotHeld) w
   marks_nowhere version dep place e le =
-      passed s (MarkAt dc version dep) (Refused 5) w a.view (tests_of_mark version dep place (opened (dc * 64 + place)) true e (no_node place le) refl)
-      (node_happens (MarkAt dc version dep) (NodeMark version dep) (Refused 5) (opened (dc * 64 + place)) w refl e (no_node place le) (inl refl) (stays_nowhere place le))
+      passed s (MarkAt dc version dep) (Refused NotHeld) w a.view (tests_of_mark version dep place (opened (dc * 64 + place)) true e (no_node place le) refl)
+      (node_happens (MarkAt dc version dep) (NodeMark version dep) (Refused NotHeld) (opened (dc * 64 + place)) w refl e (no_node place le) (inl refl) (stays_nowhere place le))
 
   -- deliver
   pub comes : (version place : ℕ) (o : Outcome) (put : PutRecord) (was n : Node) → Some put ≡ sent w.issued version → place ≡ primary s put.key → IsAt w dc place was
       → NodeHappens was (NodeDeliver put) o n → Happens s old (DeliverTo dc version) o (with_node w dc place n)
   comes version place o put was n found e at h =
       passed s (DeliverTo dc version) o (with_node w dc place n) a.view
-      (known_dc ((is_some (sent w.issued version), 4) ∷ []) ∙ ap (λ x. refusal ((is_some x, 4) ∷ [])) (sym found))
-      (subst (λ x. (delivers s w dc version x ≡ (o, with_node w dc place n)) ⊎ ((o ≡ Refused 9) × (with_node w dc place n ≡ w))) found
+      (known_dc ((is_some (sent w.issued version), NeverSent) ∷ []) ∙ ap (λ x. refusal ((is_some x, NeverSent) ∷ [])) (sym found))
+      (subst (λ x. (delivers s w dc version x ≡ (o, with_node w dc place n)) ⊎ ((o ≡ Refused Memory) × (with_node w dc place n ≡ w))) found
       (node_happens (DeliverTo dc version) (NodeDeliver put) o n (with_node w dc place n) refl e (is_node w dc place was at) h refl))
 
   -- ask
@@ -257,7 +259,7 @@ module _ {s : Setting} {w old : World} {client : ℕ} (a : Entered s w old clien
       → NodeHappens was (NodeGet client key) o n → new ≡ keeps w dc place (GetBy client key) o n → Happens s old (GetBy client key) o new
   gets_at key dc place o was n new few d e at h kept =
       passed s (GetBy client key) o new a.view
-      (client_passes ((nat_lt (length (context_in w client)) 256, 2) ∷ []) a.may ∙ ap (λ b. refusal ((b, 2) ∷ [])) few)
+      (client_passes ((nat_lt (length (context_in w client)) 256, ContextFull) ∷ []) a.may ∙ ap (λ b. refusal ((b, ContextFull) ∷ [])) few)
       (node_happens (GetBy client key) (NodeGet client key) o n new d e (is_node w dc place was at) h kept)
 
   -- the version that a node gives is new
@@ -272,14 +274,14 @@ module _ {s : Setting} {w old : World} {client : ℕ} (a : Entered s w old clien
       is : node ≡ was
       is = ap (node_at w (home s client)) (sym e) ∙ ap (λ x. node_at w x place) (sym d) ∙ is_node w dc place was at
 
-      go : (b : Bool) → cond b (put_at node key value (raised node.clock (context_in w client) + 1)) (Refused 1, node) ≡ (PutDone version, n) → sent w.issued version ≡ None
+      go : (b : Bool) → cond b (put_at node key value (raised node.clock (context_in w client) + 1)) (Refused ClockExhausted, node) ≡ (PutDone version, n) → sent w.issued version ≡ None
       go true g =
           let same : version_of (raised node.clock (context_in w client) + 1) node.number ≡ version = (let o : PutDone (version_of (raised node.clock (context_in w client) + 1) node.number) ≡ PutDone version = ap (λ (x : Outcome × Node). x.0) g in cc) in
           not_sent w.issued version (λ p c f. fresh s a.setting w grounds.placed grounds.kept client key value grounds.bounded a.may.known (admitted_room a.may) p c (f ∙ sym same))
-      go false g = let o : Refused 1 ≡ PutDone version = ap (λ (x : Outcome × Node). x.0) g in cc
+      go false g = let o : Refused ClockExhausted ≡ PutDone version = ap (λ (x : Outcome × Node). x.0) g in cc
 
       given : NodeHappens was (NodePut client key value (context_in w client)) (PutDone version) n → sent w.issued version ≡ None
       given (inr h) = cc
       given (inl h) =
-          go (nat_lt (raised node.clock (context_in w client)) greatest_clock)
-          (subst (λ m. cond (nat_lt (raised m.clock (context_in w client)) greatest_clock) (put_at m key value (raised m.clock (context_in w client) + 1)) (Refused 1, m) ≡ (PutDone version, n)) (sym is) h)
+          go (nat_lt (raised node.clock (context_in w client)) MAX_CLOCK)
+          (subst (λ m. cond (nat_lt (raised m.clock (context_in w client)) MAX_CLOCK) (put_at m key value (raised m.clock (context_in w client) + 1)) (Refused ClockExhausted, m) ≡ (PutDone version, n)) (sym is) h)

@@ -7,8 +7,8 @@ use Rattle.cops_types.specs.declared.op.Op.TheVariants.{Got, Missed}
 use Rattle.cops_context.specs.Context.{with_pair}
 use Rattle.cops_store.specs.Store.{Stored, has_pair, shown}
 use Rattle.cops_node.specs.Node.{put_pair, Node, answer}
-use Rattle.cops_core.specs.Machine.{Gets, Misses}
-use Rattle.cops_core.specs.World.{Setting, home, primary, World, node_at, context_in, has_room, keeps, GetBy, with_answer, view}
+use Rattle.cops_core.specs.Machine.{Gets, Misses, view}
+use Rattle.cops_core.specs.World.{Setting, home, primary, World, node_at, context_in, has_room, keeps, GetBy, with_answer}
 use Rattle.cops_core.proofs.Lists.{at_version}
 use Rattle.cops_core.proofs.Nodes.{same_node, IsAmong, has_to, has_from, IsShown, ShowsWell, shows}
 use Rattle.cops_core.proofs.Bounds.{IsBounded, bounded_answered, context_gains}

@@ -1,12 +1,15 @@
 -- Which answers take memory.
 use Rattle.std.proofs.Common.{◌≡◌, ℕ, ◌+◌, Bool, true, false, cond, ◌&&◌, List, [], ◌∷◌, Option, Some, None, length, slice_index_or, refl, sym, ap, ◌∙◌, subst, nat_lt}
+use Rattle.cops_types.specs.declared.limits.TheConstants.{MAX_CLOCK}
+use Rattle.cops_types.specs.declared.refusal.Refusal.TheVariants.{ClockExhausted, ContextFull, UnknownClient, SessionFull}
 use Rattle.std.proofs.lemmas.Bool.{ltb-true}
 use Rattle.cops_types.specs.declared.limits.TheConstants.{MAX_CLIENT_OPS, MAX_OPS}
-use Rattle.cops_types.specs.Recorded.{count_of}
+use Rattle.cops_types.specs.Counts.{count_of}
 use Rattle.cops_store.specs.Store.{Stored, shown}
 use Rattle.cops_node.specs.declared.outcome.Outcome.TheVariants.{Refused}
-use Rattle.cops_node.specs.Node.{Node, answer, greatest_clock, raised, put_at}
-use Rattle.cops_core.specs.World.{Setting, World, home, primary, node_at, context_in, knows, has_room, checks, refusal, unless, done, happens, TakesMemory, Event, PutBy, GetBy}
+use Rattle.cops_node.specs.Node.{Node, answer, raised, put_at}
+use Rattle.cops_core.specs.World.{Setting, World, home, primary, node_at, context_in, knows, has_room, checks, refusal, unless, done, happens, Event, PutBy, GetBy}
+use Rattle.cops_core.specs.Memory.{TakesMemory}
 use Rattle.cops_core.proofs.Events.{Admitted, client_passes}
 
 -- an event takes memory where its answer in a world does
@@ -17,7 +20,7 @@ Takes s w event = TakesMemory event (happens s w event).0
 passes : (s : Setting) (w : World) (event : Event) → refusal (checks s w event) ≡ None → TakesMemory event (done s w event).0 → Takes s w event
 passes s w event none takes = subst (λ r. TakesMemory event (unless w r (done s w event)).0) (sym none) takes
 
-tests_met : (a b : Bool) → refusal ((a, 3) ∷ (b, 11) ∷ []) ≡ None → (a ≡ true) × (b ≡ true)
+tests_met : (a b : Bool) → refusal ((a, UnknownClient) ∷ (b, SessionFull) ∷ []) ≡ None → (a ≡ true) × (b ≡ true)
 tests_met true true h = (refl, refl)
 tests_met true false h = absurd cc
 tests_met false b h = absurd cc
@@ -27,7 +30,7 @@ both true b h = (refl, h)
 both false b h = absurd cc
 
 -- a client whom neither test refuses
-pub none_refused : (w : World) (client : ℕ) → refusal ((knows w client, 3) ∷ (has_room w client, 11) ∷ []) ≡ None → Admitted w client
+pub none_refused : (w : World) (client : ℕ) → refusal ((knows w client, UnknownClient) ∷ (has_room w client, SessionFull) ∷ []) ≡ None → Admitted w client
 none_refused w client h =
     let met = tests_met (knows w client) (has_room w client) h in
     let room = both (nat_lt (length (slice_index_or w.sessions client [])) MAX_CLIENT_OPS) (nat_lt (count_of w.sessions) MAX_OPS) met.1 in
@@ -38,19 +41,19 @@ none_refused w client h =
     }
 
 put_takes : (s : Setting) (w : World) (client : ℕ) (key value : List ℕ) → Admitted w client → Takes s w (PutBy client key value)
-put_takes s w client key value a = passes s w (PutBy client key value) (client_passes [] a) (go (nat_lt (raised n.clock (context_in w client)) greatest_clock))
+put_takes s w client key value a = passes s w (PutBy client key value) (client_passes [] a) (go (nat_lt (raised n.clock (context_in w client)) MAX_CLOCK))
   where
     n : Node
     n = node_at w (home s client) (primary s key)
 
-    go : (b : Bool) → TakesMemory (PutBy client key value) (cond b (put_at n key value (raised n.clock (context_in w client) + 1)) (Refused 1, n)).0
+    go : (b : Bool) → TakesMemory (PutBy client key value) (cond b (put_at n key value (raised n.clock (context_in w client) + 1)) (Refused ClockExhausted, n)).0
     go true = tt
     go false = refl
 
 get_takes : (s : Setting) (w : World) (client : ℕ) (key : List ℕ) → Admitted w client → nat_lt (length (context_in w client)) 256 ≡ true → Takes s w (GetBy client key)
 get_takes s w client key a few =
     passes s w (GetBy client key)
-    (client_passes ((nat_lt (length (context_in w client)) 256, 2) ∷ []) a ∙ ap (λ b. refusal ((b, 2) ∷ [])) few)
+    (client_passes ((nat_lt (length (context_in w client)) 256, ContextFull) ∷ []) a ∙ ap (λ b. refusal ((b, ContextFull) ∷ [])) few)
     (go (shown (node_at w (home s client) (primary s key)).settled key))
   where
     go : (o : Option Stored) → TakesMemory (GetBy client key) (answer o)

@@ -4,7 +4,7 @@ use Rattle.std.specs.Prelude.{Result, Ok, Err, OnOk}
 use Rattle.std.proofs.Math.Seq.{map-set_same}
 use Rattle.std.proofs.lemmas.List.{map-set, get_or-map, length-map}
 use Rattle.cops_types.specs.declared.dep.Dep.{Dep}
-use Rattle.cops_context.specs.Context.{AContext}
+use Rattle.cops_context.specs.Kept.{AContext}
 
 abbrev pub pairs : AContext → List Dep
 pairs c = c.pairs

@@ -5,11 +5,12 @@ use Rattle.cops_types.specs.declared.op.Op.TheVariants.{Put as Wrote}
 use Rattle.cops_types.specs.declared.dep.Dep.{Dep}
 use Rattle.cops_types.specs.declared.put_record.PutRecord.{PutRecord}
 use Rattle.cops_types.specs.Version.{clock_of, node_of}
-use Rattle.cops_types.specs.Clock.{version_of}
+use Rattle.cops_types.specs.NodeNumber.{version_of}
 use Rattle.cops_store.specs.Store.{Stored}
 use Rattle.cops_node.specs.declared.outcome.Outcome.TheVariants.{PutDone}
 use Rattle.cops_node.specs.Node.{put_pair, stored_of, Node, raised, put_at}
-use Rattle.cops_core.specs.World.{Setting, IsSetting, home, primary, World, node_at, context_in, has_room, keeps, PutBy, view}
+use Rattle.cops_core.specs.World.{Setting, IsSetting, home, primary, World, node_at, context_in, has_room, keeps, PutBy}
+use Rattle.cops_core.specs.Machine.{view}
 use Rattle.cops_core.proofs.Accepted.{Kept}
 use Rattle.cops_core.proofs.Nodes.{with_settled_old, with_settled_cases, raised_own, raised_dep}
 use Rattle.cops_core.proofs.Bounds.{IsBounded, bounded_answered, one_pair}

@@ -5,9 +5,9 @@ use Rattle.cops_types.specs.declared.put_record.PutRecord.{PutRecord}
 use Rattle.cops_types.specs.declared.op.OpName.{OpName}
 use Rattle.cops_types.specs.declared.op.Op.TheVariants.{Put as Wrote}
 use Rattle.cops_types.specs.Histories.{Sessions, IsPut, PutsVersion}
-use Rattle.cops_types.specs.Verdicts.{IsVersionOrder}
+use Rattle.cops_types.specs.VersionOrder.{IsVersionOrder}
 use Rattle.cops_core.specs.Machine.{State, session}
-use Rattle.cops_core.specs.Invariants.{HasAcceptedVerdict}
+use Rattle.cops_types.specs.Verdicts.{HasAcceptedVerdict}
 use Rattle.cops_core.proofs.Lists.{contains_none, contains_cases, contains_head, contains_tail}
 use Rattle.cops_core.proofs.Contexts.{context_before, WasPut, fair_at}
 use Rattle.cops_core.proofs.Accepted.{IsOnce, Kept, none_doubled, all_have_sources, all_above, none_stale}

@@ -1,8 +1,7 @@
 -- Runs that go on: one more event after the last.
 use Rattle.std.proofs.Common.{◌≡◌, List, [], ◌∷◌, ◌++◌, refl, subst}
 use Rattle.cops_node.specs.declared.outcome.Outcome.{Outcome}
-use Rattle.cops_core.specs.Invariants.{IsReached}
-use Rattle.cops_core.specs.World.{Setting, World, Event, Happens, Run, opening}
+use Rattle.cops_core.specs.World.{IsReached, Run, Setting, World, Event, Happens, opening}
 
 pub run_more : (s : Setting) (events : List Event) (outcomes : List Outcome) (old mid new : World) (e : Event) (o : Outcome) → Run s old events outcomes mid → Happens s mid e o new → Run s old (events ++ e ∷ []) (outcomes ++ o ∷ []) new
 run_more s [] [] old mid new e o r h = (new, (subst (λ x. Happens s x e o new) r h, refl))

@@ -1,5 +1,6 @@
 -- What data centres do among themselves: deliver, ask, mark and settle.
 use Rattle.std.proofs.Common.{◌≡◌, ℕ, ◌<◌, ◌≤◌, ◌⊎◌, inl, inr, List, [], ◌∷◌, ◌++◌, Bool, true, false, cond, ◌||◌, Contains, Option, Some, None, is_some, slice_get, length, refl, sym, ap, ◌∙◌, arith, subst, length-set, nat_lt, eqb-true, ◌==◌}
+use Rattle.cops_types.specs.declared.refusal.Refusal.TheVariants.{NoSuchDep, DepsOpen}
 use Rattle.std.proofs.lemmas.Bool.{and_parts}
 use Rattle.std.proofs.lemmas.List.Elements.{Contains-push_cases}
 use Rattle.cops_types.specs.declared.dep.Dep.{Dep}
@@ -10,8 +11,9 @@ use Rattle.cops_store.specs.Store.{Stored, has_pair}
 use Rattle.cops_held.specs.Held.{Waiting, unmarked, is_at, waiting, with_waiting, all_marked, marked, with_mark}
 use Rattle.cops_node.specs.declared.outcome.Outcome.{Outcome}
 use Rattle.cops_node.specs.declared.outcome.Outcome.TheVariants.{Held, Repeat, Yes, Wait, Marked, Settled, Refused}
-use Rattle.cops_node.specs.Node.{dep_at, put_pair, stored_of, Node, mark_at, mark_step, settled_node, settle_at, settle_step}
-use Rattle.cops_core.specs.World.{Setting, home, primary, Said, World, node_at, with_node, sent, same_said, was_said, gained, with_said, is_answered, keeps, delivers, DeliverTo, AskAt, MarkAt, SettleAt, view}
+use Rattle.cops_node.specs.Node.{dep_at, put_pair, stored_of, Node, mark_at, settled_node, settle_at}
+use Rattle.cops_core.specs.World.{Setting, home, primary, Said, World, node_at, with_node, sent, same_said, was_said, gained, with_said, is_answered, keeps, delivers, DeliverTo, AskAt, MarkAt, SettleAt}
+use Rattle.cops_core.specs.Machine.{view}
 use Rattle.cops_types.specs.NodeNumber.{place_of}
 use Rattle.cops_core.proofs.Lists.{same_pair_true}
 use Rattle.cops_core.proofs.Accepted.{Kept}
@@ -138,7 +140,7 @@ same_version s w kept p q hp hq e = kept.consistent.unique p q hp hq e
 -- a mark stands only for what was said to be settled
 pub mark_goes : (s : Setting) → length s.place.splits ≤ 63 → (w : World) → Placed s w → IsBounded w → Kept (home s) (view w) → (dc version dep : ℕ) → dc < s.place.dcs
     → is_answered w.said dc (dep_at (waiting (node_at w dc (place_of version)).held version) dep) ≡ true
-    → (let r = mark_step (node_at w dc (place_of version)) version dep in Goes s w (keeps w dc (place_of version) (MarkAt dc version dep) r.0 r.1))
+    → (let r = mark_at (node_at w dc (place_of version)) version dep (waiting (node_at w dc (place_of version)).held version) in Goes s w (keeps w dc (place_of version) (MarkAt dc version dep) r.0 r.1))
 mark_goes s fits w placed bounded kept dc version dep hd = go (waiting (node_at w dc place).held version) refl
   where
     place : ℕ
@@ -179,7 +181,7 @@ mark_goes s fits w placed bounded kept dc version dep hd = go (waiting (node_at 
     held h ih a e y (inl old) = placed.held dc place y old
     held h ih a e y (inr m) = mark h ih a e m.from y (placed.held dc place m.from m.among) m.at m.is
 
-    found : (h : Waiting) → Contains (node_at w dc place).held h → is_at version h ≡ true → is_answered w.said dc (slice_get h.put.deps dep) ≡ true → (c : Bool) → Goes s w (let n = node_at w dc place in let r : Outcome × Node = cond c (Marked, record { number = n.number; clock = n.clock; settled = n.settled; held = with_mark n.held version dep }) (Refused 6, n) in keeps w dc place (MarkAt dc version dep) r.0 r.1)
+    found : (h : Waiting) → Contains (node_at w dc place).held h → is_at version h ≡ true → is_answered w.said dc (slice_get h.put.deps dep) ≡ true → (c : Bool) → Goes s w (let n = node_at w dc place in let r : Outcome × Node = cond c (Marked, record { number = n.number; clock = n.clock; settled = n.settled; held = with_mark n.held version dep }) (Refused NoSuchDep, n) in keeps w dc place (MarkAt dc version dep) r.0 r.1)
     found h i a e false = back_goes s w placed bounded dc place
     found h i a e true =
         let ih = placed.held dc place h i in
@@ -283,13 +285,13 @@ module _ (s : Setting) (fits : length s.place.splits ≤ 63) (w : World) (placed
   }
 
 pub settle_goes : (s : Setting) → length s.place.splits ≤ 63 → (w : World) → Placed s w → IsBounded w → Kept (home s) (view w) → (dc version : ℕ) → dc < s.place.dcs
-    → (let r = settle_step (node_at w dc (place_of version)) version in Goes s w (keeps w dc (place_of version) (SettleAt dc version) r.0 r.1))
+    → (let r = settle_at (node_at w dc (place_of version)) (waiting (node_at w dc (place_of version)).held version) in Goes s w (keeps w dc (place_of version) (SettleAt dc version) r.0 r.1))
 settle_goes s fits w placed bounded kept dc version hd = go (waiting (node_at w dc place).held version) refl
   where
     place : ℕ
     place = place_of version
 
-    found : (h : Waiting) → Contains (node_at w dc place).held h → (b : Bool) → all_marked h ≡ b → Goes s w (let n = node_at w dc place in let r : Outcome × Node = cond b (Settled, settled_node n h.put) (Refused 8, n) in keeps w dc place (SettleAt dc version) r.0 r.1)
+    found : (h : Waiting) → Contains (node_at w dc place).held h → (b : Bool) → all_marked h ≡ b → Goes s w (let n = node_at w dc place in let r : Outcome × Node = cond b (Settled, settled_node n h.put) (Refused DepsOpen, n) in keeps w dc place (SettleAt dc version) r.0 r.1)
     found h i false e = back_goes s w placed bounded dc place
     found h i true e = settled_goes s fits w placed bounded kept dc place hd h i e
 

@@ -1,18 +1,19 @@
 -- Each event of the world is a step of the machine on its view, and keeps the nodes placed.
 use Rattle.std.proofs.Common.{◌≡◌, ◌≢◌, ℕ, ◌<◌, ◌≤◌, ◌⊎◌, inl, inr, List, ◌∷◌, Bool, true, false, Contains, Option, Some, None, length, refl, sym, ap, ◌∙◌, arith, subst}
+use Rattle.cops_types.specs.declared.refusal.Refusal.{Refusal}
 use Rattle.std.specs.Ordering.{is_le, nat_cmp}
 use Rattle.std.specs.Cmp.Lexicographic.{slice_cmp}
 use Rattle.std.proofs.lemmas.List.Sums.{count_by-le-length}
 use Rattle.cops_types.specs.declared.dep.Dep.{Dep}
 use Rattle.cops_types.specs.declared.put_record.PutRecord.{PutRecord}
 use Rattle.cops_types.specs.Version.{clock_of, node_of}
-use Rattle.cops_types.specs.Clock.{version_of}
+use Rattle.cops_types.specs.NodeNumber.{version_of}
 use Rattle.cops_store.specs.Store.{Stored, stored_pair, has_pair, with_settled}
 use Rattle.cops_node.specs.declared.outcome.Outcome.{Outcome}
 use Rattle.cops_node.specs.Node.{put_pair, stored_of, Node}
 use Rattle.cops_core.specs.Dependencies.{Bears}
-use Rattle.cops_core.specs.Machine.{SettlesAt, Stays, Step}
-use Rattle.cops_core.specs.World.{Setting, IsSetting, home, primary, World, node_at, with_node, refusal, unless, settled_in, view}
+use Rattle.cops_core.specs.Machine.{SettlesAt, Stays, Step, view}
+use Rattle.cops_core.specs.World.{Setting, IsSetting, home, primary, World, node_at, with_node, refusal, unless, settled_in}
 use Rattle.cops_core.proofs.Bounds.{IsBounded}
 use Rattle.cops_core.proofs.Nodes.{same_node, filter_to, filter_from, IsAmong, has_to, has_from, with_settled_new, with_settled_cases, settled_in_to, settled_in_from}
 use Rattle.cops_core.proofs.Placed.{settled_at, IsStored, Placed, Change, each_node, node_new}
@@ -120,14 +121,14 @@ pub back_goes : (s : Setting) (w : World) → Placed s w → IsBounded w → (dc
 back_goes s w p b dc place = subst (Goes s w) (sym (same_node w dc place)) (stays_goes s w p b)
 
 -- where no test refuses, each passed
-pub unless_goes : (s : Setting) (w : World) → Placed s w → IsBounded w → (tests : List (Bool × ℕ)) (next : Outcome × World) → (refusal tests ≡ None → Goes s w next.1) → Goes s w (unless w (refusal tests) next).1
+pub unless_goes : (s : Setting) (w : World) → Placed s w → IsBounded w → (tests : List (Bool × Refusal)) (next : Outcome × World) → (refusal tests ≡ None → Goes s w next.1) → Goes s w (unless w (refusal tests) next).1
 unless_goes s w p b tests next goes = go (refusal tests) refl
   where
-    go : (r : Option ℕ) → refusal tests ≡ r → Goes s w (unless w r next).1
+    go : (r : Option Refusal) → refusal tests ≡ r → Goes s w (unless w r next).1
     go None e = goes e
     go (Some code) e = stays_goes s w p b
 
-pub first_passed : (t : Bool) (code : ℕ) (tests : List (Bool × ℕ)) → refusal ((t, code) ∷ tests) ≡ None → (t ≡ true) × (refusal tests ≡ None)
+pub first_passed : (t : Bool) (code : Refusal) (tests : List (Bool × Refusal)) → refusal ((t, code) ∷ tests) ≡ None → (t ≡ true) × (refusal tests ≡ None)
 first_passed true code tests e = (refl, e)
 first_passed false code tests e = cc
 

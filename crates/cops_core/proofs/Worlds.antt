@@ -1,5 +1,8 @@
 -- Whole runs: what the opening world has, what each event keeps, and that what is recorded is accepted.
 use Rattle.std.proofs.Common.{◌≡◌, ◌≢◌, ℕ, zero, suc, ◌+◌, ◌*◌, ◌<◌, ◌≤◌, ◌⊎◌, inl, inr, List, [], ◌∷◌, ◌++◌, Bool, true, false, cond, Contains, Some, None, is_some, slice_get, slice_index_or, length, refl, sym, ap, ◌∙◌, arith, subst, nat_lt, replicate}
+use Rattle.cops_types.specs.declared.limits.TheConstants.{MAX_CLOCK}
+use Rattle.cops_types.specs.declared.refusal.Refusal.{Refusal}
+use Rattle.cops_types.specs.declared.refusal.Refusal.TheVariants.{ClockExhausted, ContextFull, UnknownClient, NeverSent, NoYes, UnknownDc, SessionFull}
 use Rattle.std.proofs.lemmas.Bool.{ltb-true}
 use Rattle.cops_types.specs.declared.dep.Dep.{Dep}
 use Rattle.cops_types.specs.declared.put_record.PutRecord.{PutRecord}
@@ -8,7 +11,7 @@ use Rattle.cops_types.specs.declared.op.Op.TheVariants.{Put as Wrote, Got}
 use Rattle.cops_types.specs.Past.{Past}
 use Rattle.cops_node.specs.declared.outcome.Outcome.{Outcome}
 use Rattle.cops_node.specs.declared.outcome.Outcome.TheVariants.{Refused}
-use Rattle.cops_node.specs.Node.{dep_at, put_pair, greatest_clock, stored_of, Node, opened, raised, put_at}
+use Rattle.cops_node.specs.Node.{dep_at, put_pair, stored_of, Node, opened, raised, put_at}
 use Rattle.std.proofs.Common.{length-append}
 use Rattle.std.proofs.lemmas.List.{length-replicate}
 use Rattle.std.proofs.lemmas.Option.{slice_get_within}
@@ -18,16 +21,17 @@ use Rattle.cops_types.specs.declared.op.OpName.{OpName}
 use Rattle.cops_types.specs.declared.op.Op.TheVariants.{Put as Wrote, Got}
 use Rattle.cops_types.specs.Histories.{IsNamed, IsPut, IsGot}
 use Rattle.cops_types.proofs.Sessions.{none_within}
-use Rattle.cops_context.specs.Context.{IsContext}
+use Rattle.cops_context.specs.Kept.{IsContext}
 use Rattle.cops_held.specs.Held.{waiting}
 use Rattle.cops_node.specs.declared.outcome.Outcome.{Outcome}
 use Rattle.cops_node.specs.declared.outcome.Outcome.TheVariants.{Refused}
-use Rattle.cops_node.specs.Node.{greatest_clock, put_pair, stored_of, Node, opened, raised, put_at}
+use Rattle.cops_node.specs.Node.{put_pair, stored_of, Node, opened, raised, put_at}
 use Rattle.cops_core.specs.Dependencies.{Bears}
-use Rattle.cops_core.specs.Machine.{context_of, session, Step}
-use Rattle.cops_core.specs.World.{Setting, IsSetting, home, primary, World, node_at, context_in, sent, is_answered, knows, has_room, is_dc, checks, refusal, keeps, done, Event, PutBy, GetBy, DeliverTo, AskAt, MarkAt, SettleAt, happens, Happens, Run, row, rows, opening, view}
+use Rattle.cops_core.specs.Machine.{context_of, session, Step, view}
+use Rattle.cops_core.specs.World.{Setting, IsSetting, home, primary, World, node_at, context_in, sent, is_answered, knows, has_room, is_dc, checks, refusal, keeps, done, Event, PutBy, GetBy, DeliverTo, AskAt, MarkAt, SettleAt, happens, Happens, row, rows, opening, Run, IsReached}
+use Rattle.cops_types.specs.Verdicts.{HasAcceptedVerdict}
 use Rattle.cops_types.specs.NodeNumber.{place_of}
-use Rattle.cops_core.specs.Invariants.{Covers, IsCarried, IsIssued, Invariants, IsReached, HasAcceptedVerdict}
+use Rattle.cops_core.specs.Invariants.{Covers, IsCarried, IsIssued, Invariants}
 use Rattle.cops_core.proofs.Lists.{at_version, contains_none}
 use Rattle.cops_core.proofs.Reaching.{reaches_settled}
 use Rattle.cops_core.proofs.Contexts.{context_before, AllFair, fair_at, WasPut, WasGot, covers_later}
@@ -51,30 +55,30 @@ module _ (s : Setting) (ok : IsSetting s) (w : World) (sound : Sound s w) where
   known : (client : ℕ) → knows w client ≡ true → client < length w.sessions
   known client h = ltb-true client (length w.sessions) h
 
-  inside : (dc : ℕ) → (tests : List (Bool × ℕ)) → refusal ((is_dc s dc, 10) ∷ tests) ≡ None → dc < s.place.dcs
-  inside dc tests h = ltb-true dc s.place.dcs (first_passed (is_dc s dc) 10 tests h).0
+  inside : (dc : ℕ) → (tests : List (Bool × Refusal)) → refusal ((is_dc s dc, UnknownDc) ∷ tests) ≡ None → dc < s.place.dcs
+  inside dc tests h = ltb-true dc s.place.dcs (first_passed (is_dc s dc) UnknownDc tests h).0
 
   puts : (client : ℕ) (key value : List ℕ) → client < length w.sessions → has_room w client ≡ true → (b : Bool)
-      → Goes s w (let n = node_at w (home s client) (primary s key) in let r : Outcome × Node = cond b (put_at n key value (raised n.clock (context_in w client) + 1)) (Refused 1, n) in keeps w (home s client) (primary s key) (PutBy client key value) r.0 r.1)
+      → Goes s w (let n = node_at w (home s client) (primary s key) in let r : Outcome × Node = cond b (put_at n key value (raised n.clock (context_in w client) + 1)) (Refused ClockExhausted, n) in keeps w (home s client) (primary s key) (PutBy client key value) r.0 r.1)
   puts client key value h room true = put_goes s ok w sound.placed sound.kept client key value sound.bounded h room
   puts client key value h room false = back_goes s w sound.placed sound.bounded (home s client) (primary s key)
 
   done_goes : (e : Event) → refusal (checks s w e) ≡ None → Goes s w (done s w e).1
   done_goes (PutBy client key value) h =
-      let a = first_passed (knows w client) 3 ((has_room w client, 11) ∷ []) h in
-      let b = first_passed (has_room w client) 11 [] a.1 in
-      puts client key value (known client a.0) b.0 (nat_lt (raised (node_at w (home s client) (primary s key)).clock (context_in w client)) greatest_clock)
+      let a = first_passed (knows w client) UnknownClient ((has_room w client, SessionFull) ∷ []) h in
+      let b = first_passed (has_room w client) SessionFull [] a.1 in
+      puts client key value (known client a.0) b.0 (nat_lt (raised (node_at w (home s client) (primary s key)).clock (context_in w client)) MAX_CLOCK)
   done_goes (GetBy client key) h =
-      let a = first_passed (knows w client) 3 ((has_room w client, 11) ∷ (nat_lt (length (context_in w client)) 256, 2) ∷ []) h in
-      let b = first_passed (has_room w client) 11 ((nat_lt (length (context_in w client)) 256, 2) ∷ []) a.1 in
-      let c = first_passed (nat_lt (length (context_in w client)) 256) 2 [] b.1 in
+      let a = first_passed (knows w client) UnknownClient ((has_room w client, SessionFull) ∷ (nat_lt (length (context_in w client)) 256, ContextFull) ∷ []) h in
+      let b = first_passed (has_room w client) SessionFull ((nat_lt (length (context_in w client)) 256, ContextFull) ∷ []) a.1 in
+      let c = first_passed (nat_lt (length (context_in w client)) 256) ContextFull [] b.1 in
       get_goes s w sound.placed client key sound.bounded (known client a.0) b.0 (ltb-true (length (context_in w client)) 256 c.0)
-  done_goes (DeliverTo dc version) h = deliver_goes s ok.place.range.2 w sound.placed sound.bounded dc version (inside dc ((is_some (sent w.issued version), 4) ∷ []) h)
+  done_goes (DeliverTo dc version) h = deliver_goes s ok.place.range.2 w sound.placed sound.bounded dc version (inside dc ((is_some (sent w.issued version), NeverSent) ∷ []) h)
   done_goes (AskAt dc key version) h = ask_goes s w sound.placed sound.bounded dc key version
   done_goes (MarkAt dc version dep) h =
       let answered = is_answered w.said dc (dep_at (waiting (node_at w dc (place_of version)).held version) dep) in
-      let a = first_passed (is_dc s dc) 10 ((answered, 7) ∷ []) h in
-      mark_goes s ok.place.range.2 w sound.placed sound.bounded sound.kept dc version dep (inside dc ((answered, 7) ∷ []) h) (first_passed answered 7 [] a.1).0
+      let a = first_passed (is_dc s dc) UnknownDc ((answered, NoYes) ∷ []) h in
+      mark_goes s ok.place.range.2 w sound.placed sound.bounded sound.kept dc version dep (inside dc ((answered, NoYes) ∷ []) h) (first_passed answered NoYes [] a.1).0
   done_goes (SettleAt dc version) h = settle_goes s ok.place.range.2 w sound.placed sound.bounded sound.kept dc version (inside dc [] h)
 
   pub happens_goes : (e : Event) → Goes s w (happens s w e).1

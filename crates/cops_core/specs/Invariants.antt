@@ -6,16 +6,18 @@ use Rattle.cops_types.specs.declared.op.OpName.{OpName}
 use Rattle.cops_types.specs.Histories.{Sessions, IsNamed, IsPut, IsGot}
 use Rattle.cops_types.specs.Past.{Past}
 use Rattle.cops_types.specs.Recorded.{IsWithinLimits}
-use Rattle.cops_types.specs.Verdicts.{IsAccepted, NoneDoubled}
+use Rattle.cops_types.specs.Verdicts.{IsAccepted}
+use Rattle.cops_types.specs.VersionOrder.{NoneDoubled}
 use Rattle.cops_types.specs.Version.{clock_of}
-use Rattle.cops_context.specs.Context.{IsContext}
+use Rattle.cops_context.specs.Kept.{IsContext}
 use Rattle.cops_store.specs.Store.{Stored}
 use Rattle.cops_held.specs.Held.{Waiting}
 use Rattle.cops_node.specs.declared.outcome.Outcome.{Outcome}
 use Rattle.cops_node.specs.Node.{stored_of}
 use Rattle.cops_core.specs.Dependencies.{Bears, Reaches, IsConsistent, IsClosed}
-use Rattle.cops_core.specs.Machine.{State, context_of}
-use Rattle.cops_core.specs.World.{Setting, IsSetting, home, World, node_at, context_in, Said, view, Event, Run, opening, AWorld}
+use Rattle.cops_core.specs.Machine.{State, context_of, view}
+use Rattle.cops_core.specs.World.{Setting, IsSetting, home, World, node_at, context_in, Said, Event, opening, Run}
+use Rattle.cops_core.specs.Opened.{AWorld}
 
 -- a pair of the list reaches this one
 pub record Covers (puts : List PutRecord) (context : List Dep) (pair : Dep) : Type 0 where
@@ -53,16 +55,3 @@ pub record Invariants (s : Setting) (w : World) : Type 0 where
   -- contexts and sessions are within their limits
   pub contexts : (client : ℕ) → IsContext (context_in w client)
   pub limits : IsWithinLimits w.sessions
-
--- the world is reached from the opening one by some events and answers
-abbrev pub IsReached : Setting → World → Type 0
-IsReached s w = (events : List Event) × (outcomes : List Outcome) × Run s (opening s) events outcomes w
-
--- a cluster that was opened, and events came
-pub record IsReachedWorld (c : AWorld) : Type 0 where
-  pub setting : IsSetting c.setting
-  pub reached : IsReached c.setting c.world
-
--- the verdict of the history is Accepted
-abbrev pub HasAcceptedVerdict : Sessions → Type 0
-HasAcceptedVerdict h = (puts : List OpName) × IsAccepted h puts

@@ -1,6 +1,8 @@
 pub mod Dependencies
-pub mod Machine
 pub mod World
+pub mod Memory
+pub mod Opened
+pub mod Machine
 pub mod Invariants
 pub mod Lending
 pub mod Parts

@@ -1,13 +1,15 @@
 -- The store as its clients may know it (COPS, section 3): one set of puts in each data centre, and no nodes, no clocks
 -- and no messages.
-use Rattle.std.specs.Prelude.{◌≡◌, ◌≢◌, ℕ, ◌<◌, ◌≤◌, ◌↔◌, ◌⊎◌, List, [], ◌∷◌, ◌++◌, length, Contains, slice_index_or, slice_set}
+use Rattle.std.specs.Prelude.{◌≡◌, ◌≢◌, ℕ, ◌<◌, ◌≤◌, ◌↔◌, ◌⊎◌, List, [], ◌∷◌, ◌++◌, length, filter, Contains, slice_index_or, slice_set}
 use Rattle.cops_types.specs.declared.dep.Dep.{Dep}
 use Rattle.cops_types.specs.declared.put_record.PutRecord.{PutRecord}
 use Rattle.cops_types.specs.declared.op.Op.{Op}
 use Rattle.cops_types.specs.declared.op.Op.TheVariants.{Put as Wrote, Got, Missed}
 use Rattle.cops_types.specs.Histories.{Sessions, with_op}
 use Rattle.cops_context.specs.Context.{with_pair}
+use Rattle.cops_store.specs.Store.{has_pair}
 use Rattle.cops_node.specs.Node.{put_pair}
+use Rattle.cops_core.specs.World.{World, settled_in}
 
 pub record State : Type 0 where
   pub issued : List PutRecord
@@ -88,3 +90,12 @@ Step home old new =
     ⊎ ((client : ℕ) × (key : List ℕ) × Misses old new (home client) client key)
     ⊎ ((dc : ℕ) × (put : PutRecord) × Settles old new dc put)
     ⊎ Stays old new
+
+-- the world as one set of puts in each data centre
+abbrev pub view : World → State
+view w = record {
+  issued = w.issued;
+  settled = λ dc. filter (λ p. has_pair (settled_in w dc) (put_pair p)) w.issued;
+  contexts = w.contexts;
+  sessions = w.sessions;
+}

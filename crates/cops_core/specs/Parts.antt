@@ -3,7 +3,8 @@ use Rattle.std.specs.Prelude.{◌≡◌, ℕ, ◌<◌, List, [], ◌∷◌, Bool
 use Rattle.cops_types.specs.declared.limits.TheConstants.{MAX_CLIENT_OPS, MAX_OPS}
 use Rattle.cops_types.specs.declared.dep.Dep.{Dep}
 use Rattle.cops_types.specs.declared.put_record.PutRecord.{PutRecord}
-use Rattle.cops_types.specs.Recorded.{Recorded, count_of, HasRoom}
+use Rattle.cops_types.specs.Recorded.{Recorded, HasRoom}
+use Rattle.cops_types.specs.Counts.{count_of}
 use Rattle.cops_core.specs.World.{Said}
 
 -- the issued puts, and whether one more takes no memory

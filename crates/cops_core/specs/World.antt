@@ -1,25 +1,25 @@
 -- The world: its nodes, what was issued and answered, and what each client saw.
-use Rattle.std.specs.Prelude.{◌≡◌, ℕ, zero, suc, ◌+◌, ◌<◌, ◌≤◌, ◌⊎◌, List, [], ◌∷◌, ◌++◌, Bool, true, false, if◌then◌else◌, ◌==◌, ◌&&◌, nat_lt, length, filter, find, replicate, flat_map, slice_set, slice_index_or, All, Option, Some, None, is_some}
+use Rattle.std.specs.Prelude.{◌≡◌, ℕ, zero, suc, ◌+◌, ◌<◌, ◌≤◌, ◌⊎◌, List, [], ◌∷◌, ◌++◌, Bool, true, false, if◌then◌else◌, ◌==◌, ◌&&◌, nat_lt, length, sum_by, find, replicate, flat_map, slice_set, slice_index_or, All, Option, Some, None, is_some}
 use Rattle.std.specs.List.{list_any}
-use Rattle.cops_types.specs.declared.limits.TheConstants.{MAX_CLIENT_OPS, MAX_OPS}
+use Rattle.cops_types.specs.declared.limits.TheConstants.{MAX_CLIENTS, MAX_CLIENT_OPS, MAX_DEPS, MAX_OPS}
 use Rattle.cops_types.specs.declared.dep.Dep.{Dep}
 use Rattle.cops_types.specs.declared.put_record.PutRecord.{PutRecord}
+use Rattle.cops_types.specs.declared.refusal.Refusal.{Refusal}
+use Rattle.cops_types.specs.declared.refusal.Refusal.TheVariants.{UnknownClient, SessionFull, ContextFull, UnknownDc, NeverSent, NoYes, Memory}
 use Rattle.cops_types.specs.declared.op.Op.{Op}
 use Rattle.cops_types.specs.declared.op.Op.TheVariants.{Put as Wrote, Got, Missed}
 use Rattle.cops_types.specs.Histories.{Sessions, with_op}
-use Rattle.cops_types.specs.Recorded.{count_of}
 use Rattle.cops_types.specs.Dep.{is_same_dep}
 use Rattle.cops_types.specs.NodeNumber.{node_number, place_of}
 use Rattle.cops_context.specs.Context.{with_pair}
-use Rattle.cops_store.specs.Store.{Stored, has_pair}
+use Rattle.cops_store.specs.Store.{Stored}
 use Rattle.cops_held.specs.Held.{waiting}
 use Rattle.cops_node.specs.declared.event.NodeEvent.{NodeEvent}
 use Rattle.cops_node.specs.declared.event.NodeEvent.TheVariants.{Put as NodePut, Get as NodeGet, Deliver as NodeDeliver, Ask as NodeAsk, Mark as NodeMark, Settle as NodeSettle}
 use Rattle.cops_node.specs.declared.outcome.Outcome.{Outcome}
 use Rattle.cops_node.specs.declared.outcome.Outcome.TheVariants.{PutDone, Got as Answered, Missed as Nothing, Yes, Refused}
-use Rattle.cops_node.specs.Node.{put_pair, Node, opened, dep_at, node_step}
+use Rattle.cops_node.specs.Node.{Node, opened, dep_at, node_step}
 use Rattle.cops_place.specs.Place.{APlace, IsPlace, primary as primary_of}
-use Rattle.cops_core.specs.Machine.{State}
 pub use Rattle.cops_core.specs.declared.event.Said.{Said}
 pub use Rattle.cops_core.specs.declared.event.Event.{Event}
 pub use Rattle.cops_core.specs.declared.event.Event.TheVariants.{Put as PutBy, Get as GetBy, Deliver as DeliverTo, Ask as AskAt, Mark as MarkAt, Settle as SettleAt}
@@ -32,7 +32,7 @@ pub record Setting : Type 0 where
 pub record IsSetting (s : Setting) : Type 0 where
   pub place : IsPlace s.place
   pub homes : All (λ dc. dc < s.place.dcs) s.homes
-  pub clients : length s.homes ≤ 65535
+  pub clients : length s.homes ≤ MAX_CLIENTS
 
 abbrev pub home : Setting → ℕ → ℕ
 home s client = slice_index_or s.homes client 0
@@ -72,29 +72,17 @@ abbrev pub node_at : World → ℕ → ℕ → Node
 node_at w dc place = slice_index_or (slice_index_or w.nodes dc []) place (opened (node_number dc place))
 
 abbrev pub with_node : World → ℕ → ℕ → Node → World
-with_node w dc place n = record {
-  nodes = slice_set w.nodes dc (slice_set (slice_index_or w.nodes dc []) place n);
-  issued = w.issued;
-  said = w.said;
-  contexts = w.contexts;
-  sessions = w.sessions;
-}
+with_node w dc place n = record w { nodes = slice_set w.nodes dc (slice_set (slice_index_or w.nodes dc []) place n) }
 
 abbrev pub context_in : World → ℕ → List Dep
 context_in w client = slice_index_or w.contexts client []
 
 -- the client's session gains an operation, and its context is this one
 abbrev pub with_answer : World → ℕ → Op → List Dep → World
-with_answer w client op context = record {
-  nodes = w.nodes;
-  issued = w.issued;
-  said = w.said;
-  contexts = slice_set w.contexts client context;
-  sessions = with_op w.sessions client op;
-}
+with_answer w client op context = record w { contexts = slice_set w.contexts client context; sessions = with_op w.sessions client op }
 
 abbrev pub with_issued : World → PutRecord → World
-with_issued w put = record { nodes = w.nodes; issued = w.issued ++ put ∷ []; said = w.said; contexts = w.contexts; sessions = w.sessions }
+with_issued w put = record w { issued = w.issued ++ put ∷ [] }
 
 -- the put that bears a version
 abbrev pub sent : List PutRecord → ℕ → Option PutRecord
@@ -111,7 +99,7 @@ abbrev pub gained : List Said → Said → List Said
 gained said y = if was_said said y then said else said ++ y ∷ []
 
 abbrev pub with_said : World → Said → World
-with_said w y = record { nodes = w.nodes; issued = w.issued; said = gained w.said y; contexts = w.contexts; sessions = w.sessions }
+with_said w y = record w { said = gained w.said y }
 
 -- no dependency, or one that the data centre has answered Yes for
 abbrev pub is_answered : List Said → ℕ → Option Dep → Bool
@@ -121,25 +109,23 @@ is_answered said dc (Some pair) = was_said said (record { dc = dc; pair = pair }
 abbrev pub knows : World → ℕ → Bool
 knows w client = nat_lt client (length w.sessions)
 
--- the client's history may have one more operation
 abbrev pub has_room : World → ℕ → Bool
-has_room w client = nat_lt (length (slice_index_or w.sessions client [])) MAX_CLIENT_OPS && nat_lt (count_of w.sessions) MAX_OPS
+has_room w client = nat_lt (length (slice_index_or w.sessions client [])) MAX_CLIENT_OPS && nat_lt (sum_by length w.sessions) MAX_OPS
 
 abbrev pub is_dc : Setting → ℕ → Bool
 is_dc s dc = nat_lt dc s.place.dcs
 
--- What an event wants of the world, in the order of the refusals, with their codes. Where all is there a node is asked,
--- which may refuse too: 1 ClockExhausted, 5 NotHeld, 6 NoSuchDep, 8 DepsOpen.
-abbrev pub checks : Setting → World → Event → List (Bool × ℕ)
-checks s w (PutBy client key value) = (knows w client, 3) ∷ (has_room w client, 11) ∷ []
-checks s w (GetBy client key) = (knows w client, 3) ∷ (has_room w client, 11) ∷ (nat_lt (length (context_in w client)) 256, 2) ∷ []
-checks s w (DeliverTo dc version) = (is_dc s dc, 10) ∷ (is_some (sent w.issued version), 4) ∷ []
-checks s w (AskAt dc key version) = (is_dc s dc, 10) ∷ []
-checks s w (MarkAt dc version dep) = (is_dc s dc, 10) ∷ (is_answered w.said dc (dep_at (waiting (node_at w dc (place_of version)).held version) dep), 7) ∷ []
-checks s w (SettleAt dc version) = (is_dc s dc, 10) ∷ []
+-- What an event wants of the world, in the order of the refusals. Where all is there a node is asked, which may refuse too.
+abbrev pub checks : Setting → World → Event → List (Bool × Refusal)
+checks s w (PutBy client key value) = (knows w client, UnknownClient) ∷ (has_room w client, SessionFull) ∷ []
+checks s w (GetBy client key) = (knows w client, UnknownClient) ∷ (has_room w client, SessionFull) ∷ (nat_lt (length (context_in w client)) MAX_DEPS, ContextFull) ∷ []
+checks s w (DeliverTo dc version) = (is_dc s dc, UnknownDc) ∷ (is_some (sent w.issued version), NeverSent) ∷ []
+checks s w (AskAt dc key version) = (is_dc s dc, UnknownDc) ∷ []
+checks s w (MarkAt dc version dep) = (is_dc s dc, UnknownDc) ∷ (is_answered w.said dc (dep_at (waiting (node_at w dc (place_of version)).held version) dep), NoYes) ∷ []
+checks s w (SettleAt dc version) = (is_dc s dc, UnknownDc) ∷ []
 
--- the first code whose test fails
-abbrev pub refusal : List (Bool × ℕ) → Option ℕ
+-- the first whose test fails
+abbrev pub refusal : List (Bool × Refusal) → Option Refusal
 refusal [] = None
 refusal (t ∷ tests) = if t.0 then refusal tests else Some t.1
 
@@ -156,12 +142,10 @@ keeps w dc place event outcome n = with_node w dc place n
 
 -- the node at a place is asked, and the world keeps what it answers
 abbrev pub asks : World → Event → ℕ → ℕ → NodeEvent → Outcome × World
-asks w event dc place asked =
-    let r = node_step (node_at w dc place) asked in
-    (r.0, keeps w dc place event r.0 r.1)
+asks w event dc place asked = let r = node_step (node_at w dc place) asked in (r.0, keeps w dc place event r.0 r.1)
 
 abbrev pub delivers : Setting → World → ℕ → ℕ → Option PutRecord → Outcome × World
-delivers s w dc version None = (Refused 4, w)
+delivers s w dc version None = (Refused NeverSent, w)
 delivers s w dc version (Some put) = asks w (DeliverTo dc version) dc (primary s put.key) (NodeDeliver put)
 
 -- the node that an event goes to, and what it is asked
@@ -173,29 +157,17 @@ done s w (AskAt dc key version) = asks w (AskAt dc key version) dc (primary s ke
 done s w (MarkAt dc version dep) = asks w (MarkAt dc version dep) dc (place_of version) (NodeMark version dep)
 done s w (SettleAt dc version) = asks w (SettleAt dc version) dc (place_of version) (NodeSettle version)
 
-abbrev pub unless : World → Option ℕ → Outcome × World → Outcome × World
-unless w (Some code) next = (Refused code, w)
+abbrev pub unless : World → Option Refusal → Outcome × World → Outcome × World
+unless w (Some refused) next = (Refused refused, w)
 unless w None next = next
 
 -- what is answered where memory is there, and the world afterwards
 abbrev pub happens : Setting → World → Event → Outcome × World
 happens s w event = unless w (refusal (checks s w event)) (done s w event)
 
--- a refusal that comes after memory is taken: of a put whose clock is exhausted, and of a mark that no Yes allows
-abbrev pub is_late : Event → ℕ → Bool
-is_late (PutBy client key value) code = code == 1
-is_late (MarkAt dc version dep) code = code == 7
-is_late event code = false
-
--- an answer for which the world takes memory: each but the refusals that come before
-abbrev pub TakesMemory : Event → Outcome → Type 0
-TakesMemory event (Refused code) = is_late event code ≡ true
-TakesMemory event outcome = Unit {0}
-
 -- an event is answered so, or refused for want of memory
 abbrev pub Happens : Setting → World → Event → Outcome → World → Type 0
-Happens s old event outcome new =
-    (happens s old event ≡ (outcome, new)) ⊎ ((outcome ≡ Refused 9) × (new ≡ old))
+Happens s old event outcome new = (happens s old event ≡ (outcome, new)) ⊎ ((outcome ≡ Refused Memory) × (new ≡ old))
 
 -- a whole run
 abbrev pub Run : Setting → World → List Event → List Outcome → World → Type 0
@@ -204,38 +176,10 @@ Run s old (event ∷ events) (outcome ∷ outcomes) new = (mid : World) × (Happ
 Run s old [] (outcome ∷ outcomes) new = ⊥
 Run s old (event ∷ events) [] new = ⊥
 
+-- the world is reached from the opening one by some events and answers
+abbrev pub IsReached : Setting → World → Type 0
+IsReached s w = (events : List Event) × (outcomes : List Outcome) × Run s (opening s) events outcomes w
+
 -- all that the nodes of a data centre settled
 abbrev pub settled_in : World → ℕ → List Stored
 settled_in w dc = flat_map (λ n. n.settled) (slice_index_or w.nodes dc [])
-
--- the world as one set of puts in each data centre
-abbrev pub view : World → State
-view w = record {
-  issued = w.issued;
-  settled = λ dc. filter (λ p. has_pair (settled_in w dc) (put_pair p)) w.issued;
-  contexts = w.contexts;
-  sessions = w.sessions;
-}
-
--- what a run answers where memory is always there, and where it ends
-abbrev pub answers : Setting → World → List Event → List Outcome
-answers s w [] = []
-answers s w (event ∷ events) = (happens s w event).0 ∷ answers s (happens s w event).1 events
-
-abbrev pub reached : Setting → World → List Event → World
-reached s w [] = w
-reached s w (event ∷ events) = reached s (happens s w event).1 events
-
--- a world in its setting: what never changes, and what does
-pub record AWorld : Type 0 where
-  pub setting : Setting
-  pub world : World
-
--- each client's data centre is there, and there are at most 65,535 clients
-abbrev pub AreClients : APlace → List ℕ → Type 0
-AreClients place homes = All (λ dc. dc < place.dcs) homes × (length homes ≤ 65535)
-
-abbrev pub opened_world : APlace → List ℕ → AWorld
-opened_world place homes =
-    let s : Setting = record { place = place; homes = homes } in
-    record { setting = s; world = opening s }

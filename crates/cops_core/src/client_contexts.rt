@@ -22,6 +22,7 @@ impl Model for ClientContexts {
 
 impl ClientContexts {
     ghost use Rattle.std.specs.Prelude.{◌≡◌, ◌≢◌, ◌<◌, [], ◌∷◌, IfOk, OnOk, OnErr, length, nat_lt, replicate, slice_index_or, slice_set};
+    ghost use Rattle.cops_types.specs.declared.limits.TheConstants.{MAX_DEPS};
     ghost use Rattle.cops_context.specs.Context.{with_pair};
     ghost use Rattle.cops_core.specs.Parts.{HasPlace};
 
@@ -56,7 +57,7 @@ impl ClientContexts {
     /// Whether a client has fewer than 256 pairs.
     pub fn has_room(&self, client: u16) -> bool
         requires { client < length self.now.pairs }
-        ensures { result ≡ nat_lt (length (slice_index_or self.now.pairs client [])) 256 }
+        ensures { result ≡ nat_lt (length (slice_index_or self.now.pairs client [])) MAX_DEPS }
     {
         let context = &self.contexts[client as usize];
         context.has_room()
@@ -75,7 +76,7 @@ impl ClientContexts {
     /// A client meets a pair.
     pub fn add(&mut self, client: u16, pair: Dep)
         requires known { client < length self.old.pairs }
-        requires few { length (slice_index_or self.old.pairs client []) < 256 }
+        requires few { length (slice_index_or self.old.pairs client []) < MAX_DEPS }
         requires room { HasPlace self.old client }
         ensures { self.new.pairs ≡ slice_set self.old.pairs client (with_pair (slice_index_or self.old.pairs client []) pair) }
     {

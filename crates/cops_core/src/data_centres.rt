@@ -24,14 +24,15 @@ impl Model for DataCentre {
 
 impl DataCentre {
     ghost use Rattle.std.specs.Prelude.{◌≡◌, ◌<◌, ◌≤◌, length, slice_get, Some, IfOk};
+    ghost use Rattle.cops_types.specs.declared.limits.TheConstants.{MAX_DCS, PLACES};
     ghost use Rattle.cops_core.specs.World.{row};
     ghost use Rattle.std.specs.Borrow.{sem};
     ghost use Rattle.cops_core.specs.Lending.{LendsNode};
 
     /// The first nodes of a data centre, so many, with nothing in them.
     pub fn open(alloc: Global, dc: u8, nodes: u8) -> Result<Self, Memory>
-        requires dc { dc < 16 }
-        requires nodes { nodes ≤ 64 }
+        requires dc { dc < MAX_DCS }
+        requires nodes { nodes ≤ PLACES }
         ensures { IfOk result (λ opened. opened ≡ row dc nodes) }
     {
         let mut opened = Vec::new(alloc);
@@ -68,6 +69,7 @@ impl Model for DataCentres {
 
 impl DataCentres {
     ghost use Rattle.std.specs.Prelude.{IfOk, ◌≡◌, ◌≤◌};
+    ghost use Rattle.cops_types.specs.declared.limits.TheConstants.{MAX_DCS, PLACES};
     ghost use Rattle.cops_core.specs.World.{rows};
     ghost use Rattle.std.specs.Prelude.{◌<◌, length, slice_get, slice_index_or, [], Some};
     ghost use Rattle.std.specs.Borrow.{sem};
@@ -75,8 +77,8 @@ impl DataCentres {
 
     /// So many data centres, each of so many nodes.
     pub fn open(alloc: Global, dcs: u8, nodes: u8) -> Result<Self, Memory>
-        requires dcs { dcs ≤ 16 }
-        requires nodes { nodes ≤ 64 }
+        requires dcs { dcs ≤ MAX_DCS }
+        requires nodes { nodes ≤ PLACES }
         ensures { IfOk result (λ opened. opened ≡ rows nodes dcs) }
     {
         let mut opened = Vec::new(alloc);

@@ -1,8 +1,4 @@
 //! Why no world was opened.
-ghost use Rattle.std.specs.Prelude.{◌≡◌};
-ghost use Rattle.cops_core.specs.declared.fault.WorldFault.TheVariants.{Memory as OutOfMemory};
-
-use cops_types::Memory;
 use thiserror::Error;
 
 /// Why no world was opened. The numbers are the faults' codes.
@@ -12,12 +8,4 @@ pub enum WorldFault {
     Memory = 0,
     #[error("a client's data centre is not there, or there are more than 65,535 clients")]
     BadClient = 1,
-}
-
-impl From<Memory> for WorldFault {
-    ghost from_gives = { λ _ e. e ≡ OutOfMemory };
-
-    fn from(_e: Memory) -> WorldFault {
-        WorldFault::Memory
-    }
 }

@@ -1,9 +1,11 @@
-ghost use Rattle.std.specs.Prelude.{◌≡◌, ℕ};
+ghost use Rattle.std.specs.Prelude.{◌≡◌};
+ghost use Rattle.cops_types.specs.declared.refusal.Refusal.{Refusal};
 ghost use Rattle.cops_node.specs.declared.outcome.Outcome.{Outcome};
 ghost use Rattle.cops_node.specs.declared.outcome.Outcome.TheVariants.{Refused};
-ghost use Rattle.cops_core.specs.Invariants.{HasAcceptedVerdict, Invariants, IsReached};
-ghost use Rattle.cops_core.specs.Machine.{Step};
-ghost use Rattle.cops_core.specs.World.{Event, Happens, IsSetting, Setting, World, home, view};
+ghost use Rattle.cops_core.specs.Invariants.{Invariants};
+ghost use Rattle.cops_core.specs.World.{IsReached, Event, Happens, IsSetting, Setting, World, home};
+ghost use Rattle.cops_types.specs.Verdicts.{HasAcceptedVerdict};
+ghost use Rattle.cops_core.specs.Machine.{Step, view};
 
 /// A law of the definitions. Whatever events come to an opened world, in whatever order, and wherever memory runs out:
 /// the verdict of the history that was recorded is Accepted. Each event is a step of the machine that knows one set of
@@ -13,5 +15,5 @@ pub fn every_interleaving_is_accepted()
     ensures steps { (s : Setting) (w new : World) (event : Event) (outcome : Outcome) → IsSetting s → IsReached s w
         → Happens s w event outcome new → Step (home s) (view w) (view new) }
     ensures invariants { (s : Setting) (w : World) → IsSetting s → IsReached s w → Invariants s w }
-    ensures refused { (s : Setting) (w new : World) (event : Event) (code : ℕ) → Happens s w event (Refused code) new → new ≡ w }
+    ensures refused { (s : Setting) (w new : World) (event : Event) (refused : Refusal) → Happens s w event (Refused refused) new → new ≡ w }
 {}

@@ -13,7 +13,6 @@ mod fault;
 mod issued;
 mod laws;
 mod recording;
-mod refusal;
 mod script;
 mod setting;
 mod state;

@@ -1,7 +1,8 @@
 //! What the world keeps of its clients' operations: copies, and a place in the history.
 ghost use Rattle.cops_types.specs.declared.limits.TheConstants.{MAX_CLIENT_OPS, MAX_OPS};
 ghost use Rattle.std.specs.Prelude.{◌≡◌, ◌<◌, ◌⊎◌, ◌∷◌, ◌++◌, [], true, None, Some, nat_lt, ◌&&◌, length, slice_index_or, slice_set, IfOk, IfErr, OnOk};
-ghost use Rattle.cops_types.specs.Recorded.{count_of};
+ghost use Rattle.cops_types.specs.declared.refusal.Refusal.TheVariants.{Memory as OutOfMemory, SessionFull, UnknownClient};
+ghost use Rattle.cops_types.specs.Counts.{count_of};
 ghost use Rattle.cops_types.specs.Histories.{with_op};
 ghost use Rattle.cops_types.specs.declared.op.Op.TheVariants.{Put as Wrote};
 ghost use Rattle.cops_core.specs.Parts.{MayRecord};
@@ -9,24 +10,24 @@ ghost use Rattle.cops_core.specs.World.{refusal, sent};
 
 use crate::client_contexts::ClientContexts;
 use crate::issued::Issued;
-use crate::refusal::{SESSION_FULL, UNKNOWN_CLIENT};
-use cops_node::MEMORY;
-use cops_types::{Dep, Deps, History, Key, Memory, Op, PutRecord, TypeFault, Value, Version};
+use cops_types::{
+    Dep, Deps, History, Key, Memory, Op, PutRecord, Refusal, TypeFault, Value, Version,
+};
 use std::alloc::{AllocError, Global};
 
-/// Whether a client may have one more operation, else the code of the refusal. What was recorded stays. Want of memory is
+/// Whether a client may have one more operation, else why not. What was recorded stays. Want of memory is
 /// answered only where nothing else refuses.
-pub fn admit(history: &mut History, client: u16) -> Result<(), u8>
+pub fn admit(history: &mut History, client: u16) -> Result<(), Refusal>
     ensures same { history.new.sessions ≡ history.old.sessions }
     ensures ok { OnOk result (MayRecord history.new client) }
-    ensures err { IfErr result (λ code. (code ≡ 9) ⊎ (refusal ((nat_lt client (length history.old.sessions), 3) ∷ (nat_lt (length (slice_index_or history.old.sessions client [])) MAX_CLIENT_OPS && nat_lt (count_of history.old.sessions) MAX_OPS, 11) ∷ []) ≡ Some code)) }
-    ensures memory { IfErr result (λ code. code ≡ 9 → refusal ((nat_lt client (length history.old.sessions), 3) ∷ (nat_lt (length (slice_index_or history.old.sessions client [])) MAX_CLIENT_OPS && nat_lt (count_of history.old.sessions) MAX_OPS, 11) ∷ []) ≡ None) }
+    ensures err { IfErr result (λ refused. (refused ≡ OutOfMemory) ⊎ (refusal ((nat_lt client (length history.old.sessions), UnknownClient) ∷ (nat_lt (length (slice_index_or history.old.sessions client [])) MAX_CLIENT_OPS && nat_lt (count_of history.old.sessions) MAX_OPS, SessionFull) ∷ []) ≡ Some refused)) }
+    ensures memory { IfErr result (λ refused. refused ≡ OutOfMemory → refusal ((nat_lt client (length history.old.sessions), UnknownClient) ∷ (nat_lt (length (slice_index_or history.old.sessions client [])) MAX_CLIENT_OPS && nat_lt (count_of history.old.sessions) MAX_OPS, SessionFull) ∷ []) ≡ None) }
 {
     match history.reserve(client) {
         Ok(()) => Ok(()),
-        Err(TypeFault::UnknownClient) => Err(UNKNOWN_CLIENT),
-        Err(TypeFault::TooManyOps) => Err(SESSION_FULL),
-        Err(_) => Err(MEMORY),
+        Err(TypeFault::UnknownClient) => Err(Refusal::UnknownClient),
+        Err(TypeFault::TooManyOps) => Err(Refusal::SessionFull),
+        Err(_) => Err(Refusal::Memory),
     }
 }
 

@@ -2,12 +2,9 @@ ghost use Rattle.std.specs.Prelude.{◌≡◌, ◌<◌, ◌↔◌, All, IsTrue};
 
 use crate::fault::WorldFault;
 use cops_place::Place;
-use cops_types::Key;
+use cops_types::{Key, MAX_CLIENTS};
 use std::alloc::AllocError;
 use std::marker::Model;
-
-/// The most clients of a cluster.
-pub const MAX_CLIENTS: usize = 65_535;
 
 /// What never changes in a cluster: where keys live, and the data centre of each client, at most 65,535, each of which is there.
 #[derive(Debug, Drop)]
@@ -28,6 +25,7 @@ impl Model for Setting {
 
 impl Setting {
     ghost use Rattle.std.specs.Prelude.{◌≡◌, ◌<◌, ◌+◌, ◌≤◌, length, All, IfOk, OnErr, Err};
+    ghost use Rattle.cops_types.specs.declared.limits.TheConstants.{MAX_CLIENTS};
     ghost use Rattle.cops_core.specs.World.{IsSetting, home, primary};
     ghost use Rattle.cops_core.specs.declared.fault.WorldFault.TheVariants.{BadClient};
 
@@ -35,9 +33,9 @@ impl Setting {
     pub fn new(place: Place, homes: Vec<u8>) -> Result<Self, WorldFault>
         ensures ok { IfOk result (λ setting. setting ≡ record { place = place; homes = homes.items }) }
         ensures err { OnErr result (result ≡ Err BadClient) }
-        ensures bad { OnErr result (All (λ dc. dc < place.dcs) homes.items × length homes.items ≤ 65535 → ⊥) }
+        ensures bad { OnErr result (All (λ dc. dc < place.dcs) homes.items × length homes.items ≤ MAX_CLIENTS → ⊥) }
     {
-        if homes.len() > MAX_CLIENTS || !are_below(&homes, place.dcs()) {
+        if homes.len() > usize::from(MAX_CLIENTS) || !are_below(&homes, place.dcs()) {
             return Err(WorldFault::BadClient);
         }
         Ok(Setting { place, homes })

@@ -7,12 +7,11 @@ use crate::data_centres::DataCentres;
 use crate::event::{Event, Said};
 use crate::issued::Issued;
 use crate::recording::{admit, copied, copies_of, drafted, keep_put, record};
-use crate::refusal::{CONTEXT_FULL, NEVER_SENT, NO_YES, UNKNOWN_DC};
 use crate::setting::Setting;
 use crate::table::{answer, events};
 use cops_context::Context;
-use cops_node::{MEMORY, NOT_HELD, Outcome};
-use cops_types::{Dep, Deps, History, Key, Memory, Op, PutRecord, Value, Version};
+use cops_node::Outcome;
+use cops_types::{Dep, Deps, History, Key, Memory, Op, PutRecord, Refusal, Value, Version};
 use std::alloc::Global;
 use std::marker::Model;
 
@@ -43,10 +42,11 @@ impl Model for State {
 
 impl State {
     ghost use Rattle.std.specs.Prelude.{◌≡◌, ◌≢◌, [], IfOk, OnErr, length, option_copied, slice_get};
+    ghost use Rattle.cops_types.specs.declared.refusal.Refusal.TheVariants.{Memory as OutOfMemory};
     ghost use Rattle.cops_node.specs.declared.outcome.Outcome.TheVariants.{Refused as RefusedWith};
     ghost use Rattle.cops_store.specs.Store.{has_pair};
-    ghost use Rattle.cops_core.specs.World.{Happens, TakesMemory, context_in, happens, opening, sent, settled_in, PutBy, GetBy, DeliverTo, AskAt, MarkAt, SettleAt};
-    ghost use Rattle.cops_core.specs.Invariants.{IsReached};
+    ghost use Rattle.cops_core.specs.World.{Happens, context_in, happens, opening, sent, settled_in, PutBy, GetBy, DeliverTo, AskAt, MarkAt, SettleAt, IsReached};
+    ghost use Rattle.cops_core.specs.Memory.{TakesMemory};
 
     /// The state in which nothing has happened yet.
     pub fn open(alloc: Global, setting: &Setting) -> Result<Self, Memory>
@@ -67,7 +67,7 @@ impl State {
     pub fn step(&mut self, setting: &Setting, event: &Event) -> Outcome
         requires { IsReached setting.now self.old }
         ensures happens { Happens setting.now self.old event.now result self.new }
-        ensures memory { result ≡ RefusedWith 9 → TakesMemory event.now (happens setting.now self.old event.now).0 }
+        ensures memory { result ≡ RefusedWith OutOfMemory → TakesMemory event.now (happens setting.now self.old event.now).0 }
     {
         events!(answer self, setting, event)
     }
@@ -128,11 +128,11 @@ impl State {
     fn put(&mut self, setting: &Setting, client: u16, key: &Key, value: &Value) -> Outcome
         requires { IsReached setting.now self.old }
         ensures happens { Happens setting.now self.old (PutBy client key.now value.now) result self.new }
-        ensures memory { result ≡ RefusedWith 9 → TakesMemory (PutBy client key.now value.now) (happens setting.now self.old (PutBy client key.now value.now)).0 }
+        ensures memory { result ≡ RefusedWith OutOfMemory → TakesMemory (PutBy client key.now value.now) (happens setting.now self.old (PutBy client key.now value.now)).0 }
     {
         match self.try_put(setting, client, key, value) {
             Ok(outcome) => outcome,
-            Err(Memory) => Outcome::Refused(MEMORY),
+            Err(Memory) => Outcome::Refused(Refusal::Memory),
         }
     }
 
@@ -147,12 +147,12 @@ impl State {
         requires { IsReached setting.now self.old }
         ensures ok { IfOk result (λ outcome. Happens setting.now self.old (PutBy client key.now value.now) outcome self.new) }
         ensures err { OnErr result (self.new ≡ self.old) }
-        ensures memory { IfOk result (λ outcome. outcome ≡ RefusedWith 9 → TakesMemory (PutBy client key.now value.now) (happens setting.now self.old (PutBy client key.now value.now)).0) }
+        ensures memory { IfOk result (λ outcome. outcome ≡ RefusedWith OutOfMemory → TakesMemory (PutBy client key.now value.now) (happens setting.now self.old (PutBy client key.now value.now)).0) }
         ensures takes { OnErr result (TakesMemory (PutBy client key.now value.now) (happens setting.now self.old (PutBy client key.now value.now)).0) }
     {
         let place = setting.primary(key);
-        if let Err(code) = admit(&mut self.history, client) {
-            return Ok(Outcome::Refused(code));
+        if let Err(refused) = admit(&mut self.history, client) {
+            return Ok(Outcome::Refused(refused));
         }
         self.issued.reserve()?;
         let own = drafted(&self.contexts, client, key, value)?;
@@ -175,11 +175,11 @@ impl State {
     fn get(&mut self, setting: &Setting, client: u16, key: &Key) -> Outcome
         requires { IsReached setting.now self.old }
         ensures happens { Happens setting.now self.old (GetBy client key.now) result self.new }
-        ensures memory { result ≡ RefusedWith 9 → TakesMemory (GetBy client key.now) (happens setting.now self.old (GetBy client key.now)).0 }
+        ensures memory { result ≡ RefusedWith OutOfMemory → TakesMemory (GetBy client key.now) (happens setting.now self.old (GetBy client key.now)).0 }
     {
         match self.try_get(setting, client, key) {
             Ok(outcome) => outcome,
-            Err(Memory) => Outcome::Refused(MEMORY),
+            Err(Memory) => Outcome::Refused(Refusal::Memory),
         }
     }
 
@@ -188,18 +188,18 @@ impl State {
         requires { IsReached setting.now self.old }
         ensures ok { IfOk result (λ outcome. Happens setting.now self.old (GetBy client key.now) outcome self.new) }
         ensures err { OnErr result (self.new ≡ self.old) }
-        ensures memory { IfOk result (λ outcome. outcome ≡ RefusedWith 9 → TakesMemory (GetBy client key.now) (happens setting.now self.old (GetBy client key.now)).0) }
+        ensures memory { IfOk result (λ outcome. outcome ≡ RefusedWith OutOfMemory → TakesMemory (GetBy client key.now) (happens setting.now self.old (GetBy client key.now)).0) }
         ensures takes { OnErr result (TakesMemory (GetBy client key.now) (happens setting.now self.old (GetBy client key.now)).0) }
     {
         let place = setting.primary(key);
-        if let Err(code) = admit(&mut self.history, client) {
-            if code == MEMORY && !self.contexts.has_room(client) {
-                return Ok(Outcome::Refused(CONTEXT_FULL));
+        if let Err(refused) = admit(&mut self.history, client) {
+            if refused == Refusal::Memory && !self.contexts.has_room(client) {
+                return Ok(Outcome::Refused(Refusal::ContextFull));
             }
-            return Ok(Outcome::Refused(code));
+            return Ok(Outcome::Refused(refused));
         }
         if !self.contexts.has_room(client) {
-            return Ok(Outcome::Refused(CONTEXT_FULL));
+            return Ok(Outcome::Refused(Refusal::ContextFull));
         }
         self.contexts.reserve(client)?;
         let (op_key, pair_key) = (key.clone()?, key.clone()?);
@@ -235,17 +235,17 @@ impl State {
     fn deliver(&mut self, setting: &Setting, dc: u8, version: Version) -> Outcome
         requires { IsReached setting.now self.old }
         ensures happens { Happens setting.now self.old (DeliverTo dc version) result self.new }
-        ensures memory { result ≡ RefusedWith 9 → TakesMemory (DeliverTo dc version) (happens setting.now self.old (DeliverTo dc version)).0 }
+        ensures memory { result ≡ RefusedWith OutOfMemory → TakesMemory (DeliverTo dc version) (happens setting.now self.old (DeliverTo dc version)).0 }
     {
         if dc >= setting.dcs() {
-            return Outcome::Refused(UNKNOWN_DC);
+            return Outcome::Refused(Refusal::UnknownDc);
         }
         let Some(put) = self.issued.find(version) else {
-            return Outcome::Refused(NEVER_SENT);
+            return Outcome::Refused(Refusal::NeverSent);
         };
         let place = setting.primary(&put.key);
         let Ok(copy) = copied(self.alloc, put) else {
-            return Outcome::Refused(MEMORY);
+            return Outcome::Refused(Refusal::Memory);
         };
         let node = self.centres.node(dc, place);
         node.deliver(copy)
@@ -255,16 +255,16 @@ impl State {
     fn ask(&mut self, setting: &Setting, dc: u8, key: &Key, version: Version) -> Outcome
         requires { IsReached setting.now self.old }
         ensures happens { Happens setting.now self.old (AskAt dc key.now version) result self.new }
-        ensures memory { result ≡ RefusedWith 9 → TakesMemory (AskAt dc key.now version) (happens setting.now self.old (AskAt dc key.now version)).0 }
+        ensures memory { result ≡ RefusedWith OutOfMemory → TakesMemory (AskAt dc key.now version) (happens setting.now self.old (AskAt dc key.now version)).0 }
     {
         if dc >= setting.dcs() {
-            return Outcome::Refused(UNKNOWN_DC);
+            return Outcome::Refused(Refusal::UnknownDc);
         }
         if self.said.reserve().is_err() {
-            return Outcome::Refused(MEMORY);
+            return Outcome::Refused(Refusal::Memory);
         }
         let Ok(copy) = key.clone() else {
-            return Outcome::Refused(MEMORY);
+            return Outcome::Refused(Refusal::Memory);
         };
         let node = self.centres.node(dc, setting.primary(key));
         match node.ask(key, version) {
@@ -284,21 +284,21 @@ impl State {
     fn mark(&mut self, setting: &Setting, dc: u8, version: Version, dep: u16) -> Outcome
         requires { IsReached setting.now self.old }
         ensures happens { Happens setting.now self.old (MarkAt dc version dep) result self.new }
-        ensures memory { result ≡ RefusedWith 9 → TakesMemory (MarkAt dc version dep) (happens setting.now self.old (MarkAt dc version dep)).0 }
+        ensures memory { result ≡ RefusedWith OutOfMemory → TakesMemory (MarkAt dc version dep) (happens setting.now self.old (MarkAt dc version dep)).0 }
     {
         let place = version.place();
         if dc >= setting.dcs() {
-            return Outcome::Refused(UNKNOWN_DC);
+            return Outcome::Refused(Refusal::UnknownDc);
         }
         if place >= setting.nodes() {
-            return Outcome::Refused(NOT_HELD);
+            return Outcome::Refused(Refusal::NotHeld);
         }
         let pair = self.centres.at(dc, place).dep_of(version, dep);
         let Ok(answered) = is_answered(&self.said, dc, pair) else {
-            return Outcome::Refused(MEMORY);
+            return Outcome::Refused(Refusal::Memory);
         };
         if !answered {
-            return Outcome::Refused(NO_YES);
+            return Outcome::Refused(Refusal::NoYes);
         }
         let node = self.centres.node(dc, place);
         node.mark(version, dep)
@@ -308,14 +308,14 @@ impl State {
     fn settle(&mut self, setting: &Setting, dc: u8, version: Version) -> Outcome
         requires { IsReached setting.now self.old }
         ensures happens { Happens setting.now self.old (SettleAt dc version) result self.new }
-        ensures memory { result ≡ RefusedWith 9 → TakesMemory (SettleAt dc version) (happens setting.now self.old (SettleAt dc version)).0 }
+        ensures memory { result ≡ RefusedWith OutOfMemory → TakesMemory (SettleAt dc version) (happens setting.now self.old (SettleAt dc version)).0 }
     {
         let place = version.place();
         if dc >= setting.dcs() {
-            return Outcome::Refused(UNKNOWN_DC);
+            return Outcome::Refused(Refusal::UnknownDc);
         }
         if place >= setting.nodes() {
-            return Outcome::Refused(NOT_HELD);
+            return Outcome::Refused(Refusal::NotHeld);
         }
         let node = self.centres.node(dc, place);
         node.settle(version)

@@ -20,8 +20,7 @@ pub struct World {
 }
 
 impl Model for World {
-    ghost use Rattle.cops_core.specs.World.{AWorld};
-    ghost use Rattle.cops_core.specs.Invariants.{IsReachedWorld};
+    ghost use Rattle.cops_core.specs.Opened.{AWorld, IsReachedWorld};
 
     ghost Value = { AWorld };
 
@@ -33,10 +32,14 @@ impl Model for World {
 impl World {
     ghost use Rattle.std.specs.Prelude.{◌≡◌, ◌≢◌, ◌↔◌, [], IfOk, OnErr, IsErrOf, length, option_copied, slice_get};
     ghost use Rattle.cops_store.specs.Store.{has_pair};
+    ghost use Rattle.cops_types.specs.declared.refusal.Refusal.TheVariants.{Memory as OutOfMemory};
     ghost use Rattle.cops_node.specs.declared.outcome.Outcome.TheVariants.{Refused as RefusedWith};
-    ghost use Rattle.cops_core.specs.Machine.{Step};
-    ghost use Rattle.cops_core.specs.World.{AreClients, Happens, Run, TakesMemory, context_in, happens, home, opened_world, sent, settled_in, view};
-    ghost use Rattle.cops_core.specs.Invariants.{HasAcceptedVerdict, Invariants};
+    ghost use Rattle.cops_core.specs.Machine.{Step, view};
+    ghost use Rattle.cops_core.specs.World.{Happens, context_in, happens, home, sent, settled_in, Run};
+    ghost use Rattle.cops_core.specs.Memory.{TakesMemory};
+    ghost use Rattle.cops_types.specs.Verdicts.{HasAcceptedVerdict};
+    ghost use Rattle.cops_core.specs.Opened.{AreClients, opened_world};
+    ghost use Rattle.cops_core.specs.Invariants.{Invariants};
 
     /// A world in which nothing has happened, of these data centres and nodes, and with a client at each of these data
     /// centres: `BadClient` where one of those is not there, or there are more than 65,535 clients.
@@ -44,7 +47,7 @@ impl World {
         ensures ok { IfOk result (λ world. world ≡ opened_world place client_dcs.items) }
         ensures bad { IsErrOf result WorldFault.BadClient ↔ (AreClients place client_dcs.items → ⊥) }
     {
-        Ok(World::of(alloc, Setting::new(place, client_dcs)?)?)
+        World::of(alloc, Setting::new(place, client_dcs)?).or(Err(WorldFault::Memory))
     }
 
     /// The same of a setting, whose clients' data centres are there.
@@ -82,7 +85,7 @@ impl World {
     pub fn apply(&mut self, event: Event) -> Outcome
         ensures setting { self.new.setting ≡ self.old.setting }
         ensures event { Happens self.old.setting self.old.world event result self.new.world }
-        ensures memory { result ≡ RefusedWith 9 → TakesMemory event (happens self.old.setting self.old.world event).0 }
+        ensures memory { result ≡ RefusedWith OutOfMemory → TakesMemory event (happens self.old.setting self.old.world event).0 }
         ensures step { Step (home self.old.setting) (view self.old.world) (view self.new.world) }
     {
         self.answer(&event)
@@ -92,7 +95,7 @@ impl World {
     pub fn answer(&mut self, event: &Event) -> Outcome
         ensures setting { self.new.setting ≡ self.old.setting }
         ensures event { Happens self.old.setting self.old.world event.now result self.new.world }
-        ensures memory { result ≡ RefusedWith 9 → TakesMemory event.now (happens self.old.setting self.old.world event.now).0 }
+        ensures memory { result ≡ RefusedWith OutOfMemory → TakesMemory event.now (happens self.old.setting self.old.world event.now).0 }
         ensures step { Step (home self.old.setting) (view self.old.world) (view self.new.world) }
     {
         self.state.step(&self.setting, event)

@@ -30,7 +30,8 @@ impl Model for Held {
 impl Held {
     ghost use Rattle.std.specs.Prelude.{◌≡◌, length, [], true, None, is_some, IsOk, IfOk, IfSome, OnOk, OnErr, option_copied};
     ghost use Rattle.std.specs.Option.{option_map};
-    ghost use Rattle.cops_held.specs.Held.{holding, with_put, waiting, with_waiting, open_deps, marking, with_mark, readiness, taking, without};
+    ghost use Rattle.cops_held.specs.Held.{waiting, with_waiting, with_mark, without};
+    ghost use Rattle.cops_held.specs.Taking.{holding, with_put, open_deps, marking, readiness, taking};
 
     /// A table with no put. It takes no memory.
     pub fn new(alloc: Global) -> Self

@@ -26,7 +26,8 @@ impl Model for HeldPut {
 
 impl HeldPut {
     ghost use Rattle.std.specs.Prelude.{◌≡◌, IfOk, OnOk, OnErr, Some};
-    ghost use Rattle.cops_held.specs.Held.{unmarked, marked, marking, all_marked, open_from};
+    ghost use Rattle.cops_held.specs.Held.{unmarked, marked, all_marked};
+    ghost use Rattle.cops_held.specs.Taking.{marking, open_from};
 
     /// A put with no dependency marked.
     pub(crate) fn new(alloc: Global, put: PutRecord) -> Result<Self, AllocError>

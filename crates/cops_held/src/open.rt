@@ -1,5 +1,5 @@
 ghost use Rattle.std.specs.Prelude.{◌≡◌, ◌≤◌, length, IfOk};
-ghost use Rattle.cops_held.specs.Held.{open_from};
+ghost use Rattle.cops_held.specs.Taking.{open_from};
 
 use std::alloc::{AllocError, Global};
 

@@ -2,6 +2,7 @@
 ghost use Rattle.std.specs.Prelude.{◌≡◌, ◌≤◌, ◌<◌, ◌⊎◌, ◌↔◌, ℕ, List, [], ◌∷◌, ◌++◌, length, IsOk, IfOk, IfErr, IsErrOf, OnOk, OnErr, IfSome, MatchOption};
 ghost use Rattle.cops_types.specs.declared.put_record.PutRecord.{PutRecord};
 ghost use Rattle.cops_wire.specs.Replicated.{put_after};
+ghost use Rattle.cops_link.specs.declared.ends.TheConstants.{MAX_CAPACITY};
 ghost use Rattle.cops_link.specs.Frame.{spelled};
 ghost use Rattle.cops_link.specs.Link.{sent, taken, seen, known_room, all_sent, IsLink, IsFinishedOf, SameIn, SameOut, Finishes};
 
@@ -37,7 +38,7 @@ pub struct Finished {
 /// A link that holds as many frames as its capacity says: `BadCapacity` unless that is 1 to 1,024.
 pub fn link(alloc: Global, capacity: usize) -> Result<(LinkIn, LinkOut), LinkFault>
     ensures ok { IfOk result (λ r. IsLink r.0 r.1 × (sent r.0 ≡ []) × (taken r.1 ≡ []) × (known_room r.0 ≡ capacity)) }
-    ensures bad { IsErrOf result LinkFault.BadCapacity ↔ ((capacity < 1) ⊎ (1024 < capacity)) }
+    ensures bad { IsErrOf result LinkFault.BadCapacity ↔ ((capacity < 1) ⊎ (MAX_CAPACITY < capacity)) }
 {
     if capacity < 1 || capacity > MAX_CAPACITY {
         return Err(LinkFault::BadCapacity);

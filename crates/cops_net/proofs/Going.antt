@@ -3,14 +3,16 @@ use Rattle.std.proofs.Common.{◌≡◌, ◌≢◌, ℕ, ◌+◌, Bool, true, fa
 use Rattle.std.specs.Prelude.{◌⊎◌}
 use Rattle.std.specs.List.{list_any}
 use Rattle.std.proofs.lemmas.List.{append-nil, length-append, take-append-drop, length-drop}
+use Rattle.std.proofs.lemmas.List.Elements.{All-nil, All-push}
 use Rattle.std.proofs.lemmas.List.Folds.{list_any-append}
 use Rattle.std.proofs.lemmas.Grind.{flat_map-append}
 use Rattle.cops_wire.specs.declared.message.Message.{Message}
 use Rattle.cops_net.specs.declared.fault.NetFault.{NetFault}
 use Rattle.cops_net.specs.declared.fault.NetFault.TheVariants.{Memory, Wire, ReadFailed, WriteFailed, TurnLimit, BindFailed, AcceptFailed}
 use Rattle.cops_net.specs.declared.reply.Call.{Call}
+use Rattle.cops_net.specs.declared.serving.TheConstants.{MAX_MESSAGES}
 use Rattle.cops_net.specs.Protocol.{AreCallsOf, replies, welcomes}
-use Rattle.cops_net.specs.Sessions.{spelled, text, is_bye, StaysOpen, Answered, BrokeOff, Serves}
+use Rattle.cops_net.specs.Sessions.{spelled, IsLegal, text, is_bye, StaysOpen, Answered, BrokeOff, Serves}
 use Rattle.cops_net.specs.Turns.{IsTurn, IsTaken, IsAnswered}
 use Rattle.cops_net.proofs.Lists.{calls-append, replies-append, replies_ignore, bye_only}
 
@@ -19,12 +21,13 @@ one_more ms m = flat_map-append spelled ms (m ∷ []) ∙ ap (λ (x : List ℕ).
 
 -- nothing was taken yet
 pub begun : Answered [] [] [] [] []
-begun = record { read = refl; called = refl; told = refl }
+begun = record { legal = All-nil IsLegal; read = refl; called = refl; told = refl }
 
 -- more bytes came, and none was taken
 pub more_came : (ms : List Message) (input : List ℕ) (calls : List Call) (written rest more : List ℕ) → Answered ms input calls written rest
     → Answered ms (input ++ more) calls written (rest ++ more)
 more_came ms input calls written rest more a = record {
+  legal = a.legal;
   read = ap (λ (x : List ℕ). x ++ more) a.read ∙ append_assoc (text ms) rest more;
   called = a.called;
   told = a.told;
@@ -42,9 +45,10 @@ replied_one ms m calls gained reply h t = replies-append false ms (m ∷ []) cal
 
 -- a message was taken and answered
 pub goes_on : (ms : List Message) (input : List ℕ) (calls : List Call) (written rest : List ℕ) (m : Message) (more left : List ℕ) (gained : List Call) (reply : Message)
-    → Answered ms input calls written rest → rest ++ more ≡ spelled m ++ left → IsTurn (list_any welcomes calls) m gained reply
+    → Answered ms input calls written rest → IsLegal m → rest ++ more ≡ spelled m ++ left → IsTurn (list_any welcomes calls) m gained reply
     → Answered (ms ++ m ∷ []) (input ++ more) (calls ++ gained) (written ++ spelled reply) left
-goes_on ms input calls written rest m more left gained reply a k t = record {
+goes_on ms input calls written rest m more left gained reply a l k t = record {
+  legal = All-push IsLegal ms m a.legal l;
   read = read_one ms m input rest more left a.read k;
   called = calls-append false ms (m ∷ []) calls gained a.called t.called;
   told =
@@ -54,10 +58,11 @@ goes_on ms input calls written rest m more left gained reply a k t = record {
 
 -- a message was taken and handed over, and its reply was not written whole
 pub breaks_off : (ms : List Message) (input : List ℕ) (calls : List Call) (written rest : List ℕ) (m : Message) (more left : List ℕ) (gained : List Call) (reply : Message) (part missing : List ℕ)
-    → Answered ms input calls written rest → rest ++ more ≡ spelled m ++ left → IsTurn (list_any welcomes calls) m gained reply
+    → Answered ms input calls written rest → IsLegal m → rest ++ more ≡ spelled m ++ left → IsTurn (list_any welcomes calls) m gained reply
     → spelled reply ≡ part ++ missing → missing ≢ []
     → BrokeOff ms m (input ++ more) (calls ++ gained) (written ++ part) left
-breaks_off ms input calls written rest m more left gained reply part missing a k t parts_are some = record {
+breaks_off ms input calls written rest m more left gained reply part missing a l k t parts_are some = record {
+  legal = All-push IsLegal ms m a.legal l;
   read = read_one ms m input rest more left a.read k;
   called = calls-append false ms (m ∷ []) calls gained a.called t.called;
   reply = reply;
@@ -91,45 +96,45 @@ ends_input P ms input calls written rest more left n stays a count t =
 
 -- the client said that it ends
 pub ends_bye : (P : Type 0) (ms : List Message) (input : List ℕ) (calls : List Call) (written rest : List ℕ) (m : Message) (more left : List ℕ) (gained : List Call) (out : List ℕ) (after : Bool) (n : ℕ)
-    → StaysOpen ms → Answered ms input calls written rest → n ≡ length ms → rest ++ more ≡ spelled m ++ left
+    → StaysOpen ms → Answered ms input calls written rest → n ≡ length ms → IsLegal m → rest ++ more ≡ spelled m ++ left
     → IsAnswered (list_any welcomes calls) m gained out (Ok after) → is_bye m ≡ true
     → Serves P (input ++ more) (calls ++ gained) (written ++ out) (Ok (record { answered = n + 1 }))
-ends_bye P ms input calls written rest m more left gained out after n stays a count k t bye = (
+ends_bye P ms input calls written rest m more left gained out after n stays a count l k t bye = (
   ms ++ m ∷ [],
   left,
-  subst (λ (x : List ℕ). Answered (ms ++ m ∷ []) (input ++ more) (calls ++ gained) (written ++ x) left) (sym t.2) (goes_on ms input calls written rest m more left gained t.0 a k t.1),
+  subst (λ (x : List ℕ). Answered (ms ++ m ∷ []) (input ++ more) (calls ++ gained) (written ++ x) left) (sym t.2) (goes_on ms input calls written rest m more left gained t.0 a l k t.1),
   omega (arith, count, length-append ms (m ∷ [])),
   inl (ms, stays, ap (λ (x : Message). ms ++ x ∷ []) (bye_only m bye)),
 )
 
 -- a message was not answered
 pub ends_answering : (P : Type 0) (ms : List Message) (input : List ℕ) (calls : List Call) (written rest : List ℕ) (m : Message) (more left : List ℕ) (gained : List Call) (out : List ℕ) (e : NetFault)
-    → StaysOpen ms → Answered ms input calls written rest → rest ++ more ≡ spelled m ++ left
+    → StaysOpen ms → Answered ms input calls written rest → IsLegal m → rest ++ more ≡ spelled m ++ left
     → IsAnswered (list_any welcomes calls) m gained out (Err e)
     → Serves P (input ++ more) (calls ++ gained) (written ++ out) (Err e)
-ends_answering P ms input calls written rest m more left gained out Memory stays a k (none, inl silent) =
+ends_answering P ms input calls written rest m more left gained out Memory stays a l k (none, inl silent) =
     (ms, rest ++ more, stays, inl (rw (none, silent, append-nil calls, append-nil written) (more_came ms input calls written rest more a)))
-ends_answering P ms input calls written rest m more left gained out Memory stays a k (none, inr (reply, t, some)) =
-    (ms, left, stays, inr (m, rw none (breaks_off ms input calls written rest m more left gained reply [] (spelled reply) a k t refl some)))
-ends_answering P ms input calls written rest m more left gained out WriteFailed stays a k (reply, t, (n, fewer, part)) = (
+ends_answering P ms input calls written rest m more left gained out Memory stays a l k (none, inr (reply, t, some)) =
+    (ms, left, stays, inr (m, rw none (breaks_off ms input calls written rest m more left gained reply [] (spelled reply) a l k t refl some)))
+ends_answering P ms input calls written rest m more left gained out WriteFailed stays a l k (reply, t, (n, fewer, part)) = (
   ms,
   left,
   stays,
   (
     m,
-    rw part (breaks_off ms input calls written rest m more left gained reply (take n (spelled reply)) (drop n (spelled reply)) a k t
+    rw part (breaks_off ms input calls written rest m more left gained reply (take n (spelled reply)) (drop n (spelled reply)) a l k t
         (sym (take-append-drop n (spelled reply))) (λ e. absurd (omega (arith, ap length e, length-drop n (spelled reply), fewer)))),
   ),
 )
-ends_answering P ms input calls written rest m more left gained out (Wire fault) stays a k t = absurd t
-ends_answering P ms input calls written rest m more left gained out ReadFailed stays a k t = absurd t
-ends_answering P ms input calls written rest m more left gained out TurnLimit stays a k t = absurd t
-ends_answering P ms input calls written rest m more left gained out BindFailed stays a k t = absurd t
-ends_answering P ms input calls written rest m more left gained out AcceptFailed stays a k t = absurd t
+ends_answering P ms input calls written rest m more left gained out (Wire fault) stays a l k t = absurd t
+ends_answering P ms input calls written rest m more left gained out ReadFailed stays a l k t = absurd t
+ends_answering P ms input calls written rest m more left gained out TurnLimit stays a l k t = absurd t
+ends_answering P ms input calls written rest m more left gained out BindFailed stays a l k t = absurd t
+ends_answering P ms input calls written rest m more left gained out AcceptFailed stays a l k t = absurd t
 
 -- one message too many
 pub ends_full : (P : Type 0) (ms : List Message) (input : List ℕ) (calls : List Call) (written rest : List ℕ) (m : Message) (more left : List ℕ)
-    → StaysOpen ms → Answered ms input calls written rest → length ms ≡ 1000000 → IsTaken P (rest ++ more) (Ok (Some m)) left
+    → StaysOpen ms → Answered ms input calls written rest → length ms ≡ MAX_MESSAGES → IsTaken P (rest ++ more) (Ok (Some m)) left
     → Serves P (input ++ more) calls written (Err TurnLimit)
 ends_full P ms input calls written rest m more left stays a count t =
     (ms, left, stays, (m, t.0, subst (λ (x : List ℕ). Answered ms (input ++ more) calls written x) t.1 (more_came ms input calls written rest more a)), count)

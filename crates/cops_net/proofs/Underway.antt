@@ -9,6 +9,7 @@ use Rattle.cops_net.specs.declared.fault.NetFault.{NetFault}
 use Rattle.cops_net.specs.declared.fault.NetFault.TheVariants.{TurnLimit}
 use Rattle.cops_net.specs.declared.reply.Call.{Call}
 use Rattle.cops_net.specs.declared.serving.Served.{Served}
+use Rattle.cops_net.specs.declared.serving.TheConstants.{MAX_MESSAGES}
 use Rattle.cops_net.specs.Protocol.{welcomes}
 use Rattle.cops_net.specs.Sessions.{is_bye, StaysOpen, Answered, Serves}
 use Rattle.cops_net.specs.Turns.{IsTaken, IsAnswered}
@@ -72,7 +73,7 @@ module _ {from mid : Option (List ℕ)} {old new : List Call} {before after : Op
       read_on next.0 (Ok (record { answered = answered })) next.1
       (ends_input (IsAtEnd to) u.ms u.input u.gained u.written rest next.0 left answered u.stays u.answered (same ∙ u.count) next.2)
 
-  pub is_full : (m : Message) → n ≡ 1000000 → Next mid to rest (Ok (Some m)) left → Did from to old new before after (Err TurnLimit)
+  pub is_full : (m : Message) → n ≡ MAX_MESSAGES → Next mid to rest (Ok (Some m)) left → Did from to old new before after (Err TurnLimit)
   is_full m full next = read_on next.0 (Err TurnLimit) next.1 (ends_full (IsAtEnd to) u.ms u.input u.gained u.written rest m next.0 left u.stays u.answered (sym u.count ∙ full) next.2)
 
   -- a message came, and was answered
@@ -98,12 +99,12 @@ module _ {from mid : Option (List ℕ)} {old new : List Call} {before after : Op
     pub fails_answering : (e : NetFault) → Turned new later after wrote greeted m (Err e) → Did from to old later before wrote (Err e)
     fails_answering e t =
         turned_on (Err e) t (Err e)
-        (ends_answering (IsAtEnd to) u.ms u.input u.gained u.written rest m next.0 left t.0 t.1 e u.stays u.answered next.2.1 (answered_here t.0 t.1 (Err e) t.4))
+        (ends_answering (IsAtEnd to) u.ms u.input u.gained u.written rest m next.0 left t.0 t.1 e u.stays u.answered next.2.0 next.2.1 (answered_here t.0 t.1 (Err e) t.4))
 
     pub says_bye : (now : Bool) → Turned new later after wrote greeted m (Ok now) → is_bye m ≡ true → Did from to old later before wrote (Ok (record { answered = n + 1 }))
     says_bye now t bye =
         turned_on (Ok now) t (Ok (record { answered = n + 1 }))
-        (ends_bye (IsAtEnd to) u.ms u.input u.gained u.written rest m next.0 left t.0 t.1 now n u.stays u.answered u.count next.2.1 (answered_here t.0 t.1 (Ok now) t.4) bye)
+        (ends_bye (IsAtEnd to) u.ms u.input u.gained u.written rest m next.0 left t.0 t.1 now n u.stays u.answered u.count next.2.0 next.2.1 (answered_here t.0 t.1 (Ok now) t.4) bye)
 
     pub goes_further : (now : Bool) → Turned new later after wrote greeted m (Ok now) → is_bye m ≡ false → Underway from to old later before wrote left now (n + 1)
     goes_further now t bye =
@@ -118,7 +119,7 @@ module _ {from mid : Option (List ℕ)} {old new : List Call} {before after : Op
           appended = appends_more before after wrote u.written t.1 _ u.appended t.3 refl;
           answered =
               subst (λ (x : List ℕ). Answered (u.ms ++ m ∷ []) (u.input ++ next.0) (u.gained ++ t.0) (u.written ++ x) left) (sym a.2)
-              (goes_on u.ms u.input u.gained u.written rest m next.0 left t.0 a.0 u.answered next.2.1 a.1);
+              (goes_on u.ms u.input u.gained u.written rest m next.0 left t.0 a.0 u.answered next.2.0 next.2.1 a.1);
           stays = stays_open u.ms m u.stays bye;
           greets = a.3 ∙ greeted_on u.gained t.0;
           count = omega (arith, u.count, length-append u.ms (m ∷ []));

@@ -2,6 +2,9 @@
 -- session, whose answer the reply tells; the front door answers the others itself.
 use Rattle.std.specs.Prelude.{◌≡◌, ℕ, min, Bool, true, false, ◌||◌, ◌==◌, if◌then◌else◌, MatchBool, List, [], ◌∷◌, Option, Some, None, Result, Ok, Err}
 use Rattle.cops_types.specs.declared.put_record.NodeStatus.{NodeStatus}
+use Rattle.cops_types.specs.declared.refusal.Refusal.{Refusal}
+use Rattle.cops_types.specs.declared.refusal.Refusal.TheVariants.{NotGreeted, BadProfile, WrongKind, NoSuchNode}
+use Rattle.cops_types.specs.Refusal.{code_of}
 use Rattle.cops_wire.specs.declared.message.Message.{Message}
 use Rattle.cops_wire.specs.declared.message.Message.TheVariants.{Hello, HelloOk, Put, Get, PutDone, Got, Missed, Refused, DepCheck, DepYes, DepWait, Status, StatusIs, Bye, ByeOk}
 use Rattle.cops_net.specs.declared.reply.Reply.{Reply}
@@ -34,17 +37,21 @@ is_handed true (DepCheck seq key version) = true
 is_handed true (Status seq node) = true
 is_handed _ _ = false
 
--- The front door's own reply to a message that it does not hand over. 16: no greeting was answered yet. 17: a profile
--- that is not 1. 18: a second greeting, or no message of a client.
+-- the reply that tells a refusal
+abbrev pub refused : ℕ → Refusal → Message
+refused seq refusal = Refused seq (code_of refusal)
+
+-- The front door's own reply to a message that it does not hand over: another profile than 1, a second greeting, a message
+-- before the greeting was answered, and no message of a client.
 abbrev pub own_reply : Bool → Message → Message
 own_reply greeted Bye = ByeOk
-own_reply false (Hello profile client) = Refused 0 17
-own_reply true (Hello profile client) = Refused 0 18
-own_reply greeted (Put seq key value) = Refused seq 16
-own_reply greeted (Get seq key) = Refused seq 16
-own_reply greeted (DepCheck seq key version) = Refused seq 16
-own_reply greeted (Status seq node) = Refused seq 16
-own_reply greeted m = Refused (seq_of m) 18
+own_reply false (Hello profile client) = refused 0 BadProfile
+own_reply true (Hello profile client) = refused 0 WrongKind
+own_reply greeted (Put seq key value) = refused seq NotGreeted
+own_reply greeted (Get seq key) = refused seq NotGreeted
+own_reply greeted (DepCheck seq key version) = refused seq NotGreeted
+own_reply greeted (Status seq node) = refused seq NotGreeted
+own_reply greeted m = refused (seq_of m) WrongKind
 
 -- this call hands the message over
 abbrev pub Hands : Message → Call → Type 0
@@ -56,9 +63,9 @@ Hands (Status seq node) (called.Status place answer) = place ≡ node
 Hands _ _ = ⊥
 
 -- a greeting's answer as a message
-abbrev pub welcome : ℕ → Result (ℕ × ℕ) ℕ → Message
+abbrev pub welcome : ℕ → Result (ℕ × ℕ) Refusal → Message
 welcome seq (Ok place) = HelloOk place.0 place.1
-welcome seq (Err code) = Refused seq code
+welcome seq (Err refusal) = refused seq refusal
 
 -- a node's answer as a message
 abbrev pub outcome : ℕ → Reply → Message
@@ -67,15 +74,15 @@ outcome seq (replied.Got value version) = Got seq value version
 outcome seq replied.Missed = Missed seq
 outcome seq replied.Yes = DepYes seq
 outcome seq replied.Wait = DepWait seq
-outcome seq (replied.Refused code) = Refused seq code
+outcome seq (replied.Refused refusal) = refused seq refusal
 
 -- the greatest count that a message tells
 abbrev pub capped : ℕ → ℕ
 capped n = min n 4294967295
 
--- how a node stands as a message; 19: there is no such node
+-- how a node stands as a message, if it is there
 abbrev pub standing : ℕ → Option NodeStatus → Message
-standing seq None = Refused seq 19
+standing seq None = refused seq NoSuchNode
 standing seq (Some s) = StatusIs seq s.clock (capped s.keys) (capped s.settled) (capped s.held)
 
 -- the reply that tells a call's answer

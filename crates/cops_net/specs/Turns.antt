@@ -11,16 +11,9 @@ use Rattle.cops_wire.specs.Answer.{IsShort}
 use Rattle.cops_wire.specs.Feeding.{IsStopped}
 use Rattle.cops_net.specs.declared.fault.NetFault.{NetFault}
 use Rattle.cops_net.specs.declared.fault.NetFault.TheVariants.{Memory, Wire, ReadFailed, WriteFailed, TurnLimit, BindFailed, AcceptFailed}
-use Rattle.cops_net.specs.declared.reply.Reply.{Reply}
-use Rattle.cops_net.specs.declared.reply.Reply.TheVariants.{Refused}
 use Rattle.cops_net.specs.declared.reply.Call.{Call}
 use Rattle.cops_net.specs.Protocol.{AreCallsOf, replies, welcomes}
 use Rattle.cops_net.specs.Sessions.{spelled, IsWrong}
-
--- a refusal has a code that is not 0
-abbrev pub HasCode : Reply → Type 0
-HasCode (Refused code) = 0 < code
-HasCode _ = Unit {0}
 
 -- the answer to a greeting
 abbrev pub is_welcome : Message → Bool

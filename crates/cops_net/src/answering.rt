@@ -8,33 +8,29 @@ ghost use Rattle.cops_wire.specs.Message.{parts};
 ghost use Rattle.cops_net.specs.declared.reply.Call.{Call as ACall};
 ghost use Rattle.cops_net.specs.Answers.{IsWelcome, IsStanding};
 ghost use Rattle.cops_net.specs.Protocol.{seq_of, is_handed, Hands, told, welcome, outcome, standing, capped, welcomes};
-ghost use Rattle.cops_net.specs.Turns.{HasCode, is_welcome, IsTurn};
+ghost use Rattle.cops_net.specs.Turns.{is_welcome, IsTurn};
 
-use crate::own::{is_handed, own_reply};
+use crate::own::{is_handed, own_reply, refused};
 use crate::reply::Reply;
 use crate::session::Session;
-use cops_types::{Memory, NodeStatus};
+use cops_types::{Memory, NodeStatus, Refusal};
 use cops_wire::Message;
 use std::sync::Wait;
 
-/// There is no such node.
-const NO_SUCH_NODE: u8 = 19;
-
 /// The answer to a greeting as a message.
-fn welcome(answer: Result<(u8, u8), u8>) -> Message
+fn welcome(answer: Result<(u8, u8), Refusal>) -> Message
     requires { IsWelcome answer }
     ensures message { result ≡ welcome 0 answer }
     ensures legal { IsMessage (grammar One) (parts result) }
 {
     match answer {
         Ok((dc, nodes)) => Message::HelloOk { dc, nodes },
-        Err(code) => Message::Refused { seq: 0, code },
+        Err(refusal) => refused(0, refusal),
     }
 }
 
 /// A node's answer as a message.
 fn outcome(seq: u32, reply: Reply) -> Message
-    requires { HasCode reply }
     ensures message { result ≡ outcome seq reply }
     ensures legal { IsMessage (grammar One) (parts result) }
 {
@@ -55,7 +51,7 @@ fn outcome(seq: u32, reply: Reply) -> Message
         Reply::Missed => Message::Missed { seq },
         Reply::Yes => Message::DepYes { seq },
         Reply::Wait => Message::DepWait { seq },
-        Reply::Refused(code) => Message::Refused { seq, code },
+        Reply::Refused(refusal) => refused(seq, refusal),
     }
 }
 
@@ -80,10 +76,7 @@ fn standing(seq: u32, status: Option<NodeStatus>) -> Message
             settled: capped(status.settled),
             held: capped(status.held),
         },
-        None => Message::Refused {
-            seq,
-            code: NO_SUCH_NODE,
-        },
+        None => refused(seq, Refusal::NoSuchNode),
     }
 }
 

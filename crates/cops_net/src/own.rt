@@ -1,6 +1,8 @@
 //! What the front door answers itself.
 ghost use Rattle.std.specs.Prelude.{◌≡◌, false};
 ghost use Rattle.cops_types.specs.declared.format.Format.TheVariants.{One};
+ghost use Rattle.cops_types.specs.Refusal.{code_of};
+ghost use Rattle.cops_wire.specs.declared.message.Message.TheVariants.{Refused};
 ghost use Rattle.cops_wire.specs.Grammar.{grammar};
 ghost use Rattle.cops_wire.specs.Legal.{IsMessage};
 ghost use Rattle.cops_wire.specs.Message.{parts};
@@ -8,19 +10,11 @@ ghost use Rattle.cops_net.specs.Protocol.{seq_of, is_handed, own_reply};
 ghost use Rattle.cops_net.specs.Sessions.{is_bye};
 ghost use Rattle.cops_net.specs.Turns.{is_welcome};
 
+use cops_types::Refusal;
 use cops_wire::Message;
 
 /// The one profile that a client may greet with.
 const PROFILE: u16 = 1;
-
-/// No greeting was answered yet.
-const NO_HELLO: u8 = 16;
-
-/// The profile is not 1.
-const BAD_PROFILE: u8 = 17;
-
-/// No message that a client may send here.
-const WRONG_KIND: u8 = 18;
 
 /// The asker's number of a message, or 0 where it has none.
 pub(crate) fn seq_of(message: &Message) -> u32
@@ -70,6 +64,15 @@ pub(crate) fn is_welcome(message: &Message) -> bool
     matches!(message, Message::HelloOk { .. })
 }
 
+/// The reply that tells a refusal.
+pub(crate) fn refused(seq: u32, refusal: Refusal) -> Message
+    ensures reply { result ≡ Refused seq (code_of refusal) }
+    ensures legal { IsMessage (grammar One) (parts result) }
+{
+    let code = refusal.code();
+    Message::Refused { seq, code }
+}
+
 /// The front door's own reply to a message that is not handed to the session.
 pub(crate) fn own_reply(greeted: bool, message: &Message) -> Message
     requires { is_handed greeted message.now ≡ false }
@@ -77,15 +80,20 @@ pub(crate) fn own_reply(greeted: bool, message: &Message) -> Message
     ensures legal { IsMessage (grammar One) (parts result) }
     ensures no_welcome { is_welcome result ≡ false }
 {
-    let code = match message {
+    let refusal = match message {
         Message::Bye => return Message::ByeOk,
-        Message::Hello { .. } => { if greeted { WRONG_KIND } else { BAD_PROFILE } }
+        Message::Hello { .. } => {
+            if greeted {
+                Refusal::WrongKind
+            } else {
+                Refusal::BadProfile
+            }
+        }
         Message::Put { .. }
         | Message::Get { .. }
         | Message::DepCheck { .. }
-        | Message::Status { .. } => NO_HELLO,
-        _ => WRONG_KIND,
+        | Message::Status { .. } => Refusal::NotGreeted,
+        _ => Refusal::WrongKind,
     };
-    let seq = seq_of(message);
-    Message::Refused { seq, code }
+    refused(seq_of(message), refusal)
 }

@@ -1,5 +1,5 @@
 //! What a session answers, and its calls with their answers.
-use cops_types::{Key, NodeStatus, Value, Version};
+use cops_types::{Key, NodeStatus, Refusal, Value, Version};
 use std::alloc::AllocError;
 
 /// A node's answer to a put, a get, or a question whether a put is there.
@@ -15,8 +15,8 @@ pub enum Reply {
     Yes,
     /// The put is not there yet.
     Wait,
-    /// It was refused with this code, not 0.
-    Refused(u8),
+    /// It was refused for this reason.
+    Refused(Refusal),
 }
 
 /// A copy that equals it.
@@ -32,7 +32,7 @@ impl Clone for Reply {
             Reply::Missed => Reply::Missed,
             Reply::Yes => Reply::Yes,
             Reply::Wait => Reply::Wait,
-            Reply::Refused(code) => Reply::Refused(*code),
+            Reply::Refused(refusal) => Reply::Refused(*refusal),
         })
     }
 }
@@ -40,10 +40,10 @@ impl Clone for Reply {
 /// A call of a session with its answer.
 #[derive(Debug, Drop)]
 pub enum Call {
-    /// A greeting: the client's data centre and its number of nodes, or a refusal's code.
+    /// A greeting: the client's data centre and its number of nodes, or a refusal.
     Hello {
         client: u16,
-        answer: Result<(u8, u8), u8>,
+        answer: Result<(u8, u8), Refusal>,
     },
     /// A put.
     Put {

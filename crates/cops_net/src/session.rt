@@ -1,6 +1,6 @@
 //! Who answers a client.
 use crate::reply::Reply;
-use cops_types::{Key, Memory, NodeStatus, Value, Version};
+use cops_types::{Key, Memory, NodeStatus, Refusal, Value, Version};
 use std::sync::Wait;
 
 /// Who answers a client's messages. It keeps the list of its calls with their answers. Before each of the five calls
@@ -10,6 +10,7 @@ use std::sync::Wait;
 pub trait Session {
     ghost use Rattle.std.specs.Prelude.{◌≡◌, ◌++◌, ◌∷◌, [], ℕ, List, Option, Result, OnOk, ⊤};
     ghost use Rattle.cops_types.specs.declared.put_record.NodeStatus.{NodeStatus as Standing};
+    ghost use Rattle.cops_types.specs.declared.refusal.Refusal.{Refusal as Refused};
     ghost use Rattle.cops_net.specs.declared.reply.Reply.{Reply as Answer};
     ghost use Rattle.cops_net.specs.declared.reply.Call.{Call};
     ghost use Rattle.cops_net.specs.Answers.{IsWelcome, IsPutReply, IsGetReply, IsCheckReply, IsStanding};
@@ -24,7 +25,7 @@ pub trait Session {
     ghost rooms: { Self → Self → Type 0 } = { λ _ _. ⊤ };
 
     /// What a greeting by a client's number does.
-    ghost hellos: { Self → ℕ → Result (ℕ × ℕ) ℕ → Self → Type 0 } = { λ _ _ _ _. ⊤ };
+    ghost hellos: { Self → ℕ → Result (ℕ × ℕ) Refused → Self → Type 0 } = { λ _ _ _ _. ⊤ };
 
     /// What a put of a value on a key does.
     ghost puts: { Self → List ℕ → List ℕ → Answer → Self → Type 0 } = { λ _ _ _ _ _. ⊤ };
@@ -47,30 +48,29 @@ pub trait Session {
         ensures room { OnOk result (has_room self.new) }
         ensures same { rooms self.old self.new };
 
-    /// A client greets: its data centre, below 16, and the number of its nodes, 1 to 64; or the code 3 where there is no
-    /// such client.
-    fn hello(&mut self, client: u16) -> Result<(u8, u8), u8>
+    /// A client greets: its data centre, below 16, and the number of its nodes, 1 to 64; or `UnknownClient` where there
+    /// is no such client.
+    fn hello(&mut self, client: u16) -> Result<(u8, u8), Refusal>
         requires { has_room self.old }
         ensures told { calls self.new ≡ calls self.old ++ Call.Hello client result ∷ [] }
         ensures answer { IsWelcome result }
         ensures done { hellos self.old client result self.new };
 
-    /// A put: `PutDone`, or `Refused` with 1, the clock is at its greatest, 3, 9, want of memory, or 11, the client's
-    /// session is full.
+    /// A put: `PutDone`, or `Refused` with `ClockExhausted`, `UnknownClient`, `Memory` or `SessionFull`.
     fn put<R: Wait>(&mut self, rt: &R, key: Key, value: Value) -> Reply
         requires { has_room self.old }
         ensures told { calls self.new ≡ calls self.old ++ Call.Put key value result ∷ [] }
         ensures answer { IsPutReply result }
         ensures done { puts self.old key value result self.new };
 
-    /// A get: `Got`, `Missed`, or `Refused` with 2, the client's context is full, 3, 9 or 11.
+    /// A get: `Got`, `Missed`, or `Refused` with `ContextFull`, `UnknownClient`, `Memory` or `SessionFull`.
     fn get<R: Wait>(&mut self, rt: &R, key: &Key) -> Reply
         requires { has_room self.old }
         ensures told { calls self.new ≡ calls self.old ++ Call.Get key.now result ∷ [] }
         ensures answer { IsGetReply result }
         ensures done { gets self.old key.now result self.new };
 
-    /// Whether this put is there, in the client's data centre: `Yes`, `Wait`, or `Refused` with 9.
+    /// Whether this put is there, in the client's data centre: `Yes`, `Wait`, or `Refused` with `Memory`.
     fn dep_check<R: Wait>(&mut self, rt: &R, key: &Key, version: Version) -> Reply
         requires { has_room self.old }
         ensures told { calls self.new ≡ calls self.old ++ Call.DepCheck key.now version result ∷ [] }

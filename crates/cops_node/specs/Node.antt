@@ -2,8 +2,10 @@
 use Rattle.std.specs.Prelude.{◌≡◌, ◌⊎◌, ℕ, ◌+◌, max, if◌then◌else◌, ◌||◌, nat_lt, List, [], ◌∷◌, length, slice_get, Option, None, Some, is_some}
 use Rattle.cops_types.specs.declared.dep.Dep.{Dep}
 use Rattle.cops_types.specs.declared.put_record.PutRecord.{PutRecord}
+use Rattle.cops_types.specs.declared.limits.TheConstants.{MAX_CLOCK}
+use Rattle.cops_types.specs.declared.refusal.Refusal.TheVariants.{ClockExhausted, NotHeld, NoSuchDep, DepsOpen, Memory}
 use Rattle.cops_types.specs.Version.{clock_of}
-use Rattle.cops_types.specs.Clock.{version_of}
+use Rattle.cops_types.specs.NodeNumber.{version_of}
 use Rattle.cops_store.specs.Store.{Stored, has_pair, with_settled, shown}
 use Rattle.cops_held.specs.Held.{Waiting, unmarked, waiting, with_waiting, all_marked, with_mark, without}
 use Rattle.cops_node.specs.declared.event.NodeEvent.{NodeEvent}
@@ -20,9 +22,6 @@ pub record Node : Type 0 where
 abbrev pub opened : ℕ → Node
 opened number = record { number = number; clock = 0; settled = []; held = [] }
 
-abbrev pub greatest_clock : ℕ
-greatest_clock = 281474976710655
-
 -- the pair that a put bears, and the put as it is settled
 abbrev pub put_pair : PutRecord → Dep
 put_pair put = record { key = put.key; version = put.version }
@@ -35,83 +34,49 @@ abbrev pub raised : ℕ → List Dep → ℕ
 raised clock [] = clock
 raised clock (d ∷ deps) = raised (max clock (clock_of d.version)) deps
 
--- a pair is settled, and the clock rises to its
-abbrev pub settled_at : Node → List ℕ → List ℕ → ℕ → Node
-settled_at n key value version = record {
-  number = n.number;
-  clock = max n.clock (clock_of version);
-  settled = with_settled n.settled (record { key = key; value = value; version = version });
-  held = n.held;
-}
-
--- a local put is settled at once, at a version above those of its dependencies
+-- a client's put is settled at once, at a version of this clock
 abbrev pub put_at : Node → List ℕ → List ℕ → ℕ → Outcome × Node
 put_at n key value clock =
     let version = version_of clock n.number in
-    (PutDone version, record { number = n.number; clock = clock; settled = with_settled n.settled (record { key = key; value = value; version = version }); held = n.held })
-
-abbrev pub put_step : Node → List ℕ → List ℕ → List Dep → Outcome × Node
-put_step n key value deps =
-    if nat_lt (raised n.clock deps) greatest_clock then put_at n key value (raised n.clock deps + 1) else (Refused 1, n)
+    (PutDone version, record n { clock = clock; settled = with_settled n.settled (record { key = key; value = value; version = version }) })
 
 -- what the key shows
 abbrev pub answer : Option Stored → Outcome
 answer None = Missed
 answer (Some s) = Got s.value s.version
 
-abbrev pub get_step : Node → List ℕ → Outcome × Node
-get_step n key = (answer (shown n.settled key), n)
-
--- a delivered put waits, unless it does already or is settled
-abbrev pub deliver_step : Node → PutRecord → Outcome × Node
-deliver_step n put =
-    if is_some (waiting n.held put.version) || has_pair n.settled (put_pair put)
-    then (Repeat, n)
-    else (Held, record { number = n.number; clock = n.clock; settled = n.settled; held = with_waiting n.held (unmarked put) })
-
--- yes for exactly a settled pair
-abbrev pub ask_step : Node → Dep → Outcome × Node
-ask_step n pair = (if has_pair n.settled pair then Yes else Wait, n)
-
+-- a dependency of the put that waits, if there is one, is marked
 abbrev pub mark_at : Node → ℕ → ℕ → Option Waiting → Outcome × Node
-mark_at n version dep None = (Refused 5, n)
+mark_at n version dep None = (Refused NotHeld, n)
 mark_at n version dep (Some w) =
-    if nat_lt dep (length w.put.deps)
-    then (Marked, record { number = n.number; clock = n.clock; settled = n.settled; held = with_mark n.held version dep })
-    else (Refused 6, n)
-
-abbrev pub mark_step : Node → ℕ → ℕ → Outcome × Node
-mark_step n version dep = mark_at n version dep (waiting n.held version)
+    if nat_lt dep (length w.put.deps) then (Marked, record n { held = with_mark n.held version dep }) else (Refused NoSuchDep, n)
 
 -- a waiting put leaves the table and is settled, and the clock rises to its
 abbrev pub settled_node : Node → PutRecord → Node
-settled_node n put = record {
-  number = n.number;
-  clock = max n.clock (clock_of put.version);
-  settled = with_settled n.settled (stored_of put);
-  held = without n.held put.version;
-}
+settled_node n put =
+    record n { clock = max n.clock (clock_of put.version); settled = with_settled n.settled (stored_of put); held = without n.held put.version }
 
 abbrev pub settle_at : Node → Option Waiting → Outcome × Node
-settle_at n None = (Refused 5, n)
-settle_at n (Some w) = if all_marked w then (Settled, settled_node n w.put) else (Refused 8, n)
+settle_at n None = (Refused NotHeld, n)
+settle_at n (Some w) = if all_marked w then (Settled, settled_node n w.put) else (Refused DepsOpen, n)
 
-abbrev pub settle_step : Node → ℕ → Outcome × Node
-settle_step n version = settle_at n (waiting n.held version)
-
--- what the node answers, and the node afterwards
+-- What the node answers, and the node afterwards. A put has a version above those of its dependencies; a delivered put waits,
+-- unless it does already or is settled; a question is answered Yes for exactly a settled pair.
 abbrev pub node_step : Node → NodeEvent → Outcome × Node
-node_step n (Put client key value deps) = put_step n key value deps
-node_step n (Get client key) = get_step n key
-node_step n (Deliver put) = deliver_step n put
-node_step n (Ask key version) = ask_step n (record { key = key; version = version })
-node_step n (Mark version dep) = mark_step n version dep
-node_step n (Settle version) = settle_step n version
+node_step n (Put client key value deps) =
+    if nat_lt (raised n.clock deps) MAX_CLOCK then put_at n key value (raised n.clock deps + 1) else (Refused ClockExhausted, n)
+node_step n (Get client key) = (answer (shown n.settled key), n)
+node_step n (Deliver put) =
+    if is_some (waiting n.held put.version) || has_pair n.settled (put_pair put)
+    then (Repeat, n)
+    else (Held, record n { held = with_waiting n.held (unmarked put) })
+node_step n (Ask key version) = (if has_pair n.settled (record { key = key; version = version }) then Yes else Wait, n)
+node_step n (Mark version dep) = mark_at n version dep (waiting n.held version)
+node_step n (Settle version) = settle_at n (waiting n.held version)
 
 -- the event's step, or none for want of memory
 abbrev pub NodeHappens : Node → NodeEvent → Outcome → Node → Type 0
-NodeHappens old event outcome new =
-    (node_step old event ≡ (outcome, new)) ⊎ ((outcome ≡ Refused 9) × (new ≡ old))
+NodeHappens old event outcome new = (node_step old event ≡ (outcome, new)) ⊎ ((outcome ≡ Refused Memory) × (new ≡ old))
 
 -- a dependency of the put that waits, if there is one, by its index
 abbrev pub dep_at : Option Waiting → ℕ → Option Dep

@@ -1,6 +1,10 @@
--- Outcomes by what they hold.
+-- Outcomes by what they hold, and a node that has settled a pair.
+use Rattle.std.specs.Prelude.{ℕ, max, List}
+use Rattle.cops_types.specs.Version.{clock_of}
+use Rattle.cops_store.specs.Store.{with_settled}
 use Rattle.cops_node.specs.declared.outcome.Outcome.{Outcome}
 use Rattle.cops_node.specs.declared.outcome.Outcome.TheVariants.{Got, PutDone, Held, Settled}
+use Rattle.cops_node.specs.Node.{Node}
 
 -- a get returned a value
 abbrev pub IsGot : Outcome → Type 0
@@ -14,3 +18,12 @@ TakesMemory (Got value version) = Unit {0}
 TakesMemory Held = Unit {0}
 TakesMemory Settled = Unit {0}
 TakesMemory _ = ⊥
+
+-- a pair is settled, and the clock rises to its
+abbrev pub settled_at : Node → List ℕ → List ℕ → ℕ → Node
+settled_at n key value version = record {
+  number = n.number;
+  clock = max n.clock (clock_of version);
+  settled = with_settled n.settled (record { key = key; value = value; version = version });
+  held = n.held;
+}

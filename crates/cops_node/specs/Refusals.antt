@@ -1,9 +1,10 @@
--- The codes with which a node refuses where the held table does.
-use Rattle.std.specs.Prelude.{ℕ}
+-- With what a node refuses where the held table does.
+use Rattle.cops_types.specs.declared.refusal.Refusal.{Refusal}
+use Rattle.cops_types.specs.declared.refusal.Refusal.TheVariants as refusal
 use Rattle.cops_held.specs.declared.fault.HeldFault.{HeldFault}
 use Rattle.cops_held.specs.declared.fault.HeldFault.TheVariants.{NotHeld, NoSuchDep, DepsOpen}
 
-abbrev pub code_of : HeldFault → ℕ
-code_of NotHeld = 5
-code_of NoSuchDep = 6
-code_of DepsOpen = 8
+abbrev pub refusal_of : HeldFault → Refusal
+refusal_of NotHeld = refusal.NotHeld
+refusal_of NoSuchDep = refusal.NoSuchDep
+refusal_of DepsOpen = refusal.DepsOpen

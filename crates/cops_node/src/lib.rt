@@ -13,4 +13,3 @@ mod table;
 pub use event::NodeEvent;
 pub use node::Node;
 pub use outcome::Outcome;
-pub use refusal::{CLOCK_EXHAUSTED, DEPS_OPEN, MEMORY, NO_SUCH_DEP, NOT_HELD};

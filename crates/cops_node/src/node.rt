@@ -1,11 +1,11 @@
 use crate::event::NodeEvent;
 use crate::outcome::Outcome;
 use crate::raising::raised_clock;
-use crate::refusal::{CLOCK_EXHAUSTED, MEMORY, code};
+use crate::refusal::refusal;
 use crate::table::{events, row};
 use cops_held::{Held, Taken};
 use cops_store::Store;
-use cops_types::{Clock, Dep, Deps, Key, Memory, NodeStatus, PutRecord, Value, Version};
+use cops_types::{Clock, Dep, Deps, Key, Memory, NodeStatus, PutRecord, Refusal, Value, Version};
 use std::alloc::Global;
 use std::marker::Model;
 
@@ -21,28 +21,32 @@ pub struct Node {
 
 impl Model for Node {
     ghost use Rattle.std.specs.Prelude.{◌≡◌, ◌<◌};
+    ghost use Rattle.cops_types.specs.declared.limits.TheConstants.{NODES};
     ghost use Rattle.cops_node.specs.Node.{Node as State};
 
     ghost Value = { State };
 
     ghost view = { λ n. record { number = n.number; clock = n.clock.clock; settled = n.store.settled; held = n.held } };
 
-    ghost invariant = { λ n. n.number < 1024 };
+    ghost invariant = { λ n. n.number < NODES };
 }
 
 impl Node {
     ghost use Rattle.std.specs.Prelude.{◌≡◌, ◌<◌, ◌≤◌, length, option_copied, IfOk, IfErr, OnOk, OnErr};
     ghost use Rattle.std.specs.Option.{option_map};
-    ghost use Rattle.cops_store.specs.Store.{Stored, has_pair, shown, shown_keys};
+    ghost use Rattle.cops_store.specs.Store.{Stored, has_pair, shown};
+    ghost use Rattle.cops_store.specs.Settling.{shown_keys};
     ghost use Rattle.cops_held.specs.Held.{waiting};
     ghost use Rattle.cops_node.specs.declared.event.NodeEvent.TheVariants.{Put, Get, Deliver, Ask, Mark, Settle};
     ghost use Rattle.cops_node.specs.declared.outcome.Outcome.TheVariants.{Refused as RefusedWith};
-    ghost use Rattle.cops_node.specs.Outcomes.{TakesMemory};
-    ghost use Rattle.cops_node.specs.Node.{NodeHappens, answer, node_step, opened, settled_at, dep_at};
+    ghost use Rattle.cops_types.specs.declared.limits.TheConstants.{MAX_CLOCK, NODES};
+    ghost use Rattle.cops_types.specs.declared.refusal.Refusal.TheVariants.{Memory as OutOfMemory};
+    ghost use Rattle.cops_node.specs.Outcomes.{TakesMemory, settled_at};
+    ghost use Rattle.cops_node.specs.Node.{NodeHappens, answer, node_step, opened, dep_at};
 
     /// A node that has met no event. It takes no memory.
     pub fn open(alloc: Global, node: u16) -> Self
-        requires { node < 1024 }
+        requires { node < NODES }
         ensures { result ≡ opened node }
     {
         Node {
@@ -56,43 +60,43 @@ impl Node {
     /// The node's number.
     pub fn number(&self) -> u16
         ensures value { result ≡ self.now.number }
-        ensures range { result < 1024 }
+        ensures range { result < NODES }
     {
         self.number
     }
 
     /// A client's put, whose context is `deps`: it is settled at once, at a version above those of its dependencies.
-    /// Refused 1 where the clock can rise no further, and 9 for want of memory.
+    /// Refused where the clock can rise no further, and for want of memory.
     pub fn put(&mut self, client: u16, key: Key, value: Value, deps: Deps) -> Outcome
         ensures happens { NodeHappens self.old (Put client key value deps) result self.new }
-        ensures memory { result ≡ RefusedWith 9 → TakesMemory (node_step self.old (Put client key value deps)).0 }
+        ensures memory { result ≡ RefusedWith OutOfMemory → TakesMemory (node_step self.old (Put client key value deps)).0 }
     {
         let clock = raised_clock(self.clock.clock(), deps.as_slice());
         let answer = match Version::new(clock + 1, self.number) {
             Ok(version) => self.settle_own(key, value, version),
-            Err(_) => Err(CLOCK_EXHAUSTED),
+            Err(_) => Err(Refusal::ClockExhausted),
         };
         events!(row Put answer)
     }
 
-    /// Settles a client's put at a version above the clock, which rises to it, or answers the code of a refusal.
-    fn settle_own(&mut self, key: Key, value: Value, version: Version) -> Result<Version, u8>
+    /// Settles a client's put at a version above the clock, which rises to it, or answers a refusal.
+    fn settle_own(&mut self, key: Key, value: Value, version: Version) -> Result<Version, Refusal>
         ensures ok { IfOk result (λ v. v ≡ version) }
         ensures after { OnOk result (self.new ≡ settled_at self.old key value version) }
         ensures err { OnErr result (self.new ≡ self.old) }
-        ensures memory { IfErr result (λ code. code ≡ 9) }
+        ensures memory { IfErr result (λ refusal. refusal ≡ OutOfMemory) }
     {
         if self.store.settle(key, value, version).is_err() {
-            return Err(MEMORY);
+            return Err(Refusal::Memory);
         }
         self.clock.raise(version);
         Ok(version)
     }
 
-    /// A client's get: what the key shows. Refused 9 for want of memory.
+    /// A client's get: what the key shows. Refused for want of memory.
     pub fn get(&mut self, client: u16, key: &Key) -> Outcome
         ensures happens { NodeHappens self.old (Get client key.now) result self.new }
-        ensures memory { result ≡ RefusedWith 9 → TakesMemory (node_step self.old (Get client key.now)).0 }
+        ensures memory { result ≡ RefusedWith OutOfMemory → TakesMemory (node_step self.old (Get client key.now)).0 }
     {
         events!(row Get self.copy_of_shown(key))
     }
@@ -109,10 +113,10 @@ impl Node {
     }
 
     /// A put of another data centre comes. It waits from now on, or nothing changes where it does already or is settled.
-    /// Refused 9 for want of memory.
+    /// Refused for want of memory.
     pub fn deliver(&mut self, put: PutRecord) -> Outcome
         ensures happens { NodeHappens self.old (Deliver put) result self.new }
-        ensures memory { result ≡ RefusedWith 9 → TakesMemory (node_step self.old (Deliver put)).0 }
+        ensures memory { result ≡ RefusedWith OutOfMemory → TakesMemory (node_step self.old (Deliver put)).0 }
     {
         if self.store.has(&put.key, put.version) {
             return Outcome::Repeat;
@@ -128,8 +132,8 @@ impl Node {
         events!(row Ask self.store.has(key, version))
     }
 
-    /// A dependency of a waiting put, by its index, is settled in this data centre. Refused 5 where no put waits at the
-    /// version, and 6 where it has no such dependency. It takes no memory.
+    /// A dependency of a waiting put, by its index, is settled in this data centre. Refused where no put waits at the
+    /// version, and where it has no such dependency. It takes no memory.
     pub fn mark(&mut self, version: Version, dep: u16) -> Outcome
         ensures happens { NodeHappens self.old (Mark version dep) result self.new }
         ensures answered { node_step self.old (Mark version dep) ≡ (result, self.new) }
@@ -137,15 +141,15 @@ impl Node {
         events!(row Mark self.held.mark(version, dep))
     }
 
-    /// A waiting put is settled, and the clock rises to its. Refused 5 where no put waits at the version, 8 where not all
-    /// its dependencies are marked, and 9 for want of memory.
+    /// A waiting put is settled, and the clock rises to its. Refused where no put waits at the version, where not all its
+    /// dependencies are marked, and for want of memory.
     pub fn settle(&mut self, version: Version) -> Outcome
         ensures happens { NodeHappens self.old (Settle version) result self.new }
-        ensures memory { result ≡ RefusedWith 9 → TakesMemory (node_step self.old (Settle version)).0 }
+        ensures memory { result ≡ RefusedWith OutOfMemory → TakesMemory (node_step self.old (Settle version)).0 }
     {
         if self.store.reserve().is_err() {
             return match self.held.ready(version) {
-                Ok(()) => Outcome::Refused(MEMORY),
+                Ok(()) => Outcome::Refused(Refusal::Memory),
                 Err(fault) => events!(row Settle Err(fault)),
             };
         }
@@ -161,7 +165,7 @@ impl Node {
     /// Takes one event, as its own call does.
     pub fn step(&mut self, event: NodeEvent) -> Outcome
         ensures happens { NodeHappens self.old event result self.new }
-        ensures memory { result ≡ RefusedWith 9 → TakesMemory (node_step self.old event).0 }
+        ensures memory { result ≡ RefusedWith OutOfMemory → TakesMemory (node_step self.old event).0 }
     {
         macro_rules! dispatch {
             ($node:ident, $event:ident; $($name:ident $fields:tt => $call:ident $arguments:tt $outcomes:tt)*) => {
@@ -198,7 +202,7 @@ impl Node {
     /// The clock, and how many keys show a value, pairs are settled, and puts wait.
     pub fn status(&self) -> NodeStatus
         ensures status { result ≡ record { clock = self.now.clock; keys = length (shown_keys self.now.settled); settled = length self.now.settled; held = length self.now.held } }
-        ensures clock { result.clock ≤ 281474976710655 }
+        ensures clock { result.clock ≤ MAX_CLOCK }
     {
         NodeStatus {
             clock: self.clock.clock(),

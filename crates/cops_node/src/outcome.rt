@@ -1,5 +1,4 @@
-use crate::refusal::MEMORY;
-use cops_types::{Memory, Value, Version};
+use cops_types::{Memory, Refusal, Value, Version};
 
 /// What a node answers to one event.
 #[derive(Debug, Drop, PartialEq, Eq)]
@@ -22,12 +21,13 @@ pub enum Outcome {
     Marked,
     /// The put is settled and waits no longer.
     Settled,
-    /// Nothing changed, for the reason with this code.
-    Refused(u8),
+    /// Nothing changed, for this reason.
+    Refused(Refusal),
 }
 
 impl Outcome {
     ghost use Rattle.std.specs.Prelude.{◌≡◌, ◌↔◌, IsTrue, IfOk, OnErr};
+    ghost use Rattle.cops_types.specs.declared.refusal.Refusal.TheVariants.{Memory as OutOfMemory};
     ghost use Rattle.cops_node.specs.declared.outcome.Outcome.TheVariants.{Refused as RefusedWith};
     ghost use Rattle.cops_node.specs.Outcomes.{IsGot};
 
@@ -46,14 +46,14 @@ impl Outcome {
             Outcome::Wait => Outcome::Wait,
             Outcome::Marked => Outcome::Marked,
             Outcome::Settled => Outcome::Settled,
-            Outcome::Refused(code) => Outcome::Refused(*code),
+            Outcome::Refused(refusal) => Outcome::Refused(*refusal),
         })
     }
 
     /// Whether nothing happened for want of memory.
     pub fn is_memory(&self) -> bool
-        ensures { IsTrue result ↔ (self.now ≡ RefusedWith 9) }
+        ensures { IsTrue result ↔ (self.now ≡ RefusedWith OutOfMemory) }
     {
-        matches!(self, Outcome::Refused(MEMORY))
+        matches!(self, Outcome::Refused(Refusal::Memory))
     }
 }

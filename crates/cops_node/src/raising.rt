@@ -1,14 +1,15 @@
 //! A clock and the clocks of dependencies.
 ghost use Rattle.std.specs.Prelude.{◌≡◌, ◌≤◌};
+ghost use Rattle.cops_types.specs.declared.limits.TheConstants.{MAX_CLOCK};
 ghost use Rattle.cops_node.specs.Node.{raised};
 
 use cops_types::Dep;
 
 /// The greatest among a clock and those of the pairs (COPS, section 4.2: a put's version is above its dependencies').
 pub(crate) fn raised_clock(clock: u64, deps: &[Dep]) -> u64
-    requires { clock ≤ 281474976710655 }
+    requires { clock ≤ MAX_CLOCK }
     ensures raised { result ≡ raised clock deps.now }
-    ensures bound { result ≤ 281474976710655 }
+    ensures bound { result ≤ MAX_CLOCK }
     ensures above { clock ≤ result }
 {
     let mut greatest = clock;

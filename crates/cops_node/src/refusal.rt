@@ -1,31 +1,17 @@
-//! The codes of refusals.
+//! With what a node refuses.
 ghost use Rattle.std.specs.Prelude.{◌≡◌};
-ghost use Rattle.cops_node.specs.Refusals.{code_of};
+ghost use Rattle.cops_node.specs.Refusals.{refusal_of};
 
 use cops_held::HeldFault;
+use cops_types::Refusal;
 
-/// The clock can rise no further.
-pub const CLOCK_EXHAUSTED: u8 = 1;
-
-/// No put with the version waits.
-pub const NOT_HELD: u8 = 5;
-
-/// The put has no such dependency.
-pub const NO_SUCH_DEP: u8 = 6;
-
-/// Not all dependencies are marked.
-pub const DEPS_OPEN: u8 = 8;
-
-/// Want of memory.
-pub const MEMORY: u8 = 9;
-
-/// The code with which a node refuses where the held table does.
-pub(crate) fn code(fault: HeldFault) -> u8
-    ensures { result ≡ code_of fault }
+/// With what a node refuses where the held table does.
+pub(crate) fn refusal(fault: HeldFault) -> Refusal
+    ensures { result ≡ refusal_of fault }
 {
     match fault {
-        HeldFault::NotHeld => NOT_HELD,
-        HeldFault::NoSuchDep => NO_SUCH_DEP,
-        HeldFault::DepsOpen => DEPS_OPEN,
+        HeldFault::NotHeld => Refusal::NotHeld,
+        HeldFault::NoSuchDep => Refusal::NoSuchDep,
+        HeldFault::DepsOpen => Refusal::DepsOpen,
     }
 }

@@ -8,17 +8,17 @@ macro_rules! events {
             $($given)*;
             Put { client, key, value, deps } => put(client, key, value, deps) {
                 Ok(version) => PutDone(version),
-                Err(code) => Refused(code)
+                Err(refused) => Refused(refused)
             }
             Get { client, key } => get(client, &key) {
                 Ok(Some((value, version))) => Got(value, version),
                 Ok(None) => Missed,
-                Err(Memory) => Refused(MEMORY)
+                Err(Memory) => Refused(Refusal::Memory)
             }
             Deliver(put) => deliver(put) {
                 Ok(Taken::New) => Held,
                 Ok(Taken::Repeat) => Repeat,
-                Err(Memory) => Refused(MEMORY)
+                Err(Memory) => Refused(Refusal::Memory)
             }
             Ask { key, version } => ask(&key, version) {
                 true => Yes,
@@ -26,11 +26,11 @@ macro_rules! events {
             }
             Mark { version, dep } => mark(version, dep) {
                 Ok(()) => Marked,
-                Err(fault) => Refused(code(fault))
+                Err(fault) => Refused(refusal(fault))
             }
             Settle { version } => settle(version) {
                 Ok(()) => Settled,
-                Err(fault) => Refused(code(fault))
+                Err(fault) => Refused(refusal(fault))
             }
         }
     };

@@ -1,5 +1,7 @@
 -- How a scripted client may end.
 use Rattle.std.specs.Prelude.{◌≡◌, ℕ, ◌<◌, ◌≤◌, ◌⊎◌, List, [], length, slice_get, slice_index_or, Option, None, Some}
+use Rattle.cops_types.specs.declared.refusal.Refusal.{Refusal}
+use Rattle.cops_types.specs.declared.refusal.Refusal.TheVariants.{Memory, ClockExhausted, ContextFull}
 use Rattle.cops_types.specs.Histories.{Sessions}
 use Rattle.cops_types.specs.declared.op.Op.{Op}
 use Rattle.cops_types.specs.declared.op.Op.TheVariants.{Put as Wrote, Got, Missed}
@@ -16,11 +18,9 @@ use Rattle.cops_outcomes.specs.declared.outcome.ClientOutcome.TheVariants.{Done,
 -- a script's operation was seen so: a put of its key and value, at whatever version; a get of its key, whatever it returned
 abbrev pub IsSeenAs : ScriptOp → Op → Type 0
 IsSeenAs (Put key value) (Wrote k v version) = (k ≡ key) × (v ≡ value)
-IsSeenAs (Put key value) (Got k v version) = ⊥
-IsSeenAs (Put key value) (Missed k) = ⊥
-IsSeenAs (Get key) (Wrote k v version) = ⊥
 IsSeenAs (Get key) (Got k v version) = k ≡ key
 IsSeenAs (Get key) (Missed k) = k ≡ key
+IsSeenAs _ _ = ⊥
 
 -- the session has one operation for each of a front of the script, each seen so, in order
 pub record IsFrontOf (script : List ScriptOp) (session : List Op) : Type 0 where
@@ -32,21 +32,19 @@ abbrev pub event_for : ℕ → ScriptOp → Event
 event_for client (Put key value) = PutBy client key value
 event_for client (Get key) = GetBy client key
 
--- there is a next operation, and the world refuses it with this code
-abbrev pub RefusesNext : Setting → World → ℕ → Option ScriptOp → ℕ → Type 0
-RefusesNext s w client None code = ⊥
-RefusesNext s w client (Some op) code = (happens s w (event_for client op)).0 ≡ Refused code
+-- there is a next operation, and the world refuses it so
+abbrev pub RefusesNext : Setting → World → ℕ → Option ScriptOp → Refusal → Type 0
+RefusesNext s w client None refused = ⊥
+RefusesNext s w client (Some op) refused = (happens s w (event_for client op)).0 ≡ Refused refused
 
--- a client may have stopped before this operation with this code: with 9 for want of memory, and with 1 for a clock that can
--- rise no further or 2 for a full context where the world refuses the operation so
-abbrev pub IsStop : Setting → World → ℕ → Option ScriptOp → ℕ → Type 0
-IsStop s w client next code = (code ≡ 9) ⊎ (((code ≡ 1) ⊎ (code ≡ 2)) × RefusesNext s w client next code)
+-- a client may have stopped so before this operation: for want of memory, or as the world refuses it
+abbrev pub IsStop : Setting → World → ℕ → Option ScriptOp → Refusal → Type 0
+IsStop s w client next refused = (refused ≡ Memory) ⊎ (((refused ≡ ClockExhausted) ⊎ (refused ≡ ContextFull)) × RefusesNext s w client next refused)
 
--- where the run ends in this world: a client that is done has the session of its whole script, and one that stopped that of a
--- front of it
+-- a client that is done has the session of its whole script, and one that stopped that of a front of it
 abbrev pub IsOutcome : Setting → World → ℕ → List ScriptOp → List Op → ClientOutcome → Type 0
 IsOutcome s w client script session Done = IsFrontOf script session × (length session ≡ length script)
-IsOutcome s w client script session (Stopped code) = IsFrontOf script session × IsStop s w client (slice_get script (length session)) code
+IsOutcome s w client script session (Stopped refused) = IsFrontOf script session × IsStop s w client (slice_get script (length session)) refused
 
 -- a session and an outcome for each client, and each outcome is one of its session
 pub record AreOutcomes (s : Setting) (w : World) (clients : List ScriptedClient) (sessions : Sessions) (outcomes : List ClientOutcome) : Type 0 where

@@ -1,7 +1,8 @@
 ghost use Rattle.std.specs.Prelude.{◌≡◌, ◌↔◌, ◌+◌, ◌*◌, length, map, IfOk, IfErr, OnOk, IsTrue};
-ghost use Rattle.cops_core.specs.Invariants.{HasAcceptedVerdict};
+ghost use Rattle.cops_types.specs.Verdicts.{HasAcceptedVerdict};
 ghost use Rattle.cops_trace.specs.Text.{sessions_of};
-ghost use Rattle.cops_outcomes.specs.Runs.{EndsWell, IsNoRun, IsRun, WhereNoRun};
+ghost use Rattle.cops_outcomes.specs.Runs.{EndsWell, IsRun};
+ghost use Rattle.cops_outcomes.specs.NoRun.{IsNoRun, WhereNoRun};
 
 use crate::ending::are_outcomes;
 use crate::fault::CheckFault;

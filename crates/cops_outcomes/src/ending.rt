@@ -1,5 +1,6 @@
 //! Whether clients ended as their sessions and the world at the end of a run say.
 ghost use Rattle.std.specs.Prelude.{◌≡◌, ◌≢◌, ◌≤◌, ◌↔◌, IfOk, IsTrue, length, slice_get, slice_index_or, [], option_copied};
+ghost use Rattle.cops_types.specs.declared.refusal.Refusal.TheVariants.{Memory as OutOfMemory};
 ghost use Rattle.cops_types.specs.Histories.{Sessions};
 ghost use Rattle.cops_node.specs.declared.outcome.Outcome.TheVariants.{Refused};
 ghost use Rattle.cops_core.specs.World.{happens};
@@ -7,12 +8,9 @@ ghost use Rattle.cops_outcomes.specs.Outcomes.{AreOutcomes, IsFrontOf, IsOutcome
 
 use crate::outcome::ClientOutcome;
 use cops_core::{Event, ScriptOp, ScriptedClient, World, every_interleaving_is_accepted};
-use cops_node::{CLOCK_EXHAUSTED, MEMORY, Outcome};
-use cops_types::{History, Memory, Op};
+use cops_node::Outcome;
+use cops_types::{History, Memory, Op, Refusal};
 use std::alloc::AllocError;
-
-/// The code with which the world refuses a get of a client with a full context.
-const CONTEXT_FULL: u8 = 2;
 
 /// Whether there are a session and an outcome for each client, and each outcome is one of its session.
 pub fn are_outcomes(
@@ -51,7 +49,12 @@ fn is_outcome(
     }
     match outcome {
         ClientOutcome::Done => Ok(session.len() == script.len()),
-        ClientOutcome::Stopped(code) => is_stop(world, client, script.get(session.len()), code),
+        ClientOutcome::Stopped(refused) => is_stop(
+            world,
+            client,
+            script.get(session.len()),
+            refused,
+        ),
     }
 }
 
@@ -89,43 +92,48 @@ fn is_seen_as(op: &ScriptOp, seen: &Op) -> bool
     }
 }
 
-/// Whether a client may have stopped with this code before the operation that is next in its script. Where it may, the world
+/// Whether a client may have stopped for this reason before the operation that is next in its script. Where it may, the world
 /// is as it was.
 fn is_stop(
     world: &mut World,
     client: u16,
     next: Option<&ScriptOp>,
-    code: u8,
+    refused: Refusal,
 ) -> Result<bool, Memory>
-    ensures is { IfOk result (λ is. IsTrue is ↔ IsStop world.old.setting world.old.world client (option_copied next.entry) code) }
+    ensures is { IfOk result (λ is. IsTrue is ↔ IsStop world.old.setting world.old.world client (option_copied next.entry) refused) }
     ensures stays { IfOk result (λ is. IsTrue is → world.new ≡ world.old) }
 {
-    if code == MEMORY {
+    if refused == Refusal::Memory {
         return Ok(true);
     }
-    if code != CLOCK_EXHAUSTED && code != CONTEXT_FULL {
+    if refused != Refusal::ClockExhausted && refused != Refusal::ContextFull {
         return Ok(false);
     }
     match next {
-        Some(op) => is_refused(world, client, op, code),
+        Some(op) => is_refused(world, client, op, refused),
         None => Ok(false),
     }
 }
 
-/// Whether the world refuses a client's operation with this code. Where it does, it is as it was.
-fn is_refused(world: &mut World, client: u16, op: &ScriptOp, code: u8) -> Result<bool, Memory>
-    requires { code ≢ 9 }
-    ensures is { IfOk result (λ is. IsTrue is ↔ ((happens world.old.setting world.old.world (event_for client op.now)).0 ≡ Refused code)) }
+/// Whether the world refuses a client's operation so. Where it does, it is as it was.
+fn is_refused(
+    world: &mut World,
+    client: u16,
+    op: &ScriptOp,
+    refused: Refusal,
+) -> Result<bool, Memory>
+    requires { refused ≢ OutOfMemory }
+    ensures is { IfOk result (λ is. IsTrue is ↔ ((happens world.old.setting world.old.world (event_for client op.now)).0 ≡ Refused refused)) }
     ensures stays { IfOk result (λ is. IsTrue is → world.new ≡ world.old) }
 {
     let event = event_for(client, op)?;
-    is_event_refused(world, &event, code)
+    is_event_refused(world, &event, refused)
 }
 
 /// The same of an event.
-fn is_event_refused(world: &mut World, event: &Event, code: u8) -> Result<bool, Memory>
-    requires { code ≢ 9 }
-    ensures is { IfOk result (λ is. IsTrue is ↔ ((happens world.old.setting world.old.world event.now).0 ≡ Refused code)) }
+fn is_event_refused(world: &mut World, event: &Event, refused: Refusal) -> Result<bool, Memory>
+    requires { refused ≢ OutOfMemory }
+    ensures is { IfOk result (λ is. IsTrue is ↔ ((happens world.old.setting world.old.world event.now).0 ≡ Refused refused)) }
     ensures stays { IfOk result (λ is. IsTrue is → world.new ≡ world.old) }
 {
     every_interleaving_is_accepted();
@@ -134,7 +142,7 @@ fn is_event_refused(world: &mut World, event: &Event, code: u8) -> Result<bool, 
         return Err(Memory);
     }
     match &outcome {
-        Outcome::Refused(answered) => Ok(*answered == code),
+        Outcome::Refused(answered) => Ok(*answered == refused),
         _ => Ok(false),
     }
 }

@@ -1,8 +1,4 @@
 //! Why a run did not pass.
-ghost use Rattle.std.specs.Prelude.{◌≡◌};
-ghost use Rattle.cops_outcomes.specs.declared.fault.CheckFault.TheVariants.{Memory as OutOfMemory};
-
-use cops_types::Memory;
 use thiserror::Error;
 
 /// Why a run did not pass.
@@ -16,12 +12,4 @@ pub enum CheckFault {
     /// put, the one above the greatest: 0 where there is no entry, and the greatest `u64` where that is a ticket.
     #[error("untied at ticket {ticket}")]
     Untied { ticket: u64 },
-}
-
-impl From<Memory> for CheckFault {
-    ghost from_gives = { λ _ e. e ≡ OutOfMemory };
-
-    fn from(_e: Memory) -> CheckFault {
-        CheckFault::Memory
-    }
 }

@@ -4,7 +4,8 @@ ghost use Rattle.cops_core.specs.declared.event.Event.{Event};
 ghost use Rattle.cops_core.specs.World.{Setting};
 ghost use Rattle.cops_core.specs.declared.script.ScriptedClient.{ScriptedClient};
 ghost use Rattle.cops_tie.specs.declared.entry.Entry.{Entry};
-ghost use Rattle.cops_outcomes.specs.Runs.{IsNoRun, IsRun};
+ghost use Rattle.cops_outcomes.specs.Runs.{IsRun};
+ghost use Rattle.cops_outcomes.specs.NoRun.{IsNoRun};
 ghost use Rattle.cops_outcomes.specs.declared.outcome.ClientOutcome.{ClientOutcome};
 
 use cops_tie::{tied_books_have_one_end, untied_is_not_tied};

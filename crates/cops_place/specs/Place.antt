@@ -3,23 +3,24 @@ use Rattle.std.specs.Prelude.{◌≡◌, ℕ, ◌≤◌, Bool, true, List, lengt
 use Rattle.std.specs.Cmp.Lexicographic.{slice_cmp}
 use Rattle.std.specs.List.{AllAdjacentBelow}
 use Rattle.std.specs.Ordering.{is_le, is_lt, nat_cmp}
+use Rattle.cops_types.specs.declared.limits.TheConstants.{MAX_DCS}
+use Rattle.cops_place.specs.declared.place.TheConstants.{MAX_SPLITS}
 
 -- the number of data centres, and the split keys, which cut the key space into a range for each of their nodes
 pub record APlace : Type 0 where
   pub dcs : ℕ
   pub splits : List (List ℕ)
 
--- the key is not above the other, byte by byte
+-- the key is not above the other, or is below it, byte by byte
 abbrev pub is_at_most : List ℕ → List ℕ → Bool
 is_at_most a b = is_le (slice_cmp nat_cmp a b)
 
--- the key is below the other, byte by byte
 abbrev pub is_below : List ℕ → List ℕ → Bool
 is_below a b = is_lt (slice_cmp nat_cmp a b)
 
 -- 1 to 16 data centres, of 1 to 64 nodes each
 abbrev pub IsInRange : ℕ → List (List ℕ) → Type 0
-IsInRange dcs splits = (1 ≤ dcs) × (dcs ≤ 16) × (length splits ≤ 63)
+IsInRange dcs splits = (1 ≤ dcs) × (dcs ≤ MAX_DCS) × (length splits ≤ MAX_SPLITS)
 
 -- each split key is above the one before it
 abbrev pub AreAscending : List (List ℕ) → Type 0
@@ -29,7 +30,6 @@ AreAscending splits = AllAdjacentBelow (λ a b. is_below a b ≡ true) splits (l
 abbrev pub primary : List (List ℕ) → List ℕ → ℕ
 primary splits key = count_by (λ split. is_at_most split key) splits
 
--- what a place is
 pub record IsPlace (p : APlace) : Type 0 where
   pub range : IsInRange p.dcs p.splits
   pub ascending : AreAscending p.splits

@@ -8,4 +8,4 @@ mod fault;
 mod place;
 
 pub use fault::PlaceFault;
-pub use place::{MAX_DCS, MAX_SPLITS, Place};
+pub use place::{MAX_SPLITS, Place};

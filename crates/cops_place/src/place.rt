@@ -2,12 +2,9 @@ ghost use Rattle.std.specs.Prelude.{◌≡◌, ◌↔◌, IsTrue};
 ghost use Rattle.cops_place.specs.Place.{AreAscending, primary, is_at_most, is_below};
 
 use crate::fault::PlaceFault;
-use cops_types::{Key, node_number};
+use cops_types::{Key, MAX_DCS, node_number};
 use std::alloc::AllocError;
 use std::marker::Model;
-
-/// The most data centres.
-pub const MAX_DCS: u8 = 16;
 
 /// The most split keys.
 pub const MAX_SPLITS: usize = 63;
@@ -34,6 +31,7 @@ impl Place {
     ghost use Rattle.std.specs.Prelude.{◌≡◌, ◌↔◌, ◌≤◌, ◌<◌, ◌+◌, length, IfOk, IsErrOf};
     ghost use Rattle.cops_place.specs.Place.{IsPlace, IsInRange, AreAscending, primary};
     ghost use Rattle.cops_types.specs.NodeNumber.{node_number};
+    ghost use Rattle.cops_types.specs.declared.limits.TheConstants.{NODES};
 
     /// So many data centres, and these split keys: `BadCount` unless there are 1 to 16 data centres and at most 63 split
     /// keys, then `SplitsNotAscending` unless each split key is above the one before it.
@@ -81,7 +79,7 @@ impl Place {
     pub fn node(&self, dc: u8, key: &Key) -> u16
         requires { dc < self.now.dcs }
         ensures number { result ≡ node_number dc (primary self.now.splits key.now) }
-        ensures range { result < 1024 }
+        ensures range { result < NODES }
     {
         node_number(dc, self.primary(key))
     }

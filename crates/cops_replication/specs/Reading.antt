@@ -1,6 +1,7 @@
 -- Books that are read one after the other, each from where its last reading ended.
 use Rattle.std.specs.Prelude.{◌≡◌, ◌<◌, ◌==◌, Bool, true, ℕ, List, [], ◌∷◌, ◌++◌, drop, length, replicate, slice_index, slice_set}
 use Rattle.std.specs.List.{list_any}
+use Rattle.cops_types.specs.declared.limits.TheConstants.{PLACES}
 use Rattle.cops_types.specs.declared.put_record.PutRecord.{PutRecord}
 use Rattle.cops_tie.specs.Book.{puts_in}
 use Rattle.cops_tie.specs.declared.entry.Entry.{Entry}
@@ -14,7 +15,7 @@ pub record Reading : Type 0 where
 
 -- it is a node of this data centre
 abbrev pub IsReadingAt : Cluster → ℕ → Reading → Type 0
-IsReadingAt cluster dc r = IsNode cluster dc r.place × (r.place < 64)
+IsReadingAt cluster dc r = IsNode cluster dc r.place × (r.place < PLACES)
 
 abbrev pub is_at : ℕ → Reading → Bool
 is_at place r = r.place == place
@@ -25,7 +26,7 @@ AreReadBelow cluster dc end readings = (place : ℕ) → place < end → IsNode 
 
 -- of each node, by its place, how many entries were read: none yet
 abbrev pub unread : List ℕ
-unread = replicate 64 0
+unread = replicate PLACES 0
 
 -- after these readings: all that there were
 abbrev pub read_after : List ℕ → List Reading → List ℕ

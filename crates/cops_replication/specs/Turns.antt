@@ -2,6 +2,7 @@
 use Rattle.std.specs.Prelude.{◌≡◌, ℕ, ◌<◌, min}
 use Rattle.cops_types.specs.declared.gate.Point.{Point}
 use Rattle.cops_types.specs.NodeNumber.{node_number}
+use Rattle.cops_cluster.specs.declared.receiving.TheConstants.{RECEIVER}
 use Rattle.cops_cluster.specs.Cluster.{IsNode, MayHoldStep}
 use Rattle.cops_cluster.specs.declared.cluster.Cluster.{Cluster}
 use Rattle.cops_replication.specs.declared.turn.Turn.{Turn}
@@ -20,7 +21,7 @@ IsTurnOf done (Did told) = (0 < done) × (told ≡ min done 4294967295)
 
 -- the gate may hold a step of a receiver at some node of this data centre
 abbrev pub MayHoldReceiver : (Point → Type 0) → Cluster → ℕ → Type 0
-MayHoldReceiver may_hold cluster dc = (place : ℕ) × IsNode cluster dc place × MayHoldStep may_hold (node_number dc place) 65535
+MayHoldReceiver may_hold cluster dc = (place : ℕ) × IsNode cluster dc place × MayHoldStep may_hold (node_number dc place) RECEIVER
 
 -- why a turn ended early
 abbrev pub IsFaultAt : (Point → Type 0) → Cluster → ℕ → TurnFault → Type 0

@@ -6,6 +6,7 @@
 //! one keeps nothing back.
 #![tactic(auto)]
 
+mod arrival;
 mod backlog;
 mod outbox;
 mod receiver;

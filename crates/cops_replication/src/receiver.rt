@@ -1,42 +1,11 @@
-ghost use Rattle.cops_replication.specs.Receiving.{TakesUpTo};
-
+use crate::arrival::{Answer, Arrival, Stage, next_arrival, waits};
 use crate::backlog::{Backlog, Question};
 use crate::turn::{Turn, TurnFault};
 use cops_cluster::{Asked, Cluster, Share, Yes};
 use cops_link::LinkOut;
-use cops_node::Outcome;
 use cops_types::{Gate, Memory, PutRecord, Version};
-use cops_wire::Message;
 use std::alloc::Global;
 use std::sync::Wait;
-
-/// What is known of a put that was taken from a link.
-#[derive(Clone, Copy, PartialEq)]
-enum Stage {
-    /// It is to be delivered.
-    Taken,
-    /// It is to be delivered, and a gate held its delivery, whose answer is not known.
-    Unknown,
-    /// Its node holds it.
-    Held,
-}
-
-/// What a node answered, as far as a receiver heeds it.
-#[derive(Clone, Copy)]
-enum Answer {
-    Held,
-    Repeat,
-    Marked,
-    Settled,
-    Other,
-}
-
-/// A put that was taken from a link.
-#[derive(Drop)]
-struct Arrival {
-    put: PutRecord,
-    stage: Stage,
-}
 
 /// What brings the puts of other data centres into one. Of a dependency that was answered Wait it asks again only once it has
 /// settled exactly that pair, so a turn's work is in proportion to what came and to what became ready.
@@ -177,13 +146,13 @@ impl Receiver {
             return Ok(0);
         };
         let stage = arrival.stage;
-        if stage == Stage::Held {
+        if stage == Stage::Waiting {
             return self.keep();
         }
-        let copy = arrival.put.clone()?;
+        let copy = arrival.put.clone().or(Err(TurnFault::Memory))?;
         let answer = self.deliver(rt, cluster, gate, copy)?;
-        if is_held(answer, stage) {
-            self.set_stage(Stage::Held);
+        if waits(answer, stage) {
+            self.set_stage(Stage::Waiting);
             return self.keep();
         }
         self.forget();
@@ -334,64 +303,5 @@ impl Receiver {
         let answer = Answer::of(outcome)?;
         self.backlog.settle(version);
         Ok(usize::from(matches!(answer, Answer::Settled)))
-    }
-}
-
-impl Answer {
-    /// The answer in short: `Memory` where it is want of memory.
-    fn of(outcome: Outcome) -> Result<Self, Memory> {
-        let is_memory = outcome.is_memory();
-        let answer = match &outcome {
-            Outcome::Held => Answer::Held,
-            Outcome::Repeat => Answer::Repeat,
-            Outcome::Marked => Answer::Marked,
-            Outcome::Settled => Answer::Settled,
-            _ => Answer::Other,
-        };
-        drop(outcome);
-        if is_memory { Err(Memory) } else { Ok(answer) }
-    }
-}
-
-/// Whether this answer to a delivery says that the node holds the put, which was at this stage before.
-fn is_held(answer: Answer, stage: Stage) -> bool {
-    match answer {
-        Answer::Held => true,
-        Answer::Repeat => stage == Stage::Unknown,
-        _ => false,
-    }
-}
-
-/// Takes the next frame, if one is there.
-fn next_arrival(link: &mut LinkOut) -> Result<Option<Arrival>, Memory>
-    ensures { TakesUpTo 1 link.old link.new }
-{
-    match link.take()? {
-        Some(message) => Ok(arrival_of(message)),
-        None => Ok(None),
-    }
-}
-
-/// The put that a message replicates.
-fn arrival_of(message: Message) -> Option<Arrival> {
-    match message {
-        Message::PutAfter {
-            key,
-            value,
-            version,
-            deps,
-        } => Some(Arrival {
-            put: PutRecord {
-                key,
-                value,
-                version,
-                deps,
-            },
-            stage: Stage::Taken,
-        }),
-        other => {
-            drop(other);
-            None
-        }
     }
 }

@@ -20,6 +20,7 @@ pub struct Sender {
 
 impl Sender {
     ghost use Rattle.std.specs.Prelude.{◌≡◌, ◌-◌, IfOk, OnOk, Err, map};
+    ghost use Rattle.cops_types.specs.declared.limits.TheConstants.{PLACES};
     ghost use Rattle.cops_replication.specs.Lanes.{HasSentAll, frames, idle};
     ghost use Rattle.cops_replication.specs.Reading.{unread};
     ghost use Rattle.cops_replication.specs.Sending.{Carries, CarriesBelow, lanes};
@@ -42,7 +43,7 @@ impl Sender {
     /// was not sent yet, until that is full. What it did not send is kept for the next turn, and want of memory loses nothing.
     pub fn turn<R: Wait>(&mut self, rt: &R, cluster: &Cluster) -> Result<Turn, Memory>
         ensures carries { Carries cluster.now self.old self.new }
-        ensures all { OnOk result (CarriesBelow 64 cluster.now self.old self.new) }
+        ensures all { OnOk result (CarriesBelow PLACES cluster.now self.old self.new) }
         ensures did { IfOk result (IsTurnOf (frames (lanes self.new) - frames (lanes self.old))) }
     {
         let read = self.read(rt, cluster);
@@ -56,7 +57,7 @@ impl Sender {
     /// a turn met it.
     pub fn drain<R: Wait>(&mut self, rt: &R, cluster: &Cluster, turns: u32) -> Result<(), TurnFault>
         ensures carries { Carries cluster.now self.old self.new }
-        ensures all { OnOk result (CarriesBelow 64 cluster.now self.old self.new) }
+        ensures all { OnOk result (CarriesBelow PLACES cluster.now self.old self.new) }
         ensures ok { OnOk result (HasSentAll (lanes self.new)) }
         ensures not_held { result ≡ Err TurnFault.Held → ⊥ }
     {
@@ -82,7 +83,7 @@ impl Sender {
     /// Reads the puts that were issued at the nodes since it last did.
     fn read<R: Wait>(&mut self, rt: &R, cluster: &Cluster) -> Result<(), Memory>
         ensures carries { Carries cluster.now self.old self.new }
-        ensures all { OnOk result (CarriesBelow 64 cluster.now self.old self.new) }
+        ensures all { OnOk result (CarriesBelow PLACES cluster.now self.old self.new) }
         ensures sent { frames (lanes self.new) ≡ frames (lanes self.old) }
     {
         for place in 0..MAX_NODES {

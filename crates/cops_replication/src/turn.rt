@@ -4,7 +4,6 @@ ghost use Rattle.cops_replication.specs.declared.turn.TurnFault.TheVariants.{Mem
 
 use cops_cluster::RECEIVER;
 use cops_types::{GateHeld, Memory};
-use std::alloc::{AllocError, AllocFailed};
 use thiserror::Error;
 
 /// What one turn did.
@@ -58,21 +57,5 @@ impl From<GateHeld> for TurnFault {
 
     fn from(_e: GateHeld) -> TurnFault {
         TurnFault::Held
-    }
-}
-
-impl From<AllocError> for TurnFault {
-    ghost from_gives = { λ _ e. e ≡ OutOfMemory };
-
-    fn from(_e: AllocError) -> TurnFault {
-        TurnFault::Memory
-    }
-}
-
-impl<T: Drop> From<AllocFailed<T>> for TurnFault {
-    ghost from_gives = { λ _ e. e ≡ OutOfMemory };
-
-    fn from(_e: AllocFailed<T>) -> TurnFault {
-        TurnFault::Memory
     }
 }

@@ -1,5 +1,6 @@
 //! Senders and receivers, and the links between them.
 ghost use Rattle.std.specs.Prelude.{◌≡◌, ◌≤◌, ◌-◌, All, IfOk, [], length, map};
+ghost use Rattle.cops_link.specs.declared.ends.TheConstants.{MAX_CAPACITY};
 ghost use Rattle.cops_link.specs.Link.{known_room, sent, taken, IsLink};
 ghost use Rattle.cops_replication.specs.Making.{AreEnds, ArePaired, GainsEnds, rows};
 ghost use Rattle.cops_replication.specs.Receiving.{ends};
@@ -24,7 +25,7 @@ pub struct Replicas {
 /// receiver of each other one. The receivers take the shares in order. Where shares are missing, the last data centres have no
 /// receiver.
 pub fn wired(alloc: Global, dcs: u8, capacity: u16, shares: Vec<Share>) -> Result<Replicas, Memory>
-    requires { (1 ≤ capacity) × (capacity ≤ 1024) }
+    requires { (1 ≤ capacity) × (capacity ≤ MAX_CAPACITY) }
     ensures senders { IfOk result (λ r. AreSenders dcs (dcs - 1) capacity r.senders.items) }
     ensures receivers { IfOk result (λ r. length shares.items ≡ dcs → AreReceivers dcs shares.items r.receivers.items) }
     ensures joined { IfOk result (λ r. length shares.items ≡ dcs → AreJoined dcs (map lanes r.senders.items) (map ends r.receivers.items)) }
@@ -54,7 +55,7 @@ fn senders(
     capacity: u16,
     outs: &mut [Vec<LinkOut>],
 ) -> Result<Vec<Sender>, Memory>
-    requires capacity { (1 ≤ capacity) × (capacity ≤ 1024) }
+    requires capacity { (1 ≤ capacity) × (capacity ≤ MAX_CAPACITY) }
     requires length { length outs.old ≡ dcs }
     requires none { All (λ (v : _). v.items ≡ []) outs.old }
     ensures senders { IfOk result (λ s. AreSenders dcs (dcs - 1) capacity s.items) }
@@ -76,7 +77,7 @@ fn links_from(
     capacity: u16,
     outs: &mut [Vec<LinkOut>],
 ) -> Result<Vec<LinkIn>, Memory>
-    requires { (1 ≤ capacity) × (capacity ≤ 1024) }
+    requires { (1 ≤ capacity) × (capacity ≤ MAX_CAPACITY) }
     ensures length { IfOk result (λ ins. length ins.items ≡ place_beside from (length outs.old)) }
     ensures fresh { IfOk result (λ ins. All (IsFreshIn capacity) ins.items) }
     ensures gains { IfOk result (λ ins. GainsEnds from ins.items (rows outs.old) (rows outs.new)) }
@@ -95,7 +96,7 @@ fn links_from(
 
 /// A link, of which nothing was sent or taken.
 fn link_of(alloc: Global, capacity: u16) -> Result<(LinkIn, LinkOut), Memory>
-    requires { (1 ≤ capacity) × (capacity ≤ 1024) }
+    requires { (1 ≤ capacity) × (capacity ≤ MAX_CAPACITY) }
     ensures { IfOk result (λ r. IsLink r.0 r.1 × (sent r.0 ≡ []) × (taken r.1 ≡ []) × (known_room r.0 ≡ capacity)) }
 {
     match link(alloc, usize::from(capacity)) {

@@ -5,7 +5,7 @@ use Rattle.std.specs.List.{flat_map}
 use Rattle.std.proofs.lemmas.List.{flat_map_more, take_more}
 use Rattle.std.proofs.lemmas.List.Sums.{count_by-le-length, sum_by-cons, sum_by_more}
 use Rattle.cops_types.specs.Histories.{Sessions}
-use Rattle.cops_types.specs.Recorded.{count_of}
+use Rattle.cops_types.specs.Counts.{count_of}
 use Rattle.cops_report.specs.Reports.{is_put, put_count}
 
 -- one line more

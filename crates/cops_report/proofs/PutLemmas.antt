@@ -11,7 +11,7 @@ use Rattle.cops_report.specs.declared.marks.Mark.{Mark}
 use Rattle.cops_audit.specs.declared.table.VersionedPut.{VersionedPut}
 use Rattle.cops_report.specs.Marks.{Table, Gains, IsMarked}
 use Rattle.cops_audit.specs.Tables.{GetsVersion}
-use Rattle.cops_report.specs.Puts.{HasPut, IsPutTable}
+use Rattle.cops_report.specs.Puts.{HasPut, HasAllPuts}
 use Rattle.cops_report.proofs.NameCases.{same_name}
 use Rattle.cops_report.proofs.StepLemmas.{name_at}
 use Rattle.cops_report.proofs.Tables.{named_index}
@@ -57,7 +57,7 @@ puts_of_client h client index puts all has n v is put =
 
 -- sorted, they are a table
 pub table_sorted : (h : Sessions) (client : ℕ) (xs ys : List VersionedPut) → length h ≤ client → ((n : OpName) (v : ℕ) → n.client < client → PutsVersion h n v → HasPut xs n v)
-    → IsPermutation xs ys → IsNonDecreasingBy (λ p. p.version) ys → IsPutTable h ys
+    → IsPermutation xs ys → IsNonDecreasingBy (λ p. p.version) ys → HasAllPuts h ys
 table_sorted h client xs ys all has permuted rising = record {
   all = λ n v put. Contains-permutation xs ys (put_of n v) permuted (has n v (omega (arith, named_client h n (version_named h n v put))) put);
   rising = rising;

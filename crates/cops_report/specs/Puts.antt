@@ -10,6 +10,6 @@ abbrev pub HasPut : List VersionedPut → OpName → ℕ → Type 0
 HasPut puts n v = Contains puts (record { version = v; name = n })
 
 -- all puts, in order of versions
-pub record IsPutTable (h : Sessions) (puts : List VersionedPut) : Type 0 where
+pub record HasAllPuts (h : Sessions) (puts : List VersionedPut) : Type 0 where
   pub all : (n : OpName) (v : ℕ) → PutsVersion h n v → HasPut puts n v
   pub rising : IsNonDecreasingBy (λ p. p.version) puts

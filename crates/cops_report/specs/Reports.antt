@@ -6,7 +6,7 @@ use Rattle.cops_types.specs.declared.op.Op.TheVariants.{Put, Got, Missed}
 use Rattle.cops_types.specs.declared.op.OpName.{OpName}
 use Rattle.cops_types.specs.Histories.{Sessions, op_at}
 use Rattle.cops_types.specs.Faults.{HasVersion}
-use Rattle.cops_types.specs.Recorded.{count_of}
+use Rattle.cops_types.specs.Counts.{count_of}
 use Rattle.cops_types.specs.Texts.{◌⧺◌, name_text, version_text}
 use Rattle.cops_audit.specs.declared.verdict.Verdict.{Verdict}
 use Rattle.cops_audit.specs.declared.verdict.Verdict.TheVariants.{Accepted, Refused}

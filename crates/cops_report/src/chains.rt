@@ -2,7 +2,7 @@ ghost use Rattle.std.specs.Prelude.{◌↔◌, IfOk, IsTrue, MatchOption};
 ghost use Rattle.cops_types.specs.Histories.{IsNamed};
 ghost use Rattle.cops_report.specs.Chains.{HasNoChain, IsFirstChain};
 ghost use Rattle.cops_report.specs.Marks.{IsMarked};
-ghost use Rattle.cops_report.specs.Puts.{IsPutTable};
+ghost use Rattle.cops_report.specs.Puts.{HasAllPuts};
 ghost use Rattle.cops_report.specs.Searches.{IsWalk, LeadsBack};
 
 use crate::marks::Marks;
@@ -42,7 +42,7 @@ pub fn chain_by(
     from: OpName,
     to: OpName,
 ) -> Result<Option<Vec<OpName>>, Memory>
-    requires { IsPutTable history.now.sessions puts.now }
+    requires { HasAllPuts history.now.sessions puts.now }
     ensures { IfOk result (λ found. MatchOption found
         (HasNoChain history.now.sessions from to)
         (λ names. IsFirstChain history.now.sessions from to names.items)) }

@@ -27,7 +27,7 @@ impl Model for Marks {
 impl Marks {
     ghost use Rattle.cops_types.specs.declared.limits.TheConstants.{MAX_OPS};
     ghost use Rattle.std.specs.Prelude.{◌≡◌, ◌≤◌, IfOk};
-    ghost use Rattle.cops_types.specs.Recorded.{count_of};
+    ghost use Rattle.cops_types.specs.Counts.{count_of};
     ghost use Rattle.cops_report.specs.Marks.{mark_at, HasPlace, with_mark, unmarked};
 
     /// No marks, with a place for each operation.

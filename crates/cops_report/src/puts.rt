@@ -4,7 +4,7 @@ ghost use Rattle.std.specs.List.Sorted.{IsNonDecreasingBy};
 ghost use Rattle.cops_types.specs.declared.op.OpName.{OpName};
 ghost use Rattle.cops_types.specs.Histories.{PutsVersion};
 ghost use Rattle.cops_audit.specs.declared.table.VersionedPut.{VersionedPut};
-ghost use Rattle.cops_report.specs.Puts.{HasPut, IsPutTable};
+ghost use Rattle.cops_report.specs.Puts.{HasPut, HasAllPuts};
 
 use cops_audit::{VersionedPut, put_version};
 use cops_types::{History, OpName, Version};
@@ -40,7 +40,7 @@ fn push_puts(puts: &mut Vec<VersionedPut>, history: &History, client: u16) -> Re
 
 /// All puts, in order of versions.
 pub fn put_table(alloc: Global, history: &History) -> Result<Vec<VersionedPut>, AllocError>
-    ensures { IfOk result (λ v. IsPutTable history.now.sessions v.items) }
+    ensures { IfOk result (λ v. HasAllPuts history.now.sessions v.items) }
 {
     let mut puts = Vec::new(alloc);
     for client in 0..history.clients() {

@@ -2,11 +2,11 @@ ghost use Rattle.std.specs.Prelude.{◌≡◌, List, [], ℕ, length, OnOk, IfOk
 ghost use Rattle.std.specs.List.{flat_map};
 ghost use Rattle.cops_types.specs.declared.op.OpName.{OpName};
 ghost use Rattle.cops_types.specs.Faults.{IsStale};
-ghost use Rattle.cops_types.specs.Recorded.{count_of};
+ghost use Rattle.cops_types.specs.Counts.{count_of};
 ghost use Rattle.cops_audit.specs.Verdicts.{IsVerdict};
 ghost use Rattle.cops_audit.specs.declared.verdict.NotAbove.{NotAbove};
 ghost use Rattle.cops_audit.specs.declared.verdict.Stale.{Stale};
-ghost use Rattle.cops_report.specs.Puts.{IsPutTable};
+ghost use Rattle.cops_report.specs.Puts.{HasAllPuts};
 ghost use Rattle.cops_report.specs.Reports.{AddsStaleLine, AddsStaleLines, AreStaleLines, HasSomeVersion, IsRefusal, IsReport};
 ghost use Rattle.cops_report.specs.Reports.{accepted_line, named_line, not_above_line, put_count, refusal};
 
@@ -25,7 +25,7 @@ fn stale_line(
     puts: &[VersionedPut],
     fault: Stale,
 ) -> Result<(), Memory>
-    requires puts { IsPutTable history.now.sessions puts.now }
+    requires puts { HasAllPuts history.now.sessions puts.now }
     requires stale { IsStale history.now.sessions fault.op fault.newer }
     ensures { OnOk result (AddsStaleLine history.now.sessions fault out.old.items out.new.items) }
 {
@@ -47,7 +47,7 @@ fn stale_lines(
     puts: &[VersionedPut],
     faults: &[Stale],
 ) -> Result<(), Memory>
-    requires puts { IsPutTable history.now.sessions puts.now }
+    requires puts { HasAllPuts history.now.sessions puts.now }
     requires stale { (f : Stale) → Contains faults.now f → IsStale history.now.sessions f.op f.newer }
     ensures { OnOk result (AddsStaleLines history.now.sessions faults.now out.old.items out.new.items) }
 {

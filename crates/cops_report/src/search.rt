@@ -6,7 +6,7 @@ ghost use Rattle.cops_types.specs.Histories.{Sessions, SessionStep, SourceStep, 
 ghost use Rattle.cops_types.specs.Past.{Step};
 ghost use Rattle.cops_types.specs.declared.op.OpName.{OpName};
 ghost use Rattle.cops_audit.specs.declared.table.VersionedPut.{VersionedPut};
-ghost use Rattle.cops_report.specs.Puts.{HasPut, IsPutTable};
+ghost use Rattle.cops_report.specs.Puts.{HasPut, HasAllPuts};
 ghost use Rattle.cops_report.specs.Marks.{Gains, HasPlace, IsMarked, IsNearer, open_places, PlacesAll, SessionsMarked};
 ghost use Rattle.cops_report.specs.Searches.{IsFound, IsLevel, IsRising, IsSearch};
 
@@ -110,7 +110,7 @@ fn mark_sources(
     names: &mut Vec<OpName>,
     mark: Mark,
 ) -> Result<(), AllocError>
-    requires puts { IsPutTable history.now.sessions puts.now }
+    requires puts { HasAllPuts history.now.sessions puts.now }
     requires places { PlacesAll marks.old history.now.sessions }
     ensures gains { OnOk result
         (Gains history.now.sessions mark marks.old marks.new names.old.items names.new.items) }
@@ -136,7 +136,7 @@ fn mark_before(
 ) -> Result<(), AllocError>
     requires named { IsNamed history.now.sessions mark.next }
     requires nearer { SessionsMarked marks.old mark }
-    requires puts { IsPutTable history.now.sessions puts.now }
+    requires puts { HasAllPuts history.now.sessions puts.now }
     requires places { PlacesAll marks.old history.now.sessions }
     ensures gains { OnOk result
         (Gains history.now.sessions mark marks.old marks.new names.old.items names.new.items) }
@@ -157,7 +157,7 @@ fn mark_level(
     steps: u32,
 ) -> Result<Vec<OpName>, AllocError>
     requires fits { steps ≤ MAX_OPS }
-    requires puts { IsPutTable history.now.sessions puts.now }
+    requires puts { HasAllPuts history.now.sessions puts.now }
     requires places { PlacesAll marks.old history.now.sessions }
     requires level { IsLevel marks.old steps level.now }
     requires fresh { IsLevel marks.old (steps + 1) [] }
@@ -189,7 +189,7 @@ pub fn search(
     from: OpName,
     to: OpName,
 ) -> Result<Marks, AllocError>
-    requires puts { IsPutTable history.now.sessions puts.now }
+    requires puts { HasAllPuts history.now.sessions puts.now }
     requires named { IsNamed history.now.sessions to }
     ensures { IfOk result (IsFound history.now.sessions from to) }
 {

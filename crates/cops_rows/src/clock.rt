@@ -1,7 +1,7 @@
 //! Rows of a node's clock.
 
 use anyhow::Error;
-use cops_types::{Clock, MAX_NODE};
+use cops_types::{Clock, NODES};
 use cops_words::Part::{At, Number, Word};
 use cops_words::{no_node, no_row, text, u16_of, version};
 use std::alloc::Global;
@@ -14,7 +14,7 @@ fn told(alloc: Global, clock: &Clock) -> Result<String, Error> {
 /// Begins a clock anew.
 fn begin(alloc: Global, clock: &mut Clock, number: &str) -> Result<String, Error> {
     let number = u16_of(number)?;
-    if number > MAX_NODE {
+    if number >= NODES {
         return Err(no_node());
     }
     *clock = Clock::new(number);

@@ -1,14 +1,14 @@
 //! A scripted client's thread.
 ghost use Rattle.std.specs.Prelude.{◌≡◌, IfOk, OnErr};
-ghost use Rattle.cops_run.specs.Held.{MayHold};
+ghost use Rattle.cops_run.specs.Gates.{MayHold};
 
 use crate::ends::{End, Returned};
 use crate::stage::Stage;
 use cops_cluster::{Client, Cluster};
 use cops_core::ScriptOp;
-use cops_node::{MEMORY, Outcome};
+use cops_node::Outcome;
 use cops_outcomes::ClientOutcome;
-use cops_types::{Gate, GateHeld};
+use cops_types::{Gate, GateHeld, Refusal};
 use std::sync::Wait;
 
 /// A client, with its script.
@@ -56,21 +56,21 @@ fn follow<R: Wait, G: Gate>(
         if stage.is_broken() {
             return Ok(End::Broken);
         }
-        if let Some(code) = perform(rt, stage.cluster(), gate, client, op)? {
-            return Ok(End::Client(ClientOutcome::Stopped(code)));
+        if let Some(refusal) = perform(rt, stage.cluster(), gate, client, op)? {
+            return Ok(End::Client(ClientOutcome::Stopped(refusal)));
         }
     }
     Ok(End::Client(ClientOutcome::Done))
 }
 
-/// One operation of a script: the code where it is refused.
+/// One operation of a script: why it is refused, where it is.
 fn perform<R: Wait, G: Gate>(
     rt: &R,
     cluster: &Cluster,
     gate: &G,
     client: &mut Client,
     op: &ScriptOp,
-) -> Result<Option<u8>, GateHeld>
+) -> Result<Option<Refusal>, GateHeld>
     ensures { OnErr result (MayHold (G.may_hold gate.now)) }
 {
     let outcome = outcome_of(rt, cluster, gate, client, op)?;
@@ -90,26 +90,26 @@ fn outcome_of<R: Wait, G: Gate>(
     match op {
         ScriptOp::Put { key, value } => {
             let Ok(key) = key.clone() else {
-                return Ok(Outcome::Refused(MEMORY));
+                return Ok(Outcome::Refused(Refusal::Memory));
             };
             let Ok(value) = value.clone() else {
-                return Ok(Outcome::Refused(MEMORY));
+                return Ok(Outcome::Refused(Refusal::Memory));
             };
             cluster.put(rt, client, gate, key, value)
         }
         ScriptOp::Get { key } => {
             let Ok(key) = key.clone() else {
-                return Ok(Outcome::Refused(MEMORY));
+                return Ok(Outcome::Refused(Refusal::Memory));
             };
             cluster.get(rt, client, gate, key)
         }
     }
 }
 
-/// The code of a refusal.
-fn refusal(outcome: &Outcome) -> Option<u8> {
+/// Why it is refused, where it is.
+fn refusal(outcome: &Outcome) -> Option<Refusal> {
     match outcome {
-        Outcome::Refused(code) => Some(*code),
+        Outcome::Refused(refusal) => Some(*refusal),
         _ => None,
     }
 }

@@ -1,6 +1,6 @@
 //! The threads of a run: they are started, and joined in the order of the end.
 ghost use Rattle.std.specs.Prelude.{◌≡◌, All, Err, IsErrOf, IsTrue};
-ghost use Rattle.cops_run.specs.Held.{MayHold};
+ghost use Rattle.cops_run.specs.Gates.{MayHold};
 
 use crate::clients::{Job, work};
 use crate::ends::{HeldBy, Returned};

@@ -1,6 +1,6 @@
 //! What a thread of a run hands back.
 ghost use Rattle.std.specs.Prelude.{◌≡◌};
-ghost use Rattle.cops_run.specs.Held.{MayHold};
+ghost use Rattle.cops_run.specs.Gates.{MayHold};
 
 use cops_cluster::Share;
 use cops_outcomes::ClientOutcome;
@@ -42,7 +42,7 @@ impl<G: Gate> Drop for HeldBy<G> {
 impl<G: Gate> Promise<Returned> for HeldBy<G> {
     ghost use Rattle.std.specs.Prelude.{◌≡◌};
     ghost use Rattle.cops_run.specs.declared.ends.End.TheVariants.{Held};
-    ghost use Rattle.cops_run.specs.Held.{MayHold};
+    ghost use Rattle.cops_run.specs.Gates.{MayHold};
 
     ghost kept_by = { λ p r. r.end ≡ Held → MayHold (G.may_hold p.0.value) };
 }

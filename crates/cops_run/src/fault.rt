@@ -3,7 +3,6 @@ ghost use Rattle.std.specs.Prelude.{◌≡◌};
 ghost use Rattle.cops_run.specs.declared.fault.RunFault.TheVariants.{Memory as OutOfMemory};
 
 use cops_types::Memory;
-use std::alloc::AllocFailed;
 use thiserror::Error;
 
 /// Why there is no run. Where several apply, the order is `NoThread`, `Held`, `TurnLimit`, `Untied`.
@@ -34,14 +33,6 @@ impl From<Memory> for RunFault {
     ghost from_gives = { λ _ e. e ≡ OutOfMemory };
 
     fn from(_e: Memory) -> RunFault {
-        RunFault::Memory
-    }
-}
-
-impl<T: Drop> From<AllocFailed<T>> for RunFault {
-    ghost from_gives = { λ _ e. e ≡ OutOfMemory };
-
-    fn from(_e: AllocFailed<T>) -> RunFault {
         RunFault::Memory
     }
 }

@@ -22,7 +22,7 @@ pub(crate) struct Gathered {
 
 impl Gathered {
     ghost use Rattle.std.specs.Prelude.{◌≡◌, ◌⊎◌, ◌↔◌, All, IfOk, IsErrOf, IsTrue};
-    ghost use Rattle.cops_run.specs.Held.{MayHold};
+    ghost use Rattle.cops_run.specs.Gates.{MayHold};
 
     pub(crate) fn new(alloc: Global) -> Gathered
         ensures { ¬ IsTrue result.held }

@@ -1,6 +1,6 @@
 //! The threads of a data centre that send its puts to the others, and bring theirs into it.
 ghost use Rattle.std.specs.Prelude.{◌≡◌, IsTrue};
-ghost use Rattle.cops_run.specs.Held.{MayHold};
+ghost use Rattle.cops_run.specs.Gates.{MayHold};
 
 use crate::ends::{End, Returned};
 use crate::stage::Stage;

@@ -1,11 +1,12 @@
 ghost use Rattle.std.specs.Prelude.{◌≡◌, ◌<◌, ◌≤◌, ◌+◌, ◌*◌, Err, IfOk, IsErrOf, OnOk, length, map};
 ghost use Rattle.std.specs.List.Sorted.{IsPermutation};
+ghost use Rattle.cops_types.specs.declared.limits.TheConstants.{NODES, PLACES};
 ghost use Rattle.cops_cluster.specs.Close.{made_in, told};
-ghost use Rattle.cops_core.specs.Invariants.{HasAcceptedVerdict};
+ghost use Rattle.cops_types.specs.Verdicts.{HasAcceptedVerdict};
 ghost use Rattle.cops_trace.specs.Text.{sessions_of};
 ghost use Rattle.cops_scenario.specs.Scenario.{setting_of};
 ghost use Rattle.cops_outcomes.specs.Runs.{IsRun};
-ghost use Rattle.cops_run.specs.Held.{MayHold};
+ghost use Rattle.cops_run.specs.Gates.{MayHold};
 
 use crate::driving::drive;
 use crate::fault::RunFault;
@@ -57,7 +58,7 @@ fn ran<R: Threads + Wait + Sync, G: Gate>(
     ensures accepted { IfOk result (λ r. HasAcceptedVerdict (sessions_of r.trace)) }
     ensures held { IsErrOf result RunFault.Held → MayHold (G.may_hold gate.now) }
 {
-    let setting = scenario.setting(alloc)?;
+    let setting = scenario.setting(alloc).or(Err(RunFault::Memory))?;
     let ran = ran_in(rt, alloc, &setting, scenario, gate);
     drop(setting);
     ran
@@ -79,21 +80,21 @@ fn ran_in<R: Threads + Wait + Sync, G: Gate>(
         cluster,
         clients,
         shares,
-    } = Cluster::of(alloc, setting)?;
+    } = Cluster::of(alloc, setting).or(Err(RunFault::Memory))?;
     let jobs = match jobs(alloc, scenario.clients(), clients) {
         Ok(jobs) => jobs,
-        Err(fault) => {
+        Err(_) => {
             drop(cluster);
             drop(shares);
-            return Err(RunFault::from(fault));
+            return Err(RunFault::Memory);
         }
     };
     let replicas = match wired(alloc, setting.dcs(), scenario.link(), shares) {
         Ok(replicas) => replicas,
-        Err(fault) => {
+        Err(_) => {
             drop(cluster);
             drop(jobs);
-            return Err(RunFault::from(fault));
+            return Err(RunFault::Memory);
         }
     };
     let stage = Stage::new(cluster, scenario.turns());
@@ -146,8 +147,8 @@ fn tied<R: Threads + Sync>(
     let (compared, checked) = thread::join(
         rt,
         || -> Result<(), RunFault>
-            requires places { (0 < places) × (places ≤ 64) }
-            requires few { length books.items ≤ 1024 }
+            requires places { (0 < places) × (places ≤ PLACES) }
+            requires few { length books.items ≤ NODES }
             ensures told { OnOk result (IsPermutation (made_in places 0 books.items) (told shares.items)) }
             ensures fault { result ≡ Err RunFault.Held → ⊥ }
         { compare(alloc, places, &books, shares) },
@@ -180,8 +181,8 @@ fn compare(
     books: &[Vec<Entry>],
     shares: Vec<Share>,
 ) -> Result<(), RunFault>
-    requires places { (0 < places) × (places ≤ 64) }
-    requires few { length books.now ≤ 1024 }
+    requires places { (0 < places) × (places ≤ PLACES) }
+    requires few { length books.now ≤ NODES }
     ensures told { OnOk result (IsPermutation (made_in places 0 books.now) (told shares.items)) }
     ensures fault { result ≡ Err RunFault.Held → ⊥ }
 {

@@ -6,8 +6,9 @@ use Rattle.std.proofs.Common.{Result, Ok, Err, ◌≡◌, ℕ, List, [], ◌++�
 use Rattle.std.proofs.lemmas.List.{length-map}
 use Rattle.cops_node.specs.declared.outcome.Outcome.{Outcome}
 use Rattle.cops_core.specs.declared.event.Event.{Event}
-use Rattle.cops_core.specs.World.{AWorld, IsSetting, Setting, World, Run, opened_world, opening}
-use Rattle.cops_core.specs.Invariants.{HasAcceptedVerdict, IsReached}
+use Rattle.cops_core.specs.World.{IsSetting, Setting, World, opening, Run, IsReached}
+use Rattle.cops_types.specs.Verdicts.{HasAcceptedVerdict}
+use Rattle.cops_core.specs.Opened.{AWorld, opened_world}
 use Rattle.cops_trace.specs.Text.{ATrace, IsTrace, sessions_after, sessions_of}
 use Rattle.cops_core.specs.declared.script.ScriptedClient.{ScriptedClient}
 use Rattle.cops_audit.specs.declared.verdict.Verdict.{Verdict}

@@ -7,9 +7,11 @@ use Rattle.cops_node.specs.declared.event.NodeEvent.TheVariants.{Put as NodePut,
 use Rattle.cops_node.specs.declared.outcome.Outcome.{Outcome}
 use Rattle.cops_node.specs.declared.outcome.Outcome.TheVariants.{PutDone, Got, Missed, Held, Repeat, Yes, Wait, Marked, Settled, Refused}
 use Rattle.cops_node.specs.Node.{Node, node_step}
+use Rattle.cops_types.specs.declared.refusal.Refusal.{Refusal}
+use Rattle.cops_types.specs.declared.refusal.Refusal.TheVariants.{NeverSent, Memory}
 use Rattle.cops_core.specs.declared.event.Event.{Event}
 use Rattle.cops_core.specs.declared.event.Event.TheVariants.{Put as PutBy, Get as GetBy, Deliver as DeliverTo, Ask as AskAt, Mark as MarkAt, Settle as SettleAt}
-use Rattle.cops_core.specs.World.{Setting, World, Happens, Run, asks, checks, context_in, delivers, done, home, keeps, node_at, primary, refusal, sent, unless}
+use Rattle.cops_core.specs.World.{Setting, World, Happens, asks, checks, context_in, delivers, done, home, keeps, node_at, primary, refusal, sent, unless, Run}
 use Rattle.cops_types.specs.NodeNumber.{place_of}
 use Rattle.cops_trace.specs.declared.record.Record.{Record}
 use Rattle.cops_trace.specs.Text.{sessions_after}
@@ -58,7 +60,7 @@ keeps_saw w dc place (MarkAt d version dep) outcome n = refl
 keeps_saw w dc place (SettleAt d version) outcome n = refl
 
 -- of a refusal nobody sees anything
-refused_saw : (event : Event) (code : ℕ) → saw event (Refused code) ≡ []
+refused_saw : (event : Event) (code : Refusal) → saw event (Refused code) ≡ []
 refused_saw (PutBy c k v) code = refl
 refused_saw (GetBy c k) code = refl
 refused_saw (DeliverTo d version) code = refl
@@ -67,7 +69,7 @@ refused_saw (MarkAt d version dep) code = refl
 refused_saw (SettleAt d version) code = refl
 
 -- a world that stays, of which an event was refused
-refused_stays : (w mid : World) (event : Event) (code : ℕ) (outcome : Outcome) → ◌≡◌ {A = Outcome × World} (Refused code, w) (outcome, mid)
+refused_stays : (w mid : World) (event : Event) (code : Refusal) (outcome : Outcome) → ◌≡◌ {A = Outcome × World} (Refused code, w) (outcome, mid)
     → mid.sessions ≡ sessions_after w.sessions (saw event outcome)
 refused_stays w mid event code outcome e =
     let none : saw event outcome ≡ [] = ap (λ (p : Outcome × World). saw event p.0) (sym e) ∙ refused_saw event code in
@@ -82,7 +84,7 @@ asked_saw w mid event dc place asked outcome e =
 
 delivered_saw : (s : Setting) (w mid : World) (dc version : ℕ) (put : Option PutRecord) (outcome : Outcome) → delivers s w dc version put ≡ (outcome, mid)
     → mid.sessions ≡ sessions_after w.sessions (saw (DeliverTo dc version) outcome)
-delivered_saw s w mid dc version None outcome e = refused_stays w mid (DeliverTo dc version) 4 outcome e
+delivered_saw s w mid dc version None outcome e = refused_stays w mid (DeliverTo dc version) NeverSent outcome e
 delivered_saw s w mid dc version (Some put) outcome e = asked_saw w mid (DeliverTo dc version) dc (primary s put.key) (NodeDeliver put) outcome e
 
 done_saw : (s : Setting) (w mid : World) (event : Event) (outcome : Outcome) → done s w event ≡ (outcome, mid)
@@ -94,7 +96,7 @@ done_saw s w mid (AskAt d k version) outcome e = asked_saw w mid (AskAt d k vers
 done_saw s w mid (MarkAt d version dep) outcome e = asked_saw w mid (MarkAt d version dep) d (place_of version) (NodeMark version dep) outcome e
 done_saw s w mid (SettleAt d version) outcome e = asked_saw w mid (SettleAt d version) d (place_of version) (NodeSettle version) outcome e
 
-checked_saw : (s : Setting) (w mid : World) (event : Event) (code : Option ℕ) (outcome : Outcome) → unless w code (done s w event) ≡ (outcome, mid)
+checked_saw : (s : Setting) (w mid : World) (event : Event) (code : Option Refusal) (outcome : Outcome) → unless w code (done s w event) ≡ (outcome, mid)
     → mid.sessions ≡ sessions_after w.sessions (saw event outcome)
 checked_saw s w mid event None outcome e = done_saw s w mid event outcome e
 checked_saw s w mid event (Some code) outcome e = refused_stays w mid event code outcome e
@@ -104,7 +106,7 @@ happened_saw : (s : Setting) (w mid : World) (event : Event) (outcome : Outcome)
     → mid.sessions ≡ sessions_after w.sessions (saw event outcome)
 happened_saw s w mid event outcome (inl e) = checked_saw s w mid event (refusal (checks s w event)) outcome e
 happened_saw s w mid event outcome (inr (e, same)) =
-    let none : saw event outcome ≡ [] = ap (λ (o : Outcome). saw event o) e ∙ refused_saw event 9 in
+    let none : saw event outcome ≡ [] = ap (λ (o : Outcome). saw event o) e ∙ refused_saw event Memory in
     ap (λ (v : World). v.sessions) same ∙ ap (λ (rs : List Record). sessions_after w.sessions rs) (sym none)
 
 -- a whole run

@@ -1,5 +1,6 @@
 -- The lines that a run prints before the report.
 use Rattle.std.specs.Prelude.{ℕ, ◌+◌, List, [], ◌∷◌, ◌++◌, codes, decimal}
+use Rattle.cops_types.specs.Refusal.{code_of}
 use Rattle.cops_types.specs.Texts.{◌⧺◌}
 use Rattle.cops_node.specs.declared.outcome.Outcome.{Outcome}
 use Rattle.cops_scenario.specs.Lines.{outcome_line}
@@ -17,7 +18,7 @@ outcome_lines os = numbered_from outcome_line 0 os
 
 abbrev pub client_line : ℕ → ClientOutcome → List ℕ
 client_line n Done = codes "client " ⧺ decimal n ⧺ codes " done\n"
-client_line n (Stopped code) = codes "client " ⧺ decimal n ⧺ codes " stopped " ⧺ decimal code ⧺ codes "\n"
+client_line n (Stopped refusal) = codes "client " ⧺ decimal n ⧺ codes " stopped " ⧺ decimal (code_of refusal) ⧺ codes "\n"
 
 -- a line for each client
 abbrev pub client_lines : List ClientOutcome → List ℕ

@@ -2,8 +2,8 @@
 use Rattle.std.specs.Prelude.{List}
 use Rattle.cops_node.specs.declared.outcome.Outcome.{Outcome}
 use Rattle.cops_core.specs.declared.event.Event.{Event}
-use Rattle.cops_core.specs.World.{Setting, World, Run, opening}
-use Rattle.cops_core.specs.Invariants.{HasAcceptedVerdict}
+use Rattle.cops_core.specs.World.{Setting, World, opening, Run}
+use Rattle.cops_types.specs.Verdicts.{HasAcceptedVerdict}
 use Rattle.cops_scenario.specs.Scenario.{AScenario}
 use Rattle.cops_run_stream.specs.declared.leaving.Left.{Left}
 use Rattle.cops_run_stream.specs.Running.{IsLeft}

@@ -6,8 +6,8 @@ use Rattle.cops_node.specs.declared.outcome.Outcome.{Outcome}
 use Rattle.cops_node.specs.declared.outcome.Outcome.TheVariants.{PutDone, Got as Answered, Missed as Nothing}
 use Rattle.cops_core.specs.declared.event.Event.{Event}
 use Rattle.cops_core.specs.declared.event.Event.TheVariants.{Put as PutBy, Get as GetBy}
-use Rattle.cops_core.specs.World.{Setting, World, Run, opening}
-use Rattle.cops_core.specs.Invariants.{HasAcceptedVerdict}
+use Rattle.cops_core.specs.World.{Setting, World, opening, Run}
+use Rattle.cops_types.specs.Verdicts.{HasAcceptedVerdict}
 use Rattle.cops_trace.specs.declared.record.Record.{Record}
 use Rattle.cops_trace.specs.Text.{ATrace, IsTrace, sessions_of, text}
 use Rattle.cops_audit.specs.declared.verdict.Verdict.{Verdict}

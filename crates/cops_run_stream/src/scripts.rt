@@ -49,6 +49,9 @@ fn line(alloc: Global, n: usize, outcome: &ClientOutcome) -> Result<String, Allo
 {
     match *outcome {
         ClientOutcome::Done => format!(in alloc; "client {n} done\n"),
-        ClientOutcome::Stopped(code) => format!(in alloc; "client {n} stopped {code}\n"),
+        ClientOutcome::Stopped(refusal) => {
+            let code = refusal.code();
+            format!(in alloc; "client {n} stopped {code}\n")
+        }
     }
 }

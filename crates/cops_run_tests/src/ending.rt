@@ -4,7 +4,7 @@ use cops_node::Outcome;
 use cops_outcomes::*;
 use cops_scenario::{Scenario, ScenarioFault};
 use cops_tie::Entry;
-use cops_types::OpenGate;
+use cops_types::{OpenGate, Refusal};
 use std::alloc::Global;
 use std::test::Fail;
 
@@ -49,9 +49,27 @@ fn a_client_ends_as_its_session_says(rt: HostRuntime) -> Result<(), Fail> {
     let alloc = rt.alloc();
     let run = run(&rt, alloc, scenario(alloc)?, &OpenGate)?;
     assert!(rt; passes(alloc, &run, &[DONE, DONE]));
-    assert!(rt; passes(alloc, &run, &[DONE, ClientOutcome::Stopped(9)]));
-    assert!(rt; !passes(alloc, &run, &[DONE, ClientOutcome::Stopped(2)]));
-    assert!(rt; !passes(alloc, &run, &[ClientOutcome::Stopped(11), DONE]));
+    assert!(rt;
+        passes(
+            alloc,
+            &run,
+            &[DONE, ClientOutcome::Stopped(Refusal::Memory)]
+        )
+    );
+    assert!(rt;
+        !passes(
+            alloc,
+            &run,
+            &[DONE, ClientOutcome::Stopped(Refusal::ContextFull)]
+        )
+    );
+    assert!(rt;
+        !passes(
+            alloc,
+            &run,
+            &[ClientOutcome::Stopped(Refusal::SessionFull), DONE]
+        )
+    );
     assert!(rt; !passes(alloc, &run, &[DONE]));
     Ok(())
 }

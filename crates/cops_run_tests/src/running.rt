@@ -2,7 +2,7 @@ use cops_clients::*;
 use cops_gates::{HoldsAt, Meeting, TURNS, waits_for};
 use cops_outcomes::*;
 use cops_scenario::{Scenario, ScenarioFault};
-use cops_types::{Gate, GateHeld, OpenGate, Point};
+use cops_types::{Gate, GateHeld, OpenGate, Point, Refusal};
 use std::alloc::Global;
 use std::fmt::Write;
 use std::sync::Wait;
@@ -163,7 +163,12 @@ fn a_client_with_a_full_context_stops(rt: HostRuntime) -> Result<(), Fail> {
     };
     let run = run(&rt, alloc, many(alloc, 256)?, &gate)?;
     assert!(rt;
-        run.outcomes.as_slice() == [ClientOutcome::Done, ClientOutcome::Stopped(2)].as_slice()
+        run.outcomes.as_slice()
+            == [
+                ClientOutcome::Done,
+                ClientOutcome::Stopped(Refusal::ContextFull)
+            ]
+            .as_slice()
     );
     assert_eq!(rt; run.trace.len(), 514);
     Ok(())

@@ -10,7 +10,7 @@ use Rattle.cops_core.specs.declared.event.Event.{Event}
 use Rattle.cops_core.specs.declared.script.ScriptOp.{ScriptOp}
 use Rattle.cops_core.specs.declared.script.ScriptedClient.{ScriptedClient}
 use Rattle.cops_scenario.specs.File.{AreUnscripted, IsListOrMissing, TellClients, list_json, op_json}
-use Rattle.cops_scenario.specs.Scenario.{AreEventsOf}
+use Rattle.cops_scenario.specs.Limits.{AreEventsOf}
 use Rattle.cops_scenario.proofs.Forms.{same_items}
 
 -- the listed values

@@ -4,6 +4,7 @@ use Rattle.serde_json.specs.Data.{Data, unsigned, number, string, array, object,
 use Rattle.serde_json.specs.Read.{read}
 use Rattle.serde_json.specs.View.{items_of}
 use Rattle.serde_json.specs.Find.{get, as_object}
+use Rattle.cops_types.specs.declared.limits.TheConstants.{MAX_DCS}
 use Rattle.cops_types.specs.Texts.{version_text}
 use Rattle.cops_core.specs.declared.event.Event.{Event}
 use Rattle.cops_core.specs.declared.event.Event.TheVariants.{Put, Get, Deliver, Ask, Mark, Settle}
@@ -12,7 +13,10 @@ use Rattle.cops_scenario.specs.declared.fault.Field.TheVariants.{Root, DataCentr
 use Rattle.cops_core.specs.declared.script.ScriptOp.{ScriptOp}
 use Rattle.cops_core.specs.declared.script.ScriptOp.TheVariants as script
 use Rattle.cops_core.specs.declared.script.ScriptedClient.{ScriptedClient}
-use Rattle.cops_scenario.specs.Scenario.{AScenario, HasNumbersOf, AreSplits, IsLegalClient, AreLegalEvents, name_of, number_at}
+use Rattle.cops_scenario.specs.declared.scenario.TheConstants.{MAX_CLIENTS, MAX_LINK, MAX_TURNS}
+use Rattle.cops_scenario.specs.Scenario.{AScenario}
+use Rattle.cops_scenario.specs.Fields.{HasNumbersOf, name_of, number_at}
+use Rattle.cops_scenario.specs.Limits.{AreSplits, IsLegalClient, AreLegalEvents}
 
 abbrev pub number_json : ℕ → Data
 number_json n = number (unsigned n)
@@ -98,7 +102,7 @@ TellsNoSplits root = (splits : List (List ℕ)) → AreSplits splits → IsListO
 -- it tells no clients within their limits, at most 64
 abbrev pub TellsNoClients : Data → Type 0
 TellsNoClients root = (ds : List Data) (clients : List ScriptedClient) → get (name_of Clients) root ≡ Some (list_json ds) → TellClients ds clients
-    → length clients ≤ 64 → All (IsLegalClient (number_at root DataCentres 0)) clients → ⊥
+    → length clients ≤ MAX_CLIENTS → All (IsLegalClient (number_at root DataCentres 0)) clients → ⊥
 
 -- it tells no events within their limits, beside clients without a script
 abbrev pub TellsNoEvents : Data → Type 0
@@ -108,10 +112,10 @@ TellsNoEvents root = (ds : List Data) (events : Option (List Event)) → get (na
 -- what is wrong with a file's field where it is named: it is missing and has no default, or tells nothing that is legal there
 abbrev pub IsWrong : Data → Field → Type 0
 IsWrong root Root = as_object root ≡ None
-IsWrong root DataCentres = IsNoNumber 1 16 (get (name_of DataCentres) root)
+IsWrong root DataCentres = IsNoNumber 1 MAX_DCS (get (name_of DataCentres) root)
 IsWrong root Splits = TellsNoSplits root
-IsWrong root Link = (get (name_of Link) root ≢ None) × IsNoNumber 1 1024 (get (name_of Link) root)
-IsWrong root Turns = (get (name_of Turns) root ≢ None) × IsNoNumber 1 1000000000 (get (name_of Turns) root)
+IsWrong root Link = (get (name_of Link) root ≢ None) × IsNoNumber 1 MAX_LINK (get (name_of Link) root)
+IsWrong root Turns = (get (name_of Turns) root ≢ None) × IsNoNumber 1 MAX_TURNS (get (name_of Turns) root)
 IsWrong root Clients = TellsNoClients root
 IsWrong root Events = TellsNoEvents root
 
@@ -122,13 +126,13 @@ IsNumber least most d = (n : ℕ) × (least ≤ n) × (n ≤ most) × (d ≡ Som
 -- a file's field is of its form and within its limits
 abbrev pub IsRight : Data → Field → Type 0
 IsRight root Root = as_object root ≢ None
-IsRight root DataCentres = IsNumber 1 16 (get (name_of DataCentres) root)
+IsRight root DataCentres = IsNumber 1 MAX_DCS (get (name_of DataCentres) root)
 IsRight root Splits = (splits : List (List ℕ)) × AreSplits splits × IsListOrMissing (map text_json splits) (get (name_of Splits) root)
-IsRight root Link = (get (name_of Link) root ≡ None) ⊎ IsNumber 1 1024 (get (name_of Link) root)
-IsRight root Turns = (get (name_of Turns) root ≡ None) ⊎ IsNumber 1 1000000000 (get (name_of Turns) root)
+IsRight root Link = (get (name_of Link) root ≡ None) ⊎ IsNumber 1 MAX_LINK (get (name_of Link) root)
+IsRight root Turns = (get (name_of Turns) root ≡ None) ⊎ IsNumber 1 MAX_TURNS (get (name_of Turns) root)
 IsRight root Clients =
     (ds : List Data) × (clients : List ScriptedClient) × (get (name_of Clients) root ≡ Some (list_json ds)) × TellClients ds clients
-    × (length clients ≤ 64) × All (IsLegalClient (number_at root DataCentres 0)) clients
+    × (length clients ≤ MAX_CLIENTS) × All (IsLegalClient (number_at root DataCentres 0)) clients
 IsRight root Events = (events : Option (List Event)) × TellsEvents (get (name_of Events) root) events × AreLegalEvents events
 
 -- the fields that are looked at before it

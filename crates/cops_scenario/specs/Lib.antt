@@ -1,3 +1,5 @@
-pub mod File
 pub mod Scenario
+pub mod Limits
+pub mod Fields
+pub mod File
 pub mod Lines

@@ -1,5 +1,6 @@
 -- The line that tells an event's outcome.
 use Rattle.std.specs.Prelude.{ℕ, List, codes, decimal}
+use Rattle.cops_types.specs.Refusal.{code_of}
 use Rattle.cops_types.specs.Texts.{◌⧺◌, version_text}
 use Rattle.cops_node.specs.declared.outcome.Outcome.{Outcome}
 use Rattle.cops_node.specs.declared.outcome.Outcome.TheVariants.{PutDone, Got, Missed, Held, Repeat, Yes, Wait, Marked, Settled, Refused}
@@ -14,7 +15,7 @@ words Yes = codes "yes"
 words Wait = codes "wait"
 words Marked = codes "marked"
 words Settled = codes "settled"
-words (Refused code) = codes "refused " ⧺ decimal code
+words (Refused refusal) = codes "refused " ⧺ decimal (code_of refusal)
 
 -- the event's number, and the outcome's words
 abbrev pub outcome_line : ℕ → Outcome → List ℕ

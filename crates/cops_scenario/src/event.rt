@@ -6,7 +6,7 @@ ghost use Rattle.cops_types.specs.Texts.{version_text};
 ghost use Rattle.cops_types.specs.Version.{IsVersion};
 ghost use Rattle.cops_core.specs.declared.event.Event.{Event as AnEvent};
 ghost use Rattle.cops_scenario.specs.File.{event_json, op_json, list_json, number_json, text_json, kind_of, parts_of};
-ghost use Rattle.cops_scenario.specs.Scenario.{IsLegalEvent, IsLegalOp};
+ghost use Rattle.cops_scenario.specs.Limits.{IsLegalEvent, IsLegalOp};
 ghost use Rattle.cops_core.specs.declared.script.ScriptOp.{ScriptOp as AnOp};
 
 use crate::field::{Unread, client, dc, key, list, number, only_member, value, version};

@@ -21,7 +21,7 @@ pub enum Field {
 
 impl Field {
     ghost use Rattle.std.specs.Prelude.{◌≡◌};
-    ghost use Rattle.cops_scenario.specs.Scenario.{name_of};
+    ghost use Rattle.cops_scenario.specs.Fields.{name_of};
 
     /// The field's name in the file.
     pub fn name(self) -> &'static str
@@ -41,7 +41,7 @@ impl Field {
 
 impl fmt::Display for Field {
     ghost use Rattle.std.specs.Prelude.{Some};
-    ghost use Rattle.cops_scenario.specs.Scenario.{name_of};
+    ghost use Rattle.cops_scenario.specs.Fields.{name_of};
 
     ghost output = { λ f. Some (name_of f) };
 

@@ -36,6 +36,9 @@ fn words(alloc: Global, outcome: &Outcome) -> Result<String, AllocError>
         Outcome::Wait => format!(in alloc; "wait"),
         Outcome::Marked => format!(in alloc; "marked"),
         Outcome::Settled => format!(in alloc; "settled"),
-        Outcome::Refused(code) => format!(in alloc; "refused {code}"),
+        Outcome::Refused(refusal) => {
+            let code = refusal.code();
+            format!(in alloc; "refused {code}")
+        }
     }
 }

@@ -6,16 +6,22 @@ ghost use Rattle.serde_json.specs.View.{view};
 ghost use Rattle.cops_scenario.specs.File.{text_json, list_json, AreRightBefore, AreUnscripted, IsListOrMissing, TellsClient, TellClients, TellsEvents, TellsScenario, IsNoNumber, IsNumber, IsWrong};
 ghost use Rattle.cops_scenario.specs.declared.fault.Field.{Field as AField};
 ghost use Rattle.serde_json.specs.Find.{get};
-ghost use Rattle.cops_scenario.specs.Scenario.{AreLegalEvents, AreSplits, IsClientOf, IsLegalClient, name_of, number_at};
+ghost use Rattle.cops_types.specs.declared.limits.TheConstants.{MAX_DCS};
+ghost use Rattle.cops_scenario.specs.declared.scenario.TheConstants.{MAX_CLIENTS, MAX_EVENTS};
+ghost use Rattle.cops_scenario.specs.Fields.{name_of, number_at};
+ghost use Rattle.cops_scenario.specs.Limits.{AreLegalEvents, AreSplits, IsClientOf, IsLegalClient};
 ghost use Rattle.cops_core.specs.declared.event.Event.{Event as AnEvent};
 ghost use Rattle.cops_core.specs.declared.script.ScriptedClient.{ScriptedClient as AClient};
 
 use crate::event::{events, script};
 use crate::fault::{Field, ScenarioFault};
 use crate::field::{Unread, dc, key, list, number};
-use crate::scenario::{MAX_CLIENTS, MAX_EVENTS, MAX_LINK, MAX_SCRIPT, MAX_TURNS, Scenario};
+use crate::scenario::{
+    DEFAULT_LINK, DEFAULT_TURNS, MAX_CLIENTS, MAX_EVENTS, MAX_LINK, MAX_SCRIPT, MAX_TURNS, Scenario,
+};
 use cops_core::{Event, ScriptedClient};
-use cops_place::{MAX_DCS, MAX_SPLITS, Place, PlaceFault};
+use cops_place::{MAX_SPLITS, Place, PlaceFault};
+use cops_types::MAX_DCS;
 use serde_json::Value as Json;
 use std::alloc::Global;
 
@@ -53,8 +59,20 @@ fn scenario(alloc: Global, root: &Json) -> Result<Scenario, ScenarioFault>
     let place = place(alloc, dcs, root.get(Field::Splits.name())).map_err(|unread| unread.of(
         Field::Splits,
     ))?;
-    let link = number_of(root, Field::Link, 1, u64::from(MAX_LINK), Some(16))? as u16;
-    let turns = number_of(root, Field::Turns, 1, u64::from(MAX_TURNS), Some(1_000_000))? as u32;
+    let link = number_of(
+        root,
+        Field::Link,
+        1,
+        u64::from(MAX_LINK),
+        Some(u64::from(DEFAULT_LINK)),
+    )? as u16;
+    let turns = number_of(
+        root,
+        Field::Turns,
+        1,
+        u64::from(MAX_TURNS),
+        Some(u64::from(DEFAULT_TURNS)),
+    )? as u32;
     let Some(listed) = root.get(Field::Clients.name()) else {
         return Err(ScenarioFault::BadField(Field::Clients));
     };
@@ -89,7 +107,7 @@ fn number_of(
 
 /// So many data centres, and the split keys of a list, none where it is missing.
 fn place(alloc: Global, dcs: u8, splits: Option<&Json>) -> Result<Place, Unread>
-    requires { (1 ≤ dcs) × (dcs ≤ 16) }
+    requires { (1 ≤ dcs) × (dcs ≤ MAX_DCS) }
     ensures dcs { IfOk result (λ place. place.dcs ≡ dcs) }
     ensures splits { IfOk result (λ place. IsListOrMissing (map text_json place.splits) (option_map (λ v. view v.now) splits.entry)) }
     ensures legal { IfOk result (λ place. AreSplits place.splits) }
@@ -107,7 +125,7 @@ fn place(alloc: Global, dcs: u8, splits: Option<&Json>) -> Result<Place, Unread>
 
 /// So many data centres with no split keys.
 fn whole_place(alloc: Global, dcs: u8) -> Place
-    requires { (1 ≤ dcs) × (dcs ≤ 16) }
+    requires { (1 ≤ dcs) × (dcs ≤ MAX_DCS) }
     ensures { result ≡ record { dcs = dcs; splits = [] } }
 {
     match Place::new(dcs, Vec::new(alloc)) {
@@ -119,11 +137,11 @@ fn whole_place(alloc: Global, dcs: u8) -> Place
 
 /// The clients of a list.
 fn clients(alloc: Global, dcs: u8, json: &Json) -> Result<Vec<ScriptedClient>, Unread>
-    ensures few { IfOk result (λ clients. length clients.items ≤ 64) }
+    ensures few { IfOk result (λ clients. length clients.items ≤ MAX_CLIENTS) }
     ensures each { IfOk result (λ clients. All (IsClientOf dcs) clients.items) }
     ensures legal { IfOk result (λ clients. All (IsLegalClient dcs) clients.items) }
     ensures told { IfOk result (λ clients. (ds : List Data) × (view json.now ≡ list_json ds) × TellClients ds clients.items) }
-    ensures none { result ≡ Err Unread.Form → (ds : List Data) (cs : List AClient) → view json.now ≡ list_json ds → TellClients ds cs → length cs ≤ 64 → All (IsLegalClient dcs) cs → ⊥ }
+    ensures none { result ≡ Err Unread.Form → (ds : List Data) (cs : List AClient) → view json.now ≡ list_json ds → TellClients ds cs → length cs ≤ MAX_CLIENTS → All (IsLegalClient dcs) cs → ⊥ }
 {
     let mut clients = Vec::new(alloc);
     for item in list(json, MAX_CLIENTS)? {
@@ -156,7 +174,7 @@ fn events_beside(
     listed: &Json,
     list: Option<&Json>,
 ) -> Result<Option<Vec<Event>>, Unread>
-    ensures few { IfOk result (λ found. IfSome (option_map (λ e. e.items) found) (λ events. length events ≤ 100000)) }
+    ensures few { IfOk result (λ found. IfSome (option_map (λ e. e.items) found) (λ events. length events ≤ MAX_EVENTS)) }
     ensures told { IfOk result (λ found. TellsEvents (option_map (λ v. view v.now) list.entry) (option_map (λ e. e.items) found)) }
     ensures beside { IfOk result (λ found. (ds : List Data) → view listed.now ≡ list_json ds → AreUnscripted ds (option_map (λ e. e.items) found)) }
     ensures none { result ≡ Err Unread.Form → (ds : List Data) (told : Option (List AnEvent)) → view listed.now ≡ list_json ds → TellsEvents (option_map (λ v. view v.now) list.entry) told → AreLegalEvents told → AreUnscripted ds told → ⊥ }

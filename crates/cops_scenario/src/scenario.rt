@@ -17,8 +17,14 @@ pub const MAX_EVENTS: usize = 100_000;
 /// The greatest capacity of a link, in frames.
 pub const MAX_LINK: u16 = 1_024;
 
+/// The capacity of a link where a file names none.
+pub const DEFAULT_LINK: u16 = 16;
+
 /// The most turns of a loop.
 pub const MAX_TURNS: u32 = 1_000_000_000;
+
+/// The turns of a loop where a file names none.
+pub const DEFAULT_TURNS: u32 = 1_000_000;
 
 /// What a cluster is made of, and what happens in it: where keys live; how many frames a link holds, 1 to 1,024; how many
 /// turns a loop may make, 1 to 1,000,000,000; at most 64 clients; and, where no client has a script, at most 100,000
@@ -34,7 +40,8 @@ pub struct Scenario {
 
 impl Model for Scenario {
     ghost use Rattle.std.specs.Prelude.{option_map};
-    ghost use Rattle.cops_scenario.specs.Scenario.{AScenario, IsScenario};
+    ghost use Rattle.cops_scenario.specs.Scenario.{AScenario};
+    ghost use Rattle.cops_scenario.specs.Limits.{IsScenario};
 
     ghost Value = { AScenario };
 
@@ -45,8 +52,10 @@ impl Model for Scenario {
 
 impl Scenario {
     ghost use Rattle.std.specs.Prelude.{◌≡◌, ◌≤◌, length, All, IfOk, option_map};
-    ghost use Rattle.cops_core.specs.World.{AreClients};
-    ghost use Rattle.cops_scenario.specs.Scenario.{IsScenario, IsClientOf, AreEventsOf, homes_of, setting_of};
+    ghost use Rattle.cops_core.specs.Opened.{AreClients};
+    ghost use Rattle.cops_scenario.specs.declared.scenario.TheConstants.{MAX_CLIENTS, MAX_LINK, MAX_TURNS};
+    ghost use Rattle.cops_scenario.specs.Scenario.{homes_of, setting_of};
+    ghost use Rattle.cops_scenario.specs.Limits.{IsScenario, IsClientOf, AreEventsOf};
 
     /// The scenario of these parts, which are within their limits.
     pub(crate) fn new(
@@ -56,9 +65,9 @@ impl Scenario {
         clients: Vec<ScriptedClient>,
         events: Option<Vec<Event>>,
     ) -> Scenario
-        requires link { (1 ≤ link) × (link ≤ 1024) }
-        requires turns { (1 ≤ turns) × (turns ≤ 1000000000) }
-        requires clients { (length clients.items ≤ 64) × All (IsClientOf place.dcs) clients.items }
+        requires link { (1 ≤ link) × (link ≤ MAX_LINK) }
+        requires turns { (1 ≤ turns) × (turns ≤ MAX_TURNS) }
+        requires clients { (length clients.items ≤ MAX_CLIENTS) × All (IsClientOf place.dcs) clients.items }
         requires events { AreEventsOf clients.items (option_map (λ e. e.items) events) }
         ensures { result ≡ record { place = place; link = link; turns = turns; clients = clients.items; events = option_map (λ e. e.items) events } }
     {

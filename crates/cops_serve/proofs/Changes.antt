@@ -6,6 +6,7 @@ use Rattle.std.proofs.lemmas.Option.{slice_get_read}
 use Rattle.cops_node.specs.declared.event.NodeEvent.TheVariants.{Ask}
 use Rattle.cops_node.specs.declared.outcome.Outcome.{Outcome}
 use Rattle.cops_node.specs.declared.outcome.Outcome.TheVariants.{Refused}
+use Rattle.cops_types.specs.declared.refusal.Refusal.TheVariants.{Memory}
 use Rattle.cops_cluster.specs.declared.client.Client.{Client}
 use Rattle.cops_cluster.specs.declared.cluster.Cluster.{Cluster}
 use Rattle.cops_cluster.specs.declared.share.Share.{Share}
@@ -48,11 +49,11 @@ pub got_of : (c : Cluster) (key k : List ℕ) (out : Outcome) (before after : Cl
 got_of c key k out before after ek h = rw (sym ek) h
 
 -- a put that was not made for want of memory
-pub no_put : (c : Cluster) (key value : List ℕ) (client : Client) → HasPut c key value (Refused 9) client client
+pub no_put : (c : Cluster) (key value : List ℕ) (client : Client) → HasPut c key value (Refused Memory) client client
 no_put c key value client = ((refl, refl, refl), (λ h. absurd cc, λ h. refl), refl)
 
 -- a get that was not made for want of memory
-pub no_get : (c : Cluster) (key : List ℕ) (client : Client) → HasGot c key (Refused 9) client client
+pub no_get : (c : Cluster) (key : List ℕ) (client : Client) → HasGot c key (Refused Memory) client client
 no_get c key client = ((refl, refl, refl), (λ h. absurd cc, λ h. refl), refl)
 
 -- a question with the share that the client lent

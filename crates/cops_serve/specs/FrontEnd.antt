@@ -1,6 +1,8 @@
 -- What the calls of a front end do.
 use Rattle.std.specs.Prelude.{◌≡◌, ◌<◌, ◌+◌, ◌↔◌, ℕ, List, length, slice_get, slice_set, Option, Some, Result, Ok, Err, MatchOption, vec_len, vec_capacity, IsSome, IsNone}
 use Rattle.cops_types.specs.declared.put_record.NodeStatus.{NodeStatus}
+use Rattle.cops_types.specs.declared.refusal.Refusal.{Refusal}
+use Rattle.cops_types.specs.declared.refusal.Refusal.TheVariants.{UnknownClient}
 use Rattle.cops_node.specs.declared.event.NodeEvent.TheVariants.{Put, Get, Ask}
 use Rattle.cops_node.specs.declared.outcome.Outcome.{Outcome}
 use Rattle.cops_node.specs.declared.outcome.Outcome.TheVariants.{Wait, Refused}
@@ -51,14 +53,14 @@ IsHome f number dc = (client : Client) × (slice_get f.clients.items number ≡ 
 
 -- A greeting is answered with the client's data centre and the number of nodes of each, and from now on it is this client
 -- who has greeted; or with 3, where there is no such client, and who has greeted stays.
-abbrev pub Hellos : FrontEnd → ℕ → Result (ℕ × ℕ) ℕ → FrontEnd → Type 0
+abbrev pub Hellos : FrontEnd → ℕ → Result (ℕ × ℕ) Refusal → FrontEnd → Type 0
 Hellos old number (Ok place) new =
     IsHome old number place.0
     × (place.1 ≡ length old.cluster.place.splits + 1)
     × (new.greeted ≡ Some (record { client = number; dc = place.0 }))
     × (new.clients ≡ old.clients)
     × (new.cluster ≡ old.cluster)
-Hellos old number (Err code) new = ((dc : ℕ) → IsHome old number dc → ⊥) × (code ≡ 3) × IsSame old new
+Hellos old number (Err refused) new = ((dc : ℕ) → IsHome old number dc → ⊥) × (refused ≡ UnknownClient) × IsSame old new
 
 -- ---- puts, gets and questions
 
@@ -91,11 +93,11 @@ DoneByGreeted old Nobody Did new =
 
 -- Who has greeted puts with this outcome. Where nobody has it is refused with 3.
 abbrev pub PutsAs : FrontEnd → List ℕ → List ℕ → Outcome → FrontEnd → Type 0
-PutsAs old key value out new = DoneByGreeted old (out ≡ Refused 3) (λ g. HasPut old.cluster key value out) new
+PutsAs old key value out new = DoneByGreeted old (out ≡ Refused UnknownClient) (λ g. HasPut old.cluster key value out) new
 
 -- the same of a get
 abbrev pub GetsAs : FrontEnd → List ℕ → Outcome → FrontEnd → Type 0
-GetsAs old key out new = DoneByGreeted old (out ≡ Refused 3) (λ g. HasGot old.cluster key out) new
+GetsAs old key out new = DoneByGreeted old (out ≡ Refused UnknownClient) (λ g. HasGot old.cluster key out) new
 
 -- Who has greeted asks in their data centre, with this outcome. Where nobody has it is: not yet.
 abbrev pub AsksAs : FrontEnd → List ℕ → ℕ → Outcome → FrontEnd → Type 0

@@ -12,5 +12,5 @@ IsReplyTo (Got value version) reply = reply ≡ replied.Got value version
 IsReplyTo Missed reply = reply ≡ replied.Missed
 IsReplyTo Yes reply = reply ≡ replied.Yes
 IsReplyTo Wait reply = reply ≡ replied.Wait
-IsReplyTo (Refused code) reply = reply ≡ replied.Refused code
+IsReplyTo (Refused refusal) reply = reply ≡ replied.Refused refusal
 IsReplyTo _ reply = ⊥

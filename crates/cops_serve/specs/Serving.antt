@@ -7,7 +7,7 @@ use Rattle.cops_types.specs.Histories.{Sessions}
 use Rattle.cops_place.specs.Place.{APlace}
 use Rattle.cops_core.specs.declared.event.Event.{Event}
 use Rattle.cops_core.specs.World.{Setting}
-use Rattle.cops_core.specs.Invariants.{HasAcceptedVerdict}
+use Rattle.cops_types.specs.Verdicts.{HasAcceptedVerdict}
 use Rattle.cops_audit.specs.declared.verdict.Verdict.{Verdict}
 use Rattle.cops_command.specs.Scenario.{TellsNone}
 use Rattle.cops_command.specs.Status.{number}
@@ -16,7 +16,7 @@ use Rattle.cops_command.specs.declared.status.Status.TheVariants.{Accepted, Faul
 use Rattle.cops_scenario.specs.Scenario.{AScenario, setting_of}
 use Rattle.cops_scenario.specs.File.{IsTextOf}
 use Rattle.cops_tie.specs.declared.entry.Entry.{Entry}
-use Rattle.cops_tie.specs.Tie.{IsTied}
+use Rattle.cops_tie.specs.Untied.{IsTied}
 use Rattle.cops_cluster.specs.Close.{made_in, told}
 use Rattle.cops_cluster.specs.declared.client.Client.{Client}
 use Rattle.cops_cluster.specs.declared.share.Made.{Made}

@@ -37,9 +37,9 @@ impl FrontEnd {
         } = self;
         let shares = match shares(alloc, clients, receivers) {
             Ok(shares) => shares,
-            Err(fault) => {
+            Err(_) => {
                 drop(cluster);
-                return Err(ServeFault::from(fault));
+                return Err(ServeFault::Memory);
             }
         };
         let closed = closed(cluster, shares)?;
@@ -92,7 +92,7 @@ fn told(alloc: Global, scenario: &Scenario, closed: &Closed) -> Result<Vec<u8>, 
     requires { length closed.now.books.items ≡ scenario.now.place.dcs * (length scenario.now.place.splits + 1) }
     ensures { IfOk result (λ text. IsTiedReport (setting_of scenario.now) closed.now.books.items text.items) }
 {
-    let setting = scenario.setting(alloc)?;
+    let setting = scenario.setting(alloc).or(Err(ServeFault::Memory))?;
     let told = told_in(alloc, &setting, closed);
     drop(setting);
     told

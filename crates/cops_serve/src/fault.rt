@@ -3,7 +3,6 @@ ghost use Rattle.std.specs.Prelude.{◌≡◌};
 ghost use Rattle.cops_serve.specs.declared.fault.ServeFault.TheVariants.{Memory as OutOfMemory};
 
 use cops_types::Memory;
-use std::alloc::{AllocError, AllocFailed};
 use thiserror::Error;
 
 /// Why there is no report.
@@ -24,22 +23,6 @@ impl From<Memory> for ServeFault {
     ghost from_gives = { λ _ e. e ≡ OutOfMemory };
 
     fn from(_e: Memory) -> ServeFault {
-        ServeFault::Memory
-    }
-}
-
-impl From<AllocError> for ServeFault {
-    ghost from_gives = { λ _ e. e ≡ OutOfMemory };
-
-    fn from(_e: AllocError) -> ServeFault {
-        ServeFault::Memory
-    }
-}
-
-impl<T: Drop> From<AllocFailed<T>> for ServeFault {
-    ghost from_gives = { λ _ e. e ≡ OutOfMemory };
-
-    fn from(_e: AllocFailed<T>) -> ServeFault {
         ServeFault::Memory
     }
 }

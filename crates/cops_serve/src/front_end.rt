@@ -5,14 +5,13 @@ ghost use Rattle.std.specs.Prelude.{◌≡◌, ◌<◌, vec_len};
 use crate::replying::{Replies, check_replies, get_replies, not_yet, put_replies};
 use cops_cluster::{Client, Cluster};
 use cops_net::{Call, Reply, Session};
-use cops_node::{MEMORY, Outcome};
+use cops_node::Outcome;
 use cops_replication::{Receiver, Sender, Turn};
-use cops_types::{GateHeld, Key, KeyRoom, Memory, NodeStatus, OpenGate, Value, ValueRoom, Version};
+use cops_types::{
+    GateHeld, Key, KeyRoom, Memory, NodeStatus, OpenGate, Refusal, Value, ValueRoom, Version,
+};
 use std::alloc::{AllocError, Global};
 use std::sync::Wait;
-
-/// There is no such client.
-const UNKNOWN_CLIENT: u8 = 3;
 
 /// A client that has greeted, by its number, and its data centre.
 #[derive(Clone, Copy, Debug)]
@@ -54,6 +53,7 @@ pub struct FrontEnd {
 }
 
 impl FrontEnd {
+    ghost use Rattle.cops_types.specs.declared.limits.TheConstants.{MAX_DCS};
     ghost use Rattle.std.specs.Prelude.{◌≡◌, ◌<◌, ◌++◌, ◌∷◌, [], ℕ, IfNone, IfSome, vec_len, vec_capacity};
     ghost use Rattle.cops_cluster.specs.Outcomes.{IsGetOutcome, IsPutOutcome};
     ghost use Rattle.cops_net.specs.Answers.{IsCheckReply};
@@ -71,7 +71,7 @@ impl FrontEnd {
     /// Where a client is that may greet: nothing where there is no such client, or its data centre is not there.
     fn home_of(&self, client: u16) -> Option<Greeted>
         ensures some { IfSome result (λ g. (g.client ≡ client) × IsHome self.now client g.dc) }
-        ensures there { IfSome result (λ g. (g.client < vec_len self.now.clients) × (g.dc < self.now.cluster.place.dcs) × (g.dc < 16)) }
+        ensures there { IfSome result (λ g. (g.client < vec_len self.now.clients) × (g.dc < self.now.cluster.place.dcs) × (g.dc < MAX_DCS)) }
         ensures none { IfNone result ((dc : ℕ) → IsHome self.now client dc → ⊥) }
     {
         let dc = self.clients.get(usize::from(client))?.dc();
@@ -83,23 +83,23 @@ impl FrontEnd {
     }
 
     /// The client that has greeted puts a value: the outcome of the cluster's put, which the client's share and context
-    /// show. It is refused with 3 where nobody has greeted, and with 9 for want of memory. No other client changes.
+    /// show. It is refused where nobody has greeted, and for want of memory. No other client changes.
     fn put_outcome<R: Wait>(&mut self, rt: &R, key: &Key, value: &Value) -> Outcome
         ensures outcome { IsPutOutcome result }
         ensures done { PutsAs self.old key.now value.now result self.new }
         ensures same { IsUnnoted self.old self.new }
     {
         let Some(greeted) = self.greeted else {
-            return Outcome::Refused(UNKNOWN_CLIENT);
+            return Outcome::Refused(Refusal::UnknownClient);
         };
         let Some(client) = self.clients.get_mut(usize::from(greeted.client)) else {
             unreachable!()
         };
         let Ok(key) = key.clone() else {
-            return Outcome::Refused(MEMORY);
+            return Outcome::Refused(Refusal::Memory);
         };
         let Ok(value) = value.clone() else {
-            return Outcome::Refused(MEMORY);
+            return Outcome::Refused(Refusal::Memory);
         };
         match self.cluster.put(rt, client, &OpenGate, key, value) {
             Ok(outcome) => outcome,
@@ -108,20 +108,20 @@ impl FrontEnd {
     }
 
     /// The client that has greeted gets the value of a key: the outcome of the cluster's get, which the client's share and
-    /// context show. It is refused with 3 where nobody has greeted, and with 9 for want of memory. No other client changes.
+    /// context show. It is refused where nobody has greeted, and for want of memory. No other client changes.
     fn get_outcome<R: Wait>(&mut self, rt: &R, key: &Key) -> Outcome
         ensures outcome { IsGetOutcome result }
         ensures done { GetsAs self.old key.now result self.new }
         ensures same { IsUnnoted self.old self.new }
     {
         let Some(greeted) = self.greeted else {
-            return Outcome::Refused(UNKNOWN_CLIENT);
+            return Outcome::Refused(Refusal::UnknownClient);
         };
         let Some(client) = self.clients.get_mut(usize::from(greeted.client)) else {
             unreachable!()
         };
         let Ok(key) = key.clone() else {
-            return Outcome::Refused(MEMORY);
+            return Outcome::Refused(Refusal::Memory);
         };
         match self.cluster.get(rt, client, &OpenGate, key) {
             Ok(outcome) => outcome,
@@ -201,11 +201,11 @@ impl Session for FrontEnd {
         Ok(())
     }
 
-    fn hello(&mut self, client: u16) -> Result<(u8, u8), u8> {
+    fn hello(&mut self, client: u16) -> Result<(u8, u8), Refusal> {
         let Some(greeted) = self.home_of(client) else {
-            let answer = Err(UNKNOWN_CLIENT);
+            let answer = Err(Refusal::UnknownClient);
             self.note(Call::Hello { client, answer });
-            return Err(UNKNOWN_CLIENT);
+            return Err(Refusal::UnknownClient);
         };
         let nodes = self.cluster.nodes();
         self.greeted = Some(greeted);

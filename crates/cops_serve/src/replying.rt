@@ -30,9 +30,9 @@ pub(crate) fn put_replies(outcome: &Outcome) -> Replies
             kept: Reply::PutDone(*version),
             told: Reply::PutDone(*version),
         },
-        Outcome::Refused(code) => Replies {
-            kept: Reply::Refused(*code),
-            told: Reply::Refused(*code),
+        Outcome::Refused(refusal) => Replies {
+            kept: Reply::Refused(*refusal),
+            told: Reply::Refused(*refusal),
         },
         _ => unreachable!(),
     }
@@ -54,9 +54,9 @@ pub(crate) fn get_replies(room: ValueRoom, outcome: Outcome) -> Replies
             kept: Reply::Missed,
             told: Reply::Missed,
         },
-        Outcome::Refused(code) => Replies {
-            kept: Reply::Refused(code),
-            told: Reply::Refused(code),
+        Outcome::Refused(refusal) => Replies {
+            kept: Reply::Refused(refusal),
+            told: Reply::Refused(refusal),
         },
         _ => unreachable!(),
     }
@@ -91,9 +91,9 @@ fn outcome_replies(outcome: &Outcome) -> Replies
             told: Reply::Yes,
         },
         Outcome::Wait => not_yet(),
-        Outcome::Refused(code) => Replies {
-            kept: Reply::Refused(*code),
-            told: Reply::Refused(*code),
+        Outcome::Refused(refusal) => Replies {
+            kept: Reply::Refused(*refusal),
+            told: Reply::Refused(*refusal),
         },
         _ => unreachable!(),
     }

@@ -13,7 +13,8 @@ use Rattle.cops_store.specs.declared.place.Place.{Place}
 use Rattle.cops_store.specs.declared.settled.Settled.{Settled}
 use Rattle.cops_store.specs.declared.settled.Settled.TheVariants.{Shown, Older, Repeat}
 use Rattle.cops_store.specs.Places.{is_above, pick, chosen}
-use Rattle.cops_store.specs.Store.{Stored, has_pair, with_settled, shown, has_key, shown_keys, settling, shown_or_older}
+use Rattle.cops_store.specs.Store.{Stored, has_pair, with_settled, shown}
+use Rattle.cops_store.specs.Settling.{has_key, shown_keys, settling, shown_or_older}
 use Rattle.cops_store.specs.Index.{Keys, Pairs, IsIndex, ShowsAt, key_at, stored_at, settled_in}
 use Rattle.cops_store.proofs.Showing.{later, shown_append, shown_has_key, keys_append, IsOn, shown_on}
 use Rattle.cops_store.proofs.Placing.{is_at, found_pair, with_key, place_in, named, within, grown, settled_kept, placed_on}

@@ -6,7 +6,8 @@ use Rattle.std.specs.Str.{bytes_eq}
 use Rattle.std.specs.List.{list_any}
 use Rattle.cops_types.specs.Dep.{is_same_dep}
 use Rattle.std.proofs.lemmas.Slice.Eq.{bytes_eq-Decides}
-use Rattle.cops_store.specs.Store.{Stored, stored_pair, newer, shown, has_key, has_pair, shown_keys}
+use Rattle.cops_store.specs.Store.{Stored, stored_pair, newer, shown, has_pair}
+use Rattle.cops_store.specs.Settling.{has_key, shown_keys}
 
 -- of what is shown and a pair that is settled after it, the one with the greater version
 abbrev pub later : Option Stored → Stored → Stored

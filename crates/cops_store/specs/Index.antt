@@ -3,7 +3,8 @@ use Rattle.std.specs.Prelude.{◌≡◌, ◌<◌, ℕ, List, [], length, map, sl
 use Rattle.std.specs.List.{AllByRecursion, IsDistinct}
 use Rattle.std.specs.Map.{keys_of, lookup}
 use Rattle.std.specs.Str.{bytes_eq}
-use Rattle.cops_store.specs.Store.{Stored, shown, shown_keys}
+use Rattle.cops_store.specs.Store.{Stored, shown}
+use Rattle.cops_store.specs.Settling.{shown_keys}
 use Rattle.cops_store.specs.declared.place.Place.{Place}
 
 -- keys, each with the place of the pair that it shows

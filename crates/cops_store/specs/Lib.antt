@@ -1,3 +1,4 @@
 pub mod Store
+pub mod Settling
 pub mod Index
 pub mod Places

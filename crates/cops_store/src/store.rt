@@ -20,7 +20,7 @@ pub struct Store {
 impl Model for Store {
     ghost use Rattle.std.specs.Prelude.{◌&&◌, nat_lt};
     ghost use Rattle.indexmap.specs.IndexMap.{spare};
-    ghost use Rattle.cops_store.specs.Store.{AStore};
+    ghost use Rattle.cops_store.specs.Settling.{AStore};
     ghost use Rattle.cops_store.specs.Index.{IsIndex, settled_in};
 
     ghost Value = { AStore };
@@ -33,7 +33,8 @@ impl Model for Store {
 impl Store {
     ghost use Rattle.std.specs.Prelude.{◌≡◌, length, [], true, false, IsOk, IfOk, OnOk, OnErr};
     ghost use Rattle.std.specs.Option.{option_map};
-    ghost use Rattle.cops_store.specs.Store.{Stored, has_pair, with_settled, shown, shown_keys, settling};
+    ghost use Rattle.cops_store.specs.Store.{Stored, has_pair, with_settled, shown};
+    ghost use Rattle.cops_store.specs.Settling.{shown_keys, settling};
 
     /// A store with nothing settled. It takes no memory.
     pub fn new(alloc: Global) -> Self

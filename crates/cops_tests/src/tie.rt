@@ -1,6 +1,6 @@
-use cops_node::{MEMORY, NodeEvent, Outcome};
+use cops_node::{NodeEvent, Outcome};
 use cops_tie::Book;
-use cops_types::{Deps, Key, TypeFault, Value};
+use cops_types::{Deps, Key, Refusal, TypeFault, Value};
 use std::alloc::Global;
 use std::test::Fail;
 
@@ -24,11 +24,11 @@ fn surely(alloc: Global) -> Result<NodeEvent, TypeFault> {
 /// Whether a put is entered, at the second try where a growth was refused, which makes no entry.
 fn is_entered(alloc: Global, book: &mut Book, ticket: u64) -> Result<bool, TypeFault> {
     let before = book.entries().len();
-    if book.step(ticket, surely(alloc)?) != Outcome::Refused(MEMORY) {
+    if book.step(ticket, surely(alloc)?) != Outcome::Refused(Refusal::Memory) {
         return Ok(book.entries().len() == before + 1);
     }
     let is_same = book.entries().len() == before;
-    Ok(is_same && book.step(ticket, surely(alloc)?) != Outcome::Refused(MEMORY))
+    Ok(is_same && book.step(ticket, surely(alloc)?) != Outcome::Refused(Refusal::Memory))
 }
 
 /// Holds for every one growth that is refused: no entry is made, and the event can be taken again.

@@ -1,7 +1,7 @@
 use cops_core::*;
-use cops_node::{MEMORY, Outcome};
+use cops_node::Outcome;
 use cops_place::Place;
-use cops_types::{Key, TypeFault, Value, Version};
+use cops_types::{Key, Refusal, TypeFault, Value, Version};
 use std::alloc::Global;
 use std::test::Fail;
 
@@ -76,7 +76,7 @@ fn open(alloc: Global) -> Option<World> {
 fn happens(alloc: Global, world: &mut World, i: u32) -> Result<bool, TypeFault> {
     let before = world.history().len();
     let answer = world.apply(surely(alloc, i)?);
-    if answer != Outcome::Refused(MEMORY) {
+    if answer != Outcome::Refused(Refusal::Memory) {
         return Ok(is_wanted(i, &answer));
     }
     let is_same = world.history().len() == before;

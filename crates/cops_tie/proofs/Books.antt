@@ -4,9 +4,9 @@ use Rattle.std.proofs.lemmas.List.{append_assoc, append-nil, get_or-map, length-
 use Rattle.std.proofs.lemmas.List.Elements.{All-get_or}
 use Rattle.std.specs.List.Sorted.{IsNonDecreasingBy}
 use Rattle.cops_tie.specs.declared.entry.Entry.{Entry}
-use Rattle.cops_tie.specs.declared.order.Turn.{Turn}
+use Rattle.cops_tie.specs.declared.order.Ticketed.{Ticketed}
 use Rattle.cops_tie.specs.Tie.{Placed, ticket, placed}
-use Rattle.cops_tie.specs.Turns.{HasItsTicket, shown}
+use Rattle.cops_tie.specs.Ticketed.{HasItsTicket, shown}
 
 -- the entries of the nth node's book
 abbrev pub at_node : ℕ → ℕ → List Entry → List Placed
@@ -20,15 +20,15 @@ placed_more nodes k (b ∷ books) book =
     ∙ ap (λ n. (at_node nodes k b ++ placed nodes (k + 1) books) ++ at_node nodes n book) (let e : k + 1 + length books ≡ k + length (b ∷ books) = omega arith in e)
 
 -- what is in order of the tickets beside the entries is in order of the entries' own
-by_entries : (order : List Turn) → All HasItsTicket order → IsNonDecreasingBy (λ (t : Turn). t.ticket) order → IsNonDecreasingBy (λ (t : Turn). t.entry.now.ticket) order
+by_entries : (order : List Ticketed) → All HasItsTicket order → IsNonDecreasingBy (λ (t : Ticketed). t.ticket) order → IsNonDecreasingBy (λ (t : Ticketed). t.entry.now.ticket) order
 by_entries order all h i j x less inside =
     omega (arith, h i j x less inside, All-get_or HasItsTicket order i x (omega (arith, less, inside)) all, All-get_or HasItsTicket order j x inside all)
 
-entries_rise : (order : List Turn) → IsNonDecreasingBy (λ (t : Turn). t.entry.now.ticket) order → AllPairs (λ p q. ticket p ≤ ticket q) (map shown order)
+entries_rise : (order : List Ticketed) → IsNonDecreasingBy (λ (t : Ticketed). t.entry.now.ticket) order → AllPairs (λ p q. ticket p ≤ ticket q) (map shown order)
 entries_rise [] h i j d less inside = absurd (omega (arith, inside, less))
 entries_rise (x ∷ order) h i j d less inside =
     let within : j < length (x ∷ order) = subst (λ n. j < n) (length-map (x ∷ order) shown) inside in
     omega (arith, h i j x (omega (arith, less)) within, ap ticket (get_or-map shown (x ∷ order) i x d (omega (arith, less, within))), ap ticket (get_or-map shown (x ∷ order) j x d within))
 
-pub never_falls : (order : List Turn) → All HasItsTicket order → IsNonDecreasingBy (λ (t : Turn). t.ticket) order → AllPairs (λ p q. ticket p ≤ ticket q) (map shown order)
+pub never_falls : (order : List Ticketed) → All HasItsTicket order → IsNonDecreasingBy (λ (t : Ticketed). t.ticket) order → AllPairs (λ p q. ticket p ≤ ticket q) (map shown order)
 never_falls order all h = entries_rise order (by_entries order all h)

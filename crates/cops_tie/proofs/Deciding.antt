@@ -1,22 +1,25 @@
 -- A run goes on in one way, so entries that stop somewhere lead nowhere.
 use Rattle.std.proofs.Common.{◌≡◌, ℕ, zero, suc, inl, inr, List, [], ◌∷◌, sym, ap, subst, ◌∙◌, arith}
+use Rattle.cops_types.specs.declared.refusal.Refusal.{Refusal}
+use Rattle.cops_types.specs.declared.refusal.Refusal.TheVariants.{Memory}
 use Rattle.cops_types.specs.Histories.{Sessions}
 use Rattle.cops_node.specs.declared.outcome.Outcome.{Outcome}
 use Rattle.cops_node.specs.declared.outcome.Outcome.TheVariants.{Refused}
 use Rattle.cops_core.specs.declared.event.Event.{Event}
 use Rattle.cops_core.specs.World.{Setting, World, Happens, opening}
 use Rattle.cops_tie.specs.declared.entry.Entry.{Entry}
-use Rattle.cops_tie.specs.Tie.{Placed, event_of, Continues, Follows, StopsAt, IsTiedTo, IsTied, IsUntied}
+use Rattle.cops_tie.specs.Tie.{Placed, event_of, Continues, Follows, IsTiedTo}
+use Rattle.cops_tie.specs.Untied.{IsTied, StopsAt, IsUntied}
 use Rattle.cops_tie.proofs.Ordering.{NeverFalls, Rises, one_order}
 
 -- a refused event changes nothing
 abbrev pub RefusedStays : Type 0
-RefusedStays = (s : Setting) (w new : World) (event : Event) (code : ℕ) → Happens s w event (Refused code) new → new ≡ w
+RefusedStays = (s : Setting) (w new : World) (event : Event) (refused : Refusal) → Happens s w event (Refused refused) new → new ≡ w
 
 happens_once : (law : RefusedStays) (s : Setting) (w a b : World) (event : Event) (outcome : Outcome) → Happens s w event outcome a → Happens s w event outcome b → a ≡ b
 happens_once law s w a b event outcome (inl f) (inl g) = ap (λ (r : Outcome × World). r.1) (sym f ∙ g)
-happens_once law s w a b event outcome (inl f) (inr g) = law s w a event 9 (subst (λ (o : Outcome). Happens s w event o a) g.0 (inl f)) ∙ sym g.1
-happens_once law s w a b event outcome (inr f) g = f.1 ∙ sym (law s w b event 9 (subst (λ (o : Outcome). Happens s w event o b) f.0 g))
+happens_once law s w a b event outcome (inl f) (inr g) = law s w a event Memory (subst (λ (o : Outcome). Happens s w event o a) g.0 (inl f)) ∙ sym g.1
+happens_once law s w a b event outcome (inr f) g = f.1 ∙ sym (law s w b event Memory (subst (λ (o : Outcome). Happens s w event o b) f.0 g))
 
 continues_once : (law : RefusedStays) (s : Setting) (w : World) (p : Placed) (a b : World) → Continues s w p a → Continues s w p b → a ≡ b
 continues_once law s w p a b f g = happens_once law s w a b (event_of p) p.entry.outcome f.happens g.happens

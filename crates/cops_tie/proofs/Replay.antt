@@ -1,5 +1,6 @@
 -- A book that gains the entry of a step still replays.
 use Rattle.std.proofs.Common.{◌≡◌, ◌⊎◌, inl, inr, ℕ, Bool, true, false, if◌then◌else◌, List, [], ◌∷◌, ◌++◌, Option, None, Some, refl, sym, ap, subst, ◌∙◌, ◌==◌}
+use Rattle.cops_types.specs.declared.refusal.Refusal.TheVariants.{Memory}
 use Rattle.cops_held.specs.Held.{Waiting, waiting}
 use Rattle.cops_node.specs.declared.event.NodeEvent.{NodeEvent}
 use Rattle.cops_node.specs.declared.event.NodeEvent.TheVariants.{Put, Get, Deliver, Ask, Mark, Settle}
@@ -12,7 +13,7 @@ use Rattle.cops_tie.specs.Book.{Replays, entry}
 
 -- refused for want of memory
 abbrev is_memory : Outcome → Bool
-is_memory (Refused code) = code == 9
+is_memory (Refused Memory) = true
 is_memory _ = false
 
 -- a step of this node: its number stays, and it is never refused for want of memory
@@ -62,7 +63,7 @@ book_more es t u ticket e out r is =
     subst (λ n. Replays (opened n) (es ++ entry ticket e out ∷ []) u) (sym number) (replays_more (opened t.number) es t u ticket e out r is)
 
 -- where memory was refused the node is as it was
-pub memory_keeps : (t u : Node) (e : NodeEvent) (out : Outcome) → (node_step t e ≡ (out, u)) ⊎ ((out ≡ Refused 9) × (u ≡ t)) → out ≡ Refused 9 → u ≡ t
+pub memory_keeps : (t u : Node) (e : NodeEvent) (out : Outcome) → (node_step t e ≡ (out, u)) ⊎ ((out ≡ Refused Memory) × (u ≡ t)) → out ≡ Refused Memory → u ≡ t
 memory_keeps t u e out (inl is) m =
     let yes : is_memory (node_step t e).0 ≡ true = ap (λ (x : Outcome × Node). is_memory x.0) is ∙ ap is_memory m in
     let no : is_memory (node_step t e).0 ≡ false = (step_tame t e).1 in

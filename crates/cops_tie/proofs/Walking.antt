@@ -2,18 +2,18 @@
 use Rattle.std.proofs.Common.{◌≡◌, ◌≢◌, ℕ, zero, suc, ◌+◌, ◌-◌, ◌<◌, ◌≤◌, List, [], ◌∷◌, ◌++◌, AllPairs, length, map, take, drop, slice_index_or, refl, sym, ap, subst, ◌∙◌, arith}
 use Rattle.std.proofs.lemmas.List.{take_more, get_or-drop, get_or-map, length-drop, length-map}
 use Rattle.std.proofs.Math.Seq.{drop-cons}
-use Rattle.cops_tie.specs.declared.order.Turn.{Turn}
+use Rattle.cops_tie.specs.declared.order.Ticketed.{Ticketed}
 use Rattle.cops_tie.specs.Tie.{Placed, ticket, IsBelow}
-use Rattle.cops_tie.specs.Turns.{shown}
+use Rattle.cops_tie.specs.Ticketed.{shown}
 
-pub at_turn : (order : List Turn) (i : ℕ) (t : Turn) → i < length order → t ≡ slice_index_or order i t → drop i (map shown order) ≡ shown t ∷ drop (i + 1) (map shown order)
-at_turn order i t less is =
-    drop-cons (map shown order) i (shown t) (omega (arith, length-map {A = Turn} {B = Placed}, less)) ∙ ap (λ (p : Placed). p ∷ drop (suc i) (map shown order)) (get_or-map shown order i t (shown t) less ∙ ap shown (sym is))
+pub at_entry : (order : List Ticketed) (i : ℕ) (t : Ticketed) → i < length order → t ≡ slice_index_or order i t → drop i (map shown order) ≡ shown t ∷ drop (i + 1) (map shown order)
+at_entry order i t less is =
+    drop-cons (map shown order) i (shown t) (omega (arith, length-map {A = Ticketed} {B = Placed}, less)) ∙ ap (λ (p : Placed). p ∷ drop (suc i) (map shown order)) (get_or-map shown order i t (shown t) less ∙ ap shown (sym is))
     ∙ ap (λ n. shown t ∷ drop n (map shown order)) (let next : suc i ≡ i + 1 = omega arith in next)
 
-pub take_turn : (order : List Turn) (i : ℕ) (t : Turn) → i < length order → t ≡ slice_index_or order i t → take (i + 1) (map shown order) ≡ take i (map shown order) ++ shown t ∷ []
-take_turn order i t less is =
-    take_more (map shown order) i (shown t) (omega (arith, length-map {A = Turn} {B = Placed}, less)) ∙ ap (λ (p : Placed). take i (map shown order) ++ p ∷ []) (get_or-map shown order i t (shown t) less ∙ ap shown (sym is))
+pub take_entry : (order : List Ticketed) (i : ℕ) (t : Ticketed) → i < length order → t ≡ slice_index_or order i t → take (i + 1) (map shown order) ≡ take i (map shown order) ++ shown t ∷ []
+take_entry order i t less is =
+    take_more (map shown order) i (shown t) (omega (arith, length-map {A = Ticketed} {B = Placed}, less)) ∙ ap (λ (p : Placed). take i (map shown order) ++ p ∷ []) (get_or-map shown order i t (shown t) less ∙ ap shown (sym is))
 
 head_at : (ps : List Placed) (i : ℕ) (p : Placed) (rest : List Placed) (d : Placed) → drop i ps ≡ p ∷ rest → p ≡ slice_index_or ps i d
 head_at ps i p rest d e = sym (ap (λ (l : List Placed). slice_index_or l 0 d) e) ∙ get_or-drop i ps 0 d ∙ ap (λ n. slice_index_or ps n d) (let same : i + 0 ≡ i = omega arith in same)

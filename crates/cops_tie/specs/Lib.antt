@@ -1,3 +1,4 @@
 pub mod Book
 pub mod Tie
-pub mod Turns
+pub mod Untied
+pub mod Ticketed

@@ -1,5 +1,5 @@
 -- A run on threads as one run of the world: the entries of all books, in order of tickets.
-use Rattle.std.specs.Prelude.{◌≡◌, ◌⊎◌, ℕ, ◌+◌, ◌<◌, ◌≤◌, ◌/◌, ◌%◌, min, List, [], ◌∷◌, ◌++◌, length, map, All, AllPairs, Some}
+use Rattle.std.specs.Prelude.{◌≡◌, ℕ, ◌+◌, ◌<◌, ◌/◌, ◌%◌, List, [], ◌∷◌, ◌++◌, length, map, All, Some}
 use Rattle.std.specs.List.Sorted.{IsPermutation}
 use Rattle.cops_types.specs.Histories.{Sessions}
 use Rattle.cops_node.specs.declared.event.NodeEvent.{NodeEvent}
@@ -54,9 +54,7 @@ abbrev pub IsFrom : Setting → World → ℕ → NodeEvent → Type 0
 IsFrom s w dc (Put client key value deps) = IsHomeOf s dc client × (deps ≡ context_in w client)
 IsFrom s w dc (Get client key) = IsHomeOf s dc client
 IsFrom s w dc (Deliver put) = sent w.issued put.version ≡ Some put
-IsFrom s w dc (Ask key version) = Unit {0}
-IsFrom s w dc (Mark version dep) = Unit {0}
-IsFrom s w dc (Settle version) = Unit {0}
+IsFrom s w dc _ = Unit {0}
 
 -- the entry continues the run, from one world to the next
 pub record Continues (s : Setting) (w : World) (p : Placed) (next : World) : Type 0 where
@@ -84,32 +82,3 @@ pub record IsTiedTo (s : Setting) (books : List (List Entry)) (sessions : Sessio
   pub follows : Follows s (opening s) order end
   pub saw : end.sessions ≡ sessions
   pub events_are : events ≡ map event_of order
-
--- the same, up to some end
-abbrev pub IsTied : Setting → List (List Entry) → Sessions → List Event → Type 0
-IsTied s books sessions events = (end : World) × IsTiedTo s books sessions events end
-
--- the first entry that does not continue the run has this ticket: the ticket comes again, or the world has no such step
-abbrev pub StopsAt : Setting → World → List Placed → ℕ → Type 0
-StopsAt s w [] t = ⊥
-StopsAt s w (p ∷ ps) t =
-    ((t ≡ ticket p) × ((IsBelow p ps → ⊥) ⊎ ((mid : World) → Continues s w p mid → ⊥)))
-    ⊎ ((mid : World) × (IsBelow p ps × (Continues s w p mid × StopsAt s mid ps t)))
-
--- the ticket above the greatest
-abbrev pub ticket_after : List Placed → ℕ
-ticket_after [] = 0
-ticket_after (p ∷ []) = min (ticket p + 1) 18446744073709551615
-ticket_after (p ∷ q ∷ ps) = ticket_after (q ∷ ps)
-
--- the same up to this end, and this ticket is above the greatest
-abbrev pub IsTiedBefore : Setting → List (List Entry) → Sessions → List Event → World → ℕ → Type 0
-IsTiedBefore s books sessions events end ticket = (tied : IsTiedTo s books sessions events end) × (ticket ≡ ticket_after tied.order)
-
--- Where the books are no such run: the least ticket whose entry does not continue it, or the one above the greatest where
--- the sessions alone differ.
-pub record IsUntied (s : Setting) (books : List (List Entry)) (sessions : Sessions) (t : ℕ) : Type 0 where
-  pub order : List Placed
-  pub all : IsOrder s books order
-  pub never_falls : AllPairs (λ p q. ticket p ≤ ticket q) order
-  pub at : StopsAt s (opening s) order t ⊎ ((end : World) × (Follows s (opening s) order end × ((end.sessions ≡ sessions → ⊥) × (t ≡ ticket_after order))))

@@ -2,8 +2,8 @@ ghost use Rattle.std.specs.Prelude.{◌≡◌, IfOk, OnErr};
 ghost use Rattle.cops_node.specs.Node.{node_step};
 
 use crate::entry::Entry;
-use cops_node::{MEMORY, Node, NodeEvent, Outcome};
-use cops_types::Memory;
+use cops_node::{Node, NodeEvent, Outcome};
+use cops_types::{Memory, Refusal};
 use std::alloc::Global;
 use std::marker::Model;
 
@@ -35,13 +35,15 @@ impl Model for Book {
 
 impl Book {
     ghost use Rattle.std.specs.Prelude.{◌≡◌, ◌≢◌, ◌<◌, [], ◌∷◌, ◌++◌};
+    ghost use Rattle.cops_types.specs.declared.limits.TheConstants.{NODES};
+    ghost use Rattle.cops_types.specs.declared.refusal.Refusal.TheVariants.{Memory as OutOfMemory};
     ghost use Rattle.cops_node.specs.declared.outcome.Outcome.TheVariants.{Refused};
     ghost use Rattle.cops_node.specs.Node.{opened, node_step};
     ghost use Rattle.cops_tie.specs.Book.{Replays, entry};
 
     /// The book of a node that has met no event. It takes no memory. The condition: the node's number is below 1,024.
     pub fn open(alloc: Global, node: u16) -> Self
-        requires { node < 1024 }
+        requires { node < NODES }
         ensures { result ≡ record { node = opened node; entries = [] } }
     {
         Book {
@@ -53,18 +55,18 @@ impl Book {
     /// The node takes one event, and its entry goes last. Where it is refused 9, for want of memory, nothing changes and
     /// no entry is made.
     pub fn step(&mut self, ticket: u64, event: NodeEvent) -> Outcome
-        ensures memory { result ≡ Refused 9 → self.new ≡ self.old }
-        ensures stepped { result ≢ Refused 9 → node_step self.old.node event ≡ (result, self.new.node) }
-        ensures entered { result ≢ Refused 9 → self.new.entries ≡ self.old.entries ++ entry ticket event result ∷ [] }
+        ensures memory { result ≡ Refused OutOfMemory → self.new ≡ self.old }
+        ensures stepped { result ≢ Refused OutOfMemory → node_step self.old.node event ≡ (result, self.new.node) }
+        ensures entered { result ≢ Refused OutOfMemory → self.new.entries ≡ self.old.entries ++ entry ticket event result ∷ [] }
     {
         if self.entries.reserve(1).is_err() {
-            return Outcome::Refused(MEMORY);
+            return Outcome::Refused(Refusal::Memory);
         }
         let Ok(kept) = event.clone() else {
-            return Outcome::Refused(MEMORY);
+            return Outcome::Refused(Refusal::Memory);
         };
         let Ok(answer) = answered(&mut self.node, event) else {
-            return Outcome::Refused(MEMORY);
+            return Outcome::Refused(Refusal::Memory);
         };
         let Answer { outcome, copy } = answer;
         self.entries.push_reserved(Entry {

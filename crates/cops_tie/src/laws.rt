@@ -3,7 +3,8 @@ ghost use Rattle.cops_types.specs.Histories.{Sessions};
 ghost use Rattle.cops_core.specs.World.{Setting, World};
 ghost use Rattle.cops_core.specs.declared.event.Event.{Event};
 ghost use Rattle.cops_tie.specs.declared.entry.Entry.{Entry};
-ghost use Rattle.cops_tie.specs.Tie.{IsTied, IsTiedTo, IsUntied};
+ghost use Rattle.cops_tie.specs.Tie.{IsTiedTo};
+ghost use Rattle.cops_tie.specs.Untied.{IsTied, IsUntied};
 
 use cops_core::every_interleaving_is_accepted;
 

@@ -2,14 +2,14 @@
 ghost use Rattle.std.specs.Prelude.{◌≡◌, ◌<◌, ◌≤◌, ◌+◌, ◌*◌, ◌++◌, length, map, All, AllPairs, IfOk, OnOk};
 ghost use Rattle.std.specs.List.Sorted.{IsPermutation};
 ghost use Rattle.cops_tie.specs.Tie.{placed, ticket};
-ghost use Rattle.cops_tie.specs.Turns.{HasItsTicket, shown};
+ghost use Rattle.cops_tie.specs.Ticketed.{HasItsTicket, shown};
 
 use crate::entry::Entry;
 use std::alloc::{AllocError, Global};
 
 /// An entry, in the book of the node at a place of a data centre, with its ticket, by which it is sorted without a look at it.
 #[derive(Clone, Copy)]
-pub struct Turn<'a> {
+pub struct Ticketed<'a> {
     pub dc: u8,
     pub place: u8,
     pub ticket: u64,
@@ -22,51 +22,51 @@ pub fn in_order<'a>(
     dcs: u8,
     nodes: u8,
     books: &'a [Vec<Entry>],
-) -> Result<Vec<Turn<'a>>, AllocError>
+) -> Result<Vec<Ticketed<'a>>, AllocError>
     requires nodes { 0 < nodes }
     requires books { length books.now ≡ dcs * nodes }
     ensures all { IfOk result (λ order. IsPermutation (placed nodes 0 (map (λ b. b.items) books.now)) (map shown order.items)) }
     ensures never_falls { IfOk result (λ order. AllPairs (λ p q. ticket p ≤ ticket q) (map shown order.items)) }
 {
-    let mut order = turns(alloc, dcs, nodes, books)?;
-    order.sort_by_key(|turn| turn.ticket)?;
+    let mut order = unordered(alloc, dcs, nodes, books)?;
+    order.sort_by_key(|entry| entry.ticket)?;
     Ok(order)
 }
 
 /// The same, book by book.
-fn turns<'a>(
+fn unordered<'a>(
     alloc: Global,
     dcs: u8,
     nodes: u8,
     books: &'a [Vec<Entry>],
-) -> Result<Vec<Turn<'a>>, AllocError>
+) -> Result<Vec<Ticketed<'a>>, AllocError>
     requires nodes { 0 < nodes }
     requires books { length books.now ≡ dcs * nodes }
-    ensures entries { IfOk result (λ turns. map shown turns.items ≡ placed nodes 0 (map (λ b. b.items) books.now)) }
-    ensures tickets { IfOk result (λ turns. All HasItsTicket turns.items) }
+    ensures entries { IfOk result (λ entries. map shown entries.items ≡ placed nodes 0 (map (λ b. b.items) books.now)) }
+    ensures tickets { IfOk result (λ entries. All HasItsTicket entries.items) }
 {
-    let mut turns = Vec::new(alloc);
+    let mut entries = Vec::new(alloc);
     for n in 0..books.len() {
         let dc = n / nodes as usize;
         let place = n % nodes as usize;
-        add_book(&mut turns, dc as u8, place as u8, &books[n])?;
+        add_book(&mut entries, dc as u8, place as u8, &books[n])?;
     }
-    Ok(turns)
+    Ok(entries)
 }
 
 /// The entries of one book more.
 fn add_book<'a>(
-    turns: &mut Vec<Turn<'a>>,
+    entries: &mut Vec<Ticketed<'a>>,
     dc: u8,
     place: u8,
     book: &'a [Entry],
 ) -> Result<(), AllocError>
-    ensures entries { OnOk result (map shown turns.new.items ≡ map shown turns.old.items ++ map (λ e. record { dc = dc; place = place; entry = e }) book.now) }
-    ensures tickets { OnOk result (All HasItsTicket turns.old.items → All HasItsTicket turns.new.items) }
+    ensures entries { OnOk result (map shown entries.new.items ≡ map shown entries.old.items ++ map (λ e. record { dc = dc; place = place; entry = e }) book.now) }
+    ensures tickets { OnOk result (All HasItsTicket entries.old.items → All HasItsTicket entries.new.items) }
 {
-    turns.reserve(book.len())?;
+    entries.reserve(book.len())?;
     for entry in book {
-        turns.push(Turn {
+        entries.push(Ticketed {
             dc,
             place,
             ticket: entry.ticket,

@@ -1,14 +1,15 @@
 //! Whether the entries of all books are one run of the world in which the clients saw what a trace says.
 ghost use Rattle.std.specs.Prelude.{◌≡◌, ◌<◌, ◌≤◌, ◌*◌, ◌+◌, ◌∷◌, ◌↔◌, List, drop, AllPairs, length, map, IfOk, IfErr, IfSome, IfNone, IsTrue, OnOk, Some};
 ghost use Rattle.cops_core.specs.World.{Happens, World as AWorld, context_in, opening, sent};
-ghost use Rattle.cops_core.specs.Invariants.{HasAcceptedVerdict};
+ghost use Rattle.cops_types.specs.Verdicts.{HasAcceptedVerdict};
 ghost use Rattle.cops_trace.specs.Text.{sessions_of};
-ghost use Rattle.cops_tie.specs.Tie.{Placed, IsBelow, Continues, Follows, IsFrom, IsHomeOf, IsTied, IsTiedBefore, IsUntied, StopsAt, event_at, event_of, place_asked, ticket, ticket_after};
-ghost use Rattle.cops_tie.specs.Turns.{StandsRight, WhereUntied, shown};
+ghost use Rattle.cops_tie.specs.Tie.{Placed, IsBelow, Continues, Follows, IsFrom, IsHomeOf, event_at, event_of, place_asked, ticket};
+ghost use Rattle.cops_tie.specs.Untied.{IsTied, IsTiedBefore, IsUntied, StopsAt, ticket_after};
+ghost use Rattle.cops_tie.specs.Ticketed.{StandsRight, WhereUntied, shown};
 
 use crate::entry::Entry;
 use crate::fault::TieFault;
-use crate::order::{Turn, in_order};
+use crate::order::{Ticketed, in_order};
 use cops_core::{Event, Setting, World};
 use cops_node::{NodeEvent, Outcome};
 use cops_trace::Trace;
@@ -81,7 +82,7 @@ pub fn tied_run(
 }
 
 /// The run that the entries are, whatever the clients saw.
-fn run_of(alloc: Global, setting: &Setting, order: &[Turn<'_>]) -> Result<TiedRun, TieFault>
+fn run_of(alloc: Global, setting: &Setting, order: &[Ticketed<'_>]) -> Result<TiedRun, TieFault>
     requires { AllPairs (λ p q. ticket p ≤ ticket q) (map shown order.now) }
     ensures setting { IfOk result (λ run. run.world.setting ≡ setting.now) }
     ensures follows { IfOk result (λ run. Follows setting.now (opening setting.now) (map shown order.now) run.world.world) }
@@ -89,7 +90,7 @@ fn run_of(alloc: Global, setting: &Setting, order: &[Turn<'_>]) -> Result<TiedRu
     ensures next { IfOk result (λ run. run.next ≡ ticket_after (map shown order.now)) }
     ensures stops { IfErr result (WhereUntied (StopsAt setting.now (opening setting.now) (map shown order.now))) }
 {
-    let mut world = World::of(alloc, setting.clone()?)?;
+    let mut world = opened(alloc, setting)?;
     match followed(alloc, setting, &mut world, order) {
         Ok(events) => Ok(TiedRun {
             events,
@@ -103,12 +104,19 @@ fn run_of(alloc: Global, setting: &Setting, order: &[Turn<'_>]) -> Result<TiedRu
     }
 }
 
+/// The opened world of a setting.
+fn opened(alloc: Global, setting: &Setting) -> Result<World, Memory>
+    ensures { IfOk result (λ world. world ≡ record { setting = setting.now; world = opening setting.now }) }
+{
+    World::of(alloc, setting.clone()?)
+}
+
 /// Follows the entries, and gives the world's events.
 fn followed(
     alloc: Global,
     setting: &Setting,
     world: &mut World,
-    order: &[Turn<'_>],
+    order: &[Ticketed<'_>],
 ) -> Result<Vec<Event>, TieFault>
     requires setting { world.old.setting ≡ setting.now }
     requires never_falls { AllPairs (λ p q. ticket p ≤ ticket q) (map shown order.now) }
@@ -118,12 +126,12 @@ fn followed(
 {
     let mut events = Vec::with_capacity(alloc, order.len())?;
     for i in 0..order.len() {
-        let turn = &order[i];
-        let ticket = turn.entry.ticket;
+        let ticketed = &order[i];
+        let ticket = ticketed.entry.ticket;
         if comes_again(order, i) {
             return Err(TieFault::Untied { ticket });
         }
-        match continued(setting, world, turn)? {
+        match continued(setting, world, ticketed)? {
             Some(event) => events.push(event)?,
             None => return Err(TieFault::Untied { ticket }),
         }
@@ -132,7 +140,7 @@ fn followed(
 }
 
 /// Whether the next ticket is the same as that of an entry.
-fn comes_again(order: &[Turn<'_>], i: usize) -> bool
+fn comes_again(order: &[Ticketed<'_>], i: usize) -> bool
     requires inside { i < length order.now }
     ensures again { IsTrue result → (p : Placed) (rest : List Placed) → drop i (map shown order.now) ≡ p ∷ rest → IsBelow p rest → ⊥ }
     ensures below { ¬ IsTrue result → AllPairs (λ p q. ticket p ≤ ticket q) (map shown order.now) → (p : Placed) (rest : List Placed) → drop i (map shown order.now) ≡ p ∷ rest → IsBelow p rest }
@@ -144,17 +152,21 @@ fn comes_again(order: &[Turn<'_>], i: usize) -> bool
 }
 
 /// The world's event that the entry is, which the world then has met: none where the entry does not continue the run.
-fn continued(setting: &Setting, world: &mut World, turn: &Turn<'_>) -> Result<Option<Event>, Memory>
+fn continued(
+    setting: &Setting,
+    world: &mut World,
+    ticketed: &Ticketed<'_>,
+) -> Result<Option<Event>, Memory>
     requires { world.old.setting ≡ setting.now }
     ensures setting { world.new.setting ≡ world.old.setting }
-    ensures some { IfOk result (λ o. IfSome o (λ event. (event ≡ event_of (shown turn.now)) × Continues setting.now world.old.world (shown turn.now) world.new.world)) }
-    ensures none { IfOk result (λ o. IfNone o ((mid : AWorld) → Continues setting.now world.old.world (shown turn.now) mid → ⊥)) }
+    ensures some { IfOk result (λ o. IfSome o (λ event. (event ≡ event_of (shown ticketed.now)) × Continues setting.now world.old.world (shown ticketed.now) world.new.world)) }
+    ensures none { IfOk result (λ o. IfNone o ((mid : AWorld) → Continues setting.now world.old.world (shown ticketed.now) mid → ⊥)) }
 {
-    if !is_from(setting, world, turn)? {
+    if !is_from(setting, world, ticketed)? {
         return Ok(None);
     }
-    let event = world_event(turn.dc, &turn.entry.event)?;
-    match is_answered(world, &event, &turn.entry.outcome) {
+    let event = world_event(ticketed.dc, &ticketed.entry.event)?;
+    match is_answered(world, &event, &ticketed.entry.outcome) {
         Ok(true) => Ok(Some(event)),
         Ok(false) => {
             drop(event);
@@ -184,13 +196,13 @@ fn is_answered(world: &mut World, event: &Event, answer: &Outcome) -> Result<boo
 }
 
 /// Whether the entry stands with the node that its event belongs to, and the node was told what the world has.
-fn is_from(setting: &Setting, world: &World, turn: &Turn<'_>) -> Result<bool, Memory>
-    ensures { IfOk result (λ is. IsTrue is ↔ StandsRight setting.now world.now.world (shown turn.now)) }
+fn is_from(setting: &Setting, world: &World, ticketed: &Ticketed<'_>) -> Result<bool, Memory>
+    ensures { IfOk result (λ is. IsTrue is ↔ StandsRight setting.now world.now.world (shown ticketed.now)) }
 {
-    if place_of_event(setting, &turn.entry.event) != turn.place {
+    if place_of_event(setting, &ticketed.entry.event) != ticketed.place {
         return Ok(false);
     }
-    is_told(setting, world, turn.dc, &turn.entry.event)
+    is_told(setting, world, ticketed.dc, &ticketed.entry.event)
 }
 
 /// The place of the key's node, or of the node that gave the version.
@@ -324,11 +336,11 @@ fn is_same(one: &History, other: &History) -> bool
 }
 
 /// The ticket above the greatest: 0 where there is no entry, and the greatest `u64` where that is a ticket.
-fn next_ticket(order: &[Turn<'_>]) -> u64
+fn next_ticket(order: &[Ticketed<'_>]) -> u64
     ensures { result ≡ ticket_after (map shown order.now) }
 {
     match order.last() {
-        Some(turn) => turn.entry.ticket.saturating_add(1),
+        Some(ticketed) => ticketed.entry.ticket.saturating_add(1),
         None => 0,
     }
 }

@@ -8,7 +8,7 @@ use Rattle.cops_types.specs.declared.limits.TheConstants.{MAX_CLIENT_OPS, MAX_OP
 use Rattle.cops_types.specs.declared.op.Op.{Op}
 use Rattle.cops_types.specs.declared.op.Op.TheVariants.{Missed}
 use Rattle.cops_types.specs.Histories.{Sessions, with_op}
-use Rattle.cops_types.specs.Recorded.{count_of}
+use Rattle.cops_types.specs.Counts.{count_of}
 use Rattle.cops_types.specs.Recorded as types
 use Rattle.cops_types.proofs.Sessions.{count-with_op, count-none}
 use Rattle.cops_trace.specs.declared.record.Record.{Record}

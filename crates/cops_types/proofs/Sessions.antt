@@ -10,7 +10,8 @@ use Rattle.std.proofs.lemmas.List.Sums.{sum_by-set}
 use Rattle.std.proofs.lemmas.List.Folds.{sum_by-replicate}
 use Rattle.cops_types.specs.declared.op.Op.{Op}
 use Rattle.cops_types.specs.Histories.{Sessions, with_op}
-use Rattle.cops_types.specs.Recorded.{IsWithinLimits, count_of}
+use Rattle.cops_types.specs.Recorded.{IsWithinLimits}
+use Rattle.cops_types.specs.Counts.{count_of}
 
 -- ---- sessions as lists
 

@@ -4,14 +4,6 @@ use Rattle.cops_types.specs.declared.op.OpName.{OpName}
 use Rattle.cops_types.specs.Histories.{Sessions, IsGot, IsMissed, PutsKey, PutsVersion, SourceStep}
 use Rattle.cops_types.specs.Past.{Past}
 
--- a put whose version another put bears
-pub record IsDoubled (h : Sessions) (name : OpName) : Type 0 where
-  pub version : ℕ
-  pub put : PutsVersion h name version
-  pub other : OpName
-  pub other_put : PutsVersion h other version
-  pub differs : other ≢ name
-
 -- a get that no put is the source of
 pub record HasNoSource (h : Sessions) (name : OpName) : Type 0 where
   pub key : List ℕ

@@ -1,16 +1,13 @@
 -- What a history holds.
-use Rattle.std.specs.Prelude.{◌≡◌, ℕ, ◌<◌, ◌≤◌, List, [], length, sum_by, slice_index_or, Bool, true, false}
-use Rattle.cops_types.specs.declared.limits.TheConstants.{MAX_CLIENT_OPS, MAX_OPS}
+use Rattle.std.specs.Prelude.{◌≡◌, ℕ, ◌<◌, ◌≤◌, List, [], length, slice_index_or, Bool, true, false}
+use Rattle.cops_types.specs.declared.limits.TheConstants.{MAX_CLIENT_OPS, MAX_CLIENTS, MAX_OPS}
 use Rattle.cops_types.specs.Histories.{Sessions}
+use Rattle.cops_types.specs.Counts.{count_of}
 
 -- the sessions, and of each client whether its next operation takes no memory
 pub record Recorded : Type 0 where
   pub sessions : Sessions
   pub room : List Bool
-
--- how many operations there are
-abbrev pub count_of : Sessions → ℕ
-count_of h = sum_by length h
 
 -- the client has no room by the limits: 1,000,000 operations of a client, 16,000,000 of all
 abbrev pub IsFull : Sessions → ℕ → Type 0
@@ -18,7 +15,7 @@ IsFull h client = (length (slice_index_or h client []) < MAX_CLIENT_OPS × count
 
 -- within the limits
 pub record IsWithinLimits (h : Sessions) : Type 0 where
-  pub clients : length h ≤ 65535
+  pub clients : length h ≤ MAX_CLIENTS
   pub each : (client : ℕ) → length (slice_index_or h client []) ≤ MAX_CLIENT_OPS
   pub all : count_of h ≤ MAX_OPS
 

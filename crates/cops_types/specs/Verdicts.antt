@@ -1,13 +1,9 @@
 -- The verdict: the first class of faults that is not empty, or that none has any.
-use Rattle.std.specs.Prelude.{◌≢◌, ◌<◌, ◌↔◌, ℕ, List, [], Contains}
+use Rattle.std.specs.Prelude.{◌≢◌, List, []}
 use Rattle.cops_types.specs.declared.op.OpName.{OpName}
-use Rattle.cops_types.specs.Histories.{Sessions, Puts, PutsVersion}
-use Rattle.cops_types.specs.Convergence.{StandsBefore}
-use Rattle.cops_types.specs.Faults.{IsDoubled, HasNoSource, IsNotAbove, IsStale, Lists}
-
--- no two puts bear one version
-abbrev pub NoneDoubled : Sessions → Type 0
-NoneDoubled h = (name : OpName) → ¬ IsDoubled h name
+use Rattle.cops_types.specs.Histories.{Sessions}
+use Rattle.cops_types.specs.VersionOrder.{IsDoubled, NoneDoubled, IsVersionOrder}
+use Rattle.cops_types.specs.Faults.{HasNoSource, IsNotAbove, IsStale, Lists}
 
 abbrev pub AllHaveSources : Sessions → Type 0
 AllHaveSources h = (name : OpName) → ¬ HasNoSource h name
@@ -18,11 +14,6 @@ AllAbove h = (name earlier : OpName) → ¬ IsNotAbove h name earlier
 abbrev pub NoneStale : Sessions → Type 0
 NoneStale h = (name newer : OpName) → ¬ IsStale h name newer
 
--- all puts, with rising versions
-pub record IsVersionOrder (h : Sessions) (names : List OpName) : Type 0 where
-  pub members : (p : OpName) → Contains names p ↔ Puts h p
-  pub rising : (p q : OpName) (v w : ℕ) → StandsBefore names p q → PutsVersion h p v → PutsVersion h q w → v < w
-
 -- no class has a fault, and these are the puts in order of versions
 pub record IsAccepted (h : Sessions) (puts : List OpName) : Type 0 where
   pub doubled : NoneDoubled h
@@ -30,6 +21,10 @@ pub record IsAccepted (h : Sessions) (puts : List OpName) : Type 0 where
   pub above : AllAbove h
   pub stale : NoneStale h
   pub version_order : IsVersionOrder h puts
+
+-- the verdict of the history is Accepted
+abbrev pub HasAcceptedVerdict : Sessions → Type 0
+HasAcceptedVerdict h = (puts : List OpName) × IsAccepted h puts
 
 -- Each class is looked at only where those before it are empty. Its faults are all there, in order of names, and there
 -- are some.

@@ -13,24 +13,24 @@ pub struct Clock {
 impl Model for Clock {
     ghost use Rattle.std.specs.Prelude.{◌≤◌, ◌<◌};
     ghost use Rattle.cops_types.specs.Clock.{AClock};
-    ghost use Rattle.cops_types.specs.declared.limits.TheConstants.{MAX_CLOCK};
+    ghost use Rattle.cops_types.specs.declared.limits.TheConstants.{MAX_CLOCK, NODES};
 
     ghost Value = { AClock };
 
     ghost view = { λ c. record { clock = c.clock; node = c.node } };
 
-    ghost invariant = { λ c. (c.clock ≤ MAX_CLOCK) × (c.node < 1024) };
+    ghost invariant = { λ c. (c.clock ≤ MAX_CLOCK) × (c.node < NODES) };
 }
 
 impl Clock {
     ghost use Rattle.std.specs.Prelude.{◌≡◌, ◌<◌, ◌≤◌, ◌+◌, ◌↔◌, IfOk, OnErr, IsErrOf, Err, max};
     ghost use Rattle.cops_types.specs.Version.{clock_of};
-    ghost use Rattle.cops_types.specs.Clock.{version_of};
-    ghost use Rattle.cops_types.specs.declared.limits.TheConstants.{MAX_CLOCK};
+    ghost use Rattle.cops_types.specs.NodeNumber.{version_of};
+    ghost use Rattle.cops_types.specs.declared.limits.TheConstants.{MAX_CLOCK, NODES};
 
     /// The clock of a node, at 0.
     pub fn new(node: u16) -> Clock
-        requires { node < 1024 }
+        requires { node < NODES }
         ensures { result ≡ record { clock = 0; node = node } }
     {
         Clock { clock: 0, node }

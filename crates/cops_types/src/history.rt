@@ -16,7 +16,8 @@ pub struct History {
 
 impl Model for History {
     ghost use Rattle.std.specs.Prelude.{◌≡◌, map, vec_len, vec_capacity, nat_lt};
-    ghost use Rattle.cops_types.specs.Recorded.{Recorded, IsWithinLimits, count_of};
+    ghost use Rattle.cops_types.specs.Recorded.{Recorded, IsWithinLimits};
+    ghost use Rattle.cops_types.specs.Counts.{count_of};
 
     ghost Value = { Recorded };
 
@@ -32,7 +33,8 @@ impl History {
     ghost use Rattle.std.specs.Prelude.{◌≡◌, ◌≢◌, ◌≤◌, ◌<◌, ◌↔◌, ℕ, length, slice_index_or, [], OnOk, OnErr, OnSome, IfOk, IfErr, IsErrOf, replicate, false, ◌==◌};
     ghost use Rattle.std.specs.Option.{option_copied};
     ghost use Rattle.cops_types.specs.Histories.{op_at, with_op};
-    ghost use Rattle.cops_types.specs.Recorded.{count_of, IsFull, IsWithinLimits, HasRoom};
+    ghost use Rattle.cops_types.specs.Counts.{count_of};
+    ghost use Rattle.cops_types.specs.Recorded.{IsFull, IsWithinLimits, HasRoom};
     ghost use Rattle.cops_types.specs.TypeFaults.{IsHistoryFault};
 
     /// A history of so many clients, each with an empty session.

@@ -1,4 +1,5 @@
 ghost use Rattle.std.specs.Prelude.{◌≡◌, ◌<◌, ◌≤◌, ◌↔◌, ◌==◌, List, ℕ, length, [], IfOk, IfErr, IsErrOf, IsTrue};
+ghost use Rattle.cops_types.specs.declared.limits.TheConstants.{MAX_KEY};
 ghost use Rattle.cops_types.specs.KeyValue.{IsKey};
 ghost use Rattle.cops_types.specs.TypeFaults.{IsKeyFault};
 
@@ -115,7 +116,7 @@ impl Key {
     pub fn new(alloc: Global, bytes: &[u8]) -> Result<Self, TypeFault>
         ensures ok { IfOk result (λ key. (key ≡ bytes.now) × IsKey bytes.now) }
         ensures empty { IsErrOf result TypeFault.KeyEmpty ↔ (length bytes.now ≡ 0) }
-        ensures too_long { IsErrOf result TypeFault.KeyTooLong ↔ (64 < length bytes.now) }
+        ensures too_long { IsErrOf result TypeFault.KeyTooLong ↔ (MAX_KEY < length bytes.now) }
         ensures only { IfErr result IsKeyFault }
     {
         if bytes.is_empty() {

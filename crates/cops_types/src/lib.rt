@@ -16,6 +16,7 @@ mod key;
 mod limits;
 mod op;
 mod put_record;
+mod refusal;
 mod value;
 mod version;
 
@@ -29,9 +30,11 @@ pub use gate::{Gate, GateHeld, OpenGate, Point};
 pub use history::History;
 pub use key::{Key, KeyRoom};
 pub use limits::{
-    MAX_CLIENT_OPS, MAX_CLOCK, MAX_DEPS, MAX_KEY, MAX_NODE, MAX_OPS, MAX_VALUE, PLACES,
+    MAX_CLIENT_OPS, MAX_CLIENTS, MAX_CLOCK, MAX_DCS, MAX_DEPS, MAX_KEY, MAX_OPS, MAX_VALUE, NODES,
+    PLACES,
 };
 pub use op::{Op, OpName};
 pub use put_record::{NodeStatus, PutRecord};
+pub use refusal::Refusal;
 pub use value::{Value, ValueRoom};
 pub use version::{Version, node_number};

@@ -12,11 +12,17 @@ pub const MAX_DEPS: usize = 256;
 /// The greatest clock of a version.
 pub const MAX_CLOCK: u64 = 281_474_976_710_655;
 
-/// The greatest number of a node.
-pub const MAX_NODE: u16 = 1023;
+/// How many data centres there are at most: their numbers are below it.
+pub const MAX_DCS: u8 = 16;
 
 /// How many nodes a data centre has at most: their places are below it.
 pub const PLACES: u8 = 64;
+
+/// How many nodes there are at most: their numbers are below it.
+pub const NODES: u16 = 1024;
+
+/// The most clients of a history.
+pub const MAX_CLIENTS: u16 = 65_535;
 
 /// The most operations of one client.
 pub const MAX_CLIENT_OPS: usize = 1_000_000;

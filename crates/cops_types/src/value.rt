@@ -1,4 +1,5 @@
 ghost use Rattle.std.specs.Prelude.{◌≡◌, ◌<◌, ◌≤◌, ◌↔◌, ◌==◌, List, ℕ, length, [], IfOk, IfErr, IsErrOf, IsTrue};
+ghost use Rattle.cops_types.specs.declared.limits.TheConstants.{MAX_VALUE};
 ghost use Rattle.cops_types.specs.KeyValue.{IsValue};
 ghost use Rattle.cops_types.specs.Format.{most_value};
 ghost use Rattle.cops_types.specs.TypeFaults.{IsValueFault};
@@ -64,7 +65,7 @@ impl Value {
     /// The value of these bytes in format 1, or `ValueTooLong` where there are more than 4,096.
     pub fn new(alloc: Global, bytes: &[u8]) -> Result<Self, TypeFault>
         ensures ok { IfOk result (λ value. (value ≡ bytes.now) × IsValue bytes.now) }
-        ensures too_long { IsErrOf result TypeFault.ValueTooLong ↔ (4096 < length bytes.now) }
+        ensures too_long { IsErrOf result TypeFault.ValueTooLong ↔ (MAX_VALUE < length bytes.now) }
         ensures only { IfErr result IsValueFault }
     {
         Value::new_in(Format::One, alloc, bytes)

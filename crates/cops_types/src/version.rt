@@ -1,11 +1,10 @@
 ghost use Rattle.std.specs.Prelude.{◌≡◌, ◌<◌, ◌≤◌, ◌↔◌, ◌+◌, ◌*◌, ◌/◌, ◌%◌, ℕ, IfOk, OnErr, IsErrOf, Err};
-ghost use Rattle.cops_types.specs.declared.limits.TheConstants.{MAX_CLOCK};
+ghost use Rattle.cops_types.specs.declared.limits.TheConstants.{MAX_CLOCK, MAX_DCS, NODES, PLACES};
 ghost use Rattle.cops_types.specs.Version.{IsVersion, clock_of, node_of};
-ghost use Rattle.cops_types.specs.Clock.{version_of};
-ghost use Rattle.cops_types.specs.NodeNumber.{node_number, data_centre_of, place_of};
+ghost use Rattle.cops_types.specs.NodeNumber.{node_number, data_centre_of, place_of, version_of};
 
 use crate::fault::TypeFault;
-use crate::limits::{MAX_CLOCK, MAX_NODE, PLACES};
+use crate::limits::{MAX_CLOCK, NODES, PLACES};
 use std::fmt;
 use std::marker::Model;
 
@@ -38,10 +37,10 @@ impl Version {
     /// The version of this clock and node, or `BadVersion` where one is out of its range.
     pub fn new(clock: u64, node: u16) -> Result<Self, TypeFault>
         ensures ok { IfOk result (λ version. version ≡ version_of clock node) }
-        ensures bad { IsErrOf result TypeFault.BadVersion ↔ ((1 ≤ clock × clock ≤ MAX_CLOCK × node < 1024) → ⊥) }
+        ensures bad { IsErrOf result TypeFault.BadVersion ↔ ((1 ≤ clock × clock ≤ MAX_CLOCK × node < NODES) → ⊥) }
         ensures only { OnErr result (result ≡ Err TypeFault.BadVersion) }
     {
-        if clock >= 1 && clock <= MAX_CLOCK && node <= MAX_NODE {
+        if clock >= 1 && clock <= MAX_CLOCK && node < NODES {
             Ok(Version {
                 raw: clock * 65536 + u64::from(node),
             })
@@ -56,7 +55,7 @@ impl Version {
         ensures bad { IsErrOf result TypeFault.BadVersion ↔ (IsVersion raw → ⊥) }
         ensures only { OnErr result (result ≡ Err TypeFault.BadVersion) }
     {
-        if raw / 65536 >= 1 && raw % 65536 < 1024 {
+        if raw / 65536 >= 1 && raw % 65536 < u64::from(NODES) {
             Ok(Version { raw })
         } else {
             Err(TypeFault::BadVersion)
@@ -82,7 +81,7 @@ impl Version {
     /// The number of the node that gave it, below 1,024.
     pub fn node(self) -> u16
         ensures value { result ≡ node_of self }
-        ensures range { result < 1024 }
+        ensures range { result < NODES }
     {
         (self.raw % 65536) as u16
     }
@@ -90,7 +89,7 @@ impl Version {
     /// The data centre of that node, below 16.
     pub fn dc(self) -> u8
         ensures value { result ≡ data_centre_of self }
-        ensures range { result < 16 }
+        ensures range { result < MAX_DCS }
     {
         (self.node() / u16::from(PLACES)) as u8
     }
@@ -98,7 +97,7 @@ impl Version {
     /// The place of that node there, below 64.
     pub fn place(self) -> u8
         ensures value { result ≡ place_of self }
-        ensures range { result < 64 }
+        ensures range { result < PLACES }
     {
         (self.node() % u16::from(PLACES)) as u8
     }

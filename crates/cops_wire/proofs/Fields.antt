@@ -8,7 +8,8 @@ use Rattle.std.proofs.lemmas.List.{take_at, drop_at, take-append-drop, length-ap
 use Rattle.std.proofs.lemmas.List.Concat.{flat_map-cons}
 use Rattle.std.proofs.lemmas.Nat.{be_bytes_2, be_bytes_4, be_bytes_8, from_be_bytes-to_be_bytes_2, from_be_bytes-to_be_bytes_4, from_be_bytes-to_be_bytes_8}
 use Rattle.cops_types.specs.declared.dep.Dep.{Dep}
-use Rattle.cops_types.specs.Dep.{is_same_dep, IsDep, ArePairs}
+use Rattle.cops_types.specs.Dep.{is_same_dep}
+use Rattle.cops_types.specs.Deps.{IsDep, ArePairs}
 use Rattle.cops_types.specs.Version.{IsVersion}
 use Rattle.cops_wire.specs.Field.{Size, u8, u16, u32, u64, width, Field, number, number_in, string, version, pairs, Content, of_number, of_bytes, of_pairs, spelled_number, spelled_string, spelled_pair, spelled}
 use Rattle.cops_wire.specs.Answer.{IsBytes}

@@ -7,7 +7,7 @@ use Rattle.std.proofs.lemmas.List.{length-append}
 use Rattle.std.proofs.lemmas.List.Concat.{flat_map-cons}
 use Rattle.std.proofs.Math.Nat.{mul-le-mul_right}
 use Rattle.cops_types.specs.declared.dep.Dep.{Dep}
-use Rattle.cops_types.specs.Dep.{IsDep}
+use Rattle.cops_types.specs.Deps.{IsDep}
 use Rattle.cops_wire.specs.Grammar.{row_of}
 use Rattle.cops_wire.specs.Lengths.{most_len, most_len_all, all_fit}
 use Rattle.cops_wire.specs.declared.reading.ReadFault.{ReadFault}

@@ -1,7 +1,7 @@
 -- What is legal in a field, and in a message.
 use Rattle.std.specs.Prelude.{ℕ, ◌<◌, ◌≤◌, ◌^◌, ◌*◌, List, [], ◌∷◌, length, MatchOption}
 use Rattle.std.specs.Int.{byte_len}
-use Rattle.cops_types.specs.Dep.{ArePairs}
+use Rattle.cops_types.specs.Deps.{ArePairs}
 use Rattle.cops_types.specs.Version.{IsVersion}
 use Rattle.cops_wire.specs.Field.{Size, u16, width, Field, Content, number, number_in, string, version, pairs, of_number, of_bytes, of_pairs}
 use Rattle.cops_wire.specs.Grammar.{Grammar, Parts, fields_of}

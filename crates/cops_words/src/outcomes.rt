@@ -5,8 +5,23 @@ use crate::texts::{text, word};
 use crate::words::{no_row, u8_of, value, version};
 use anyhow::Error;
 use cops_node::Outcome;
-use cops_types::{Value, Version};
+use cops_types::{Refusal, Value, Version};
 use std::alloc::Global;
+
+/// The refusals of a node and of the world.
+const REFUSALS: [Refusal; 11] = [
+    Refusal::ClockExhausted,
+    Refusal::ContextFull,
+    Refusal::UnknownClient,
+    Refusal::NeverSent,
+    Refusal::NotHeld,
+    Refusal::NoSuchDep,
+    Refusal::NoYes,
+    Refusal::DepsOpen,
+    Refusal::Memory,
+    Refusal::UnknownDc,
+    Refusal::SessionFull,
+];
 
 fn got(alloc: Global, value: &Value, version: Version) -> Result<String, Error> {
     text(
@@ -25,7 +40,10 @@ pub fn outcome_text(alloc: Global, outcome: &Outcome) -> Result<String, Error> {
     match outcome {
         Outcome::PutDone(version) => text(alloc, &[Word("done "), At(*version)]),
         Outcome::Got(value, version) => got(alloc, value, *version),
-        Outcome::Refused(code) => text(alloc, &[Word("refused "), Number(u64::from(*code))]),
+        Outcome::Refused(refusal) => text(
+            alloc,
+            &[Word("refused "), Number(u64::from(refusal.code()))],
+        ),
         Outcome::Missed => word(alloc, "missed"),
         Outcome::Held => word(alloc, "held"),
         Outcome::Repeat => word(alloc, "repeat"),
@@ -56,7 +74,12 @@ fn found(alloc: Global, bytes: &str, at: &str) -> Result<Outcome, Error> {
 
 fn refused(code: &str) -> Result<Outcome, Error> {
     let code = u8_of(code)?;
-    Ok(Outcome::Refused(code))
+    for refusal in REFUSALS {
+        if refusal.code() == code {
+            return Ok(Outcome::Refused(refusal));
+        }
+    }
+    Err(no_row())
 }
 
 /// The outcome of one word.

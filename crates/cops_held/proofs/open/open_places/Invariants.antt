@@ -1,5 +1,5 @@
 use Rattle.std.proofs.Common.{◌≡◌, ◌++◌, drop}
-use Rattle.cops_held.specs.Held.{open_from}
+use Rattle.cops_held.specs.Taking.{open_from}
 use Rattle.cops_held.proofs.open.open_places.Given as goal
 
 -- the places so far and those that are left

@@ -1,7 +1,7 @@
 use Rattle.std.proofs.Common.{◌≡◌, ℕ, ◌<◌, ◌∙◌, List, [], Bool, true, false, length, slice_index_or, refl, sym, ap, subst, arith, below_more}
 use Rattle.std.proofs.lemmas.List.{get_or_default}
 use Rattle.cops_types.specs.declared.op.Op.{Op}
-use Rattle.cops_core.specs.World.{AWorld}
+use Rattle.cops_core.specs.Opened.{AWorld}
 use Rattle.cops_core.specs.declared.script.ScriptOp.{ScriptOp}
 use Rattle.cops_core.specs.declared.script.ScriptedClient.{ScriptedClient}
 use Rattle.cops_outcomes.specs.declared.outcome.ClientOutcome.{ClientOutcome}

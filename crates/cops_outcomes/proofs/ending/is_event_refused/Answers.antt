@@ -1,6 +1,7 @@
 use Rattle.std.proofs.Common.{◌≡◌, ap₂, subst}
 use Rattle.cops_node.specs.declared.outcome.Outcome.{Outcome}
-use Rattle.cops_core.specs.World.{AWorld, Setting, World, Happens}
+use Rattle.cops_core.specs.World.{Setting, World, Happens}
+use Rattle.cops_core.specs.Opened.{AWorld}
 use Rattle.cops_outcomes.proofs.ending.is_event_refused.Goals as goal
 
 same_cluster : (a b : AWorld) → a.setting ≡ b.setting → a.world ≡ b.world → a ≡ b

@@ -1,5 +1,6 @@
 use Rattle.std.proofs.Common.{ap, ◌∙◌}
-use Rattle.cops_core.specs.World.{AWorld, Setting, opened_world}
+use Rattle.cops_core.specs.World.{Setting}
+use Rattle.cops_core.specs.Opened.{AWorld, opened_world}
 use Rattle.cops_run_stream.proofs.Left.{answered_if}
 use Rattle.cops_run_stream.proofs.events.answers.Goals as goal
 

@@ -2,7 +2,7 @@ use Rattle.std.proofs.Common.{◌≡◌, ◌∙◌, map, rules, sym}
 use Rattle.serde_json.specs.View.{view}
 use Rattle.cops_core.specs.declared.event.Event.{Event}
 use Rattle.cops_scenario.specs.File.{event_json}
-use Rattle.cops_scenario.specs.Scenario.{IsLegalEvent}
+use Rattle.cops_scenario.specs.Limits.{IsLegalEvent}
 use Rattle.cops_scenario.proofs.Forms.{no_such_item, same_list}
 use Rattle.cops_scenario.proofs.event.events.Goals as goal
 

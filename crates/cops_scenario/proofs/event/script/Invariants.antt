@@ -1,7 +1,7 @@
 use Rattle.std.proofs.Common.{◌≡◌, ◌≤◌, All, length, map, take}
 use Rattle.serde_json.specs.View.{view}
 use Rattle.cops_scenario.specs.File.{op_json}
-use Rattle.cops_scenario.specs.Scenario.{IsLegalOp}
+use Rattle.cops_scenario.specs.Limits.{IsLegalOp}
 use Rattle.cops_scenario.proofs.event.script.Given as goal
 
 abbrev pub invariant-loop-item : goal.invariant-loop-item

@@ -4,7 +4,7 @@ use Rattle.serde_json.specs.Data.{Data}
 use Rattle.serde_json.specs.View.{view}
 use Rattle.cops_core.specs.declared.script.ScriptedClient.{ScriptedClient}
 use Rattle.cops_scenario.specs.File.{TellsClient, TellClients}
-use Rattle.cops_scenario.specs.Scenario.{IsLegalClient}
+use Rattle.cops_scenario.specs.Limits.{IsLegalClient}
 use Rattle.cops_scenario.proofs.Clients.{tell_next}
 use Rattle.cops_scenario.proofs.Forms.{as_many, no_such_client, same_list}
 use Rattle.cops_scenario.proofs.reading.clients.Goals as goal

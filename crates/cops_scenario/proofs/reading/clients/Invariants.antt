@@ -2,7 +2,7 @@ use Rattle.std.proofs.Common.{◌≡◌, ◌≤◌, length, map, take}
 use Rattle.std.specs.Prelude.{All}
 use Rattle.serde_json.specs.View.{view}
 use Rattle.cops_scenario.specs.File.{TellClients}
-use Rattle.cops_scenario.specs.Scenario.{IsClientOf, IsLegalClient}
+use Rattle.cops_scenario.specs.Limits.{IsClientOf, IsLegalClient}
 use Rattle.cops_scenario.proofs.reading.clients.Given as goal
 
 abbrev pub invariant-loop-item : goal.invariant-loop-item

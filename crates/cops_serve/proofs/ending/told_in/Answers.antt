@@ -1,9 +1,9 @@
 use Rattle.std.proofs.Common.{List, sym, subst, map}
 use Rattle.std.specs.Global.{Vec}
 use Rattle.cops_types.specs.Histories.{Sessions}
-use Rattle.cops_core.specs.Invariants.{HasAcceptedVerdict}
+use Rattle.cops_types.specs.Verdicts.{HasAcceptedVerdict}
 use Rattle.cops_tie.specs.declared.entry.Entry.{Entry}
-use Rattle.cops_tie.specs.Tie.{IsTied}
+use Rattle.cops_tie.specs.Untied.{IsTied}
 use Rattle.cops_serve.proofs.ending.told_in.Goals as goal
 
 pub returns : goal.returns

@@ -1,7 +1,8 @@
 use Rattle.std.proofs.Common.{◌≡◌, ℕ, map, take, drop}
 use Rattle.cops_core.specs.World.{World}
-use Rattle.cops_tie.specs.Tie.{event_of, Follows, StopsAt}
-use Rattle.cops_tie.specs.Turns.{shown}
+use Rattle.cops_tie.specs.Tie.{event_of, Follows}
+use Rattle.cops_tie.specs.Untied.{StopsAt}
+use Rattle.cops_tie.specs.Ticketed.{shown}
 use Rattle.cops_tie.proofs.tying.followed.Given as goal
 
 abbrev pub invariant-loop-i : goal.invariant-loop-i

@@ -2,8 +2,8 @@ use Rattle.std.proofs.Common.{◌≡◌, ap₂, ◌∙◌, subst, ℕ}
 use Rattle.std.specs.Prelude.{IfOk}
 use Rattle.cops_node.specs.declared.event.NodeEvent.TheVariants.{Mark}
 use Rattle.cops_types.specs.NodeNumber.{place_of, node_number}
-use Rattle.cops_cluster.specs.Shares.{Adds}
-use Rattle.cops_cluster.proofs.Tellings.{seen_kept, told_adds}
+use Rattle.cops_cluster.specs.Shares.{Adds, AddsAtMostOne}
+use Rattle.cops_cluster.proofs.Tellings.{most_adds, seen_kept, told_adds}
 use Rattle.cops_cluster.proofs.cluster.Cluster.mark.Goals as goal
 
 pub returns-clause-told : goal.returns-clause-told
@@ -18,3 +18,15 @@ returns-clause-told g c = λ _.
     (told_adds b a n e c.replied.result c.passed.result
     (seen_kept b a n e (g.G.Gate.may_hold c.args.gate.now) n 65535 c.number.result s.result c.replied.result s.ensures.told s.ensures.answers s.ensures.none s.ensures.stop c.replied.ensures)
     c.passed.ensures.told)
+
+pub returns-clause-most : goal.returns-clause-most
+returns-clause-most g c =
+    let s = c.mark_step-answered in
+    let b = c.args.share.now.entries.items in
+    let a = s.new.share.entries.items in
+    let n = node_number c.in-Some.spot.dc c.in-Some.spot.place in
+    let e = Mark c.args.version c.args.dep in
+    let is : n ≡ node_number c.args.dc (place_of c.args.version) = ap₂ node_number c.in-Some.ensures.some.0 (c.in-Some.ensures.some.1 ∙ c.place.ensures.value) in
+    subst (λ (m : ℕ). AddsAtMostOne b a m e) is
+    (most_adds b a n e c.replied.result
+    (seen_kept b a n e (g.G.Gate.may_hold c.args.gate.now) n 65535 c.number.result s.result c.replied.result s.ensures.told s.ensures.answers s.ensures.none s.ensures.stop c.replied.ensures))

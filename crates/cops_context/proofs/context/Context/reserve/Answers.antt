@@ -1,6 +1,6 @@
 use Rattle.std.proofs.Common.{sym, ap, ◌∙◌, subst, Option}
 use Rattle.cops_types.specs.declared.dep.Dep.{Dep}
-use Rattle.cops_context.specs.Context.{IsContext, and_beside}
+use Rattle.cops_context.specs.Kept.{IsContext, and_beside}
 use Rattle.cops_context.proofs.PairLists.{new_last}
 use Rattle.cops_context.proofs.context.Context.reserve.Goals as goal
 

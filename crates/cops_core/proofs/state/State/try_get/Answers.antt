@@ -1,5 +1,7 @@
 use Rattle.std.proofs.Common.{rules, arith, refl, ◌≡◌, ◌<◌, List, [], length, slice_set, slice_index_or, sym, ◌∙◌, subst}
 use Rattle.std.proofs.lemmas.List.{set-get_or}
+use denote.Enum.Bare.{same_true}
+use Rattle.cops_types.specs.contracts.refusal.Refusal.{the_type}
 use Rattle.cops_types.specs.declared.dep.Dep.{Dep}
 use Rattle.cops_types.specs.declared.op.Op.TheVariants.{Got, Missed}
 use Rattle.cops_types.proofs.Sessions.{at_error}
@@ -13,7 +15,7 @@ use Rattle.cops_core.proofs.state.State.try_get.Goals as goal
 
 pub has_room-requires : goal.has_room-requires
 has_room-requires c =
-    client_there (entered c.primary-place.ensures.setting c.self.view_is c.requires (none_refused (the_view c.self.inside) c.args.client (c.in-Err.ensures.memory (omega (arith, c.if-code-eq-MEMORY.true)))))
+    client_there (entered c.primary-place.ensures.setting c.self.view_is c.requires (none_refused (the_view c.self.inside) c.args.client (c.in-Err.ensures.memory (same_true the_type (search rules) _ _ (sym c.eq.ensures ∙ c.if-eq.true)))))
 
 pub has_room-requires-2 : goal.has_room-requires-2
 has_room-requires-2 c =

@@ -1,6 +1,6 @@
 use Rattle.std.proofs.Common.{sym, subst}
 use Rattle.cops_types.specs.Histories.{Sessions}
-use Rattle.cops_core.specs.Invariants.{HasAcceptedVerdict}
+use Rattle.cops_types.specs.Verdicts.{HasAcceptedVerdict}
 use Rattle.cops_core.proofs.Worlds.{reached_accepted, reached_invariants}
 use Rattle.cops_core.proofs.world.World.history.Goals as goal
 

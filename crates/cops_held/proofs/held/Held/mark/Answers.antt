@@ -1,6 +1,6 @@
 use Rattle.std.proofs.Common.{◌≡◌, sym, ap, ◌∙◌}
 use Rattle.std.specs.Map.{values_of, set_value}
-use Rattle.cops_held.specs.Held.{marking}
+use Rattle.cops_held.specs.Taking.{marking}
 use Rattle.cops_held.proofs.Tables.{at_key, found, set_mark, set_same, set_table, same_version, on_ok, on_err}
 use Rattle.cops_held.proofs.held.Held.mark.Goals as goal
 

@@ -1,5 +1,5 @@
 use Rattle.std.specs.Prelude.{IsTrue}
-use Rattle.cops_run.specs.Held.{MayHold}
+use Rattle.cops_run.specs.Gates.{MayHold}
 use Rattle.cops_run.proofs.gathering.Gathered.join.Given as goal
 
 abbrev pub invariant-loop-handle : goal.invariant-loop-handle

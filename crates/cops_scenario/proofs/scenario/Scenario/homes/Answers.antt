@@ -2,9 +2,10 @@ use Rattle.std.proofs.Common.{◌≡◌, ◌≤◌, ◌<◌, ◌+◌, ◌∙◌,
 use Rattle.std.proofs.lemmas.List.{take_more, take_all, map-append, length-map}
 use Rattle.std.proofs.lemmas.List.Elements.{All-map}
 use Rattle.cops_place.specs.Place.{APlace}
-use Rattle.cops_core.specs.World.{AreClients}
+use Rattle.cops_core.specs.Opened.{AreClients}
 use Rattle.cops_core.specs.declared.script.ScriptedClient.{ScriptedClient}
-use Rattle.cops_scenario.specs.Scenario.{AScenario, IsClientOf, homes_of}
+use Rattle.cops_scenario.specs.Scenario.{AScenario, homes_of}
+use Rattle.cops_scenario.specs.Limits.{IsClientOf}
 use Rattle.cops_scenario.proofs.scenario.Scenario.homes.Goals as goal
 
 all_homes : (items : List ScriptedClient) (i : ℕ) (homes : List ℕ) → length items ≤ i → homes ≡ map (λ c. c.at) (take i items) → homes ≡ map (λ c. c.at) items

@@ -1,6 +1,7 @@
 use Rattle.std.proofs.Common.{◌≡◌, ◌≤◌, sym, subst, arith}
 use Rattle.cops_types.specs.Histories.{Sessions}
-use Rattle.cops_types.specs.Recorded.{IsWithinLimits, count_of}
+use Rattle.cops_types.specs.Recorded.{IsWithinLimits}
+use Rattle.cops_types.specs.Counts.{count_of}
 use Rattle.cops_types.proofs.Sessions.{none_within, count-none}
 use Rattle.cops_types.proofs.history.History.new.Goals as goal
 

@@ -1,7 +1,8 @@
 use Rattle.std.proofs.Common.{◌≡◌, ◌+◌, ◌<◌, length, sym, arith, subst, map}
 use Rattle.std.proofs.lemmas.List.{length-map}
 use Rattle.cops_types.specs.Histories.{Sessions}
-use Rattle.cops_types.specs.Recorded.{IsWithinLimits, count_of}
+use Rattle.cops_types.specs.Recorded.{IsWithinLimits}
+use Rattle.cops_types.specs.Counts.{count_of}
 use Rattle.cops_types.proofs.Sessions.{ops, same_ops, more_ops, others_room, room_says, count-with_op, within_with_op, at_error}
 use Rattle.cops_types.proofs.history.History.push.Goals as goal
 

@@ -1,7 +1,8 @@
 use Rattle.std.proofs.Common.{◌≡◌, ◌<◌, length, sym, arith, subst, vec_len, vec_capacity}
 use Rattle.std.proofs.lemmas.List.{length-map}
 use Rattle.cops_types.specs.Histories.{Sessions}
-use Rattle.cops_types.specs.Recorded.{IsWithinLimits, count_of}
+use Rattle.cops_types.specs.Recorded.{IsWithinLimits}
+use Rattle.cops_types.specs.Counts.{count_of}
 use Rattle.cops_types.proofs.Sessions.{ops, same_ops, kept_room, own_room}
 use Rattle.cops_types.proofs.history.History.reserve.Goals as goal
 

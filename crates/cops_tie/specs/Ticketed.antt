@@ -1,16 +1,16 @@
 -- What the code holds of an entry, and what it answers.
 use Rattle.std.specs.Prelude.{◌≡◌, ℕ}
 use Rattle.cops_core.specs.World.{Setting, World}
-use Rattle.cops_tie.specs.declared.order.Turn.{Turn}
+use Rattle.cops_tie.specs.declared.order.Ticketed.{Ticketed}
 use Rattle.cops_tie.specs.declared.fault.TieFault.{TieFault}
 use Rattle.cops_tie.specs.declared.fault.TieFault.TheVariants.{Memory, Untied}
 use Rattle.cops_tie.specs.Tie.{Placed, place_asked, IsFrom}
 
-abbrev pub shown : Turn → Placed
+abbrev pub shown : Ticketed → Placed
 shown t = record { dc = t.dc; place = t.place; entry = t.entry.now }
 
 -- the ticket beside an entry is the entry's
-abbrev pub HasItsTicket : Turn → Type 0
+abbrev pub HasItsTicket : Ticketed → Type 0
 HasItsTicket t = t.ticket ≡ t.entry.now.ticket
 
 -- an answer Untied has such a ticket

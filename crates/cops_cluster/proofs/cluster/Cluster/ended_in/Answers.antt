@@ -1,6 +1,6 @@
 use Rattle.std.proofs.Common.{◌≡◌, ◌∙◌, ◌+◌, ℕ, length, subst}
 use Rattle.cops_cluster.specs.Close.{AllReplay}
-use Rattle.cops_cluster.proofs.cluster.Cluster.uncompared_in.Goals as goal
+use Rattle.cops_cluster.proofs.cluster.Cluster.ended_in.Goals as goal
 
 pub returns-in-Ok-clause-replays : goal.returns-in-Ok-clause-replays
 returns-in-Ok-clause-replays c =

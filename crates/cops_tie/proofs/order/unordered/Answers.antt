@@ -3,7 +3,7 @@ use Rattle.std.proofs.lemmas.List.{take_more, map-append, length-map, length-tak
 use Rattle.cops_tie.specs.declared.entry.Entry.{Entry}
 use Rattle.cops_tie.specs.Tie.{Placed, placed}
 use Rattle.cops_tie.proofs.Books.{at_node, placed_more}
-use Rattle.cops_tie.proofs.order.turns.Goals as goal
+use Rattle.cops_tie.proofs.order.unordered.Goals as goal
 
 abbrev items_of : Vec Entry Global → List Entry
 items_of b = b.items

@@ -1,0 +1,58 @@
+-- The limits of scenarios.
+use Rattle.std.specs.Prelude.{◌≡◌, ℕ, ◌<◌, ◌≤◌, List, [], length, All, Option, None, Some}
+use Rattle.cops_types.specs.KeyValue.{IsKey, IsValue}
+use Rattle.cops_types.specs.Version.{IsVersion}
+use Rattle.cops_place.specs.declared.place.TheConstants.{MAX_SPLITS}
+use Rattle.cops_place.specs.Place.{IsPlace, AreAscending}
+use Rattle.cops_core.specs.declared.event.Event.{Event}
+use Rattle.cops_core.specs.declared.event.Event.TheVariants as event
+use Rattle.cops_core.specs.declared.script.ScriptOp.{ScriptOp}
+use Rattle.cops_core.specs.declared.script.ScriptOp.TheVariants as script
+use Rattle.cops_core.specs.declared.script.ScriptedClient.{ScriptedClient}
+use Rattle.cops_scenario.specs.declared.scenario.TheConstants.{MAX_CLIENTS, MAX_EVENTS, MAX_LINK, MAX_SCRIPT, MAX_TURNS}
+use Rattle.cops_scenario.specs.Scenario.{AScenario}
+
+-- the client lives in a data centre that is there, and has at most 10,000 operations
+abbrev pub IsClientOf : ℕ → ScriptedClient → Type 0
+IsClientOf dcs c = (c.at < dcs) × (length c.script.items ≤ MAX_SCRIPT)
+
+-- there are at most 100,000 events, and then no client has a script
+abbrev pub AreEventsOf : List ScriptedClient → Option (List Event) → Type 0
+AreEventsOf clients None = Unit {0}
+AreEventsOf clients (Some events) = (length events ≤ MAX_EVENTS) × All (λ c. c.script.items ≡ []) clients
+
+-- within its limits
+pub record IsScenario (s : AScenario) : Type 0 where
+  pub is_place : IsPlace s.place
+  pub link_in_range : (1 ≤ s.link) × (s.link ≤ MAX_LINK)
+  pub turns_in_range : (1 ≤ s.turns) × (s.turns ≤ MAX_TURNS)
+  pub few_clients : length s.clients ≤ MAX_CLIENTS
+  pub each_client : All (IsClientOf s.place.dcs) s.clients
+  pub few_events : AreEventsOf s.clients s.events
+
+-- at most 63 split keys, each a key, and each above the one before it
+abbrev pub AreSplits : List (List ℕ) → Type 0
+AreSplits splits = (length splits ≤ MAX_SPLITS) × AreAscending splits × All IsKey splits
+
+-- an operation of a script, whose key and value are of their ranges
+abbrev pub IsLegalOp : ScriptOp → Type 0
+IsLegalOp (script.Put key value) = IsKey key × IsValue value
+IsLegalOp (script.Get key) = IsKey key
+
+-- a client within its limits, each operation of whose script is legal
+abbrev pub IsLegalClient : ℕ → ScriptedClient → Type 0
+IsLegalClient dcs c = IsClientOf dcs c × All IsLegalOp c.script.items
+
+-- an event whose numbers, key, value and version are of their ranges, whatever clients and data centres there are
+abbrev pub IsLegalEvent : Event → Type 0
+IsLegalEvent (event.Put client key value) = (client ≤ 65535) × IsKey key × IsValue value
+IsLegalEvent (event.Get client key) = (client ≤ 65535) × IsKey key
+IsLegalEvent (event.Deliver dc version) = (dc ≤ 255) × IsVersion version
+IsLegalEvent (event.Ask dc key version) = (dc ≤ 255) × IsKey key × IsVersion version
+IsLegalEvent (event.Mark dc version dep) = (dc ≤ 255) × IsVersion version × (dep ≤ 65535)
+IsLegalEvent (event.Settle dc version) = (dc ≤ 255) × IsVersion version
+
+-- at most 100,000 legal events
+abbrev pub AreLegalEvents : Option (List Event) → Type 0
+AreLegalEvents None = Unit {0}
+AreLegalEvents (Some events) = (length events ≤ MAX_EVENTS) × All IsLegalEvent events

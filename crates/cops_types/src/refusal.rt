@@ -1,0 +1,50 @@
+//! Why an event, or a client's message, was refused.
+
+/// Why an event, or a client's message, was refused. The numbers are its codes, in outcomes and in messages: those up to
+/// `SessionFull` are the cluster's, and the others are the front door's own.
+#[derive(Clone, Copy, Debug, PartialEq, Eq)]
+pub enum Refusal {
+    /// The clock can rise no further.
+    ClockExhausted = 1,
+    /// The context of the client holds 256 pairs.
+    ContextFull = 2,
+    /// There is no such client.
+    UnknownClient = 3,
+    /// No put bears the version.
+    NeverSent = 4,
+    /// No put with the version waits.
+    NotHeld = 5,
+    /// The put has no such dependency.
+    NoSuchDep = 6,
+    /// No question for that pair was answered Yes in that data centre.
+    NoYes = 7,
+    /// Not all dependencies are marked.
+    DepsOpen = 8,
+    /// Memory was refused.
+    Memory = 9,
+    /// There is no such data centre.
+    UnknownDc = 10,
+    /// The client has 1,000,000 operations, or there are 16,000,000.
+    SessionFull = 11,
+    /// No greeting was answered yet.
+    NotGreeted = 16,
+    /// The greeting names another profile.
+    BadProfile = 17,
+    /// A message of this kind is not the client's to send.
+    WrongKind = 18,
+    /// There is no such node.
+    NoSuchNode = 19,
+}
+
+impl Refusal {
+    ghost use Rattle.std.specs.Prelude.{◌≡◌, ◌<◌};
+    ghost use Rattle.cops_types.specs.Refusal.{code_of};
+
+    /// Its code, which is not 0.
+    pub fn code(self) -> u8
+        ensures code { result ≡ code_of self }
+        ensures range { 0 < result }
+    {
+        self as u8
+    }
+}
