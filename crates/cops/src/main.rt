@@ -3,6 +3,7 @@
 #![tactic(auto)]
 
 ghost use Rattle.std.specs.Prelude.{◌≡◌, ◌≤◌, IfSome};
+ghost use Rattle.cops_types.specs.declared.limits.TheConstants.{MAX_WORKERS};
 ghost use Rattle.cops_stream.specs.Convergent.{SpellsConvergent};
 ghost use Rattle.cops_command.specs.Scenario.{TellsNone};
 ghost use Rattle.cops_command.specs.Status.{number};
@@ -52,7 +53,7 @@ where
     I: Read + Drop,
     ensures accepted { result ≡ number Accepted → IfSome (I.remaining input) SpellsConvergent }
     ensures refused { result ≡ number Refused → IfSome (I.remaining input) TellsRefused }
-    ensures faulty { result ≡ number Faulty → (1 ≤ workers) → (workers ≤ 64) → IfSome (I.remaining input) TellsNoTrace }
+    ensures faulty { result ≡ number Faulty → (1 ≤ workers) → (workers ≤ MAX_WORKERS) → IfSome (I.remaining input) TellsNoTrace }
 {
     let mut reader = Counted::new(input);
     let mut writer = Counted::new(io::writer(rt));

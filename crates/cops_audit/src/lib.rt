@@ -9,6 +9,7 @@
 
 mod assessing;
 mod beside;
+mod feed_fault;
 mod floors;
 mod hints;
 mod judging;
@@ -33,6 +34,7 @@ mod tally;
 mod verdict;
 mod window;
 
+pub use feed_fault::FeedFault;
 pub use judging::judge;
 pub use laws::{
     accepted_exactly_where_convergent, clean_exactly_where_accepted, one_verdict,

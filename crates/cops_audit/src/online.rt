@@ -1,7 +1,8 @@
+use crate::feed_fault::FeedFault;
 use crate::judging::judge;
 use crate::room::Room;
 use crate::verdict::{SoFar, Verdict};
-use cops_types::{History, Memory, Op, TypeFault};
+use cops_types::{History, Memory, Op};
 use std::alloc::Global;
 use std::marker::Model;
 
@@ -26,10 +27,9 @@ impl Model for Online {
 }
 
 impl Online {
-    ghost use Rattle.std.specs.Prelude.{◌≡◌, ◌≤◌, ◌<◌, ◌↔◌, length, [], replicate, IfOk, IfErr, IsErrOf, OnOk, OnErr};
+    ghost use Rattle.std.specs.Prelude.{◌≡◌, ◌≤◌, ◌<◌, ◌↔◌, length, [], replicate, IfOk, IsErrOf, OnOk, OnErr};
     ghost use Rattle.cops_types.specs.Recorded.{IsFull};
     ghost use Rattle.cops_types.specs.Histories.{with_op};
-    ghost use Rattle.cops_types.specs.TypeFaults.{IsHistoryFault};
     ghost use Rattle.cops_audit.specs.SoFar.{IsSoFar};
     ghost use Rattle.cops_audit.specs.Verdicts.{IsVerdict};
 
@@ -48,15 +48,20 @@ impl Online {
 
     /// Takes a client's next operation: `UnknownClient` where there is no such client, then `TooManyOps` where the
     /// client has 1,000,000 operations or there are 16,000,000. A fault changes nothing.
-    pub fn feed(&mut self, client: u16, op: Op) -> Result<(), TypeFault>
+    pub fn feed(&mut self, client: u16, op: Op) -> Result<(), FeedFault>
         ensures ok { OnOk result (self.new ≡ with_op self.old client op) }
         ensures err { OnErr result (self.new ≡ self.old) }
-        ensures unknown { IsErrOf result TypeFault.UnknownClient ↔ (length self.old ≤ client) }
-        ensures too_many { IsErrOf result TypeFault.TooManyOps ↔ (client < length self.old × IsFull self.old client) }
-        ensures only { IfErr result IsHistoryFault }
+        ensures unknown { IsErrOf result FeedFault.UnknownClient ↔ (length self.old ≤ client) }
+        ensures too_many { IsErrOf result FeedFault.TooManyOps ↔ (client < length self.old × IsFull self.old client) }
     {
-        self.history.reserve(client)?;
-        self.room.grow(&self.history, client, &op)?;
+        if let Err(fault) = self.history.reserve(client) {
+            drop(op);
+            return Err(FeedFault::of(fault));
+        }
+        if self.room.grow(&self.history, client, &op).is_err() {
+            drop(op);
+            return Err(FeedFault::Memory);
+        }
         match self.history.push(client, op) {
             Ok(()) => Ok(()),
             Err(_) => unreachable!(),

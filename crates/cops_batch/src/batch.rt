@@ -1,5 +1,6 @@
 ghost use Rattle.std.specs.Prelude.{◌≡◌, ◌≢◌, ◌<◌, ◌⊎◌, ◌↔◌, ℕ, IfOk, IfErr, IsErrOf, length, All};
 ghost use Rattle.cops_types.specs.Convergence.{IsCausallyConvergent};
+ghost use Rattle.cops_types.specs.declared.limits.TheConstants.{MAX_WORKERS};
 ghost use Rattle.cops_types.specs.Verdicts.{AllAbove, AllHaveSources};
 ghost use Rattle.cops_audit.specs.Tables.{Repeats};
 ghost use Rattle.cops_audit.specs.Verdicts.{Accepts, ConvergesByVersions, IsVerdict};
@@ -11,7 +12,7 @@ use crate::joining::{finished, joined_before_stale, joined_names, joined_stale};
 use crate::pieces::{Piece, cut};
 use crate::rounds::{round_before_stale, round_of_doubled, round_of_stale, round_without_search};
 use cops_audit::{Puts, Tables, Verdict, verdict_on_convergence};
-use cops_types::{Gate, History};
+use cops_types::{Gate, History, MAX_WORKERS};
 use std::alloc::Global;
 use std::sync::Wait;
 use std::thread::Threads;
@@ -30,13 +31,13 @@ pub fn judge_with<R: Threads + Wait + Sync, G: Gate>(
     ensures ok { IfOk result (IsVerdict history.now.sessions) }
     ensures convergent { IfOk result (λ v. Accepts v → IsCausallyConvergent history.now.sessions) }
     ensures exactly { IfOk result (λ v. Accepts v ↔ ConvergesByVersions history.now.sessions) }
-    ensures bad { IsErrOf result BadWorkers ↔ ((workers ≡ 0) ⊎ (64 < workers)) }
+    ensures bad { IsErrOf result BadWorkers ↔ ((workers ≡ 0) ⊎ (MAX_WORKERS < workers)) }
     ensures held { IsErrOf result Held → (i : ℕ) × (i < workers) × MayHoldPiece (G.may_hold gate.now) i }
 {
     if workers == 0 {
         return Err(BatchFault::BadWorkers);
     }
-    if workers > 64 {
+    if workers > MAX_WORKERS {
         return Err(BatchFault::BadWorkers);
     }
     verdict_on_convergence();
@@ -56,12 +57,18 @@ fn judge_in_pieces<R: Threads + Wait + Sync, G: Gate>(
     ensures bad { IfErr result (λ e. e ≢ BadWorkers) }
     ensures held { IsErrOf result Held → (i : ℕ) × (i < workers) × MayHoldPiece (G.may_hold gate.now) i }
 {
-    let puts = Puts::new(alloc, history)?;
-    let mut pieces = cut(alloc, puts.count(), workers)?;
+    let Ok(puts) = Puts::new(alloc, history) else {
+        return Err(BatchFault::Memory);
+    };
+    let Ok(mut pieces) = cut(alloc, puts.count(), workers) else {
+        return Err(BatchFault::Memory);
+    };
     if !puts.is_rising() {
         return judge_doubled(rt, alloc, &puts, gate, pieces.as_mut_slice());
     }
-    let tables = Tables::linked(rt, alloc, puts, workers)?;
+    let Ok(tables) = Tables::linked(rt, alloc, puts, workers) else {
+        return Err(BatchFault::Memory);
+    };
     judge_gets(rt, alloc, &tables, gate, pieces.as_mut_slice())
 }
 
@@ -83,7 +90,9 @@ fn judge_doubled<R: Threads + Wait + Sync, G: Gate>(
 {
     round_of_doubled(rt, alloc, puts, gate, pieces);
     finished(gate, pieces, puts.count())?;
-    let faults = joined_names(alloc, pieces)?;
+    let Ok(faults) = joined_names(alloc, pieces) else {
+        return Err(BatchFault::Memory);
+    };
     Ok(puts.refused_doubled(faults))
 }
 
@@ -153,7 +162,8 @@ fn judge_stale<R: Threads + Wait + Sync, G: Gate>(
 {
     round_of_stale(rt, alloc, tables, gate, pieces);
     finished(gate, pieces, tables.count())?;
-    let stale = joined_stale(alloc, pieces)?;
-    let verdict = tables.verdict(alloc, stale)?;
-    Ok(verdict)
+    let Ok(stale) = joined_stale(alloc, pieces) else {
+        return Err(BatchFault::Memory);
+    };
+    tables.verdict(alloc, stale).or(Err(BatchFault::Memory))
 }

@@ -8,26 +8,13 @@ use thiserror::Error;
 /// Why there is no verdict. The numbers are the faults' codes.
 #[derive(Clone, Copy, Debug, PartialEq, Eq, Error)]
 pub enum BatchFault {
+    /// 0: out of memory.
     #[error("out of memory")]
-    Memory = 0,
+    Memory,
+    /// 1: the workers are not 1 to 64.
     #[error("the workers are not 1 to 64")]
-    BadWorkers = 1,
+    BadWorkers,
+    /// 2: the gate held a worker.
     #[error("the gate held a worker")]
-    Held = 2,
-}
-
-impl From<Memory> for BatchFault {
-    ghost from_gives = { λ _ e. e ≡ OutOfMemory };
-
-    fn from(_e: Memory) -> BatchFault {
-        BatchFault::Memory
-    }
-}
-
-impl From<AllocError> for BatchFault {
-    ghost from_gives = { λ _ e. e ≡ OutOfMemory };
-
-    fn from(_e: AllocError) -> BatchFault {
-        BatchFault::Memory
-    }
+    Held,
 }

@@ -85,7 +85,11 @@ pub fn joined_before_stale<G: Gate>(
     ensures held { IsErrOf result Held → (i : ℕ) × (i < length pieces.now) × MayHoldPiece (G.may_hold gate.now) i }
 {
     finished(gate, pieces, tables.count())?;
-    let sourceless = joined_names(alloc, pieces)?;
-    let not_above = joined_not_above(alloc, pieces)?;
+    let Ok(sourceless) = joined_names(alloc, pieces) else {
+        return Err(BatchFault::Memory);
+    };
+    let Ok(not_above) = joined_not_above(alloc, pieces) else {
+        return Err(BatchFault::Memory);
+    };
     Ok(tables.verdict_before_stale(sourceless, not_above))
 }

@@ -4,8 +4,8 @@ use Rattle.std.specs.List.{list_any}
 use Rattle.std.specs.Global.{Vec}
 use Rattle.cops_node.specs.Node.{Node, opened}
 use Rattle.cops_types.specs.NodeNumber.{node_number}
-use Rattle.cops_tie.specs.Book.{ABook, Replays}
-use Rattle.cops_tie.specs.declared.entry.Entry.{Entry}
+use Rattle.cops_book.specs.Book.{ABook, Replays}
+use Rattle.cops_book.specs.declared.entry.Entry.{Entry}
 use Rattle.cops_cluster.specs.declared.share.Holder.{Holder}
 use Rattle.cops_cluster.specs.declared.share.Holder.TheVariants.{Client as HeldByClient, Receiver as HeldByReceiver}
 use Rattle.cops_cluster.specs.declared.share.Made.{Made}

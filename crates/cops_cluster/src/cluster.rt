@@ -7,11 +7,10 @@ use crate::client::Client;
 use crate::fault::OpenFault;
 use crate::share::{Holder, Share};
 use crate::spot::Spot;
+use cops_book::{Book, Puts};
 use cops_context::Context;
-use cops_core::{Setting, WorldFault};
-use cops_place::Place;
+use cops_place::{Place, Setting};
 use cops_record::Recorder;
-use cops_tie::{Book, Puts};
 use cops_types::{Key, Memory, NodeStatus};
 use std::alloc::{AllocError, Global};
 use std::sync::atomic::AtomicU64;
@@ -42,7 +41,7 @@ pub struct Opened {
 impl Cluster {
     ghost use Rattle.std.specs.Prelude.{◌≡◌, ◌<◌, ◌≤◌, ◌+◌, ◌*◌, ◌↔◌, All, length, vec_len, IfOk, OnErr, IsErrOf, IsSome, IfSome, IfNone};
     ghost use Rattle.cops_types.specs.declared.limits.TheConstants.{MAX_CLOCK, MAX_DCS, PLACES};
-    ghost use Rattle.cops_core.specs.Opened.{AreClients};
+    ghost use Rattle.cops_place.specs.Clients.{AreClients};
     ghost use Rattle.cops_place.specs.Place.{primary};
     ghost use Rattle.cops_cluster.specs.Opening.{AreClientsAt, AreReceivers};
     ghost use Rattle.cops_cluster.specs.Cluster.{IsNode, IsPutsFrom};
@@ -57,9 +56,8 @@ impl Cluster {
         ensures bad { IsErrOf result OpenFault.BadClient ↔ (AreClients place client_dcs.items → ⊥) }
     {
         match Setting::new(place, client_dcs) {
-            Ok(setting) => Cluster::of(alloc, &setting).or(Err(OpenFault::Memory)),
-            Err(WorldFault::Memory) => Err(OpenFault::Memory),
-            Err(WorldFault::BadClient) => Err(OpenFault::BadClient),
+            Some(setting) => Cluster::of(alloc, &setting).or(Err(OpenFault::Memory)),
+            None => Err(OpenFault::BadClient),
         }
     }
 

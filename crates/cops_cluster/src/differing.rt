@@ -12,7 +12,7 @@ ghost use Rattle.cops_cluster.specs.Differing.{shown, ticket_of};
 use crate::closing::number_at;
 use crate::noted::Noted;
 use crate::share::Share;
-use cops_tie::{Book, Entry};
+use cops_book::{Book, Entry};
 use std::alloc::{AllocError, Global};
 
 /// The least ticket whose entries in the books are not those in the shares; `None` where the entries are the same, each as

@@ -9,10 +9,12 @@ use thiserror::Error;
 /// Why no cluster was opened. The numbers are the faults' codes.
 #[derive(Clone, Copy, Debug, PartialEq, Eq, Error)]
 pub enum OpenFault {
+    /// 0: out of memory.
     #[error("out of memory")]
-    Memory = 0,
+    Memory,
+    /// 1: a client's data centre is not there, or there are more than 65,535 clients.
     #[error("a client's data centre is not there, or there are more than 65,535 clients")]
-    BadClient = 1,
+    BadClient,
 }
 
 /// Why a step was not made.

@@ -1,7 +1,7 @@
 //! Entries with the numbers of their nodes, to be put in order of their tickets.
 ghost use Rattle.std.specs.Prelude.{◌≡◌};
 
-use cops_tie::Entry;
+use cops_book::Entry;
 
 /// An entry, with the number of its node, and its ticket, by which it is sorted without a look at it.
 #[derive(Clone, Copy)]

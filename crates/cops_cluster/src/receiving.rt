@@ -8,8 +8,8 @@ use crate::fault::Stop;
 use crate::share::Share;
 use crate::spot::Spot;
 use crate::stepping::{Reply, Seen, gained, passed};
+use cops_book::{Book, Told};
 use cops_node::{NodeEvent, Outcome};
-use cops_tie::{Book, Told};
 use cops_types::{Dep, Gate, GateHeld, Key, PutRecord, Refusal, Version};
 use std::sync::Wait;
 
@@ -61,7 +61,7 @@ impl Cluster {
     ghost use Rattle.cops_node.specs.declared.event.NodeEvent.TheVariants.{Ask, Deliver, Mark, Settle};
     ghost use Rattle.cops_node.specs.Node.{dep_at, node_step};
     ghost use Rattle.cops_place.specs.Place.{primary};
-    ghost use Rattle.cops_tie.specs.Book.{entry};
+    ghost use Rattle.cops_book.specs.Book.{entry};
     ghost use Rattle.cops_cluster.specs.Shares.{Adds, AddsAtMostOne, AddsEntry, is_of_node};
     ghost use Rattle.cops_cluster.specs.Cluster.{IsNode, IsStop, MayHoldStep, node_of};
     ghost use Rattle.cops_cluster.specs.Outcomes.{IsAskOutcome, IsNodeAnswer, IsWant};

@@ -1,5 +1,5 @@
 //! What each caller of a cluster was told.
-use cops_tie::Entry;
+use cops_book::Entry;
 
 /// An entry, with the number of the node whose step it is.
 #[derive(Debug, Drop)]

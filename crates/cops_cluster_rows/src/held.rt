@@ -22,7 +22,11 @@ fn hold(alloc: Global, held: &mut Held, words: &[&str; 4]) -> Result<String, Err
 /// A fault's code and its text.
 fn refused(alloc: Global, fault: HeldFault) -> Result<String, Error> {
     let told = format!(in alloc; "{fault}")?;
-    let code = u64::from(fault as u8);
+    let code = match fault {
+        HeldFault::NotHeld => 1,
+        HeldFault::NoSuchDep => 2,
+        HeldFault::DepsOpen => 3,
+    };
     text(
         alloc,
         &[Word("refused "), Number(code), Word(": "), Word(&told)],

@@ -135,7 +135,7 @@ impl Context {
         if !self.has_room() {
             return Err(ContextFault::ContextFull);
         }
-        self.reserve()?;
+        self.reserve().or(Err(ContextFault::Memory))?;
         self.put_last(pair);
         Ok(())
     }

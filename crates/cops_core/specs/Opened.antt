@@ -1,6 +1,5 @@
 -- A world in its setting, as a contract sees it.
-use Rattle.std.specs.Prelude.{◌<◌, ◌≤◌, ℕ, List, All, length}
-use Rattle.cops_types.specs.declared.limits.TheConstants.{MAX_CLIENTS}
+use Rattle.std.specs.Prelude.{ℕ, List}
 use Rattle.cops_place.specs.Place.{APlace}
 use Rattle.cops_core.specs.World.{IsReached, IsSetting, Setting, World, opening}
 
@@ -13,10 +12,6 @@ pub record AWorld : Type 0 where
 pub record IsReachedWorld (c : AWorld) : Type 0 where
   pub setting : IsSetting c.setting
   pub reached : IsReached c.setting c.world
-
--- each client's data centre is there, and there are at most 65,535 clients
-abbrev pub AreClients : APlace → List ℕ → Type 0
-AreClients place homes = All (λ dc. dc < place.dcs) homes × (length homes ≤ MAX_CLIENTS)
 
 abbrev pub opened_world : APlace → List ℕ → AWorld
 opened_world place homes =

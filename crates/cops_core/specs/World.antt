@@ -1,7 +1,7 @@
 -- The world: its nodes, what was issued and answered, and what each client saw.
-use Rattle.std.specs.Prelude.{◌≡◌, ℕ, zero, suc, ◌+◌, ◌<◌, ◌≤◌, ◌⊎◌, List, [], ◌∷◌, ◌++◌, Bool, true, false, if◌then◌else◌, ◌==◌, ◌&&◌, nat_lt, length, sum_by, find, replicate, flat_map, slice_set, slice_index_or, All, Option, Some, None, is_some}
+use Rattle.std.specs.Prelude.{◌≡◌, ℕ, zero, suc, ◌+◌, ◌<◌, ◌≤◌, ◌⊎◌, List, [], ◌∷◌, ◌++◌, Bool, true, false, if◌then◌else◌, ◌==◌, ◌&&◌, nat_lt, length, sum_by, find, replicate, flat_map, slice_set, slice_index_or, Option, Some, None, is_some}
 use Rattle.std.specs.List.{list_any}
-use Rattle.cops_types.specs.declared.limits.TheConstants.{MAX_CLIENTS, MAX_CLIENT_OPS, MAX_DEPS, MAX_OPS}
+use Rattle.cops_types.specs.declared.limits.TheConstants.{MAX_CLIENT_OPS, MAX_DEPS, MAX_OPS}
 use Rattle.cops_types.specs.declared.dep.Dep.{Dep}
 use Rattle.cops_types.specs.declared.put_record.PutRecord.{PutRecord}
 use Rattle.cops_types.specs.declared.refusal.Refusal.{Refusal}
@@ -19,27 +19,10 @@ use Rattle.cops_node.specs.declared.event.NodeEvent.TheVariants.{Put as NodePut,
 use Rattle.cops_node.specs.declared.outcome.Outcome.{Outcome}
 use Rattle.cops_node.specs.declared.outcome.Outcome.TheVariants.{PutDone, Got as Answered, Missed as Nothing, Yes, Refused}
 use Rattle.cops_node.specs.Node.{Node, opened, dep_at, node_step}
-use Rattle.cops_place.specs.Place.{APlace, IsPlace, primary as primary_of}
+pub use Rattle.cops_place.specs.Place.{Setting, IsSetting, home, primary_in as primary}
 pub use Rattle.cops_core.specs.declared.event.Said.{Said}
 pub use Rattle.cops_core.specs.declared.event.Event.{Event}
 pub use Rattle.cops_core.specs.declared.event.Event.TheVariants.{Put as PutBy, Get as GetBy, Deliver as DeliverTo, Ask as AskAt, Mark as MarkAt, Settle as SettleAt}
-
--- what never changes: where keys live, and the data centre of each client
-pub record Setting : Type 0 where
-  pub place : APlace
-  pub homes : List ℕ
-
-pub record IsSetting (s : Setting) : Type 0 where
-  pub place : IsPlace s.place
-  pub homes : All (λ dc. dc < s.place.dcs) s.homes
-  pub clients : length s.homes ≤ MAX_CLIENTS
-
-abbrev pub home : Setting → ℕ → ℕ
-home s client = slice_index_or s.homes client 0
-
--- the place of a key's node in each data centre
-abbrev pub primary : Setting → List ℕ → ℕ
-primary s key = primary_of s.place.splits key
 
 pub record World : Type 0 where
   pub nodes : List (List Node)  -- of each data centre, by place

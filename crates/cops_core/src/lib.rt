@@ -14,15 +14,14 @@ mod issued;
 mod laws;
 mod recording;
 mod script;
-mod setting;
 mod state;
 mod table;
 mod world;
 
 pub use cops_node::Outcome;
+pub use cops_place::Setting;
 pub use event::{Event, Said};
 pub use fault::WorldFault;
 pub use laws::every_interleaving_is_accepted;
 pub use script::{ScriptOp, ScriptedClient};
-pub use setting::Setting;
 pub use world::World;

@@ -2,10 +2,9 @@ ghost use Rattle.std.specs.Prelude.{◌≡◌};
 
 use crate::event::Event;
 use crate::fault::WorldFault;
-use crate::setting::Setting;
 use crate::state::State;
 use cops_node::Outcome;
-use cops_place::Place;
+use cops_place::{Place, Setting};
 use cops_types::{Deps, History, Key, Memory, PutRecord, Version};
 use std::alloc::Global;
 use std::marker::Model;
@@ -38,7 +37,8 @@ impl World {
     ghost use Rattle.cops_core.specs.World.{Happens, context_in, happens, home, sent, settled_in, Run};
     ghost use Rattle.cops_core.specs.Memory.{TakesMemory};
     ghost use Rattle.cops_types.specs.Verdicts.{HasAcceptedVerdict};
-    ghost use Rattle.cops_core.specs.Opened.{AreClients, opened_world};
+    ghost use Rattle.cops_core.specs.Opened.{opened_world};
+    ghost use Rattle.cops_place.specs.Clients.{AreClients};
     ghost use Rattle.cops_core.specs.Invariants.{Invariants};
 
     /// A world in which nothing has happened, of these data centres and nodes, and with a client at each of these data
@@ -47,7 +47,10 @@ impl World {
         ensures ok { IfOk result (λ world. world ≡ opened_world place client_dcs.items) }
         ensures bad { IsErrOf result WorldFault.BadClient ↔ (AreClients place client_dcs.items → ⊥) }
     {
-        World::of(alloc, Setting::new(place, client_dcs)?).or(Err(WorldFault::Memory))
+        match Setting::new(place, client_dcs) {
+            Some(setting) => World::of(alloc, setting).or(Err(WorldFault::Memory)),
+            None => Err(WorldFault::BadClient),
+        }
     }
 
     /// The same of a setting, whose clients' data centres are there.

@@ -5,6 +5,8 @@ use Rattle.clap.specs.Simple.{new_shape}
 use Rattle.clap.specs.declared.builder.action.ArgAction.TheVariants.{Set}
 use Rattle.clap.specs.declared.builder.value_parser.ValueParser.{ValueParser}
 use Rattle.clap.specs.declared.builder.value_parser.ValueParser.TheVariants as parser
+use Rattle.cops_types.specs.declared.limits.TheConstants.{MAX_WORKERS}
+use Rattle.cops_line.specs.declared.job.TheConstants.{MAX_PORT, MAX_SESSIONS}
 
 -- an argument that has to be there, and takes one word
 abbrev pub positional : Text → Rule
@@ -20,12 +22,12 @@ workers_option = record (new_rule (codes "workers")) {
   long = Some (codes "workers");
   action = Some Set;
   value_names = 1;
-  parser = Some (parser.Signed (pos 1) (pos 64));
+  parser = Some (parser.Signed (pos 1) (pos MAX_WORKERS));
 }
 
 -- `PORT`, which has to be there, and is a number from 1 to 65,535
 abbrev pub port_argument : Rule
-port_argument = record (positional (codes "port")) { parser = Some (parser.Signed (pos 1) (pos 65535)) }
+port_argument = record (positional (codes "port")) { parser = Some (parser.Signed (pos 1) (pos MAX_PORT)) }
 
 -- `--sessions N`, which may be left out and takes a number from 1 to 65,535
 abbrev pub sessions_option : Rule
@@ -33,7 +35,7 @@ sessions_option = record (new_rule (codes "sessions")) {
   long = Some (codes "sessions");
   action = Some Set;
   value_names = 1;
-  parser = Some (parser.Signed (pos 1) (pos 65535));
+  parser = Some (parser.Signed (pos 1) (pos MAX_SESSIONS));
 }
 
 -- `audit TRACE`, with `--workers N` or without it

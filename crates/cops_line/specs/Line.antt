@@ -4,6 +4,8 @@ use Rattle.std.specs.Str.Parse.{IsNumeral, digits_value, without_leading_plus}
 use Rattle.clap.specs.Words.{Row, Text, first_of, subcommand_of, fault_of, IsAmong}
 use Rattle.clap.specs.declared.error.kind.ErrorKind.{ErrorKind}
 use Rattle.clap.specs.declared.error.kind.ErrorKind.TheVariants.{DisplayHelp, DisplayVersion, OutOfMemory}
+use Rattle.cops_types.specs.declared.limits.TheConstants.{MAX_WORKERS}
+use Rattle.cops_line.specs.declared.job.TheConstants.{MAX_PORT, MAX_SESSIONS}
 use Rattle.cops_line.specs.declared.job.Job.{Job}
 use Rattle.cops_line.specs.declared.job.Job.TheVariants.{Audit, Show, Run, Serve}
 use Rattle.cops_line.specs.declared.fault.LineFault.{LineFault}
@@ -23,15 +25,15 @@ IsNumberOr1 most (Some text) n = IsNumber most text n
 -- the port that a value tells
 abbrev pub IsPort : Option Text → ℕ → Type 0
 IsPort None n = ⊥
-IsPort (Some text) n = IsNumber 65535 text n
+IsPort (Some text) n = IsNumber MAX_PORT text n
 
 -- the job of a subcommand with these values
 abbrev pub IsJobOf : Text → List Row → Job → Type 0
-IsJobOf name rows (Audit trace workers) = (name ≡ codes "audit") × (first_of (codes "trace") rows ≡ Some trace.now) × IsNumberOr1 64 (first_of (codes "workers") rows) workers
+IsJobOf name rows (Audit trace workers) = (name ≡ codes "audit") × (first_of (codes "trace") rows ≡ Some trace.now) × IsNumberOr1 MAX_WORKERS (first_of (codes "workers") rows) workers
 IsJobOf name rows (Show trace) = (name ≡ codes "show") × (first_of (codes "trace") rows ≡ Some trace.now)
 IsJobOf name rows (Run scenario trace) = (name ≡ codes "run") × (first_of (codes "scenario") rows ≡ Some scenario.now) × (first_of (codes "trace") rows ≡ Some trace.now)
 IsJobOf name rows (Serve port scenario sessions) =
-    (name ≡ codes "serve") × IsPort (first_of (codes "port") rows) port × (first_of (codes "scenario") rows ≡ Some scenario.now) × IsNumberOr1 65535 (first_of (codes "sessions") rows) sessions
+    (name ≡ codes "serve") × IsPort (first_of (codes "port") rows) port × (first_of (codes "scenario") rows ≡ Some scenario.now) × IsNumberOr1 MAX_SESSIONS (first_of (codes "sessions") rows) sessions
 
 -- no job has this subcommand and these values
 abbrev pub HasNoJob : Text → List Row → Type 0

@@ -3,16 +3,19 @@ ghost use Rattle.clap.specs.Words.{app_of, new_app, rule_of, with_rule, with_sub
 ghost use Rattle.clap.specs.declared.builder.command.Command.TheViews.{out-Command as fields_of};
 ghost use Rattle.clap.specs.declared.builder.value_parser.ValueParser.TheVariants as parser;
 ghost use Rattle.cops_line.specs.Commands.{number_option, positional, port_argument, sessions_option, workers_option, versioned, cops_top, cops_app, audit_app, show_app, run_app, serve_app};
+ghost use Rattle.cops_line.specs.declared.job.TheConstants.{MAX_PORT};
 
+use crate::job::MAX_PORT;
 use clap::builder::ValueParser;
 use clap::{Arg, ArgAction, Command, value_parser};
+use cops_types::MAX_WORKERS;
 use std::alloc::{AllocError, Global};
 
 const ABOUT: &str =
     "A COPS cluster in one process, and an auditor of the histories that clients recorded";
 
 /// The version of the program, and the kit and its logic by which it is proved and built.
-const VERSION: &str = "0.1.0 (rattle-kit-13f, logic dac8208d650f15bf)";
+const VERSION: &str = "0.1.0 (rattle-kit-13b, logic dac8208d650f15bf)";
 
 const LONG_ABOUT: &str = "\
 A COPS cluster in one process, and an auditor of the histories that clients recorded.
@@ -107,9 +110,9 @@ fn number_arg<'a>(
 
 /// A number from 1 to 65,535.
 fn large_number<'a>() -> ValueParser<'a>
-    ensures { result ≡ parser.Signed (pos 1) (pos 65535) }
+    ensures { result ≡ parser.Signed (pos 1) (pos MAX_PORT) }
 {
-    value_parser!(u16).range(1..=65535)
+    value_parser!(u16).range(1..=i64::from(MAX_PORT))
 }
 
 /// The option that names the number of workers.
@@ -117,7 +120,7 @@ fn workers_arg<'a>(alloc: Global) -> Arg<'a>
     ensures rule { rule_of result ≡ workers_option }
     ensures local { result.global ≡ false }
 {
-    let number = value_parser!(u8).range(1..=64);
+    let number = value_parser!(u8).range(1..=i64::from(MAX_WORKERS));
     number_arg(alloc, "workers", number, WORKERS_HELP)
 }
 

@@ -1,7 +1,3 @@
-ghost use Rattle.std.specs.Prelude.{◌≡◌};
-ghost use Rattle.cops_line.specs.declared.fault.LineFault.TheVariants.{Memory};
-
-use std::alloc::{AllocError, AllocFailed};
 use thiserror::Error;
 
 /// Why the words are no job.
@@ -19,20 +15,4 @@ pub enum LineFault {
     /// The words ask for the version, and this is its line.
     #[error("{0}")]
     Version(String),
-}
-
-impl From<AllocError> for LineFault {
-    ghost from_gives = { λ _ e. e ≡ Memory };
-
-    fn from(_e: AllocError) -> LineFault {
-        LineFault::Memory
-    }
-}
-
-impl<T: Drop> From<AllocFailed<T>> for LineFault {
-    ghost from_gives = { λ _ e. e ≡ Memory };
-
-    fn from(_e: AllocFailed<T>) -> LineFault {
-        LineFault::Memory
-    }
 }

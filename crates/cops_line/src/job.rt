@@ -1,8 +1,17 @@
 ghost use Rattle.std.specs.Prelude.{◌≡◌, ℕ, IfSome, IfNone, Some, codes, option_map};
 ghost use Rattle.clap.specs.Words.{first_of, found_of, rows_of, subcommand_rows_of};
+ghost use Rattle.cops_types.specs.declared.limits.TheConstants.{MAX_WORKERS};
+ghost use Rattle.cops_line.specs.declared.job.TheConstants.{MAX_SESSIONS};
 ghost use Rattle.cops_line.specs.Line.{IsNumber, IsNumberOr1, IsPort, IsJobOf, HasNoJob, IsJobIn, HasNoJobIn};
 
 use clap::ArgMatches;
+use cops_types::MAX_WORKERS;
+
+/// The greatest port.
+pub const MAX_PORT: u16 = 65_535;
+
+/// The most sessions of a serving.
+pub const MAX_SESSIONS: u16 = 65_535;
 
 /// What the words ask for.
 #[derive(Clone, Copy, Debug, PartialEq, Eq)]
@@ -37,38 +46,10 @@ fn value<'a>(matches: &ArgMatches<'a>, id: &str) -> Option<&'a str>
     matches.get_str(id)
 }
 
-/// The number of workers that a text tells, from 1 to 64.
-fn workers_in(text: &str) -> Option<u8>
-    ensures some { IfSome result (IsNumber 64 text.now) }
-    ensures none { IfNone result ((n : ℕ) → ¬ IsNumber 64 text.now n) }
-{
-    let Ok(workers) = text.parse::<u8>() else {
-        return None;
-    };
-    if workers == 0 {
-        return None;
-    }
-    if workers > 64 {
-        return None;
-    }
-    Some(workers)
-}
-
-/// The number of workers: 1 where it is not given.
-fn workers(matches: &ArgMatches<'_>) -> Option<u8>
-    ensures some { IfSome result (IsNumberOr1 64 (first_of (codes "workers") (rows_of (found_of matches.now)))) }
-    ensures none { IfNone result ((n : ℕ) → ¬ IsNumberOr1 64 (first_of (codes "workers") (rows_of (found_of matches.now))) n) }
-{
-    match value(matches, "workers") {
-        Some(text) => workers_in(text),
-        None => Some(1),
-    }
-}
-
-/// The number that a text tells, from 1 to 65,535.
-fn number_in(text: &str) -> Option<u16>
-    ensures some { IfSome result (IsNumber 65535 text.now) }
-    ensures none { IfNone result ((n : ℕ) → ¬ IsNumber 65535 text.now n) }
+/// The number that a text tells, from 1 to some other.
+fn number_in(text: &str, most: u16) -> Option<u16>
+    ensures some { IfSome result (IsNumber most text.now) }
+    ensures none { IfNone result ((n : ℕ) → ¬ IsNumber most text.now n) }
 {
     let Ok(number) = text.parse::<u16>() else {
         return None;
@@ -76,7 +57,21 @@ fn number_in(text: &str) -> Option<u16>
     if number == 0 {
         return None;
     }
+    if number > most {
+        return None;
+    }
     Some(number)
+}
+
+/// The number of workers: 1 where it is not given.
+fn workers(matches: &ArgMatches<'_>) -> Option<u8>
+    ensures some { IfSome result (IsNumberOr1 MAX_WORKERS (first_of (codes "workers") (rows_of (found_of matches.now)))) }
+    ensures none { IfNone result ((n : ℕ) → ¬ IsNumberOr1 MAX_WORKERS (first_of (codes "workers") (rows_of (found_of matches.now))) n) }
+{
+    match value(matches, "workers") {
+        Some(text) => number_in(text, u16::from(MAX_WORKERS)).map(|number| number as u8),
+        None => Some(1),
+    }
 }
 
 /// The port.
@@ -85,18 +80,18 @@ fn port(matches: &ArgMatches<'_>) -> Option<u16>
     ensures none { IfNone result ((n : ℕ) → ¬ IsPort (first_of (codes "port") (rows_of (found_of matches.now))) n) }
 {
     match value(matches, "port") {
-        Some(text) => number_in(text),
+        Some(text) => number_in(text, MAX_PORT),
         None => None,
     }
 }
 
 /// The number of sessions: 1 where it is not given.
 fn sessions(matches: &ArgMatches<'_>) -> Option<u16>
-    ensures some { IfSome result (IsNumberOr1 65535 (first_of (codes "sessions") (rows_of (found_of matches.now)))) }
-    ensures none { IfNone result ((n : ℕ) → ¬ IsNumberOr1 65535 (first_of (codes "sessions") (rows_of (found_of matches.now))) n) }
+    ensures some { IfSome result (IsNumberOr1 MAX_SESSIONS (first_of (codes "sessions") (rows_of (found_of matches.now)))) }
+    ensures none { IfNone result ((n : ℕ) → ¬ IsNumberOr1 MAX_SESSIONS (first_of (codes "sessions") (rows_of (found_of matches.now))) n) }
 {
     match value(matches, "sessions") {
-        Some(text) => number_in(text),
+        Some(text) => number_in(text, MAX_SESSIONS),
         None => Some(1),
     }
 }

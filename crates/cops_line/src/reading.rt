@@ -42,12 +42,17 @@ pub fn line<'a>(alloc: Global, words: &'a [&'a str]) -> Result<Job<'a>, LineFaul
             workers: 1,
         });
     }
-    let command = cops_command(alloc)?;
+    let Ok(command) = cops_command(alloc) else {
+        return Err(LineFault::Memory);
+    };
     match command.try_get_matches_from(words) {
         Ok(matches) => match job_in(&matches) {
             Some(job) => Ok(job),
             // Not reached, though not proved so: no clause says that a subcommand's required argument has a value.
-            None => Err(LineFault::Usage(String::from_str(alloc, "error: no such command\n")?)),
+            None => match String::from_str(alloc, "error: no such command\n") {
+                Ok(text) => Err(LineFault::Usage(text)),
+                Err(_) => Err(LineFault::Memory),
+            },
         },
         Err(error) => Err(as_fault(alloc, &error)),
     }

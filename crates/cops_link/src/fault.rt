@@ -6,10 +6,12 @@ use thiserror::Error;
 /// Why no link was made. The numbers are the faults' codes.
 #[derive(Clone, Copy, Debug, PartialEq, Eq, Error)]
 pub enum LinkFault {
+    /// 0: out of memory.
     #[error("out of memory")]
-    Memory = 0,
+    Memory,
+    /// 2: a link holds 1 to 1,024 frames.
     #[error("a link holds 1 to 1,024 frames")]
-    BadCapacity = 2,
+    BadCapacity,
 }
 
 /// Why a frame was not sent. It takes no memory, so want of memory is not among them.

@@ -2,17 +2,20 @@
 use Rattle.std.proofs.Common.{◌≡◌, ◌≢◌, ℕ, ◌+◌, Bool, true, false, ◌||◌, List, [], ◌∷◌, ◌++◌, length, take, drop, Some, None, Result, Ok, Err, refl, sym, ap, subst, ◌∙◌, append_assoc, inl, inr, arith}
 use Rattle.std.specs.Prelude.{◌⊎◌}
 use Rattle.std.specs.List.{list_any}
+use Rattle.std.specs.Result.{result_or}
 use Rattle.std.proofs.lemmas.List.{append-nil, length-append, take-append-drop, length-drop}
 use Rattle.std.proofs.lemmas.List.Elements.{All-nil, All-push}
 use Rattle.std.proofs.lemmas.List.Folds.{list_any-append}
 use Rattle.std.proofs.lemmas.Grind.{flat_map-append}
+use Rattle.cops_wire.specs.Legal.{IsLegalMessage}
 use Rattle.cops_wire.specs.declared.message.Message.{Message}
 use Rattle.cops_net.specs.declared.fault.NetFault.{NetFault}
 use Rattle.cops_net.specs.declared.fault.NetFault.TheVariants.{Memory, Wire, ReadFailed, WriteFailed, TurnLimit, BindFailed, AcceptFailed}
 use Rattle.cops_net.specs.declared.reply.Call.{Call}
 use Rattle.cops_net.specs.declared.serving.TheConstants.{MAX_MESSAGES}
 use Rattle.cops_net.specs.Protocol.{AreCallsOf, replies, welcomes}
-use Rattle.cops_net.specs.Sessions.{spelled, IsLegal, text, is_bye, StaysOpen, Answered, BrokeOff, Serves}
+use Rattle.cops_wire.specs.Message.{spelled}
+use Rattle.cops_net.specs.Sessions.{text, is_bye, StaysOpen, Answered, BrokeOff, Serves}
 use Rattle.cops_net.specs.Turns.{IsTurn, IsTaken, IsAnswered}
 use Rattle.cops_net.proofs.Lists.{calls-append, replies-append, replies_ignore, bye_only}
 
@@ -21,7 +24,7 @@ one_more ms m = flat_map-append spelled ms (m ∷ []) ∙ ap (λ (x : List ℕ).
 
 -- nothing was taken yet
 pub begun : Answered [] [] [] [] []
-begun = record { legal = All-nil IsLegal; read = refl; called = refl; told = refl }
+begun = record { legal = All-nil IsLegalMessage; read = refl; called = refl; told = refl }
 
 -- more bytes came, and none was taken
 pub more_came : (ms : List Message) (input : List ℕ) (calls : List Call) (written rest more : List ℕ) → Answered ms input calls written rest
@@ -45,10 +48,10 @@ replied_one ms m calls gained reply h t = replies-append false ms (m ∷ []) cal
 
 -- a message was taken and answered
 pub goes_on : (ms : List Message) (input : List ℕ) (calls : List Call) (written rest : List ℕ) (m : Message) (more left : List ℕ) (gained : List Call) (reply : Message)
-    → Answered ms input calls written rest → IsLegal m → rest ++ more ≡ spelled m ++ left → IsTurn (list_any welcomes calls) m gained reply
+    → Answered ms input calls written rest → IsLegalMessage m → rest ++ more ≡ spelled m ++ left → IsTurn (list_any welcomes calls) m gained reply
     → Answered (ms ++ m ∷ []) (input ++ more) (calls ++ gained) (written ++ spelled reply) left
 goes_on ms input calls written rest m more left gained reply a l k t = record {
-  legal = All-push IsLegal ms m a.legal l;
+  legal = All-push IsLegalMessage ms m a.legal l;
   read = read_one ms m input rest more left a.read k;
   called = calls-append false ms (m ∷ []) calls gained a.called t.called;
   told =
@@ -58,11 +61,11 @@ goes_on ms input calls written rest m more left gained reply a l k t = record {
 
 -- a message was taken and handed over, and its reply was not written whole
 pub breaks_off : (ms : List Message) (input : List ℕ) (calls : List Call) (written rest : List ℕ) (m : Message) (more left : List ℕ) (gained : List Call) (reply : Message) (part missing : List ℕ)
-    → Answered ms input calls written rest → IsLegal m → rest ++ more ≡ spelled m ++ left → IsTurn (list_any welcomes calls) m gained reply
+    → Answered ms input calls written rest → IsLegalMessage m → rest ++ more ≡ spelled m ++ left → IsTurn (list_any welcomes calls) m gained reply
     → spelled reply ≡ part ++ missing → missing ≢ []
     → BrokeOff ms m (input ++ more) (calls ++ gained) (written ++ part) left
 breaks_off ms input calls written rest m more left gained reply part missing a l k t parts_are some = record {
-  legal = All-push IsLegal ms m a.legal l;
+  legal = All-push IsLegalMessage ms m a.legal l;
   read = read_one ms m input rest more left a.read k;
   called = calls-append false ms (m ∷ []) calls gained a.called t.called;
   reply = reply;
@@ -96,7 +99,7 @@ ends_input P ms input calls written rest more left n stays a count t =
 
 -- the client said that it ends
 pub ends_bye : (P : Type 0) (ms : List Message) (input : List ℕ) (calls : List Call) (written rest : List ℕ) (m : Message) (more left : List ℕ) (gained : List Call) (out : List ℕ) (after : Bool) (n : ℕ)
-    → StaysOpen ms → Answered ms input calls written rest → n ≡ length ms → IsLegal m → rest ++ more ≡ spelled m ++ left
+    → StaysOpen ms → Answered ms input calls written rest → n ≡ length ms → IsLegalMessage m → rest ++ more ≡ spelled m ++ left
     → IsAnswered (list_any welcomes calls) m gained out (Ok after) → is_bye m ≡ true
     → Serves P (input ++ more) (calls ++ gained) (written ++ out) (Ok (record { answered = n + 1 }))
 ends_bye P ms input calls written rest m more left gained out after n stays a count l k t bye = (
@@ -109,7 +112,7 @@ ends_bye P ms input calls written rest m more left gained out after n stays a co
 
 -- a message was not answered
 pub ends_answering : (P : Type 0) (ms : List Message) (input : List ℕ) (calls : List Call) (written rest : List ℕ) (m : Message) (more left : List ℕ) (gained : List Call) (out : List ℕ) (e : NetFault)
-    → StaysOpen ms → Answered ms input calls written rest → IsLegal m → rest ++ more ≡ spelled m ++ left
+    → StaysOpen ms → Answered ms input calls written rest → IsLegalMessage m → rest ++ more ≡ spelled m ++ left
     → IsAnswered (list_any welcomes calls) m gained out (Err e)
     → Serves P (input ++ more) (calls ++ gained) (written ++ out) (Err e)
 ends_answering P ms input calls written rest m more left gained out Memory stays a l k (none, inl silent) =
@@ -154,3 +157,8 @@ heard_ok x e (inr p) = p
 -- an error is the same whatever else might have been answered
 pub same_error : {T U E : Type 0} (a b : E) → ◌≡◌ {A = Result T E} (Err a) (Err b) → ◌≡◌ {A = Result U E} (Err a) (Err b)
 same_error a b q = let e : a ≡ b = cc in ap Err e
+
+-- the error that was put in the place of another
+pub put_error : {T E D : Type 0} (r : Result T E) (e y : D) → Err y ≡ result_or r (Err e) → y ≡ e
+put_error (Ok x) e y q = absurd cc
+put_error (Err x) e y q = cc

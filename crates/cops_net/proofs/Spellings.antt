@@ -5,8 +5,7 @@ use Rattle.cops_types.specs.declared.format.Format.TheVariants.{One}
 use Rattle.cops_wire.specs.declared.message.Message.{Message}
 use Rattle.cops_wire.specs.Field.{u32, spelled_number}
 use Rattle.cops_wire.specs.Grammar.{grammar, body, spelling}
-use Rattle.cops_wire.specs.Message.{parts}
-use Rattle.cops_net.specs.Sessions.{spelled}
+use Rattle.cops_wire.specs.Message.{parts, spelled}
 
 number_len : (n : ℕ) → length (spelled_number u32 n) ≡ 4
 unfolding spelled_number

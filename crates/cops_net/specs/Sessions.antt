@@ -7,9 +7,9 @@ use Rattle.cops_wire.specs.declared.fault.WireFault.{WireFault}
 use Rattle.cops_wire.specs.declared.fault.WireFault.TheVariants as wire
 use Rattle.cops_wire.specs.declared.message.Message.{Message}
 use Rattle.cops_wire.specs.declared.message.Message.TheVariants.{Bye}
-use Rattle.cops_wire.specs.Grammar.{grammar, spelling}
-use Rattle.cops_wire.specs.Legal.{IsMessage}
-use Rattle.cops_wire.specs.Message.{parts}
+use Rattle.cops_wire.specs.Grammar.{grammar}
+use Rattle.cops_wire.specs.Legal.{IsLegalMessage}
+use Rattle.cops_wire.specs.Message.{spelled}
 use Rattle.cops_wire.specs.Answer.{IsShort}
 use Rattle.cops_wire.specs.Feeding.{IsStopped}
 use Rattle.cops_net.specs.declared.fault.NetFault.{NetFault}
@@ -18,14 +18,6 @@ use Rattle.cops_net.specs.declared.reply.Call.{Call}
 use Rattle.cops_net.specs.declared.serving.Served.{Served}
 use Rattle.cops_net.specs.declared.serving.TheConstants.{MAX_MESSAGES}
 use Rattle.cops_net.specs.Protocol.{AreCallsOf, replies}
-
--- the bytes of a message of format 1
-unfoldable pub spelled : Message → List ℕ
-spelled m = spelling (grammar One) (parts m)
-
--- what stands in the message is legal in format 1
-abbrev pub IsLegal : Message → Type 0
-IsLegal m = IsMessage (grammar One) (parts m)
 
 -- the bytes of messages, one after the other
 abbrev pub text : List Message → List ℕ
@@ -42,14 +34,14 @@ StaysOpen ms = list_any is_bye ms ≡ false
 -- These messages, which are legal, were taken from the input, and this is the rest of it. Each that is handed over was handed
 -- over by one call, in order, and there was no other call. What was written is the spellings of the replies, one for each message.
 pub record Answered (ms : List Message) (input : List ℕ) (calls : List Call) (written rest : List ℕ) : Type 0 where
-  pub legal : All IsLegal ms
+  pub legal : All IsLegalMessage ms
   pub read : input ≡ text ms ++ rest
   pub called : AreCallsOf false ms calls
   pub told : written ≡ text (replies false ms calls)
 
 -- The last message was taken and handed over as it should, but of its reply a part alone was written, and not all.
 pub record BrokeOff (ms : List Message) (last : Message) (input : List ℕ) (calls : List Call) (written rest : List ℕ) : Type 0 where
-  pub legal : All IsLegal (ms ++ last ∷ [])
+  pub legal : All IsLegalMessage (ms ++ last ∷ [])
   pub read : input ≡ text (ms ++ last ∷ []) ++ rest
   pub called : AreCallsOf false (ms ++ last ∷ []) calls
   pub reply : Message
@@ -91,7 +83,7 @@ Serves at_end input calls written (Err WriteFailed) =
     (ms : List Message) × (rest : List ℕ) × StaysOpen ms × ((last : Message) × BrokeOff ms last input calls written rest)
 Serves at_end input calls written (Err TurnLimit) =
     (ms : List Message) × (rest : List ℕ) × StaysOpen ms
-    × ((last : Message) × IsLegal last × Answered ms input calls written (spelled last ++ rest))
+    × ((last : Message) × IsLegalMessage last × Answered ms input calls written (spelled last ++ rest))
     × (length ms ≡ MAX_MESSAGES)
 Serves at_end input calls written (Err BindFailed) = ⊥
 Serves at_end input calls written (Err AcceptFailed) = ⊥

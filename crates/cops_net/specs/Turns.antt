@@ -6,14 +6,14 @@ use Rattle.cops_wire.specs.declared.message.Message.{Message}
 use Rattle.cops_wire.specs.declared.message.Message.TheVariants.{HelloOk}
 use Rattle.cops_wire.specs.Grammar.{grammar}
 use Rattle.cops_wire.specs.Legal.{IsMessage}
-use Rattle.cops_wire.specs.Message.{parts}
+use Rattle.cops_wire.specs.Message.{parts, spelled}
 use Rattle.cops_wire.specs.Answer.{IsShort}
 use Rattle.cops_wire.specs.Feeding.{IsStopped}
 use Rattle.cops_net.specs.declared.fault.NetFault.{NetFault}
 use Rattle.cops_net.specs.declared.fault.NetFault.TheVariants.{Memory, Wire, ReadFailed, WriteFailed, TurnLimit, BindFailed, AcceptFailed}
 use Rattle.cops_net.specs.declared.reply.Call.{Call}
 use Rattle.cops_net.specs.Protocol.{AreCallsOf, replies, welcomes}
-use Rattle.cops_net.specs.Sessions.{spelled, IsWrong}
+use Rattle.cops_net.specs.Sessions.{IsWrong}
 
 -- the answer to a greeting
 abbrev pub is_welcome : Message → Bool

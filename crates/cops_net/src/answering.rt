@@ -87,6 +87,7 @@ fn ask<R: Wait, S: Session>(rt: &R, session: &mut S, greeted: bool, message: Mes
     ensures told { (call : ACall) × (S.calls session.new ≡ S.calls session.old ++ call ∷ [])
         × Hands message call × (result ≡ told (seq_of message) call) × (is_welcome result ≡ welcomes call) }
     ensures legal { IsMessage (grammar One) (parts result) }
+    ensures ended { S.ended session.new ≡ S.ended session.old }
 {
     let _greeted = greeted;
     match message {
@@ -113,6 +114,7 @@ pub(crate) fn answer<R: Wait, S: Session>(
         × IsTurn greeted message gained reply) }
     ensures err { OnErr result (S.calls session.new ≡ S.calls session.old) }
     ensures legal { IfOk result (λ reply. IsMessage (grammar One) (parts reply)) }
+    ensures ended { S.ended session.new ≡ S.ended session.old }
 {
     if !is_handed(greeted, &message) {
         let reply = own_reply(greeted, &message);

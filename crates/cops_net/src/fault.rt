@@ -1,10 +1,5 @@
 //! Why a session or the front door ended.
-ghost use Rattle.std.specs.Prelude.{◌≡◌};
-ghost use Rattle.cops_net.specs.declared.fault.NetFault.TheVariants.{Memory as OutOfMemory};
-
-use cops_types::Memory;
 use cops_wire::WireFault;
-use std::alloc::AllocError;
 use thiserror::Error;
 
 /// Why a session, or the front door, ended before its end.
@@ -31,20 +26,4 @@ pub enum NetFault {
     /// 6: no connection could be accepted.
     #[error("no connection could be accepted")]
     AcceptFailed,
-}
-
-impl From<Memory> for NetFault {
-    ghost from_gives = { λ _ e. e ≡ OutOfMemory };
-
-    fn from(_e: Memory) -> NetFault {
-        NetFault::Memory
-    }
-}
-
-impl From<AllocError> for NetFault {
-    ghost from_gives = { λ _ e. e ≡ OutOfMemory };
-
-    fn from(_e: AllocError) -> NetFault {
-        NetFault::Memory
-    }
 }

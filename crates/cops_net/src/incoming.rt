@@ -73,7 +73,9 @@ impl Incoming {
             if count == 0 {
                 return at_end(self.waiting);
             }
-            self.feed(&piece[..count])?;
+            let Ok(()) = self.feed(&piece[..count]) else {
+                return Err(NetFault::Memory);
+            };
         }
     }
 

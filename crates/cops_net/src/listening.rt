@@ -1,5 +1,5 @@
 //! Sessions over connections, one after the other.
-ghost use Rattle.std.specs.Prelude.{◌≡◌, ◌++◌, ◌↔◌, List, ℕ, Result, IsErr, IsErrOf, OnErr};
+ghost use Rattle.std.specs.Prelude.{◌≡◌, ◌<◌, ◌+◌, ◌^◌, ◌++◌, ◌↔◌, List, ℕ, Result, IsErr, IsErrOf, OnErr};
 ghost use Rattle.std.specs.Io.KnownBytes.{Appends, Consumes, IsAtEnd};
 ghost use Rattle.cops_types.specs.Counted.{failures, inner};
 ghost use Rattle.cops_net.specs.declared.serving.Served.{Served};
@@ -35,6 +35,7 @@ fn serve_client<R: Wait, I: Read, W: Write, S: Session>(
 
     // Where it ends with `Memory` no read and no write has failed.
     ensures heard { OnErr result ((failures reader.new ≡ failures reader.old) × (failures writer.new ≡ failures writer.old)) }
+    ensures ended { S.ended session.new ≡ S.ended session.old }
 {
     match serve_session(rt, alloc, reader, writer, session) {
         Err(NetFault::Memory) => Err(Memory),
@@ -49,7 +50,8 @@ fn serve_connection<R: Wait, S: Session>(
     stream: &TcpStream,
     session: &mut S,
 ) -> Result<(), Memory>
-    ensures { (gained : List Call) × (S.calls session.new ≡ S.calls session.old ++ gained) × IsSession gained }
+    ensures served { (gained : List Call) × (S.calls session.new ≡ S.calls session.old ++ gained) × IsSession gained }
+    ensures ended { S.ended session.new ≡ S.ended session.old }
 {
     let mut reader = Counted::new(stream);
     let mut writer = Counted::new(stream);
@@ -68,8 +70,10 @@ pub fn listen<R: Net<Listener = TcpListener, Stream = TcpStream> + Wait, S: Sess
     sessions: u16,
 ) -> Result<(), NetFault>
     // The session's list gained the calls of so many sessions, and no other, and each of them was ended before the next.
+    // So many more have ended, while their number is below 2 ^ 64.
     ensures sessions { (begun : ℕ) × (gained : List Call) × (S.calls session.new ≡ S.calls session.old ++ gained)
-        × AreSessions begun gained × AreServed S.calls S.ends begun session.old session.new × IsCount sessions begun result }
+        × AreSessions begun gained × AreServed S.calls S.ends begun session.old session.new × IsCount sessions begun result
+        × (S.ended session.old + begun < 2 ^ 64 → S.ended session.new ≡ S.ended session.old + begun) }
 {
     let listener = match TcpListener::bind(rt, (Ipv4Addr::LOCALHOST, port)) {
         Ok(listener) => listener,

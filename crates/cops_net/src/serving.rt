@@ -51,7 +51,9 @@ fn write_reply<W: Write>(
     ensures heard { IsErrOf result NetFault.WriteFailed ⊎ (failures writer.new ≡ failures writer.old) }
 {
     out.clear();
-    encode(reply, out)?;
+    let Ok(()) = encode(reply, out) else {
+        return Err(NetFault::Memory);
+    };
     match write_text(writer, out) {
         Ok(()) => Ok(greeted | is_welcome(reply)),
         Err(_) => Err(NetFault::WriteFailed),
@@ -74,6 +76,7 @@ fn turn<R: Wait, W: Write, S: Session>(
         × IsAnswered greeted message gained written result }
     ensures failed { IsErrOf result NetFault.WriteFailed → Failed (failures writer.old) (failures writer.new) }
     ensures heard { IsErrOf result NetFault.WriteFailed ⊎ (failures writer.new ≡ failures writer.old) }
+    ensures ended { S.ended session.new ≡ S.ended session.old }
 {
     match answer(rt, session, greeted, message) {
         Ok(reply) => {
@@ -110,10 +113,13 @@ pub fn serve_session<R: Wait, I: Read, W: Write, S: Session>(
     ensures write_count { IsErrOf result NetFault.WriteFailed → Failed (failures writer.old) (failures writer.new) }
     ensures read_heard { IsErrOf result NetFault.ReadFailed ⊎ (failures reader.new ≡ failures reader.old) }
     ensures write_heard { IsErrOf result NetFault.WriteFailed ⊎ (failures writer.new ≡ failures writer.old) }
+
+    // No session counts as ended by this.
+    ensures ended { S.ended session.new ≡ S.ended session.old }
 {
     let mut incoming = Incoming::new(alloc);
     let mut out = Vec::new(alloc);
-    out.reserve(LONGEST_REPLY)?;
+    out.reserve(LONGEST_REPLY).or(Err(NetFault::Memory))?;
     let mut greeted = false;
     for answered in 0..MAX_MESSAGES {
         let message = match incoming.next(reader)? {

@@ -8,7 +8,7 @@ use std::sync::Wait;
 /// gives for each the relation of the session before it, what was asked and answered, and the session after it; where it
 /// gives none, nothing more is said.
 pub trait Session {
-    ghost use Rattle.std.specs.Prelude.{◌≡◌, ◌++◌, ◌∷◌, [], ℕ, List, Option, Result, OnOk, ⊤};
+    ghost use Rattle.std.specs.Prelude.{◌≡◌, ◌<◌, ◌+◌, ◌-◌, ◌^◌, ◌++◌, ◌∷◌, [], ℕ, List, Option, Result, OnOk, ⊤};
     ghost use Rattle.cops_types.specs.declared.put_record.NodeStatus.{NodeStatus as Standing};
     ghost use Rattle.cops_types.specs.declared.refusal.Refusal.{Refusal as Refused};
     ghost use Rattle.cops_net.specs.declared.reply.Reply.{Reply as Answer};
@@ -17,6 +17,9 @@ pub trait Session {
 
     /// Its calls so far, each with its answer.
     ghost calls: { Self → List Call };
+
+    /// How many sessions have ended.
+    ghost ended: { Self → ℕ };
 
     /// It has room for one more call.
     ghost has_room: { Self → Type 0 };
@@ -46,7 +49,8 @@ pub trait Session {
     fn room(&mut self) -> Result<(), Memory>
         ensures kept { calls self.new ≡ calls self.old }
         ensures room { OnOk result (has_room self.new) }
-        ensures same { rooms self.old self.new };
+        ensures same { rooms self.old self.new }
+        ensures ended { ended self.new ≡ ended self.old };
 
     /// A client greets: its data centre, below 16, and the number of its nodes, 1 to 64; or `UnknownClient` where there
     /// is no such client.
@@ -54,28 +58,32 @@ pub trait Session {
         requires { has_room self.old }
         ensures told { calls self.new ≡ calls self.old ++ Call.Hello client result ∷ [] }
         ensures answer { IsWelcome result }
-        ensures done { hellos self.old client result self.new };
+        ensures done { hellos self.old client result self.new }
+        ensures ended { ended self.new ≡ ended self.old };
 
     /// A put: `PutDone`, or `Refused` with `ClockExhausted`, `UnknownClient`, `Memory` or `SessionFull`.
     fn put<R: Wait>(&mut self, rt: &R, key: Key, value: Value) -> Reply
         requires { has_room self.old }
         ensures told { calls self.new ≡ calls self.old ++ Call.Put key value result ∷ [] }
         ensures answer { IsPutReply result }
-        ensures done { puts self.old key value result self.new };
+        ensures done { puts self.old key value result self.new }
+        ensures ended { ended self.new ≡ ended self.old };
 
     /// A get: `Got`, `Missed`, or `Refused` with `ContextFull`, `UnknownClient`, `Memory` or `SessionFull`.
     fn get<R: Wait>(&mut self, rt: &R, key: &Key) -> Reply
         requires { has_room self.old }
         ensures told { calls self.new ≡ calls self.old ++ Call.Get key.now result ∷ [] }
         ensures answer { IsGetReply result }
-        ensures done { gets self.old key.now result self.new };
+        ensures done { gets self.old key.now result self.new }
+        ensures ended { ended self.new ≡ ended self.old };
 
     /// Whether this put is there, in the client's data centre: `Yes`, `Wait`, or `Refused` with `Memory`.
     fn dep_check<R: Wait>(&mut self, rt: &R, key: &Key, version: Version) -> Reply
         requires { has_room self.old }
         ensures told { calls self.new ≡ calls self.old ++ Call.DepCheck key.now version result ∷ [] }
         ensures answer { IsCheckReply result }
-        ensures done { dep_checks self.old key.now version result self.new };
+        ensures done { dep_checks self.old key.now version result self.new }
+        ensures ended { ended self.new ≡ ended self.old };
 
     /// How the node of this place in the client's data centre stands, with a clock of at most 281,474,976,710,655;
     /// nothing where there is no such node.
@@ -83,10 +91,12 @@ pub trait Session {
         requires { has_room self.old }
         ensures told { calls self.new ≡ calls self.old ++ Call.Status place result ∷ [] }
         ensures answer { IsStanding result }
-        ensures done { statuses self.old place result self.new };
+        ensures done { statuses self.old place result self.new }
+        ensures ended { ended self.new ≡ ended self.old };
 
     /// What is to be done when a client's session has ended. It is no call of the list.
     fn after_session<R: Wait>(&mut self, rt: &R)
         ensures kept { calls self.new ≡ calls self.old }
-        ensures done { ends self.old self.new };
+        ensures done { ends self.old self.new }
+        ensures counted { ended self.old < 2 ^ 64 - 1 → ended self.new ≡ ended self.old + 1 };
 }

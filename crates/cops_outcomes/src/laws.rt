@@ -3,7 +3,7 @@ ghost use Rattle.cops_types.specs.Histories.{Sessions};
 ghost use Rattle.cops_core.specs.declared.event.Event.{Event};
 ghost use Rattle.cops_core.specs.World.{Setting};
 ghost use Rattle.cops_core.specs.declared.script.ScriptedClient.{ScriptedClient};
-ghost use Rattle.cops_tie.specs.declared.entry.Entry.{Entry};
+ghost use Rattle.cops_book.specs.declared.entry.Entry.{Entry};
 ghost use Rattle.cops_outcomes.specs.Runs.{IsRun};
 ghost use Rattle.cops_outcomes.specs.NoRun.{IsNoRun};
 ghost use Rattle.cops_outcomes.specs.declared.outcome.ClientOutcome.{ClientOutcome};

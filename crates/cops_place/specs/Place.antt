@@ -1,9 +1,9 @@
 -- Where keys live.
-use Rattle.std.specs.Prelude.{◌≡◌, ℕ, ◌≤◌, Bool, true, List, length, count_by}
+use Rattle.std.specs.Prelude.{◌≡◌, ℕ, ◌<◌, ◌≤◌, Bool, true, List, length, count_by, slice_index_or, All}
 use Rattle.std.specs.Cmp.Lexicographic.{slice_cmp}
 use Rattle.std.specs.List.{AllAdjacentBelow}
 use Rattle.std.specs.Ordering.{is_le, is_lt, nat_cmp}
-use Rattle.cops_types.specs.declared.limits.TheConstants.{MAX_DCS}
+use Rattle.cops_types.specs.declared.limits.TheConstants.{MAX_CLIENTS, MAX_DCS}
 use Rattle.cops_place.specs.declared.place.TheConstants.{MAX_SPLITS}
 
 -- the number of data centres, and the split keys, which cut the key space into a range for each of their nodes
@@ -33,3 +33,20 @@ primary splits key = count_by (λ split. is_at_most split key) splits
 pub record IsPlace (p : APlace) : Type 0 where
   pub range : IsInRange p.dcs p.splits
   pub ascending : AreAscending p.splits
+
+-- what never changes: where keys live, and the data centre of each client
+pub record Setting : Type 0 where
+  pub place : APlace
+  pub homes : List ℕ
+
+pub record IsSetting (s : Setting) : Type 0 where
+  pub place : IsPlace s.place
+  pub homes : All (λ dc. dc < s.place.dcs) s.homes
+  pub clients : length s.homes ≤ MAX_CLIENTS
+
+abbrev pub home : Setting → ℕ → ℕ
+home s client = slice_index_or s.homes client 0
+
+-- the place of a key's node in each data centre of a setting
+abbrev pub primary_in : Setting → List ℕ → ℕ
+primary_in s key = primary s.place.splits key

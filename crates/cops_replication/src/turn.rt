@@ -19,12 +19,15 @@ pub enum Turn {
 /// Why a turn, or a number of turns, did not end well. The numbers are the faults' codes.
 #[derive(Clone, Copy, Debug, PartialEq, Eq, Error)]
 pub enum TurnFault {
+    /// 0: out of memory.
     #[error("out of memory")]
-    Memory = 0,
+    Memory,
+    /// 1: the gate held a step.
     #[error("the gate held a step")]
-    Held = 1,
+    Held,
+    /// 3: something is kept back after the last turn.
     #[error("something is kept back after the last turn")]
-    TurnLimit = 3,
+    TurnLimit,
 }
 
 impl Turn {

@@ -1,8 +1,4 @@
 //! Why there is no run.
-ghost use Rattle.std.specs.Prelude.{◌≡◌};
-ghost use Rattle.cops_run.specs.declared.fault.RunFault.TheVariants.{Memory as OutOfMemory};
-
-use cops_types::Memory;
 use thiserror::Error;
 
 /// Why there is no run. Where several apply, the order is `NoThread`, `Held`, `TurnLimit`, `Untied`.
@@ -27,12 +23,4 @@ pub enum RunFault {
     /// The system refused a thread. Those that were made were ended and joined.
     #[error("no thread")]
     NoThread,
-}
-
-impl From<Memory> for RunFault {
-    ghost from_gives = { λ _ e. e ≡ OutOfMemory };
-
-    fn from(_e: Memory) -> RunFault {
-        RunFault::Memory
-    }
 }

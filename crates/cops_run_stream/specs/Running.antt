@@ -13,7 +13,7 @@ use Rattle.cops_trace.specs.Text.{ATrace, IsTrace, sessions_of, text}
 use Rattle.cops_audit.specs.declared.verdict.Verdict.{Verdict}
 use Rattle.cops_scenario.specs.Scenario.{AScenario, setting_of}
 use Rattle.cops_scenario.specs.File.{IsTextOf}
-use Rattle.cops_tie.specs.declared.entry.Entry.{Entry}
+use Rattle.cops_book.specs.declared.entry.Entry.{Entry}
 use Rattle.cops_outcomes.specs.declared.outcome.ClientOutcome.{ClientOutcome}
 use Rattle.cops_outcomes.specs.Runs.{IsRun}
 use Rattle.cops_command.specs.Scenario.{TellsNone}

@@ -30,7 +30,13 @@ pub(crate) fn run_scripts<R: Threads + Wait + Sync, G: Gate>(
         Ok(run) => run,
         Err(fault) => return Err(fault),
     };
-    Ok(reported_left(alloc, lines(alloc, &outcomes)?, trace)?)
+    let Ok(lines) = lines(alloc, &outcomes) else {
+        return Err(RunFault::Memory);
+    };
+    match reported_left(alloc, lines, trace) {
+        Ok(left) => Ok(left),
+        Err(Memory) => Err(RunFault::Memory),
+    }
 }
 
 /// A line for each client.

@@ -69,7 +69,10 @@ fn run_scenario<S: Threads + Wait + Sync, G: Gate>(
     ensures { IfOk result (IsRunLeft scenario) }
 {
     if let Some(events) = scenario.events() {
-        return Ok(run_events(alloc, &scenario, events)?);
+        return match run_events(alloc, &scenario, events) {
+            Ok(left) => Ok(left),
+            Err(Memory) => Err(RunFault::Memory),
+        };
     }
     run_scripts(rt, alloc, scenario, gate)
 }

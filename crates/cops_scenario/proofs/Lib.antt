@@ -5,3 +5,4 @@ pub mod Texts
 pub mod Scripts
 pub mod Order
 pub mod Versions
+pub mod Right

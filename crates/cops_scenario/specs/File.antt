@@ -16,7 +16,7 @@ use Rattle.cops_core.specs.declared.script.ScriptedClient.{ScriptedClient}
 use Rattle.cops_scenario.specs.declared.scenario.TheConstants.{MAX_CLIENTS, MAX_LINK, MAX_TURNS}
 use Rattle.cops_scenario.specs.Scenario.{AScenario}
 use Rattle.cops_scenario.specs.Fields.{HasNumbersOf, name_of, number_at}
-use Rattle.cops_scenario.specs.Limits.{AreSplits, IsLegalClient, AreLegalEvents}
+use Rattle.cops_scenario.specs.Limits.{AreSplits, IsLegalClient, IsLegalScenario, AreLegalEvents}
 
 abbrev pub number_json : ℕ → Data
 number_json n = number (unsigned n)
@@ -149,9 +149,10 @@ before Events = Clients ∷ Turns ∷ Link ∷ Splits ∷ DataCentres ∷ Root �
 abbrev pub AreRightBefore : Data → Field → Type 0
 AreRightBefore root field = All (IsRight root) (before field)
 
--- the bytes are a JSON text that tells the scenario
+-- the bytes are a JSON text that tells the scenario, which is within its limits
 abbrev pub IsTextOf : List ℕ → AScenario → Type 0
-IsTextOf bytes s = (root : Data) × IsUtf8 bytes × (read bytes ≡ Some root) × TellsScenario root s
+IsTextOf bytes s =
+    (root : Data) × IsUtf8 bytes × (read bytes ≡ Some root) × TellsScenario root s × IsLegalScenario s
 
 -- they are no JSON text
 abbrev pub IsNoText : List ℕ → Type 0

@@ -9,7 +9,7 @@ use Rattle.cops_core.specs.declared.event.Event.TheVariants as event
 use Rattle.cops_core.specs.declared.script.ScriptOp.{ScriptOp}
 use Rattle.cops_core.specs.declared.script.ScriptOp.TheVariants as script
 use Rattle.cops_core.specs.declared.script.ScriptedClient.{ScriptedClient}
-use Rattle.cops_scenario.specs.declared.scenario.TheConstants.{MAX_CLIENTS, MAX_EVENTS, MAX_LINK, MAX_SCRIPT, MAX_TURNS}
+use Rattle.cops_scenario.specs.declared.scenario.TheConstants.{MAX_CLIENT, MAX_CLIENTS, MAX_DC, MAX_DEP, MAX_EVENTS, MAX_LINK, MAX_SCRIPT, MAX_TURNS}
 use Rattle.cops_scenario.specs.Scenario.{AScenario}
 
 -- the client lives in a data centre that is there, and has at most 10,000 operations
@@ -45,14 +45,21 @@ IsLegalClient dcs c = IsClientOf dcs c × All IsLegalOp c.script.items
 
 -- an event whose numbers, key, value and version are of their ranges, whatever clients and data centres there are
 abbrev pub IsLegalEvent : Event → Type 0
-IsLegalEvent (event.Put client key value) = (client ≤ 65535) × IsKey key × IsValue value
-IsLegalEvent (event.Get client key) = (client ≤ 65535) × IsKey key
-IsLegalEvent (event.Deliver dc version) = (dc ≤ 255) × IsVersion version
-IsLegalEvent (event.Ask dc key version) = (dc ≤ 255) × IsKey key × IsVersion version
-IsLegalEvent (event.Mark dc version dep) = (dc ≤ 255) × IsVersion version × (dep ≤ 65535)
-IsLegalEvent (event.Settle dc version) = (dc ≤ 255) × IsVersion version
+IsLegalEvent (event.Put client key value) = (client ≤ MAX_CLIENT) × IsKey key × IsValue value
+IsLegalEvent (event.Get client key) = (client ≤ MAX_CLIENT) × IsKey key
+IsLegalEvent (event.Deliver dc version) = (dc ≤ MAX_DC) × IsVersion version
+IsLegalEvent (event.Ask dc key version) = (dc ≤ MAX_DC) × IsKey key × IsVersion version
+IsLegalEvent (event.Mark dc version dep) = (dc ≤ MAX_DC) × IsVersion version × (dep ≤ MAX_DEP)
+IsLegalEvent (event.Settle dc version) = (dc ≤ MAX_DC) × IsVersion version
 
 -- at most 100,000 legal events
 abbrev pub AreLegalEvents : Option (List Event) → Type 0
 AreLegalEvents None = Unit {0}
 AreLegalEvents (Some events) = (length events ≤ MAX_EVENTS) × All IsLegalEvent events
+
+-- a scenario within its limits, whose split keys are keys, and whose scripts and events are legal
+pub record IsLegalScenario (s : AScenario) : Type 0 where
+  pub is_scenario : IsScenario s
+  pub splits : AreSplits s.place.splits
+  pub clients : All (IsLegalClient s.place.dcs) s.clients
+  pub events : AreLegalEvents s.events

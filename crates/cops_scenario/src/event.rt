@@ -6,10 +6,12 @@ ghost use Rattle.cops_types.specs.Texts.{version_text};
 ghost use Rattle.cops_types.specs.Version.{IsVersion};
 ghost use Rattle.cops_core.specs.declared.event.Event.{Event as AnEvent};
 ghost use Rattle.cops_scenario.specs.File.{event_json, op_json, list_json, number_json, text_json, kind_of, parts_of};
+ghost use Rattle.cops_scenario.specs.declared.scenario.TheConstants.{MAX_CLIENT, MAX_DC, MAX_DEP};
 ghost use Rattle.cops_scenario.specs.Limits.{IsLegalEvent, IsLegalOp};
 ghost use Rattle.cops_core.specs.declared.script.ScriptOp.{ScriptOp as AnOp};
 
 use crate::field::{Unread, client, dc, key, list, number, only_member, value, version};
+use crate::scenario::MAX_DEP;
 use cops_core::{Event, ScriptOp};
 use cops_types::{Key, Value, Version};
 use serde_json::Value as Json;
@@ -19,6 +21,7 @@ use std::alloc::Global;
 pub(crate) fn events(alloc: Global, json: &Json, most: usize) -> Result<Vec<Event>, Unread>
     ensures few { IfOk result (λ events. length events.items ≤ most) }
     ensures json { IfOk result (λ events. view json.now ≡ list_json (map event_json events.items)) }
+    ensures legal { IfOk result (λ events. All IsLegalEvent events.items) }
     ensures none { result ≡ Err Unread.Form → (events : List AnEvent) → length events ≤ most → All IsLegalEvent events → view json.now ≢ list_json (map event_json events) }
 {
     let mut events = Vec::new(alloc);
@@ -76,6 +79,7 @@ fn pair(alloc: Global, parts: &[Json]) -> Result<(Key, Value), Unread>
 /// An event.
 fn event(alloc: Global, json: &Json) -> Result<Event, Unread>
     ensures json { IfOk result (λ event. view json.now ≡ event_json event) }
+    ensures legal { IfOk result IsLegalEvent }
     ensures none { result ≡ Err Unread.Form → (event : AnEvent) → IsLegalEvent event → view json.now ≢ event_json event }
 {
     let (name, of) = only_member(json)?;
@@ -100,7 +104,8 @@ fn event(alloc: Global, json: &Json) -> Result<Event, Unread>
 /// A put: a client, a key and a value.
 fn put(alloc: Global, parts: &[Json]) -> Result<Event, Unread>
     ensures json { IfOk result (λ event. (kind_of event ≡ codes "put") × (parts_of event ≡ map view parts.now)) }
-    ensures none { result ≡ Err Unread.Form → (client : ℕ) (key value : List ℕ) → client ≤ 65535 → IsKey key → IsValue value → map view parts.now ≢ number_json client ∷ text_json key ∷ text_json value ∷ [] }
+    ensures legal { IfOk result IsLegalEvent }
+    ensures none { result ≡ Err Unread.Form → (client : ℕ) (key value : List ℕ) → client ≤ MAX_CLIENT → IsKey key → IsValue value → map view parts.now ≢ number_json client ∷ text_json key ∷ text_json value ∷ [] }
 {
     match parts {
         [c, k, v] => Ok(Event::Put {
@@ -115,7 +120,8 @@ fn put(alloc: Global, parts: &[Json]) -> Result<Event, Unread>
 /// A get: a client and a key.
 fn get(alloc: Global, parts: &[Json]) -> Result<Event, Unread>
     ensures json { IfOk result (λ event. (kind_of event ≡ codes "get") × (parts_of event ≡ map view parts.now)) }
-    ensures none { result ≡ Err Unread.Form → (client : ℕ) (key : List ℕ) → client ≤ 65535 → IsKey key → map view parts.now ≢ number_json client ∷ text_json key ∷ [] }
+    ensures legal { IfOk result IsLegalEvent }
+    ensures none { result ≡ Err Unread.Form → (client : ℕ) (key : List ℕ) → client ≤ MAX_CLIENT → IsKey key → map view parts.now ≢ number_json client ∷ text_json key ∷ [] }
 {
     match parts {
         [c, k] => Ok(Event::Get {
@@ -129,7 +135,8 @@ fn get(alloc: Global, parts: &[Json]) -> Result<Event, Unread>
 /// A data centre, and the version of a put.
 fn put_at(parts: &[Json]) -> Result<(u8, Version), Unread>
     ensures json { IfOk result (λ p. map view parts.now ≡ number_json p.0 ∷ text_json (version_text p.1) ∷ []) }
-    ensures none { OnErr result ((dc version : ℕ) → dc ≤ 255 → IsVersion version → map view parts.now ≢ number_json dc ∷ text_json (version_text version) ∷ []) }
+    ensures legal { IfOk result (λ p. (p.0 ≤ MAX_DC) × IsVersion p.1) }
+    ensures none { OnErr result ((dc version : ℕ) → dc ≤ MAX_DC → IsVersion version → map view parts.now ≢ number_json dc ∷ text_json (version_text version) ∷ []) }
 {
     match parts {
         [d, v] => Ok((dc(d)?, version(v)?)),
@@ -140,7 +147,8 @@ fn put_at(parts: &[Json]) -> Result<(u8, Version), Unread>
 /// A question: a data centre, a key and a version.
 fn ask(alloc: Global, parts: &[Json]) -> Result<Event, Unread>
     ensures json { IfOk result (λ event. (kind_of event ≡ codes "ask") × (parts_of event ≡ map view parts.now)) }
-    ensures none { result ≡ Err Unread.Form → (dc : ℕ) (key : List ℕ) (version : ℕ) → dc ≤ 255 → IsKey key → IsVersion version → map view parts.now ≢ number_json dc ∷ text_json key ∷ text_json (version_text version) ∷ [] }
+    ensures legal { IfOk result IsLegalEvent }
+    ensures none { result ≡ Err Unread.Form → (dc : ℕ) (key : List ℕ) (version : ℕ) → dc ≤ MAX_DC → IsKey key → IsVersion version → map view parts.now ≢ number_json dc ∷ text_json key ∷ text_json (version_text version) ∷ [] }
 {
     match parts {
         [d, k, v] => Ok(Event::Ask {
@@ -155,13 +163,14 @@ fn ask(alloc: Global, parts: &[Json]) -> Result<Event, Unread>
 /// A mark: a data centre, the version of a put and a dependency's index.
 fn mark(parts: &[Json]) -> Result<Event, Unread>
     ensures json { IfOk result (λ event. (kind_of event ≡ codes "mark") × (parts_of event ≡ map view parts.now)) }
-    ensures none { result ≡ Err Unread.Form → (dc version dep : ℕ) → dc ≤ 255 → IsVersion version → dep ≤ 65535 → map view parts.now ≢ number_json dc ∷ text_json (version_text version) ∷ number_json dep ∷ [] }
+    ensures legal { IfOk result IsLegalEvent }
+    ensures none { result ≡ Err Unread.Form → (dc version dep : ℕ) → dc ≤ MAX_DC → IsVersion version → dep ≤ MAX_DEP → map view parts.now ≢ number_json dc ∷ text_json (version_text version) ∷ number_json dep ∷ [] }
 {
     match parts {
         [d, v, n] => Ok(Event::Mark {
             dc: dc(d)?,
             version: version(v)?,
-            dep: number(n, 0, 65_535)? as u16,
+            dep: number(n, 0, u64::from(MAX_DEP))? as u16,
         }),
         _ => Err(Unread::Form),
     }

@@ -1,9 +1,4 @@
 //! Why bytes are no scenario.
-ghost use Rattle.std.specs.Prelude.{◌≡◌};
-ghost use Rattle.cops_scenario.specs.declared.fault.ScenarioFault.TheVariants.{Memory as OutOfMemory};
-
-use cops_types::Memory;
-use std::alloc::AllocError;
 use std::fmt;
 use thiserror::Error;
 
@@ -61,20 +56,4 @@ pub enum ScenarioFault {
     /// The first field that is missing and has no default, is not of its form, or is not within its limits.
     #[error("scenario field {0}")]
     BadField(Field),
-}
-
-impl From<Memory> for ScenarioFault {
-    ghost from_gives = { λ _ e. e ≡ OutOfMemory };
-
-    fn from(_e: Memory) -> ScenarioFault {
-        ScenarioFault::Memory
-    }
-}
-
-impl From<AllocError> for ScenarioFault {
-    ghost from_gives = { λ _ e. e ≡ OutOfMemory };
-
-    fn from(_e: AllocError) -> ScenarioFault {
-        ScenarioFault::Memory
-    }
 }

@@ -7,12 +7,14 @@ ghost use Rattle.cops_types.specs.KeyValue.{IsKey, IsValue};
 ghost use Rattle.cops_types.specs.Texts.{version_text};
 ghost use Rattle.cops_types.specs.Version.{IsVersion};
 ghost use Rattle.cops_scenario.specs.declared.field.Unread.TheVariants.{Memory as OutOfMemory};
+ghost use Rattle.cops_scenario.specs.declared.scenario.TheConstants.{MAX_CLIENT, MAX_DC};
 ghost use Rattle.cops_scenario.specs.File.{number_json, text_json, list_json, one_json, IsNoNumber};
 
 use crate::fault::{Field, ScenarioFault};
-use cops_types::{Key, Memory, TypeFault, Value, Version};
+use crate::scenario::{MAX_CLIENT, MAX_DC};
+use cops_types::{Key, TypeFault, Value, Version};
 use serde_json::Value as Json;
-use std::alloc::{AllocError, AllocFailed, Global};
+use std::alloc::{AllocFailed, Global};
 
 /// Why something was not read: for want of memory, or since it is not of its form.
 #[derive(Clone, Copy, Debug, PartialEq, Eq)]
@@ -48,22 +50,6 @@ impl From<TypeFault> for Unread {
             TypeFault::Memory => Unread::Memory,
             _ => Unread::Form,
         }
-    }
-}
-
-impl From<Memory> for Unread {
-    ghost from_gives = { λ _ e. e ≡ OutOfMemory };
-
-    fn from(_e: Memory) -> Unread {
-        Unread::Memory
-    }
-}
-
-impl From<AllocError> for Unread {
-    ghost from_gives = { λ _ e. e ≡ OutOfMemory };
-
-    fn from(_e: AllocError) -> Unread {
-        Unread::Memory
     }
 }
 
@@ -139,6 +125,7 @@ pub(crate) fn value(alloc: Global, json: &Json) -> Result<Value, Unread>
 /// A text as a version: a clock, a dot and a node, each decimal without leading zeros.
 pub(crate) fn version(json: &Json) -> Result<Version, Unread>
     ensures json { IfOk result (λ version. view json.now ≡ text_json (version_text version)) }
+    ensures legal { IfOk result IsVersion }
     ensures none { OnErr result ((version : ℕ) → IsVersion version → view json.now ≢ text_json (version_text version)) }
 {
     let text = json.as_str().ok_or(Unread::Form)?;
@@ -168,15 +155,17 @@ fn decimal(text: &str) -> Result<u64, Unread>
 /// A client's number.
 pub(crate) fn client(json: &Json) -> Result<u16, Unread>
     ensures json { IfOk result (λ n. view json.now ≡ number_json n) }
-    ensures none { OnErr result (IsNoNumber 0 65535 (Some (view json.now))) }
+    ensures range { IfOk result (λ n. n ≤ MAX_CLIENT) }
+    ensures none { OnErr result (IsNoNumber 0 MAX_CLIENT (Some (view json.now))) }
 {
-    Ok(number(json, 0, 65_535)? as u16)
+    Ok(number(json, 0, u64::from(MAX_CLIENT))? as u16)
 }
 
 /// A data centre's number, of one that is there or not.
 pub(crate) fn dc(json: &Json) -> Result<u8, Unread>
     ensures json { IfOk result (λ n. view json.now ≡ number_json n) }
-    ensures none { OnErr result (IsNoNumber 0 255 (Some (view json.now))) }
+    ensures range { IfOk result (λ n. n ≤ MAX_DC) }
+    ensures none { OnErr result (IsNoNumber 0 MAX_DC (Some (view json.now))) }
 {
-    Ok(number(json, 0, 255)? as u8)
+    Ok(number(json, 0, u64::from(MAX_DC))? as u8)
 }

@@ -6,10 +6,12 @@
 mod event;
 mod fault;
 mod field;
+mod laws;
 mod line;
 mod reading;
 mod scenario;
 
 pub use fault::{Field, ScenarioFault};
+pub use laws::text_is_right;
 pub use line::outcome_line;
 pub use scenario::Scenario;

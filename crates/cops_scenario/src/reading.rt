@@ -9,7 +9,7 @@ ghost use Rattle.serde_json.specs.Find.{get};
 ghost use Rattle.cops_types.specs.declared.limits.TheConstants.{MAX_DCS};
 ghost use Rattle.cops_scenario.specs.declared.scenario.TheConstants.{MAX_CLIENTS, MAX_EVENTS};
 ghost use Rattle.cops_scenario.specs.Fields.{name_of, number_at};
-ghost use Rattle.cops_scenario.specs.Limits.{AreLegalEvents, AreSplits, IsClientOf, IsLegalClient};
+ghost use Rattle.cops_scenario.specs.Limits.{AreLegalEvents, AreSplits, IsClientOf, IsLegalClient, IsLegalScenario};
 ghost use Rattle.cops_core.specs.declared.event.Event.{Event as AnEvent};
 ghost use Rattle.cops_core.specs.declared.script.ScriptedClient.{ScriptedClient as AClient};
 
@@ -48,6 +48,7 @@ impl Scenario {
 /// The scenario of a JSON value.
 fn scenario(alloc: Global, root: &Json) -> Result<Scenario, ScenarioFault>
     ensures told { IfOk result (TellsScenario (view root.now)) }
+    ensures legal { IfOk result IsLegalScenario }
     ensures wrong { (field : AField) → result ≡ Err (ScenarioFault.BadField field) → IsWrong (view root.now) field }
     ensures first { (field : AField) → result ≡ Err (ScenarioFault.BadField field) → AreRightBefore (view root.now) field }
     ensures json { result ≢ Err ScenarioFault.NotJson }
@@ -175,6 +176,7 @@ fn events_beside(
     list: Option<&Json>,
 ) -> Result<Option<Vec<Event>>, Unread>
     ensures few { IfOk result (λ found. IfSome (option_map (λ e. e.items) found) (λ events. length events ≤ MAX_EVENTS)) }
+    ensures legal { IfOk result (λ found. AreLegalEvents (option_map (λ e. e.items) found)) }
     ensures told { IfOk result (λ found. TellsEvents (option_map (λ v. view v.now) list.entry) (option_map (λ e. e.items) found)) }
     ensures beside { IfOk result (λ found. (ds : List Data) → view listed.now ≡ list_json ds → AreUnscripted ds (option_map (λ e. e.items) found)) }
     ensures none { result ≡ Err Unread.Form → (ds : List Data) (told : Option (List AnEvent)) → view listed.now ≡ list_json ds → TellsEvents (option_map (λ v. view v.now) list.entry) told → AreLegalEvents told → AreUnscripted ds told → ⊥ }

@@ -1,5 +1,5 @@
 //! What a scenario holds.
-use cops_core::{Event, ScriptedClient, Setting, WorldFault};
+use cops_core::{Event, ScriptedClient, Setting};
 use cops_place::Place;
 use cops_types::Memory;
 use std::alloc::{AllocError, Global};
@@ -7,6 +7,15 @@ use std::marker::Model;
 
 /// The most clients of a scenario.
 pub const MAX_CLIENTS: usize = 64;
+
+/// The greatest number that an event may say for a client.
+pub const MAX_CLIENT: u16 = 65_535;
+
+/// The greatest number that an event may say for a data centre.
+pub const MAX_DC: u8 = 255;
+
+/// The greatest number that an event may say for a dependency.
+pub const MAX_DEP: u16 = 65_535;
 
 /// The most operations of a script.
 pub const MAX_SCRIPT: usize = 10_000;
@@ -52,7 +61,7 @@ impl Model for Scenario {
 
 impl Scenario {
     ghost use Rattle.std.specs.Prelude.{◌≡◌, ◌≤◌, length, All, IfOk, option_map};
-    ghost use Rattle.cops_core.specs.Opened.{AreClients};
+    ghost use Rattle.cops_place.specs.Clients.{AreClients};
     ghost use Rattle.cops_scenario.specs.declared.scenario.TheConstants.{MAX_CLIENTS, MAX_LINK, MAX_TURNS};
     ghost use Rattle.cops_scenario.specs.Scenario.{homes_of, setting_of};
     ghost use Rattle.cops_scenario.specs.Limits.{IsScenario, IsClientOf, AreEventsOf};
@@ -69,7 +78,8 @@ impl Scenario {
         requires turns { (1 ≤ turns) × (turns ≤ MAX_TURNS) }
         requires clients { (length clients.items ≤ MAX_CLIENTS) × All (IsClientOf place.dcs) clients.items }
         requires events { AreEventsOf clients.items (option_map (λ e. e.items) events) }
-        ensures { result ≡ record { place = place; link = link; turns = turns; clients = clients.items; events = option_map (λ e. e.items) events } }
+        ensures scenario { IsScenario result }
+        ensures parts { result ≡ record { place = place; link = link; turns = turns; clients = clients.items; events = option_map (λ e. e.items) events } }
     {
         let _dcs = place.dcs();
         Scenario {
@@ -118,9 +128,8 @@ impl Scenario {
         ensures { IfOk result (λ setting. setting ≡ setting_of self.now) }
     {
         match Setting::new(self.place.clone()?, self.homes(alloc)?) {
-            Ok(setting) => Ok(setting),
-            Err(WorldFault::Memory) => Err(Memory),
-            Err(WorldFault::BadClient) => unreachable!(),
+            Some(setting) => Ok(setting),
+            None => unreachable!(),
         }
     }
 

@@ -68,8 +68,8 @@ asked_of c dc key version out client lent after e who told = (
 -- what is noted afterwards changes no client
 pub noted : (old mid new : FrontEnd) (Nobody : Type 0) (Did : Greeted → Client → Client → Type 0) → DoneByGreeted old Nobody Did mid → IsSame mid new
     → DoneByGreeted old Nobody Did new
-noted old mid new Nobody Did (session, did) ((turns, cluster, senders, receivers, greeted), clients) = (
-  (turns ∙ session.0, cluster ∙ session.1, senders ∙ session.2, receivers ∙ session.3, greeted ∙ session.4),
+noted old mid new Nobody Did (session, did) ((turns, cluster, senders, receivers, greeted, ended), clients) = (
+  (turns ∙ session.0, cluster ∙ session.1, senders ∙ session.2, receivers ∙ session.3, greeted ∙ session.4, ended ∙ session.5),
   subst (λ (v : Vec Client).
       MatchOption old.greeted (Nobody × (v ≡ old.clients)) (λ g.
       (before : Client) × (after : Client)

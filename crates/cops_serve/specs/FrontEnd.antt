@@ -24,7 +24,7 @@ HasRoom f = IsSome f.room × (vec_len f.calls < vec_capacity f.calls)
 abbrev pub IsUnnoted : FrontEnd → FrontEnd → Type 0
 IsUnnoted old new = (new.calls ≡ old.calls) × (new.room ≡ old.room)
 
--- the number of turns, the cluster, who replicates its puts, and which client has greeted are as before
+-- the number of turns, the cluster, who replicates its puts, which client has greeted, and how many sessions have ended are as before
 abbrev pub IsSameSession : FrontEnd → FrontEnd → Type 0
 IsSameSession old new =
     (new.turns ≡ old.turns)
@@ -32,6 +32,7 @@ IsSameSession old new =
     × (new.senders ≡ old.senders)
     × (new.receivers ≡ old.receivers)
     × (new.greeted ≡ old.greeted)
+    × (new.ended ≡ old.ended)
 
 -- the same, and no client changed
 abbrev pub IsSame : FrontEnd → FrontEnd → Type 0

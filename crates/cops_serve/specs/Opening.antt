@@ -8,8 +8,8 @@ use Rattle.cops_replication.specs.Wiring.{AreJoined, AreReceivers, AreSenders}
 use Rattle.cops_scenario.specs.Scenario.{AScenario, homes_of}
 use Rattle.cops_serve.specs.declared.front_end.FrontEnd.{FrontEnd}
 
--- the scenario's clients, and a sender and a receiver for each data centre, all with empty shares; nobody has greeted, and there
--- was no call
+-- the scenario's clients, and a sender and a receiver for each data centre, all with empty shares; nobody has greeted, there was no
+-- call, and no session has ended
 pub record IsOpened (s : AScenario) (f : FrontEnd) : Type 0 where
   pub turns : f.turns ≡ s.turns
   pub place : f.cluster.place ≡ s.place
@@ -21,3 +21,4 @@ pub record IsOpened (s : AScenario) (f : FrontEnd) : Type 0 where
   pub joined : AreJoined s.place.dcs (map lanes f.senders.items) (map ends f.receivers.items)
   pub greeted : IsNone f.greeted
   pub calls : f.calls.items ≡ []
+  pub ended : f.ended ≡ 0

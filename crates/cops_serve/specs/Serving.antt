@@ -15,14 +15,16 @@ use Rattle.cops_command.specs.Told.{IsReportOf}
 use Rattle.cops_command.specs.declared.status.Status.TheVariants.{Accepted, Faulty}
 use Rattle.cops_scenario.specs.Scenario.{AScenario, setting_of}
 use Rattle.cops_scenario.specs.File.{IsTextOf}
-use Rattle.cops_tie.specs.declared.entry.Entry.{Entry}
+use Rattle.cops_book.specs.declared.entry.Entry.{Entry}
 use Rattle.cops_tie.specs.Untied.{IsTied}
 use Rattle.cops_cluster.specs.Close.{made_in, told}
 use Rattle.cops_cluster.specs.declared.client.Client.{Client}
 use Rattle.cops_cluster.specs.declared.share.Made.{Made}
-use Rattle.cops_net.specs.Listening.{AreSessions}
+use Rattle.cops_net.specs.Listening.{AreSessions, AreServed}
 use Rattle.cops_replication.specs.declared.receiver.Receiver.{Receiver}
 use Rattle.cops_serve.specs.declared.front_end.FrontEnd.{FrontEnd}
+use Rattle.cops_serve.specs.FrontEnd.{Ends}
+use Rattle.cops_serve.specs.Opening.{IsOpened}
 
 -- as many data centres, and as many nodes in each
 abbrev pub HasNodesOf : APlace → APlace → Type 0
@@ -47,9 +49,14 @@ pub record IsReportOn (s : AScenario) (f : FrontEnd) (text : List ℕ) : Type 0 
   pub same : IsPermutation (made_in (length s.place.splits + 1) 0 books) (told_to f)
   pub report : IsTiedReport (setting_of s) books text
 
--- the report on a front end whose calls are those of so many sessions, one after the other
+-- The report on a front end that was opened for this very scenario, and on which just so many sessions were ended: they came
+-- one after the other, each was ended before the next, and its calls are theirs.
 pub record IsServed (sessions : ℕ) (s : AScenario) (text : List ℕ) : Type 0 where
+  pub opened : FrontEnd
+  pub is_opened : IsOpened s opened
   pub front_end : FrontEnd
+  pub served : AreServed (λ (f : FrontEnd). f.calls.items) Ends sessions opened front_end
+  pub count : front_end.ended ≡ sessions
   pub calls : AreSessions sessions front_end.calls.items
   pub report : IsReportOn s front_end text
 

@@ -13,6 +13,7 @@ use cops_core::Setting;
 use cops_replication::Receiver;
 use cops_scenario::Scenario;
 use cops_tie::{TieFault, tied_run};
+use cops_types::Memory;
 use std::alloc::{AllocError, Global};
 
 impl FrontEnd {
@@ -108,5 +109,8 @@ fn told_in(alloc: Global, setting: &Setting, closed: &Closed) -> Result<Vec<u8>,
         Err(TieFault::Memory) => return Err(ServeFault::Memory),
         Err(TieFault::Untied { ticket }) => return Err(ServeFault::Untied { ticket }),
     }
-    Ok(reported(alloc, closed.trace.history())?)
+    match reported(alloc, closed.trace.history()) {
+        Ok(report) => Ok(report),
+        Err(Memory) => Err(ServeFault::Memory),
+    }
 }

@@ -1,8 +1,4 @@
 //! Why the serving ended without a report.
-ghost use Rattle.std.specs.Prelude.{◌≡◌};
-ghost use Rattle.cops_serve.specs.declared.fault.ServeFault.TheVariants.{Memory as OutOfMemory};
-
-use cops_types::Memory;
 use thiserror::Error;
 
 /// Why there is no report.
@@ -17,12 +13,4 @@ pub enum ServeFault {
     BindFailed,
     #[error("accept")]
     AcceptFailed,
-}
-
-impl From<Memory> for ServeFault {
-    ghost from_gives = { λ _ e. e ≡ OutOfMemory };
-
-    fn from(_e: Memory) -> ServeFault {
-        ServeFault::Memory
-    }
 }

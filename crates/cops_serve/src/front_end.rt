@@ -37,7 +37,8 @@ impl Room {
 }
 
 /// A cluster behind the front door: its clients, one of whom has greeted in a session; the senders and receivers that
-/// replicate what was put, on this thread, after each session, in at most so many rounds of turns; and the calls so far.
+/// replicate what was put, on this thread, after each session, in at most so many rounds of turns; the calls so far; and
+/// how many sessions have ended.
 #[derive(Drop)]
 pub struct FrontEnd {
     pub(crate) turns: u32,
@@ -47,6 +48,7 @@ pub struct FrontEnd {
     pub(crate) receivers: Vec<Receiver>,
     pub(crate) greeted: Option<Greeted>,
     pub(crate) calls: Vec<Call>,
+    pub(crate) ended: u64,
     pub(crate) room: Option<Room>,
     pub(crate) alloc: Global,
     ghost at_home: { ForSome greeted (λ g. (g.client < vec_len clients) × (g.dc < cluster.place.dcs)) },
@@ -158,7 +160,8 @@ impl FrontEnd {
     fn round<R: Wait>(&mut self, rt: &R) -> bool
         ensures noted { self.new.calls.items ≡ self.old.calls.items }
         ensures clients { (self.new.clients ≡ self.old.clients) × (self.new.greeted ≡ self.old.greeted) }
-        ensures same { (self.new.turns ≡ self.old.turns) × (self.new.cluster ≡ self.old.cluster) }
+        ensures same { (self.new.turns ≡ self.old.turns) × (self.new.cluster ≡ self.old.cluster)
+            × (self.new.ended ≡ self.old.ended) }
     {
         let mut is_busy = false;
         for sender in self.senders.iter_mut() {
@@ -176,6 +179,8 @@ impl Session for FrontEnd {
     ghost use Rattle.cops_serve.specs.FrontEnd.{Checks, Ends, Gets, HasRoom, Hellos, IsSame, Puts, Statuses};
 
     ghost calls = { λ f. f.calls.items };
+
+    ghost ended = { λ f. f.ended };
 
     ghost has_room = { HasRoom };
 
@@ -264,5 +269,6 @@ impl Session for FrontEnd {
                 break;
             }
         }
+        self.ended = self.ended.saturating_add(1);
     }
 }

@@ -28,6 +28,7 @@ impl FrontEnd {
             receivers,
             greeted: None,
             calls: Vec::new(alloc),
+            ended: 0,
             room: None,
             alloc,
         })

@@ -1,11 +1,14 @@
 //! The front door of a scenario's cluster, from the scenario's text to the report.
-ghost use Rattle.std.specs.Prelude.{◌≡◌, ◌⊎◌, ◌++◌, List, ℕ, Ok, IfOk, IfSome};
+ghost use Rattle.std.specs.Prelude.{◌≡◌, ◌⊎◌, ◌<◌, ◌+◌, ◌^◌, ◌++◌, List, ℕ, Ok, IfOk, IfSome};
 ghost use Rattle.std.specs.Io.KnownBytes.{Appends};
 ghost use Rattle.cops_types.specs.Counted.{failures, inner};
 ghost use Rattle.cops_command.specs.Status.{number};
 ghost use Rattle.cops_command.specs.declared.status.Status.TheVariants.{Accepted, Failed};
-ghost use Rattle.cops_net.specs.Listening.{AreSessions};
+ghost use Rattle.cops_net.specs.Listening.{AreSessions, AreServed};
 ghost use Rattle.cops_net.specs.declared.reply.Call.{Call};
+ghost use Rattle.cops_serve.specs.declared.front_end.FrontEnd.{FrontEnd as AFrontEnd};
+ghost use Rattle.cops_serve.specs.FrontEnd.{Ends};
+ghost use Rattle.cops_serve.specs.Opening.{IsOpened};
 ghost use Rattle.cops_serve.specs.Serving.{EndsAs, IsServed};
 
 use crate::fault::ServeFault;
@@ -100,7 +103,7 @@ fn served<R: Net<Listener = TcpListener, Stream = TcpStream> + Wait>(
     front_end.finish(scenario)
 }
 
-/// A front end of a scenario's cluster, behind so many sessions.
+/// A front end that was opened for a scenario's cluster, behind so many sessions.
 fn attended<R: Net<Listener = TcpListener, Stream = TcpStream> + Wait>(
     rt: &R,
     alloc: Global,
@@ -108,9 +111,14 @@ fn attended<R: Net<Listener = TcpListener, Stream = TcpStream> + Wait>(
     port: u16,
     sessions: u16,
 ) -> Result<FrontEnd, ServeFault>
-    ensures { IfOk result (λ f. AreSessions sessions f.calls.items) }
+    ensures calls { IfOk result (λ f. AreSessions sessions f.calls.items) }
+    ensures served { IfOk result (λ f. (opened : AFrontEnd) × IsOpened scenario.now opened
+        × AreServed (λ (g : AFrontEnd). g.calls.items) Ends sessions opened f) }
+    ensures count { IfOk result (λ f. f.ended ≡ sessions) }
 {
-    let mut front_end = FrontEnd::open(alloc, scenario)?;
+    let Ok(mut front_end) = FrontEnd::open(alloc, scenario) else {
+        return Err(ServeFault::Memory);
+    };
     attend(rt, alloc, port, &mut front_end, sessions)?;
     Ok(front_end)
 }
@@ -123,7 +131,12 @@ fn attend<R: Net<Listener = TcpListener, Stream = TcpStream> + Wait>(
     front_end: &mut FrontEnd,
     sessions: u16,
 ) -> Result<(), ServeFault>
-    ensures { IfOk result (λ _. (gained : List Call) × (front_end.new.calls.items ≡ front_end.old.calls.items ++ gained) × AreSessions sessions gained) }
+    ensures calls { IfOk result (λ _. (gained : List Call)
+        × (front_end.new.calls.items ≡ front_end.old.calls.items ++ gained) × AreSessions sessions gained) }
+    ensures served { IfOk result (λ _.
+        AreServed (λ (f : AFrontEnd). f.calls.items) Ends sessions front_end.old front_end.new) }
+    ensures count { IfOk result (λ _.
+        front_end.old.ended + sessions < 2 ^ 64 → front_end.new.ended ≡ front_end.old.ended + sessions) }
 {
     match listen(rt, alloc, port, front_end, sessions) {
         Ok(()) => Ok(()),

@@ -11,10 +11,9 @@ use Rattle.cops_wire.specs.declared.fault.WireFault.TheVariants as wire
 use Rattle.cops_wire.specs.declared.message.Message.{Message}
 use Rattle.cops_wire.specs.declared.decoding.Decoded.{Decoded}
 use Rattle.cops_wire.specs.Grammar.{grammar, Parts}
-use Rattle.cops_wire.specs.Legal.{IsMessage}
-use Rattle.cops_wire.specs.Message.{parts}
+use Rattle.cops_wire.specs.Legal.{IsLegalMessage}
+use Rattle.cops_wire.specs.Message.{parts, spelled}
 use Rattle.cops_wire.specs.Answer.{Answers, IsAnswer}
-use Rattle.cops_trace.specs.Text.{spelled}
 use Rattle.cops_trace.proofs.Lists.{all_both, all_back}
 use Rattle.cops_types.proofs.Devices.{appends_more}
 use Rattle.cops_stream.proofs.Shown.{appends_none}
@@ -22,9 +21,6 @@ use Rattle.cops_stream.specs.NextLine.{AppendsNext}
 use Rattle.cops_stream.specs.Show.{line_of, lines_of, frames_of, StandBefore, AreShown}
 
 -- ---- one more frame
-
-abbrev pub IsLegal : Message → Type 0
-IsLegal m = IsMessage (grammar One) (parts m)
 
 one_frame : (m : Message) → frames_of (m ∷ []) ≡ spelled m
 one_frame m = append-nil (spelled m)
@@ -61,7 +57,7 @@ one_more : (bytes : List ℕ) (end at used : ℕ) (ms : List Message) (m : Messa
 one_more bytes end at used ms m h n len =
     record {
       stand = record {
-        legal = all_both IsLegal ms (m ∷ []) h.stand.legal n.legal;
+        legal = all_both IsLegalMessage ms (m ∷ []) h.stand.legal n.legal;
         rest = n.rest;
         front = h.stand.front ∙ ap (λ (x : List ℕ). frames_of ms ++ x) (sym (rest_is bytes end at ms h) ∙ n.front ∙ ap (λ (x : List ℕ). x ++ n.rest) (one_frame m))
             ∙ sym (append_assoc (frames_of ms) (spelled m) n.rest) ∙ ap (λ (x : List ℕ). x ++ n.rest) (sym (more_frames ms m));
@@ -77,7 +73,7 @@ no_more bytes end at ms h none = record {
   all = λ m s.
       none m
       (record {
-        legal = all_back IsLegal ms (m ∷ []) s.legal;
+        legal = all_back IsLegalMessage ms (m ∷ []) s.legal;
         rest = s.rest;
         front = rest_is bytes end at ms h ∙ append_cancel_left (frames_of ms) h.stand.rest (frames_of (m ∷ []) ++ s.rest)
             (sym h.stand.front ∙ s.front ∙ ap (λ (x : List ℕ). x ++ s.rest) (flat_map-append spelled ms (m ∷ [])) ∙ append_assoc (frames_of ms) (frames_of (m ∷ [])) s.rest);

@@ -1,7 +1,7 @@
 -- What showing one message more appends.
 use Rattle.std.specs.Prelude.{◌≡◌, ℕ, List, [], ◌∷◌, ◌++◌, length, Option, Some, None}
 use Rattle.cops_wire.specs.declared.message.Message.{Message}
-use Rattle.cops_trace.specs.Text.{spelled}
+use Rattle.cops_wire.specs.Message.{spelled}
 use Rattle.cops_stream.specs.Show.{StandBefore, line_of}
 
 -- The line of the message whose frame stands at the front was appended, and this is the frame's length; or none stands

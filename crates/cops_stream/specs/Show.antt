@@ -7,13 +7,13 @@ use Rattle.cops_types.specs.Texts.{◌⧺◌}
 use Rattle.cops_wire.specs.declared.message.Message.{Message}
 use Rattle.cops_wire.specs.Grammar.{grammar}
 use Rattle.cops_wire.specs.Legal.{IsMessage}
-use Rattle.cops_wire.specs.Message.{parts}
+use Rattle.cops_wire.specs.Message.{parts, spelled}
 use Rattle.cops_wire.specs.Shown.{shown}
 use Rattle.cops_command.specs.Status.{number}
 use Rattle.cops_command.specs.declared.status.Status.{Status}
 use Rattle.cops_command.specs.declared.status.Status.TheVariants.{Accepted, Faulty}
 use Rattle.cops_trace.specs.declared.fault.TraceFault.{TraceFault}
-use Rattle.cops_trace.specs.Text.{ATrace, spelled}
+use Rattle.cops_trace.specs.Text.{ATrace}
 use Rattle.cops_trace.specs.Answer.{Says}
 use Rattle.cops_trace.specs.Faults.{offset_of}
 use Rattle.cops_trace.specs.Lines.{fault_line}

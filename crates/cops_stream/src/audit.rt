@@ -2,18 +2,18 @@
 ghost use Rattle.std.specs.Prelude.{◌≡◌, ◌⊎◌, ◌↔◌, ◌<◌, List, ℕ, IfOk, IfErr, IfSome, IsErrOf, Ok, Err};
 ghost use Rattle.std.specs.Io.KnownBytes.{Keeps};
 ghost use Rattle.cops_types.specs.Failures.{Failed};
+ghost use Rattle.cops_types.specs.declared.limits.TheConstants.{MAX_WORKERS};
 ghost use Rattle.cops_types.specs.Counted.{failures, inner};
 ghost use Rattle.cops_trace.specs.Answer.{Agrees};
 ghost use Rattle.cops_batch.specs.Pieces.{MayHoldPiece};
 ghost use Rattle.cops_stream.specs.Audit.{AuditSays, Writes, WritesFront, IsTold, Converges};
 ghost use Rattle.cops_stream.specs.Convergent.{SpellsConvergent};
-ghost use Rattle.cops_stream.specs.declared.audit.StreamFault.TheVariants.{Memory as OutOfMemory};
 
 use cops_audit::Verdict;
 use cops_batch::{BatchFault, judge_with};
 use cops_report::report;
 use cops_trace::{Trace, TraceFault, fault_line, read_trace};
-use cops_types::{Counted, Gate, Memory, write_text};
+use cops_types::{Counted, Gate, MAX_WORKERS, write_text};
 use std::alloc::Global;
 use std::io::{Read, Write};
 use std::sync::Wait;
@@ -34,24 +34,21 @@ pub enum Answer {
 /// Why no audit was written. The numbers are the faults' codes.
 #[derive(Clone, Copy, Debug, PartialEq, Eq, Error)]
 pub enum StreamFault {
+    /// 0: out of memory.
     #[error("out of memory")]
-    Memory = 0,
+    Memory,
+    /// 1: the workers are not 1 to 64.
     #[error("the workers are not 1 to 64")]
-    BadWorkers = 1,
+    BadWorkers,
+    /// 2: the gate held a worker.
     #[error("the gate held a worker")]
-    Held = 2,
+    Held,
+    /// 3: the reader failed.
     #[error("the reader failed")]
-    ReadFailed = 3,
+    ReadFailed,
+    /// 4: the writer failed.
     #[error("the writer failed")]
-    WriteFailed = 4,
-}
-
-impl From<Memory> for StreamFault {
-    ghost from_gives = { λ _ e. e ≡ OutOfMemory };
-
-    fn from(_e: Memory) -> StreamFault {
-        StreamFault::Memory
-    }
+    WriteFailed,
 }
 
 /// The answer for a trace, with its report, by so many workers.
@@ -64,7 +61,7 @@ fn judged<T: Threads + Wait + Sync, G: Gate>(
 ) -> Result<(Answer, Vec<u8>), StreamFault>
     ensures told { IfOk result (λ told. IsTold trace.now told.0 told.1.items) }
     ensures convergent { IfOk result (λ told. told.0 ≡ Answer.Accepted → Converges (Ok trace.now)) }
-    ensures bad { IsErrOf result StreamFault.BadWorkers → (workers ≡ 0) ⊎ (64 < workers) }
+    ensures bad { IsErrOf result StreamFault.BadWorkers → (workers ≡ 0) ⊎ (MAX_WORKERS < workers) }
     ensures held { IsErrOf result StreamFault.Held → (i : ℕ) × (i < workers) × MayHoldPiece (G.may_hold gate.now) i }
     ensures no_read { ¬ IsErrOf result StreamFault.ReadFailed }
     ensures no_write { ¬ IsErrOf result StreamFault.WriteFailed }
@@ -76,7 +73,9 @@ fn judged<T: Threads + Wait + Sync, G: Gate>(
         Err(BatchFault::BadWorkers) => return Err(StreamFault::BadWorkers),
         Err(BatchFault::Held) => return Err(StreamFault::Held),
     };
-    let text = report(alloc, history, &verdict)?;
+    let Ok(text) = report(alloc, history, &verdict) else {
+        return Err(StreamFault::Memory);
+    };
     match verdict {
         Verdict::Accepted(_) => Ok((Answer::Accepted, text)),
         Verdict::Refused(_) => Ok((Answer::Refused, text)),
@@ -93,7 +92,7 @@ fn told<T: Threads + Wait + Sync, G: Gate>(
 ) -> Result<(Answer, Vec<u8>), StreamFault>
     ensures says { (bytes : List ℕ) → Agrees bytes read → IfOk result (λ told. AuditSays bytes told.0 told.1.items) }
     ensures convergent { IfOk result (λ told. told.0 ≡ Answer.Accepted → Converges read) }
-    ensures bad { IsErrOf result StreamFault.BadWorkers → (workers ≡ 0) ⊎ (64 < workers) }
+    ensures bad { IsErrOf result StreamFault.BadWorkers → (workers ≡ 0) ⊎ (MAX_WORKERS < workers) }
     ensures held { IsErrOf result StreamFault.Held → (i : ℕ) × (i < workers) × MayHoldPiece (G.may_hold gate.now) i }
     ensures read_failed { IsErrOf result StreamFault.ReadFailed → read ≡ Err TraceFault.ReadFailed }
     ensures read_told { IsErrOf read TraceFault.ReadFailed → IsErrOf result StreamFault.ReadFailed }
@@ -105,7 +104,7 @@ fn told<T: Threads + Wait + Sync, G: Gate>(
         Err(TraceFault::ReadFailed) => Err(StreamFault::ReadFailed),
         Err(fault) => {
             let mut text = Vec::new(alloc);
-            fault_line(alloc, &fault, &mut text)?;
+            fault_line(alloc, &fault, &mut text).or(Err(StreamFault::Memory))?;
             Ok((Answer::Faulty, text))
         }
     }
@@ -137,7 +136,7 @@ pub fn audit_stream<T: Threads + Wait + Sync, R: Read, W: Write, G: Gate>(
         → Keeps (W.contents (inner writer.old)) (W.contents (inner writer.new)) }
 
     // The workers' number is told exactly where it is bad, before anything is read; a worker is held only by the gate.
-    ensures bad { IsErrOf result StreamFault.BadWorkers ↔ ((workers ≡ 0) ⊎ (64 < workers)) }
+    ensures bad { IsErrOf result StreamFault.BadWorkers ↔ ((workers ≡ 0) ⊎ (MAX_WORKERS < workers)) }
     ensures unread { IsErrOf result StreamFault.BadWorkers → reader.new ≡ reader.old }
     ensures held { IsErrOf result StreamFault.Held → (i : ℕ) × (i < workers) × MayHoldPiece (G.may_hold gate.now) i }
 
@@ -150,7 +149,7 @@ pub fn audit_stream<T: Threads + Wait + Sync, R: Read, W: Write, G: Gate>(
     if workers == 0 {
         return Err(StreamFault::BadWorkers);
     }
-    if workers > 64 {
+    if workers > MAX_WORKERS {
         return Err(StreamFault::BadWorkers);
     }
     let (answer, text) = told(rt, alloc, read_trace(alloc, reader), workers, gate)?;

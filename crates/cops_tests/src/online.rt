@@ -1,12 +1,12 @@
 use crate::building::*;
 use cops_audit::SoFar::{Clean, Refused, Waiting};
-use cops_audit::{Online, SoFar};
-use cops_types::{OpName, TypeFault};
+use cops_audit::{FeedFault, Online, SoFar};
+use cops_types::OpName;
 use std::alloc::Global;
 use std::test::Fail;
 
-fn feed(alloc: Global, online: &mut Online, client: u16, did: Did) -> Result<(), TypeFault> {
-    let op = op(alloc, did)?;
+fn feed(alloc: Global, online: &mut Online, client: u16, did: Did) -> Result<(), FeedFault> {
+    let op = op(alloc, did).or(Err(FeedFault::Memory))?;
     online.feed(client, op)
 }
 
@@ -23,7 +23,7 @@ fn says(
     online: &mut Online,
     entries: &[(u16, Did)],
     wanted: &[SoFar],
-) -> Result<bool, TypeFault> {
+) -> Result<bool, FeedFault> {
     for ((client, did), so_far) in entries.iter().zip(wanted) {
         feed(alloc, online, *client, *did)?;
         if !is_said(online, *so_far) {
@@ -106,7 +106,7 @@ fn refused_from_then_on(rt: HostRuntime) -> Result<(), Fail> {
 }
 
 /// Feeds a client's rounds: in each it puts on its own key, and gets what the next client puts in the same round.
-fn feed_rounds(alloc: Global, online: &mut Online, client: u8, next: u8) -> Result<(), TypeFault> {
+fn feed_rounds(alloc: Global, online: &mut Online, client: u8, next: u8) -> Result<(), FeedFault> {
     let node = u16::from(client);
     let next_node = u16::from(next);
     for round in 1..101u8 {
@@ -118,7 +118,7 @@ fn feed_rounds(alloc: Global, online: &mut Online, client: u8, next: u8) -> Resu
 }
 
 /// Feeds the rounds of ten clients in turn, and tells whether the gets of each wait for the puts of the next.
-fn all_wait(alloc: Global, online: &mut Online) -> Result<bool, TypeFault> {
+fn all_wait(alloc: Global, online: &mut Online) -> Result<bool, FeedFault> {
     for client in 0..9u8 {
         feed_rounds(alloc, online, client, client + 1)?;
         if !is_said(online, Waiting(100)) {
@@ -172,10 +172,10 @@ fn a_stale_get_after_many(rt: HostRuntime) -> Result<(), Fail> {
 const WAITS: Did = Did::Got(b'x', 1, 1, 0);
 
 /// Whether what a client that is not there did is refused, and what is said stays.
-fn refuses_others(alloc: Global, online: &mut Online) -> Result<bool, TypeFault> {
+fn refuses_others(alloc: Global, online: &mut Online) -> Result<bool, FeedFault> {
     feed(alloc, online, 0, WAITS)?;
     let refused = feed(alloc, online, 1, Did::Put(b'x', 1, 1, 0));
-    Ok(refused == Err(TypeFault::UnknownClient) && is_said(online, Waiting(1)))
+    Ok(refused == Err(FeedFault::UnknownClient) && is_said(online, Waiting(1)))
 }
 
 #[test]

@@ -1,4 +1,3 @@
-pub mod Book
 pub mod Tie
 pub mod Untied
 pub mod Ticketed

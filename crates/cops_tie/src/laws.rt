@@ -2,7 +2,7 @@ ghost use Rattle.std.specs.Prelude.{◌≡◌, ℕ, List};
 ghost use Rattle.cops_types.specs.Histories.{Sessions};
 ghost use Rattle.cops_core.specs.World.{Setting, World};
 ghost use Rattle.cops_core.specs.declared.event.Event.{Event};
-ghost use Rattle.cops_tie.specs.declared.entry.Entry.{Entry};
+ghost use Rattle.cops_book.specs.declared.entry.Entry.{Entry};
 ghost use Rattle.cops_tie.specs.Tie.{IsTiedTo};
 ghost use Rattle.cops_tie.specs.Untied.{IsTied, IsUntied};
 

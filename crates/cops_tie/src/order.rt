@@ -4,7 +4,7 @@ ghost use Rattle.std.specs.List.Sorted.{IsPermutation};
 ghost use Rattle.cops_tie.specs.Tie.{placed, ticket};
 ghost use Rattle.cops_tie.specs.Ticketed.{HasItsTicket, shown};
 
-use crate::entry::Entry;
+use cops_book::Entry;
 use std::alloc::{AllocError, Global};
 
 /// An entry, in the book of the node at a place of a data centre, with its ticket, by which it is sorted without a look at it.

@@ -7,9 +7,9 @@ ghost use Rattle.cops_tie.specs.Tie.{Placed, IsBelow, Continues, Follows, IsFrom
 ghost use Rattle.cops_tie.specs.Untied.{IsTied, IsTiedBefore, IsUntied, StopsAt, ticket_after};
 ghost use Rattle.cops_tie.specs.Ticketed.{StandsRight, WhereUntied, shown};
 
-use crate::entry::Entry;
 use crate::fault::TieFault;
 use crate::order::{Ticketed, in_order};
+use cops_book::{Entry, is_same_put};
 use cops_core::{Event, Setting, World};
 use cops_node::{NodeEvent, Outcome};
 use cops_trace::Trace;
@@ -262,22 +262,6 @@ fn is_sent(world: &World, put: &PutRecord) -> bool
         Some(sent) => is_same_put(sent, put),
         None => false,
     }
-}
-
-/// Whether the puts are the same.
-pub(crate) fn is_same_put(one: &PutRecord, other: &PutRecord) -> bool
-    ensures { IsTrue result ↔ (one.now ≡ other.now) }
-{
-    if one.key != other.key {
-        return false;
-    }
-    if one.value != other.value {
-        return false;
-    }
-    if one.version != other.version {
-        return false;
-    }
-    one.deps.as_slice() == other.deps.as_slice()
 }
 
 /// The world's event that a node's event is.

@@ -1,7 +1,8 @@
 -- The first and the last message of a trace, as bytes.
 use Rattle.std.proofs.Common.{ℕ, List, length}
 use Rattle.cops_wire.specs.declared.message.Message.TheVariants.{TraceHead, TraceEnd}
-use Rattle.cops_trace.specs.Text.{ATrace, spelled}
+use Rattle.cops_wire.specs.Message.{spelled}
+use Rattle.cops_trace.specs.Text.{ATrace}
 
 -- the head, of format 1
 abbrev pub head_text : ℕ → List ℕ

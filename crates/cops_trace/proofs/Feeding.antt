@@ -4,7 +4,7 @@ use Rattle.std.specs.Prelude.{◌⊎◌, IfSome, IfOk, unwrap_or}
 use Rattle.std.specs.Io.KnownBytes.{Consumes, IsAtEnd}
 use Rattle.std.proofs.lemmas.List.{length-append, length-drop, append-nil}
 use Rattle.cops_wire.specs.Answer.{IsBytes}
-use Rattle.cops_wire.specs.Message.{parts}
+use Rattle.cops_wire.specs.Message.{parts, spelled}
 use Rattle.cops_trace.specs.declared.fault.TraceFault.{TraceFault}
 use Rattle.cops_trace.specs.declared.fault.TraceFault.TheVariants.{Memory, ReadFailed, Cut, BytesAfterEnd}
 use Rattle.cops_trace.specs.declared.trace.Partial.{Partial}
@@ -12,7 +12,7 @@ use Rattle.cops_trace.specs.declared.found.Item.{Item}
 use Rattle.cops_trace.specs.declared.found.Item.TheVariants.{Head, Entry, End}
 use Rattle.cops_trace.specs.declared.found.Found.{Found}
 use Rattle.cops_trace.specs.declared.found.Found.TheVariants.{Gives, Waits, Fails}
-use Rattle.cops_trace.specs.Text.{ATrace, IsTrace, spelled, beginning, text}
+use Rattle.cops_trace.specs.Text.{ATrace, IsTrace, beginning, text}
 use Rattle.cops_trace.proofs.Ends.{end_text}
 use Rattle.cops_trace.specs.Next.{Progress, Stands}
 use Rattle.cops_trace.specs.Answer.{progress_of, progress_at, front, Begins, HasFault, Says, IsCutAfter, BeginsAs, Agrees}

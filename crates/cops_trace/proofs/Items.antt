@@ -12,8 +12,8 @@ use Rattle.cops_wire.specs.declared.message.Message.{Message}
 use Rattle.cops_wire.specs.declared.message.Message.TheVariants.{TraceHead, TracePut, TraceGot, TraceMissed, TraceEnd, ByeOk}
 use Rattle.cops_wire.specs.Answer.{IsBytes, IsShort}
 use Rattle.cops_wire.specs.Grammar.{grammar, Parts}
-use Rattle.cops_wire.specs.Legal.{IsMessage}
-use Rattle.cops_wire.specs.Message.{parts}
+use Rattle.cops_wire.specs.Legal.{IsLegalMessage}
+use Rattle.cops_wire.specs.Message.{parts, spelled}
 use Rattle.cops_wire.proofs.Messages.{parts-same}
 use Rattle.cops_wire.proofs.Codec.{same_answer, spelling_answered, answer_splits, spelling_bounds}
 use Rattle.cops_wire.proofs.Frames.{answer_stays}
@@ -24,7 +24,7 @@ use Rattle.cops_trace.specs.declared.found.Item.{Item}
 use Rattle.cops_trace.specs.declared.found.Item.TheVariants.{Head, Entry, End}
 use Rattle.cops_trace.specs.declared.found.Found.{Found}
 use Rattle.cops_trace.specs.declared.found.Found.TheVariants.{Gives, Waits, Fails}
-use Rattle.cops_trace.specs.Text.{ATrace, IsTrace, IsOp, turn, spelled, op_message}
+use Rattle.cops_trace.specs.Text.{ATrace, IsTrace, IsOp, turn, op_message}
 use Rattle.cops_trace.specs.Next.{Progress, FrameIs, Stands, found_in, unread, first_message, later_message, record_found, end_found}
 use Rattle.cops_trace.specs.Answer.{front, progress_at}
 use Rattle.cops_trace.specs.Parsing.{with_item, is_end}
@@ -132,13 +132,10 @@ one_item p i j h k e =
 
 -- ---- from what stands to the bytes, and back
 
-abbrev pub IsLegal : Message → Type 0
-IsLegal m = IsMessage (grammar One) (parts m)
-
 -- the item may stand there, and its message's bytes do
 pub record Stood (p : Option Progress) (rest : List ℕ) (i : Item) (used : ℕ) : Type 0 where
   pub allowed : Allows p i
-  pub legal : IsLegal (item_message p i)
+  pub legal : IsLegalMessage (item_message p i)
   pub used_is : used ≡ length (spelled (item_message p i))
   pub parts_are : rest ≡ spelled (item_message p i) ++ drop used rest
 
@@ -150,7 +147,7 @@ stood p rest i used s =
     let a = answer_splits One rest (parts (item_message p i)) used is in
     record { allowed = g.0; legal = a.0; used_is = a.1; parts_are = a.2 }
 
-pub stands_again : (p : Option Progress) (i : Item) (rest : List ℕ) → Allows p i → IsLegal (item_message p i) → Stands p (spelled (item_message p i) ++ rest) (Gives i (length (spelled (item_message p i))))
+pub stands_again : (p : Option Progress) (i : Item) (rest : List ℕ) → Allows p i → IsLegalMessage (item_message p i) → Stands p (spelled (item_message p i) ++ rest) (Gives i (length (spelled (item_message p i))))
 unfolding spelled
 stands_again p i rest allowed legal = record {
   frame = Ok (item_message p i, length (spelled (item_message p i)));
@@ -245,7 +242,7 @@ waits_len p rest s = short_len rest (subst (FrameIs rest) (waits_short p s.frame
 pub nothing_waits : Stands None [] Waits
 nothing_waits = record { frame = Err wire.Short; frame_is = inl (omega arith); found_is = refl }
 
-pub spelled_len : (m : Message) → IsLegal m → length (spelled m) ≤ 32772
+pub spelled_len : (m : Message) → IsLegalMessage m → length (spelled m) ≤ 32772
 unfolding spelled
 spelled_len m legal = let b = spelling_bounds One (parts m) legal in omega (arith, b.1)
 
@@ -307,12 +304,12 @@ frame_fails (Some p) (Err x) = unread_fails p.at x
 
 -- ---- a front of a text that grows by an item
 
-pub op_fits : (c i : ℕ) (op : Op) → IsLegal (op_message c i op) → IsOp op
+pub op_fits : (c i : ℕ) (op : Op) → IsLegalMessage (op_message c i op) → IsOp op
 op_fits c i (Put key value version) h = ((omega (arith, h.1.1.0.1), h.1.1.0.2), h.1.1.1.0.2, h.1.1.1.1.0)
 op_fits c i (Got key value version) h = ((omega (arith, h.1.1.0.1), h.1.1.0.2), h.1.1.1.0.2, h.1.1.1.1.0)
 op_fits c i (Missed key) h = (omega (arith, h.1.1.0.1), h.1.1.0.2)
 
-pub op_legal : (c i : ℕ) (op : Op) → c < 2 ^ 16 → i < 2 ^ 32 → IsOp op → IsLegal (op_message c i op)
+pub op_legal : (c i : ℕ) (op : Op) → c < 2 ^ 16 → i < 2 ^ 32 → IsOp op → IsLegalMessage (op_message c i op)
 op_legal c i (Put key value version) cl il h = (cl, (il, ((omega (arith, h.0.1), omega (arith, h.0.0), h.0.1), ((omega (arith, h.1), omega arith, h.1), (h.2, tt)))))
 op_legal c i (Got key value version) cl il h = (cl, (il, ((omega (arith, h.0.1), omega (arith, h.0.0), h.0.1), ((omega (arith, h.1), omega arith, h.1), (h.2, tt)))))
 op_legal c i (Missed key) cl il h = (cl, (il, ((omega (arith, h.1), omega (arith, h.0), h.1), tt)))
@@ -323,7 +320,7 @@ front_with (Some t) (Entry r) h k = beginning-grown t r
 front_with (Some t) End h k = absurd cc
 front_with _ _ h k = absurd h
 
-pub trace_with : (b : Option ATrace) (i : Item) → IfSome b IsTrace → Allows (progress_at b) i → IsLegal (item_message (progress_at b) i) → is_end i ≡ false → IfSome (with_item i b) IsTrace
+pub trace_with : (b : Option ATrace) (i : Item) → IfSome b IsTrace → Allows (progress_at b) i → IsLegalMessage (item_message (progress_at b) i) → is_end i ≡ false → IfSome (with_item i b) IsTrace
 trace_with None (Head clients) t h legal k = IsTrace-none clients legal.1.0
 trace_with (Some t) (Entry r) is h legal k = IsTrace-grown t r is h.0 (op_fits r.client (turn r.client t.records) r.op legal) h.1 h.2
 trace_with (Some t) End is h legal k = absurd cc

@@ -5,6 +5,7 @@ use Rattle.std.proofs.lemmas.Bool.{ne_eqb}
 use Rattle.std.proofs.lemmas.List.{length-append, append-nil}
 use Rattle.cops_types.specs.declared.limits.TheConstants.{MAX_CLIENT_OPS, MAX_OPS}
 use Rattle.cops_types.specs.declared.format.Format.TheVariants.{One}
+use Rattle.cops_wire.specs.Legal.{IsLegalMessage}
 use Rattle.cops_wire.specs.declared.message.Message.{Message}
 use Rattle.cops_wire.specs.declared.message.Message.TheVariants.{TraceEnd}
 use Rattle.cops_wire.specs.Answer.{IsBytes}
@@ -17,7 +18,8 @@ use Rattle.cops_trace.specs.declared.found.Item.{Item}
 use Rattle.cops_trace.specs.declared.found.Item.TheVariants.{Head, Entry, End}
 use Rattle.cops_trace.specs.declared.found.Found.{Found}
 use Rattle.cops_trace.specs.declared.found.Found.TheVariants.{Gives, Waits, Fails}
-use Rattle.cops_trace.specs.Text.{ATrace, IsTrace, IsOp, turn, spelled, records_text, beginning, text}
+use Rattle.cops_wire.specs.Message.{spelled}
+use Rattle.cops_trace.specs.Text.{ATrace, IsTrace, IsOp, turn, records_text, beginning, text}
 use Rattle.cops_trace.proofs.Ends.{head_text, end_text}
 use Rattle.cops_trace.specs.Next.{Stands}
 use Rattle.cops_trace.specs.Answer.{progress_of, progress_at, front, Begins, HasWrongFrame, IsCut, HasMore, HasFault, Says, Agrees}
@@ -25,7 +27,7 @@ use Rattle.cops_trace.specs.Answer as answer
 use Rattle.cops_trace.specs.Parsing.{with_item, is_end}
 use Rattle.cops_trace.proofs.Lists.{all_back, turn-same}
 use Rattle.cops_trace.proofs.Growth.{with_records, IsTrace-front}
-use Rattle.cops_trace.proofs.Items.{item_message, Allows, IsLegal, one_item, stands_again, one_stands, op_legal, spelled_len}
+use Rattle.cops_trace.proofs.Items.{item_message, Allows, one_item, stands_again, one_stands, op_legal, spelled_len}
 
 -- ---- items in a row
 
@@ -36,7 +38,7 @@ items_text b (i ∷ is) = spelled (item_message (progress_at b) i) ++ items_text
 -- each may stand after those before it, and none is the end
 abbrev AllStand : Option ATrace → List Item → Type 0
 AllStand b [] = Unit {0}
-AllStand b (i ∷ is) = Allows (progress_at b) i × IsLegal (item_message (progress_at b) i) × (is_end i ≡ false) × AllStand (with_item i b) is
+AllStand b (i ∷ is) = Allows (progress_at b) i × IsLegalMessage (item_message (progress_at b) i) × (is_end i ≡ false) × AllStand (with_item i b) is
 
 abbrev after_items : Option ATrace → List Item → Option ATrace
 after_items b [] = b
@@ -53,7 +55,7 @@ stands_not_last b i is a rest all e last =
     let here = stands_again (progress_at b) i more all.0 all.1 in
     last i (length (spelled m)) all.2 (subst (λ (x : List ℕ). Stands (progress_at b) x (Gives i (length (spelled m)))) (sym (e ∙ append_assoc (spelled m) (items_text (with_item i b) is) rest)) here)
 
-same_message : (m n : Message) (x y : List ℕ) → IsLegal m → IsLegal n → spelled m ++ x ≡ spelled n ++ y → (m ≡ n) × (x ≡ y)
+same_message : (m n : Message) (x y : List ℕ) → IsLegalMessage m → IsLegalMessage n → spelled m ++ x ≡ spelled n ++ y → (m ≡ n) × (x ≡ y)
 unfolding spelled
 same_message m n x y legal_m legal_n e = one_message One m n x y legal_m legal_n e
 

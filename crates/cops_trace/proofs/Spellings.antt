@@ -8,7 +8,8 @@ use Rattle.cops_types.specs.declared.op.Op.{Op}
 use Rattle.cops_types.specs.declared.op.Op.TheVariants.{Missed}
 use Rattle.cops_types.specs.Histories.{Sessions, op_at}
 use Rattle.cops_trace.specs.declared.record.Record.{Record}
-use Rattle.cops_trace.specs.Text.{IsOp, records_text, spelled, op_message}
+use Rattle.cops_wire.specs.Message.{spelled}
+use Rattle.cops_trace.specs.Text.{IsOp, records_text, op_message}
 use Rattle.cops_trace.specs.Kept.{op_in, records_from, IsKept}
 use Rattle.cops_trace.proofs.Lists.{same_or_other, times, times-cons, times-append, times-same}
 use Rattle.cops_trace.proofs.Growth.{records_text-push}

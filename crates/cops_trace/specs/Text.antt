@@ -2,7 +2,6 @@
 use Rattle.std.specs.Prelude.{ℕ, ◌<◌, ◌≤◌, ◌^◌, List, [], ◌∷◌, ◌++◌, length, count_by, replicate, ◌==◌}
 use Rattle.std.specs.List.{AllByRecursion}
 use Rattle.cops_types.specs.declared.limits.TheConstants.{MAX_CLIENT_OPS, MAX_OPS}
-use Rattle.cops_types.specs.declared.format.Format.TheVariants.{One}
 use Rattle.cops_types.specs.declared.op.Op.{Op}
 use Rattle.cops_types.specs.declared.op.Op.TheVariants.{Put, Got, Missed}
 use Rattle.cops_types.specs.KeyValue.{IsKey, IsValue}
@@ -10,8 +9,7 @@ use Rattle.cops_types.specs.Version.{IsVersion}
 use Rattle.cops_types.specs.Histories.{Sessions, with_op}
 use Rattle.cops_wire.specs.declared.message.Message.{Message}
 use Rattle.cops_wire.specs.declared.message.Message.TheVariants.{TraceHead, TracePut, TraceGot, TraceMissed, TraceEnd}
-use Rattle.cops_wire.specs.Grammar.{grammar, spelling}
-use Rattle.cops_wire.specs.Message.{parts}
+use Rattle.cops_wire.specs.Message.{spelled}
 use Rattle.cops_trace.specs.declared.record.Record.{Record}
 
 -- a number of clients, and what they did in order of arrival
@@ -44,10 +42,6 @@ pub record IsTrace (t : ATrace) : Type 0 where
   pub named : AllByRecursion (λ r. (r.client < t.clients) × IsOp r.op) t.records
   pub each : (client : ℕ) → turn client t.records ≤ MAX_CLIENT_OPS
   pub all : length t.records ≤ MAX_OPS
-
--- the bytes of a message of format 1
-unfoldable pub spelled : Message → List ℕ
-spelled m = spelling (grammar One) (parts m)
 
 -- an operation as the client's record with this index
 abbrev pub op_message : ℕ → ℕ → Op → Message

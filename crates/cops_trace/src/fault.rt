@@ -1,12 +1,8 @@
 //! Why bytes are no trace.
 ghost use Rattle.std.specs.Prelude.{◌≡◌};
-ghost use Rattle.cops_trace.specs.declared.fault.TraceFault.TheVariants.{Memory as OutOfMemory};
-ghost use Rattle.cops_trace.specs.declared.fault.WriteFault.TheVariants.{Memory as NoMemory};
 ghost use Rattle.cops_trace.specs.Faults.{offset_of};
 
-use cops_types::Memory;
 use cops_wire::WireFault;
-use std::alloc::{AllocError, AllocFailed};
 use thiserror::Error;
 
 /// Why no trace was read. An offset counts from the text's first byte: it is the place of the frame that is wrong, or
@@ -79,36 +75,4 @@ pub enum WriteFault {
     /// 1: the writer failed, after exactly so many of the text's first bytes.
     #[error("the writer failed after {written} bytes")]
     WriteFailed { written: usize },
-}
-
-impl From<Memory> for WriteFault {
-    ghost from_gives = { λ _ e. e ≡ NoMemory };
-
-    fn from(_e: Memory) -> WriteFault {
-        WriteFault::Memory
-    }
-}
-
-impl From<Memory> for TraceFault {
-    ghost from_gives = { λ _ e. e ≡ OutOfMemory };
-
-    fn from(_e: Memory) -> TraceFault {
-        TraceFault::Memory
-    }
-}
-
-impl From<AllocError> for TraceFault {
-    ghost from_gives = { λ _ e. e ≡ OutOfMemory };
-
-    fn from(_e: AllocError) -> TraceFault {
-        TraceFault::Memory
-    }
-}
-
-impl<T: Drop> From<AllocFailed<T>> for TraceFault {
-    ghost from_gives = { λ _ e. e ≡ OutOfMemory };
-
-    fn from(_e: AllocFailed<T>) -> TraceFault {
-        TraceFault::Memory
-    }
 }

@@ -9,6 +9,7 @@ use crate::found::{Found, Item};
 use crate::record::Record;
 use crate::trace::{Partial, Trace};
 use cops_types::{Memory, TypeFault};
+use cops_wire::Buffer;
 use std::alloc::Global;
 use std::marker::Model;
 
@@ -16,22 +17,18 @@ use std::marker::Model;
 #[derive(Debug, Drop)]
 pub(crate) struct Parser {
     alloc: Global,
-    bytes: Vec<u8>,
-    start: usize,
+    buffer: Buffer,
     begun: Option<Trace>,
     at: u64,
     ended: bool,
 }
 
 impl Model for Parser {
-    ghost use Rattle.std.specs.Prelude.{◌≤◌, length, drop};
     ghost use Rattle.cops_trace.specs.Parsing.{Stage};
 
     ghost Value = { Stage };
 
-    ghost view = { λ p. record { begun = p.begun; at = p.at; ended = p.ended; rest = drop p.start p.bytes.items } };
-
-    ghost invariant = { λ p. p.start ≤ length p.bytes.items };
+    ghost view = { λ p. record { begun = p.begun; at = p.at; ended = p.ended; rest = p.buffer } };
 }
 
 impl Parser {
@@ -45,23 +42,11 @@ impl Parser {
     {
         Parser {
             alloc,
-            bytes: Vec::new(alloc),
-            start: 0,
+            buffer: Buffer::new(alloc),
             begun: None,
             at: 0,
             ended: false,
         }
-    }
-
-    /// Takes the next piece. For want of memory nothing changes.
-    fn feed(&mut self, piece: &[u8]) -> Result<(), Memory>
-        ensures ok { OnOk result (self.new ≡ record self.old { rest = self.old.rest ++ piece.now }) }
-        ensures err { OnErr result (self.new ≡ self.old) }
-    {
-        remove_front(&mut self.bytes, self.start);
-        self.start = 0;
-        self.bytes.extend_from_slice(piece)?;
-        Ok(())
     }
 
     /// What stands at the front of the rest.
@@ -71,7 +56,7 @@ impl Parser {
         ensures within { IfOk result (λ found. IsWithin found (length self.now.rest)) }
         ensures room { IfOk result (λ found. HasRoom found self.now.begun) }
     {
-        let (_, rest) = self.bytes.split_at(self.start);
+        let rest = self.buffer.rest();
         match &self.begun {
             None => first_found(self.alloc, rest),
             Some(trace) => later_found(self.alloc, trace, self.at, rest),
@@ -86,7 +71,7 @@ impl Parser {
     {
         match item {
             Item::Head { clients } => {
-                self.begun = Some(Trace::new(self.alloc, clients)?);
+                self.begun = Some(Trace::new(self.alloc, clients).or(Err(TraceFault::Memory))?);
                 self.ended = false;
             }
             Item::Entry(entry) => {
@@ -103,13 +88,13 @@ impl Parser {
         requires { self.old.at + length self.old.rest < 2 ^ 63 }
         ensures { StepGives self.old result self.new }
     {
-        match self.found()? {
+        match self.found().or(Err(TraceFault::Memory))? {
             Found::Waits => Ok(false),
             Found::Fails(fault) => Err(fault),
             Found::Gives { item, used } => {
                 self.take(item)?;
                 self.at += used as u64;
-                self.start += used;
+                self.buffer.take(used);
                 Ok(true)
             }
         }
@@ -125,7 +110,7 @@ impl Parser {
                 return Ok(());
             }
         }
-        if self.start < self.bytes.len() {
+        if !self.buffer.rest().is_empty() {
             return Err(TraceFault::BytesAfterEnd { offset: self.at });
         }
         Ok(())
@@ -136,7 +121,9 @@ impl Parser {
         requires { self.old.at + length self.old.rest + length piece.now < 2 ^ 63 }
         ensures { (fed : List ℕ) → Fed fed self.old → Advances (fed ++ piece.now) result self.new }
     {
-        self.feed(piece)?;
+        let Ok(()) = self.buffer.feed(piece) else {
+            return Err(TraceFault::Memory);
+        };
         self.advance()
     }
 
@@ -153,12 +140,10 @@ impl Parser {
         ensures device { ¬ IsErrOf result TraceFault.ReadFailed }
     {
         let Parser {
-            alloc: _,
-            bytes: _,
-            start: _,
             begun,
             at,
             ended,
+            ..
         } = self;
         match begun {
             Some(trace) if ended => Ok(trace),
@@ -172,11 +157,10 @@ impl Parser {
     {
         let Parser {
             alloc,
-            bytes: _,
-            start: _,
             begun,
             at,
             ended,
+            ..
         } = self;
         match begun {
             Some(trace) if ended => Ok(Partial { trace, cut: None }),
@@ -193,16 +177,6 @@ impl Parser {
             }
         }
     }
-}
-
-/// Takes the first bytes away, so many.
-fn remove_front(bytes: &mut Vec<u8>, count: usize)
-    requires { count ≤ vec_len bytes.old }
-    ensures { bytes.new.items ≡ drop count bytes.old.items }
-{
-    let left = bytes.len() - count;
-    bytes.copy_within(count.., 0);
-    bytes.truncate(left);
 }
 
 /// Adds a record to the trace that was begun.

@@ -11,7 +11,7 @@ ghost use Rattle.cops_trace.specs.Parsing.{Fed, IsSettled};
 use crate::fault::TraceFault;
 use crate::parser::Parser;
 use crate::trace::{Partial, Trace};
-use cops_types::Counted;
+use cops_types::{Counted, Memory};
 use std::alloc::Global;
 use std::io::Read;
 
@@ -67,6 +67,8 @@ pub fn read_so_far<R: Read>(alloc: Global, reader: &mut Counted<R>) -> Result<Pa
     ensures heard { IsErrOf result TraceFault.ReadFailed ⊎ (failures reader.new ≡ failures reader.old) }
 {
     let parser = read_items(alloc, reader)?;
-    let partial = parser.so_far()?;
-    Ok(partial)
+    match parser.so_far() {
+        Ok(partial) => Ok(partial),
+        Err(Memory) => Err(TraceFault::Memory),
+    }
 }

@@ -2,8 +2,8 @@ ghost use Rattle.std.specs.Prelude.{◌≡◌, ◌++◌, IfOk, OnOk};
 ghost use Rattle.cops_types.specs.declared.format.Format.TheVariants.{One};
 ghost use Rattle.cops_wire.specs.Grammar.{grammar};
 ghost use Rattle.cops_wire.specs.Legal.{IsMessage};
-ghost use Rattle.cops_wire.specs.Message.{parts};
-ghost use Rattle.cops_trace.specs.Text.{IsOp, op_message, spelled};
+ghost use Rattle.cops_wire.specs.Message.{parts, spelled};
+ghost use Rattle.cops_trace.specs.Text.{IsOp, op_message};
 
 use cops_types::{History, Memory, Op, OpName, TypeFault};
 use cops_wire::{Message, encode};
@@ -128,7 +128,7 @@ pub struct Partial {
 }
 
 /// Appends the spelling of an operation's record.
-#[tactic(auto, unfolding(crate::specs::Text::spelled))]
+#[tactic(auto, unfolding(cops_wire::specs::Message::spelled))]
 fn append_record(client: u16, index: u32, op: &Op, out: &mut Vec<u8>) -> Result<(), Memory>
     ensures { OnOk result (out.new.items ≡ out.old.items ++ spelled (op_message client index op.now)) }
 {
@@ -180,12 +180,8 @@ fn legal(op: &Op)
             key,
             value,
             version,
-        } => {
-            let _key = key.as_bytes();
-            let _value = value.as_bytes();
-            let _version = version.as_u64();
         }
-        Op::Got {
+        | Op::Got {
             key,
             value,
             version,

@@ -2,9 +2,9 @@ ghost use Rattle.std.specs.Prelude.{◌≡◌, ◌≢◌, ◌≤◌, ◌<◌, �
 ghost use Rattle.std.specs.Io.KnownBytes.{Appends, Keeps};
 ghost use Rattle.cops_wire.specs.Grammar.{grammar};
 ghost use Rattle.cops_wire.specs.Legal.{IsMessage};
-ghost use Rattle.cops_wire.specs.Message.{parts};
+ghost use Rattle.cops_wire.specs.Message.{parts, spelled};
 ghost use Rattle.cops_types.specs.declared.format.Format.TheVariants.{One};
-ghost use Rattle.cops_trace.specs.Text.{spelled, text};
+ghost use Rattle.cops_trace.specs.Text.{text};
 ghost use Rattle.cops_types.specs.Failures.{Failed};
 ghost use Rattle.cops_types.specs.Counted.{failures, inner};
 
@@ -59,7 +59,7 @@ pub fn write_trace<W: Write>(
     ensures failed { IfErr result (λ e. e ≢ WriteFault.Memory → Failed (failures writer.old) (failures writer.new)) }
     ensures heard { (OnOk result (failures writer.new ≡ failures writer.old)) × (IsErrOf result WriteFault.Memory → failures writer.new ≡ failures writer.old) }
 {
-    let text = text_of(alloc, trace)?;
+    let text = text_of(alloc, trace).or(Err(WriteFault::Memory))?;
     match write_text(writer, &text) {
         Ok(()) => Ok(()),
         Err(written) => Err(WriteFault::WriteFailed { written }),

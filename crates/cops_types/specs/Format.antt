@@ -2,7 +2,7 @@
 use Rattle.std.specs.Prelude.{ℕ}
 use Rattle.cops_types.specs.declared.format.Format.{Format}
 use Rattle.cops_types.specs.declared.format.Format.TheVariants.{One}
-use Rattle.cops_types.specs.declared.limits.TheConstants.{MAX_VALUE, MAX_DEPS}
+use Rattle.cops_types.specs.declared.limits.TheConstants.{MAX_BODY, MAX_DEPS, MAX_VALUE}
 
 -- the most bytes of a value
 abbrev pub most_value : Format → ℕ
@@ -14,4 +14,4 @@ most_deps One = MAX_DEPS
 
 -- the most bytes of a frame's body
 abbrev pub longest_body : Format → ℕ
-longest_body One = 32768
+longest_body One = MAX_BODY

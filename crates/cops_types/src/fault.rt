@@ -25,24 +25,33 @@ impl<T: Drop> From<AllocFailed<T>> for Memory {
 /// Why no value of a type could be made, or an operation was not taken. The numbers are the faults' codes.
 #[derive(Clone, Copy, Debug, PartialEq, Eq, Error)]
 pub enum TypeFault {
+    /// 0: out of memory.
     #[error("out of memory")]
-    Memory = 0,
+    Memory,
+    /// 1: the key is empty.
     #[error("the key is empty")]
-    KeyEmpty = 1,
+    KeyEmpty,
+    /// 2: the key is longer than 64 bytes.
     #[error("the key is longer than 64 bytes")]
-    KeyTooLong = 2,
+    KeyTooLong,
+    /// 3: the value is longer than its format allows.
     #[error("the value is longer than its format allows")]
-    ValueTooLong = 3,
+    ValueTooLong,
+    /// 4: the number is no version.
     #[error("the number is no version")]
-    BadVersion = 4,
+    BadVersion,
+    /// 5: the clock is at its greatest.
     #[error("the clock is at its greatest")]
-    ClockExhausted = 5,
+    ClockExhausted,
+    /// 6: there is no such client.
     #[error("there is no such client")]
-    UnknownClient = 6,
+    UnknownClient,
+    /// 7: there are too many operations.
     #[error("there are too many operations")]
-    TooManyOps = 7,
+    TooManyOps,
+    /// 8: there are too many dependencies, or one twice.
     #[error("there are too many dependencies, or one twice")]
-    BadDeps = 8,
+    BadDeps,
 }
 
 impl From<AllocError> for TypeFault {

@@ -1,6 +1,8 @@
 ghost use Rattle.std.specs.Prelude.{◌≡◌};
 ghost use Rattle.cops_types.specs.Format.{most_value, most_deps, longest_body};
 
+use crate::limits::{MAX_BODY, MAX_DEPS, MAX_VALUE};
+
 /// A format of frames and traces: which kinds of messages it has, and their limits.
 #[derive(Clone, Copy, Debug, PartialEq, Eq)]
 pub enum Format {
@@ -14,7 +16,7 @@ impl Format {
         ensures { result ≡ most_value self }
     {
         match self {
-            Format::One => 4096,
+            Format::One => MAX_VALUE,
         }
     }
 
@@ -23,7 +25,7 @@ impl Format {
         ensures { result ≡ most_deps self }
     {
         match self {
-            Format::One => 256,
+            Format::One => MAX_DEPS,
         }
     }
 
@@ -32,7 +34,7 @@ impl Format {
         ensures { result ≡ longest_body self }
     {
         match self {
-            Format::One => 32_768,
+            Format::One => MAX_BODY,
         }
     }
 }

@@ -151,7 +151,7 @@ impl Key {
 pub struct KeyRoom {
     bytes: SmallVec<u8, INLINE>,
     ghost empty: { bytes.items ≡ [] },
-    ghost room: { 64 ≤ bytes.capacity },
+    ghost room: { MAX_KEY ≤ bytes.capacity },
 }
 
 impl KeyRoom {

@@ -30,8 +30,8 @@ pub use gate::{Gate, GateHeld, OpenGate, Point};
 pub use history::History;
 pub use key::{Key, KeyRoom};
 pub use limits::{
-    MAX_CLIENT_OPS, MAX_CLIENTS, MAX_CLOCK, MAX_DCS, MAX_DEPS, MAX_KEY, MAX_OPS, MAX_VALUE, NODES,
-    PLACES,
+    MAX_BODY, MAX_CLIENT_OPS, MAX_CLIENTS, MAX_CLOCK, MAX_DCS, MAX_DEPS, MAX_KEY, MAX_OPS,
+    MAX_VALUE, MAX_WORKERS, NODES, PLACES,
 };
 pub use op::{Op, OpName};
 pub use put_record::{NodeStatus, PutRecord};

@@ -21,6 +21,12 @@ pub const PLACES: u8 = 64;
 /// How many nodes there are at most: their numbers are below it.
 pub const NODES: u16 = 1024;
 
+/// The most bytes that a frame's body has.
+pub const MAX_BODY: usize = 32_768;
+
+/// The most workers of an audit.
+pub const MAX_WORKERS: u8 = 64;
+
 /// The most clients of a history.
 pub const MAX_CLIENTS: u16 = 65_535;
 

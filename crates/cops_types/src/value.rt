@@ -106,7 +106,7 @@ impl Value {
 pub struct ValueRoom {
     bytes: SmallVec<u8, INLINE>,
     ghost empty: { bytes.items ≡ [] },
-    ghost room: { 4096 ≤ bytes.capacity },
+    ghost room: { MAX_VALUE ≤ bytes.capacity },
 }
 
 impl ValueRoom {

@@ -2,6 +2,7 @@
 use Rattle.std.specs.Prelude.{ℕ, List, [], ◌∷◌, ◌++◌, length}
 use Rattle.std.specs.List.{flat_map}
 use Rattle.std.specs.Int.{Width, w8, w16, w32, w64, to_be_bytes}
+use Rattle.cops_types.specs.declared.limits.TheConstants.{MAX_KEY}
 use Rattle.cops_types.specs.declared.dep.Dep.{Dep}
 
 -- a number of 1, 2, 4 or 8 bytes
@@ -32,7 +33,7 @@ pub data Content : Type 0 where
 
 -- a key: 1 to 64 bytes
 abbrev pub key : Field
-key = string u8 1 64
+key = string u8 1 MAX_KEY
 
 -- big-endian; opened only where the bytes of a number matter
 unfoldable pub spelled_number : Size → ℕ → List ℕ

@@ -1,10 +1,13 @@
 -- What is legal in a field, and in a message.
 use Rattle.std.specs.Prelude.{ℕ, ◌<◌, ◌≤◌, ◌^◌, ◌*◌, List, [], ◌∷◌, length, MatchOption}
 use Rattle.std.specs.Int.{byte_len}
+use Rattle.cops_types.specs.declared.format.Format.TheVariants.{One}
 use Rattle.cops_types.specs.Deps.{ArePairs}
 use Rattle.cops_types.specs.Version.{IsVersion}
 use Rattle.cops_wire.specs.Field.{Size, u16, width, Field, Content, number, number_in, string, version, pairs, of_number, of_bytes, of_pairs}
-use Rattle.cops_wire.specs.Grammar.{Grammar, Parts, fields_of}
+use Rattle.cops_wire.specs.Grammar.{Grammar, Parts, fields_of, grammar}
+use Rattle.cops_wire.specs.Message.{parts}
+use Rattle.cops_wire.specs.declared.message.Message.{Message}
 
 -- the first number that does not fit
 abbrev pub limit : Size → ℕ
@@ -28,3 +31,7 @@ AllLegal _ _ = ⊥
 -- a legal message of the grammar: its kind is in the table, and each field is within its range
 abbrev pub IsMessage : Grammar → Parts → Type 0
 IsMessage g p = MatchOption (fields_of g p.kind) ⊥ (λ fields. AllLegal fields p.contents)
+
+-- what stands in a message is legal in format 1
+abbrev pub IsLegalMessage : Message → Type 0
+IsLegalMessage m = IsMessage (grammar One) (parts m)

@@ -1,9 +1,10 @@
 -- Each message of the program as a kind and what stands in its fields.
-use Rattle.std.specs.Prelude.{[], ◌∷◌}
+use Rattle.std.specs.Prelude.{ℕ, List, [], ◌∷◌}
 use Rattle.cops_wire.specs.declared.message.Message.{Message}
 use Rattle.cops_wire.specs.declared.message.Message.TheVariants.{Hello, HelloOk, Put, Get, PutDone, Got, Missed, Refused, PutAfter, DepCheck, DepYes, DepWait, Status, StatusIs, Bye, ByeOk, TraceHead, TracePut, TraceGot, TraceMissed, TraceEnd}
 use Rattle.cops_wire.specs.Field.{of_number, of_bytes, of_pairs}
-use Rattle.cops_wire.specs.Grammar.{Parts}
+use Rattle.cops_types.specs.declared.format.Format.TheVariants.{One}
+use Rattle.cops_wire.specs.Grammar.{Parts, grammar, spelling}
 
 abbrev pub parts : Message → Parts
 parts (Hello profile client) = record { kind = 1; contents = of_number profile ∷ of_number client ∷ [] }
@@ -27,3 +28,7 @@ parts (TracePut client index key value version) = record { kind = 18; contents =
 parts (TraceGot client index key value version) = record { kind = 19; contents = of_number client ∷ of_number index ∷ of_bytes key ∷ of_bytes value ∷ of_number version ∷ [] }
 parts (TraceMissed client index key) = record { kind = 20; contents = of_number client ∷ of_number index ∷ of_bytes key ∷ [] }
 parts (TraceEnd ops) = record { kind = 21; contents = of_number ops ∷ [] }
+
+-- the bytes of a message of format 1
+unfoldable pub spelled : Message → List ℕ
+spelled m = spelling (grammar One) (parts m)

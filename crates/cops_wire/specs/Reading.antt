@@ -2,6 +2,7 @@
 use Rattle.std.specs.Prelude.{◌≡◌, ℕ, ◌+◌, ◌-◌, zero, suc, Bool, true, false, ◌&&◌, ◌||◌, not, nat_lt, nat_le, ◌==◌, if◌then◌else◌, List, [], ◌∷◌, length, take, drop, Option, Some, None, unwrap_or, is_some, IsTrue, Result, Ok, Err, ◌/◌, ◌%◌}
 use Rattle.std.specs.List.{list_any}
 use Rattle.std.specs.Int.{w32, byte_len, from_be_bytes}
+use Rattle.cops_types.specs.declared.limits.TheConstants.{MAX_KEY, NODES}
 use Rattle.cops_types.specs.declared.dep.Dep.{Dep}
 use Rattle.cops_types.specs.Dep.{is_same_dep}
 use Rattle.cops_wire.specs.declared.fault.WireFault.{WireFault}
@@ -38,11 +39,11 @@ string_at s least greatest bytes = number_in_at s least greatest bytes >>= λ n.
 
 -- a version
 unfoldable pub version_at : List ℕ → Option (ℕ × List ℕ)
-version_at bytes = number_at u64 bytes >>= λ n. only_if (nat_le 1 (n.0 / 65536) && nat_lt (n.0 % 65536) 1024) n
+version_at bytes = number_at u64 bytes >>= λ n. only_if (nat_le 1 (n.0 / 65536) && nat_lt (n.0 % 65536) NODES) n
 
 -- a key and a version
 unfoldable pub pair_at : List ℕ → Option (Dep × List ℕ)
-pair_at bytes = string_at u8 1 64 bytes >>= λ k. version_at k.1 >>= λ v. Some (record { key = k.0; version = v.0 }, v.1)
+pair_at bytes = string_at u8 1 MAX_KEY bytes >>= λ k. version_at k.1 >>= λ v. Some (record { key = k.0; version = v.0 }, v.1)
 
 -- so many pairs
 unfoldable pub pairs_at : ℕ → List ℕ → Option (List Dep × List ℕ)

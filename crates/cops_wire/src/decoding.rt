@@ -1,6 +1,7 @@
 //! The message at the front of some bytes.
 ghost use Rattle.std.specs.Prelude.{◌≡◌, ◌<◌, ◌≤◌, ◌+◌, ℕ, length, Result, IfOk, IfErr, IsTrue};
 ghost use Rattle.cops_types.specs.Format.{longest_body};
+ghost use Rattle.cops_types.specs.declared.limits.TheConstants.{MAX_BODY};
 ghost use Rattle.cops_wire.specs.declared.fault.WireFault.{WireFault};
 ghost use Rattle.cops_wire.specs.Grammar.{grammar, Parts};
 ghost use Rattle.cops_wire.specs.Answer.{IsAnswer, Answers, BeginsWithTaking, IsPlacedWithin};
@@ -26,8 +27,8 @@ pub fn decode(alloc: Global, bytes: &[u8]) -> Result<Decoded, WireFault>
     ensures only { (a : Result (Parts × ℕ) WireFault) → IsAnswer (grammar Format.One) bytes.now a → Answers result (λ b. b ≡ a) }
     ensures reading { Answers result (λ a. a ≡ frame_at (grammar Format.One) bytes.now) }
     ensures memory { result ≡ Err WireFault.Memory → BeginsWithTaking (grammar Format.One) bytes.now }
-    ensures used { IfOk result (λ decoded. (4 < decoded.used) × (decoded.used ≤ length bytes.now) × (decoded.used ≤ 4 + 32768)) }
-    ensures offset { IfErr result (IsPlacedWithin 32768) }
+    ensures used { IfOk result (λ decoded. (4 < decoded.used) × (decoded.used ≤ length bytes.now) × (decoded.used ≤ 4 + MAX_BODY)) }
+    ensures offset { IfErr result (IsPlacedWithin MAX_BODY) }
 {
     decode_in(Format::One, alloc, bytes)
 }

@@ -1,6 +1,7 @@
 //! Messages from a stream that comes in pieces.
-ghost use Rattle.std.specs.Prelude.{◌≡◌, ◌≤◌, length, drop};
+ghost use Rattle.std.specs.Prelude.{◌≡◌};
 
+use crate::buffer::Buffer;
 use crate::decoding::decode;
 use crate::fault::WireFault;
 use crate::message::Message;
@@ -12,20 +13,18 @@ use std::marker::Model;
 #[derive(Debug, Drop)]
 pub struct Feeder {
     alloc: Global,
-    bytes: Vec<u8>,
-    start: usize,
+    buffer: Buffer,
     fault: Option<WireFault>,
 }
 
 impl Model for Feeder {
-    ghost use Rattle.std.specs.Prelude.{◌≤◌, length, drop};
     ghost use Rattle.cops_wire.specs.Feeding.{Fed, IsStoppedBy};
 
     ghost Value = { Fed };
 
-    ghost view = { λ f. record { rest = drop f.start f.bytes.items; fault = f.fault } };
+    ghost view = { λ f. record { rest = f.buffer; fault = f.fault } };
 
-    ghost invariant = { λ f. (f.start ≤ length f.bytes.items) × IsStoppedBy (drop f.start f.bytes.items) f.fault };
+    ghost invariant = { λ f. IsStoppedBy f.buffer f.fault };
 }
 
 impl Feeder {
@@ -40,8 +39,7 @@ impl Feeder {
     {
         Feeder {
             alloc,
-            bytes: Vec::new(alloc),
-            start: 0,
+            buffer: Buffer::new(alloc),
             fault: None,
         }
     }
@@ -51,10 +49,7 @@ impl Feeder {
         ensures ok { OnOk result (self.new ≡ record { rest = self.old.rest ++ piece.now; fault = self.old.fault }) }
         ensures err { OnErr result (self.new ≡ self.old) }
     {
-        let read = self.start;
-        drop_front(&mut self.bytes, read);
-        self.start = 0;
-        self.bytes.extend_from_slice(piece)?;
+        self.buffer.feed(piece)?;
         Ok(())
     }
 
@@ -69,10 +64,9 @@ impl Feeder {
         if let Some(fault) = self.fault {
             return Err(fault);
         }
-        let unread = &self.bytes[self.start..];
-        match decode(self.alloc, unread) {
+        match decode(self.alloc, self.buffer.rest()) {
             Ok(decoded) => {
-                self.start += decoded.used;
+                self.buffer.take(decoded.used);
                 Ok(Some(decoded.message))
             }
             Err(fault) => match fault {
@@ -85,14 +79,4 @@ impl Feeder {
             },
         }
     }
-}
-
-/// Takes the first bytes off.
-fn drop_front(bytes: &mut Vec<u8>, count: usize)
-    requires { count ≤ length bytes.old.items }
-    ensures { bytes.new.items ≡ drop count bytes.old.items }
-{
-    let left = bytes.len() - count;
-    bytes.as_mut_slice().rotate_left(count);
-    bytes.truncate(left);
 }

@@ -14,6 +14,7 @@
 //! `specs/Message.antt`, `specs/Shown.antt` and `proofs/Messages.antt`; a new format is a row of each limit.
 #![tactic(auto)]
 
+mod buffer;
 mod decoding;
 mod encoding;
 mod fault;
@@ -28,6 +29,7 @@ mod reading;
 mod showing;
 mod table;
 
+pub use buffer::Buffer;
 pub use decoding::{Decoded, decode, decode_in};
 pub use encoding::{body_len, encode, encode_put_after, kind};
 pub use fault::WireFault;

@@ -1,6 +1,7 @@
 //! The fields of a message, from the front of what is left of its body.
 ghost use Rattle.std.specs.Prelude.{◌≡◌, ◌<◌, ◌≤◌, length, take, drop, IfOk};
 ghost use Rattle.cops_wire.specs.Field.{u8, u16, u32, u64, key};
+ghost use Rattle.cops_types.specs.declared.limits.TheConstants.{MAX_KEY};
 ghost use Rattle.cops_types.specs.Format.{most_value, most_deps};
 ghost use Rattle.cops_wire.specs.Grammar.{grammar, value, deps};
 ghost use Rattle.cops_wire.specs.Kind.{kind_of};
@@ -171,7 +172,7 @@ impl<'a> Rest<'a> {
     #[tactic(auto, unfolding(crate::specs::Reading::string_at, crate::specs::Reading::number_in_at))]
     fn key(&mut self) -> Result<Key, ReadFault>
         ensures format { self.new.format ≡ self.old.format }
-        ensures field { GivesField (λ k. (k, self.new.bytes.now)) key self.old.bytes.now result (string_at u8 1 64 self.old.bytes.now) }
+        ensures field { GivesField (λ k. (k, self.new.bytes.now)) key self.old.bytes.now result (string_at u8 1 MAX_KEY self.old.bytes.now) }
     {
         let bad = self.bad();
         let len = self.u8()? as usize;

@@ -14,6 +14,6 @@ finished-requires-clause-cut g c κs within =
 
 pub refused_doubled-requires-clause-faults : goal.refused_doubled-requires-clause-faults
 refused_doubled-requires-clause-faults g c =
-    joined_all {A = OpName} (λ n. n) (IsDoubled c.args.puts.now.sessions) (λ (p : Piece). p.names.items) c.args.puts.now.names c.count.ensures.in_order c.round_of_doubled.new.pieces _ c.in_ok-faults.faults.items
+    joined_all {A = OpName} (λ n. n) (IsDoubled c.args.puts.now.sessions) (λ (p : Piece). p.names.items) c.args.puts.now.names c.count.ensures.in_order c.round_of_doubled.new.pieces _ c.in-Ok.faults.items
     (cut_same 0 0 _ c.args.pieces.now c.round_of_doubled.new.pieces c.round_of_doubled.ensures.len c.round_of_doubled.ensures.places c.requires.cut) refl
-    c.in_ok-finished.ensures.fine c.round_of_doubled.ensures.found c.in_ok-faults.ensures
+    c.in_ok-finished.ensures.fine c.round_of_doubled.ensures.found c.in-Ok.ensures

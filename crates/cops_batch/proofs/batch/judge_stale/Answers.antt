@@ -15,6 +15,6 @@ finished-requires-clause-cut g c κs within =
 pub verdict-requires-clause-stale : goal.verdict-requires-clause-stale
 verdict-requires-clause-stale g c =
     let t = c.args.tables.now in
-    joined_all {A = Stale} (λ f. f.op) (λ f. IsStale t.sessions f.op f.newer) (λ (p : Piece). p.stale.items) t.names c.count.ensures.in_order c.round_of_stale.new.pieces _ c.in_ok-stale.stale.items
+    joined_all {A = Stale} (λ f. f.op) (λ f. IsStale t.sessions f.op f.newer) (λ (p : Piece). p.stale.items) t.names c.count.ensures.in_order c.round_of_stale.new.pieces _ c.in-Ok.stale.items
     (cut_same 0 0 _ c.args.pieces.now c.round_of_stale.new.pieces c.round_of_stale.ensures.len c.round_of_stale.ensures.places c.requires.cut) refl
-    c.in_ok-finished.ensures.fine c.round_of_stale.ensures.found c.in_ok-stale.ensures
+    c.in_ok-finished.ensures.fine c.round_of_stale.ensures.found c.in-Ok.ensures

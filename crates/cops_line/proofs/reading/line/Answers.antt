@@ -10,22 +10,22 @@ texts = map (λ s. s.now)
 
 pub returns-in-Some-clause-job : goal.returns-in-Some-clause-job
 returns-in-Some-clause-job c =
-    let matches = c.in-Ok.ensures.matches in
+    let matches = c.in-Ok-try_get_matches_from.ensures.matches in
     told (texts c.args.words.now) c.in-Some.job (some_words c.args.words.now c.if-is_empty.ensures)
-    (read_as_met (texts c.args.words.now) (app_of c.in_ok-command.command) (subcommand_rows_of c.in-Ok.matches) c.in-Some.job c.in_ok-command.ensures
-    c.in-Ok.ensures.kinds (λ s. (matches s).1) c.in-Some.ensures.some)
+    (read_as_met (texts c.args.words.now) (app_of c.in-Ok.command) (subcommand_rows_of c.in-Ok-try_get_matches_from.matches) c.in-Some.job c.in-Ok.ensures
+    c.in-Ok-try_get_matches_from.ensures.kinds (λ s. (matches s).1) c.in-Some.ensures.some)
 
-pub returns-in-Ok-clause-fault : goal.returns-in-Ok-clause-fault
-returns-in-Ok-clause-fault c =
-    let matches = c.in-Ok.ensures.matches in (
+pub returns-in-Ok-from_str-clause-fault : goal.returns-in-Ok-from_str-clause-fault
+returns-in-Ok-from_str-clause-fault c =
+    let matches = c.in-Ok-try_get_matches_from.ensures.matches in (
       untold (texts c.args.words.now) (some_words c.args.words.now c.if-is_empty.ensures)
-          (not_read (texts c.args.words.now) (app_of c.in_ok-command.command) (subcommand_rows_of c.in-Ok.matches) c.in_ok-command.ensures
+          (not_read (texts c.args.words.now) (app_of c.in-Ok.command) (subcommand_rows_of c.in-Ok-try_get_matches_from.matches) c.in-Ok.ensures
           (λ s. (matches s).1) c.in-None.ensures.none),
-      asks_for_none (texts c.args.words.now) DisplayHelp (app_of c.in_ok-command.command) c.in_ok-command.ensures c.in-Ok.ensures.kinds,
-      asks_for_none (texts c.args.words.now) DisplayVersion (app_of c.in_ok-command.command) c.in_ok-command.ensures c.in-Ok.ensures.kinds,
+      asks_for_none (texts c.args.words.now) DisplayHelp (app_of c.in-Ok.command) c.in-Ok.ensures c.in-Ok-try_get_matches_from.ensures.kinds,
+      asks_for_none (texts c.args.words.now) DisplayVersion (app_of c.in-Ok.command) c.in-Ok.ensures c.in-Ok-try_get_matches_from.ensures.kinds,
     )
 
 pub returns-clause-fault : goal.returns-clause-fault
 returns-clause-fault c =
-    explained (texts c.args.words.now) (app_of c.in_ok-command.command) (kind_of c.in-Err.error) c.as_fault.result (some_words c.args.words.now c.if-is_empty.ensures) c.in_ok-command.ensures
+    explained (texts c.args.words.now) (app_of c.in-Ok.command) (kind_of c.in-Err.error) c.as_fault.result (some_words c.args.words.now c.if-is_empty.ensures) c.in-Ok.ensures
     c.in-Err.ensures.kinds c.as_fault.ensures

@@ -1,4 +1,4 @@
-use Rattle.std.proofs.Common.{◌≡◌, List, ◌++◌}
+use Rattle.std.proofs.Common.{◌≡◌, ◌<◌, ◌+◌, ◌^◌, List, ◌++◌}
 use Rattle.cops_net.specs.declared.reply.Call.{Call}
 use Rattle.cops_net.specs.Listening.{AreSessions, AreServed}
 use Rattle.cops_net.proofs.listening.listen.Given as goal
@@ -8,3 +8,4 @@ invariant-loop g l =
     let calls = g.S.Session.calls in
     (gained : List Call) × (calls l.session ≡ calls l.fn.session ++ gained) × AreSessions l.counter gained
     × AreServed calls g.S.Session.ends l.counter l.fn.session l.session
+    × (g.S.Session.ended l.fn.session + l.counter < 2 ^ 64 → g.S.Session.ended l.session ≡ g.S.Session.ended l.fn.session + l.counter)

@@ -4,18 +4,18 @@ use Rattle.std.proofs.lemmas.Result.{err_from_is_err_and}
 use Rattle.cops_types.specs.Counted.{failures, inner}
 use Rattle.cops_types.specs.Failures.{Failed}
 use Rattle.cops_types.proofs.Devices.{consumed_none}
-use Rattle.cops_net.proofs.Going.{begun, heard_ok, same_error}
+use Rattle.cops_net.proofs.Going.{begun, heard_ok, put_error, same_error}
 use Rattle.cops_net.proofs.Readings.{appends_none}
 use Rattle.cops_net.proofs.Underway.{starts, fails_reading, ends_there, is_full, fails_answering, says_bye, goes_further}
 use Rattle.cops_net.proofs.serving.serve_session.Goals as goal
 
-pub returns-in_err-reserve-clause-serves : goal.returns-in_err-reserve-clause-serves
-returns-in_err-reserve-clause-serves g c =
+pub returns-in_err-or-clause-serves : goal.returns-in_err-or-clause-serves
+returns-in_err-or-clause-serves g c =
     let p = err_from_is_err_and c.from_residual.result c.from_residual.ensures.1 in
-    ([], [], [], consumed_none _, sym (append-nil _), appends_none _, rw (p.1, p.2) ([], [], refl, inl begun))
+    ([], [], [], consumed_none _, sym (append-nil _), appends_none _, rw (p.1, p.2, put_error _ _ _ c.in_err-or.ensures) ([], [], refl, inl begun))
 
 pub loop-answered-init : goal.loop-answered-init
-loop-answered-init g c = record { going = starts _ _ _ c.new-incoming.ensures; reads = refl; writes = refl }
+loop-answered-init g c = record { going = starts _ _ _ c.new-incoming.ensures; reads = refl; writes = refl; ended = refl }
 
 pub returns-in_err-message-clause-serves : goal.returns-in_err-message-clause-serves
 returns-in_err-message-clause-serves g c =
@@ -49,6 +49,7 @@ loop-answered-preserved g c = record {
       c.in_ok-greeted.greeted c.in_ok-greeted.ensures.answered (sym c.is_bye-ends.ensures ∙ c.if-ends.false);
   reads = heard_ok _ _ c.in_ok-message.ensures.heard ∙ c.loop-answered.invariant.reads;
   writes = heard_ok _ _ c.in_ok-greeted.ensures.heard ∙ c.loop-answered.invariant.writes;
+  ended = c.in_ok-greeted.ensures.ended ∙ c.loop-answered.invariant.ended;
 }
 
 pub returns-in_err-message-2-clause-serves : goal.returns-in_err-message-2-clause-serves

@@ -12,4 +12,5 @@ invariant-loop-answered g l =
       going : Underway (remaining (inner l.fn.reader)) (remaining (inner l.reader)) (calls l.fn.session) (calls l.session) (contents (inner l.fn.writer)) (contents (inner l.writer)) l.incoming.feeder.rest l.greeted l.answered;
       reads : failures l.reader ≡ failures l.fn.reader;
       writes : failures l.writer ≡ failures l.fn.writer;
+      ended : g.S.Session.ended l.session ≡ g.S.Session.ended l.fn.session;
     }

@@ -1,28 +1,24 @@
 use Rattle.std.proofs.Common.{◌≡◌, ◌<◌, ℕ, List, [], ◌++◌, length, take, refl, ap, subst, ◌∙◌, ◌||◌, inr}
-use Rattle.std.proofs.lemmas.Result.{err_from_is_err_and}
 use Rattle.std.specs.Io.KnownBytes.{Appends}
 use Rattle.cops_types.specs.Counted.{inner}
 use Rattle.cops_types.specs.declared.format.Format.TheVariants.{One}
 use Rattle.cops_wire.specs.Grammar.{grammar, spelling}
-use Rattle.cops_wire.specs.Message.{parts}
-use Rattle.cops_net.specs.Sessions.{spelled}
+use Rattle.cops_wire.specs.Message.{parts, spelled}
 use Rattle.cops_net.proofs.Spellings.{spelled_is, spelled_some}
 use Rattle.cops_net.proofs.Readings.{appends_none}
 use Rattle.cops_net.proofs.serving.write_reply.Goals as goal
 
-pub returns-in_err-encode-clause-answered : goal.returns-in_err-encode-clause-answered
-returns-in_err-encode-clause-answered g c =
-    let p = err_from_is_err_and c.from_residual.result c.from_residual.ensures.1 in
-    λ message gained t. ([], appends_none _, rw (p.1, p.2) (refl, inr (c.args.reply.now, t, spelled_some c.args.reply.now)))
+pub returns-in_default-clause-answered : goal.returns-in_default-clause-answered
+returns-in_default-clause-answered g c = λ message gained t. ([], appends_none _, (refl, inr (c.args.reply.now, t, spelled_some c.args.reply.now)))
 
-pub returns-in-Ok-clause-answered : goal.returns-in-Ok-clause-answered
-returns-in-Ok-clause-answered g c =
+pub returns-in-Ok-write_text-clause-answered : goal.returns-in-Ok-write_text-clause-answered
+returns-in-Ok-write_text-clause-answered g c =
     let reply = c.args.reply.now in
     let written : c.deref.result.now ≡ spelled reply =
-    c.deref.ensures.value ∙ c.in_ok-encode.ensures.ok ∙ ap (λ (x : List ℕ). x ++ spelling (grammar One) (parts reply)) c.clear.ensures.items ∙ spelled_is reply in
+    c.deref.ensures.value ∙ c.in-Ok.ensures.ok ∙ ap (λ (x : List ℕ). x ++ spelling (grammar One) (parts reply)) c.clear.ensures.items ∙ spelled_is reply in
     λ message gained t. (
       spelled reply,
-      subst (λ (x : List ℕ). Appends (g.W.Write.contents (inner c.args.writer.now)) (g.W.Write.contents (inner c.write_text.new.writer)) x) written c.in-Ok.ensures.ok,
+      subst (λ (x : List ℕ). Appends (g.W.Write.contents (inner c.args.writer.now)) (g.W.Write.contents (inner c.write_text.new.writer)) x) written c.in-Ok-write_text.ensures.ok,
       (reply, t, refl, ap (λ b. c.args.greeted || b) (c.is_welcome.ensures ∙ t.welcomed)),
     )
 
@@ -30,7 +26,7 @@ pub returns-in-Err-clause-answered : goal.returns-in-Err-clause-answered
 returns-in-Err-clause-answered g c =
     let reply = c.args.reply.now in
     let written : c.deref.result.now ≡ spelled reply =
-    c.deref.ensures.value ∙ c.in_ok-encode.ensures.ok ∙ ap (λ (x : List ℕ). x ++ spelling (grammar One) (parts reply)) c.clear.ensures.items ∙ spelled_is reply in
+    c.deref.ensures.value ∙ c.in-Ok.ensures.ok ∙ ap (λ (x : List ℕ). x ++ spelling (grammar One) (parts reply)) c.clear.ensures.items ∙ spelled_is reply in
     let n = c.in-Err.field-0 in
     let part : Appends (g.W.Write.contents (inner c.args.writer.now)) (g.W.Write.contents (inner c.write_text.new.writer)) (take n (spelled reply)) =
     subst (λ (x : List ℕ). Appends (g.W.Write.contents (inner c.args.writer.now)) (g.W.Write.contents (inner c.write_text.new.writer)) (take n x)) written c.in-Err.ensures.err in

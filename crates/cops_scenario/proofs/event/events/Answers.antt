@@ -1,10 +1,14 @@
-use Rattle.std.proofs.Common.{◌≡◌, ◌∙◌, map, rules, sym}
+use Rattle.std.proofs.Common.{◌≡◌, ◌∙◌, arith, map, rules, sym}
+use Rattle.std.proofs.lemmas.Grind.{common_steps}
 use Rattle.serde_json.specs.View.{view}
 use Rattle.cops_core.specs.declared.event.Event.{Event}
 use Rattle.cops_scenario.specs.File.{event_json}
 use Rattle.cops_scenario.specs.Limits.{IsLegalEvent}
 use Rattle.cops_scenario.proofs.Forms.{no_such_item, same_list}
 use Rattle.cops_scenario.proofs.event.events.Goals as goal
+
+pub loop-item-preserved : goal.loop-item-preserved
+loop-item-preserved c = (grind (arith, common_steps), c.loop-item.invariant.1, grind (arith, common_steps), grind (arith, common_steps))
 
 pub returns-in_err-event-clause-none : goal.returns-in_err-event-clause-none
 returns-in_err-event-clause-none c = λ err told few each e.

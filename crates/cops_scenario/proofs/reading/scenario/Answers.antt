@@ -46,9 +46,18 @@ pub returns-clause-told : goal.returns-clause-told
 returns-clause-told c =
     let told : (ds : List Data) × (view c.in-Some.listed.now ≡ list_json ds) × TellClients ds c.in_ok-clients.clients.items = search rules in
     let beside : (ds : List Data) → view c.in-Some.listed.now ≡ list_json ds → AreUnscripted ds (option_map (λ e. e.items) c.in_ok-events.events) = search rules in
-    rw c.new.ensures (record {
+    rw c.new.ensures.parts (record {
       numbers = search rules;
       splits = search rules;
       clients = (told.0, search rules, told.2, beside told.0 told.1);
+      events = search rules;
+    })
+
+pub returns-clause-legal : goal.returns-clause-legal
+returns-clause-legal c =
+    rw c.new.ensures.parts (record {
+      is_scenario = rw c.new.ensures.parts at c.new.ensures.scenario;
+      splits = search rules;
+      clients = search rules;
       events = search rules;
     })

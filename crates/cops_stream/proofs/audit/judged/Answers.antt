@@ -14,7 +14,7 @@ returns-in-Accepted-clause-told g c =
       verdict = v;
       is_report = record {
         is_verdict = subst (λ (s : Sessions). IsVerdict s v) h c.in-Ok.ensures.ok;
-        is_report = subst (λ (s : Sessions). IsReport s v c.in_ok-text.text.items) h c.in_ok-text.ensures;
+        is_report = subst (λ (s : Sessions). IsReport s v c.in-Ok-report.text.items) h c.in-Ok-report.ensures;
       };
       answer_is = sym (ap answer_of c.in-Accepted.is);
     }
@@ -31,7 +31,7 @@ returns-clause-told g c =
       verdict = v;
       is_report = record {
         is_verdict = subst (λ (s : Sessions). IsVerdict s v) h c.in-Ok.ensures.ok;
-        is_report = subst (λ (s : Sessions). IsReport s v c.in_ok-text.text.items) h c.in_ok-text.ensures;
+        is_report = subst (λ (s : Sessions). IsReport s v c.in-Ok-report.text.items) h c.in-Ok-report.ensures;
       };
       answer_is = sym (ap answer_of c.in-Refused.is);
     }

@@ -3,7 +3,7 @@ use Rattle.std.specs.Cmp.Lexicographic.{pointwise}
 use Rattle.std.proofs.lemmas.Bool.{ltb-true, ltb-false}
 use Rattle.cops_types.specs.declared.op.Op.{Op}
 use Rattle.cops_types.specs.Histories.{Sessions}
-use Rattle.cops_tie.proofs.Same.{pointwise_true, pointwise_refl, same_op, same_op_true, same_op_refl, not_false}
+use Rattle.cops_book.proofs.Same.{pointwise_true, pointwise_refl, same_op, same_op_true, same_op_refl, not_false}
 use Rattle.cops_tie.proofs.tying.is_same.Goals as goal
 
 abbrev SameAt : Sessions → Sessions → ℕ → Type 0

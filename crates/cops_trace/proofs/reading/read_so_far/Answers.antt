@@ -2,8 +2,8 @@ use Rattle.std.proofs.lemmas.Result.{err_from_is_err_and}
 use Rattle.cops_trace.proofs.Feeding.{so_far_says, so_far_fault}
 use Rattle.cops_trace.proofs.reading.read_so_far.Goals as goal
 
-pub returns-clause-says : goal.returns-clause-says
-returns-clause-says g c = so_far_says _ c.in_ok-parser.parser c.in_ok-partial.partial c.in_ok-parser.ensures.ok c.in_ok-partial.ensures
+pub returns-in-Ok-clause-says : goal.returns-in-Ok-clause-says
+returns-in-Ok-clause-says g c = so_far_says _ c.in_ok-parser.parser c.in-Ok.partial c.in_ok-parser.ensures.ok c.in-Ok.ensures
 
 pub returns-in_err-parser-clause-says : goal.returns-in_err-parser-clause-says
 returns-in_err-parser-clause-says g c =

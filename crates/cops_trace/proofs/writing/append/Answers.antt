@@ -1,4 +1,4 @@
-use Rattle.cops_trace.specs.Text.{spelled}
+use Rattle.cops_wire.specs.Message.{spelled}
 use Rattle.cops_trace.proofs.writing.append.Goals as goal
 
 pub returns : goal.returns

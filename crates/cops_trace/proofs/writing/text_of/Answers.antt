@@ -1,6 +1,7 @@
 use Rattle.std.proofs.Common.{◌≡◌, [], ◌++◌, length, ap, ◌∙◌}
 use Rattle.cops_wire.specs.declared.message.Message.TheVariants.{TraceHead, TraceEnd}
-use Rattle.cops_trace.specs.Text.{records_text, spelled, beginning}
+use Rattle.cops_wire.specs.Message.{spelled}
+use Rattle.cops_trace.specs.Text.{records_text, beginning}
 use Rattle.cops_trace.proofs.Ends.{head_text}
 use Rattle.cops_trace.proofs.writing.text_of.Goals as goal
 

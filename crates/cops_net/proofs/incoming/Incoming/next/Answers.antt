@@ -1,6 +1,5 @@
 use Rattle.std.proofs.Common.{◌≡◌, ℕ, List, [], ◌++◌, length, take, sym, ap, subst, ◌∙◌, arith}
 use Rattle.std.proofs.lemmas.List.{append-nil}
-use Rattle.std.proofs.lemmas.Result.{err_from_is_err_and}
 use Rattle.std.specs.Io.KnownBytes.{IsAtEnd}
 use Rattle.cops_types.specs.Counted.{inner}
 use Rattle.cops_net.specs.Turns.{IsTaken}
@@ -25,8 +24,6 @@ returns-then-count-eq0-clause-next g c =
           (c.front.new.self.counts ∙ ap length f.1) c.at_end.ensures.none c.at_end.ensures.some f.0 end),
     )
 
-pub returns-in_err-feed-clause-next : goal.returns-in_err-feed-clause-next
-returns-in_err-feed-clause-next g c =
-    let r = c.loop-message.invariant.read in
-    let p = err_from_is_err_and c.from_residual-in_err-feed.result c.from_residual-in_err-feed.ensures.1 in
-    (r.0 ++ take c.in-Ok.count c.read.new.buf, consumed _ _ _ _ _ r.1 c.in-Ok.ensures.bytes.0, rw (p.1, p.2) tt)
+pub returns-in_default-feed-clause-next : goal.returns-in_default-feed-clause-next
+returns-in_default-feed-clause-next g c =
+    let r = c.loop-message.invariant.read in (r.0 ++ take c.in-Ok.count c.read.new.buf, consumed _ _ _ _ _ r.1 c.in-Ok.ensures.bytes.0, tt)

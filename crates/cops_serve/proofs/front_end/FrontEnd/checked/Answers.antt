@@ -6,7 +6,7 @@ use Rattle.cops_serve.proofs.Changes.{changed, asked_of}
 use Rattle.cops_serve.proofs.front_end.FrontEnd.checked.Goals as goal
 
 pub returns-in_default-clause-done : goal.returns-in_default-clause-done
-returns-in_default-clause-done g c = (Wait, c.not_yet.ensures.told, rw c.in_default.is ((refl, refl, refl, refl, refl), (refl, refl)))
+returns-in_default-clause-done g c = (Wait, c.not_yet.ensures.told, rw c.in_default.is ((refl, refl, refl, refl, refl, refl), (refl, refl)))
 
 pub returns-clause-done : goal.returns-clause-done
 returns-clause-done g c =
@@ -15,7 +15,7 @@ returns-clause-done g c =
       out,
       c.check_replies.ensures.told,
       rw c.in-Some.is (
-        (refl, refl, refl, refl, refl),
+        (refl, refl, refl, refl, refl, refl),
         changed _ _ _ _ _ (with_share client c.ask.new.share) c.from.ensures c.in-Some-get_mut.ensures.item.3
             (asked_of c.args.self.now.cluster c.in-Some.greeted.dc c.args.key.now c.args.version out client c.share-share.result.now c.ask.new.share
             c.share-share.ensures.value c.in-Ok.ensures.who c.in-Ok.ensures.told),

@@ -5,7 +5,7 @@ use Rattle.cops_serve.proofs.front_end.FrontEnd.get_outcome.Goals as goal
 pub returns-in_default-clone-clause-done : goal.returns-in_default-clone-clause-done
 returns-in_default-clone-clause-done g c =
     rw c.in-Some.is (
-      (refl, refl, refl, refl, refl),
+      (refl, refl, refl, refl, refl, refl),
       changed _ _ _ _ _ _ c.from.ensures c.in-Some-get_mut.ensures.item.3
           (no_get c.args.self.now.cluster c.args.key.now c.in-Some-get_mut.client.now),
     )
@@ -14,7 +14,7 @@ pub returns-clause-done : goal.returns-clause-done
 returns-clause-done g c =
     let p = c.in-Ok-get.ensures in
     rw c.in-Some.is (
-      (refl, refl, refl, refl, refl),
+      (refl, refl, refl, refl, refl, refl),
       changed _ _ _ _ _ _ c.from.ensures c.in-Some-get_mut.ensures.item.3
           (got_of c.args.self.now.cluster c.args.key.now c.in-Ok.key c.in-Ok-get.outcome c.in-Some-get_mut.client.now c.get.new.client c.in-Ok.ensures.cases (p.who, p.told, p.context)),
     )

@@ -8,3 +8,4 @@ invariant-loop g l =
     × (l.self.clients ≡ l.fn.self.clients)
     × (l.self.turns ≡ l.fn.self.turns)
     × (l.self.cluster ≡ l.fn.self.cluster)
+    × (l.self.ended ≡ l.fn.self.ended)

@@ -1,5 +1,5 @@
-use Rattle.std.proofs.Common.{◌≡◌, ◌≢◌, Bool, true, false, ℕ, [], length, drop, sym, ap, ◌∙◌, subst, inr, arith, Ok}
-use Rattle.std.proofs.lemmas.List.{length-drop, nil_from_length}
+use Rattle.std.proofs.Common.{rules, ◌≡◌, ◌≢◌, Bool, true, false, ℕ, [], length, drop, sym, ap, ◌∙◌, subst, inr, arith, Ok}
+use Rattle.std.proofs.lemmas.List.{nil_from_length}
 use Rattle.std.proofs.lemmas.Result.{err_from_is_err_and}
 use Rattle.cops_trace.specs.declared.fault.TraceFault.TheVariants.{BytesAfterEnd}
 use Rattle.cops_trace.specs.Parsing.{Stage, StepGives, HasFailed}
@@ -26,21 +26,19 @@ loop-self-preserved c =
       sum = step_sum c.loop-self.self c.step.new.self took ∙ c.loop-self.invariant.sum;
     }
 
-pub returns-then-self-len : goal.returns-then-self-len
-returns-then-self-len c = λ fed h.
+pub returns-then-not-is_empty : goal.returns-then-not-is_empty
+returns-then-not-is_empty c = λ fed h.
     let ended : c.loop-self.self.ended ≡ true = ap (λ (s : Stage). s.ended) (sym c.self.view_is) ∙ c.loop-self-test.false in
-    let items = c.self-2.inside.bytes.items in
-    let some : drop c.self-2.inside.start items ≢ [] = λ e.
-    absurd (omega (arith, ap length e, length-drop c.self-2.inside.start items, c.self-2.inside.bytes.ok.0, c.len.ensures, c.if-self-len.true)) in
-    let rest : c.loop-self.self.rest ≢ [] = λ e. some (ap (λ (s : Stage). s.rest) c.self-2.view_is ∙ e) in
+    let view : c.rest.result.now ≡ c.loop-self.self.rest = c.rest.ensures ∙ ap (λ (s : Stage). s.rest) c.self-2.view_is in
+    let some : length c.rest.result.now ≢ 0 = search rules in
+    let rest : c.loop-self.self.rest ≢ [] = λ e. some (ap length (view ∙ e)) in
     let at : c.loop-self.self.at ≡ c.self-2.inside.at = ap (λ (s : Stage). s.at) (sym c.self-2.view_is) in
     inr (subst (λ (n : ℕ). HasFailed fed (BytesAfterEnd n)) at (more_fails fed c.loop-self.self (c.loop-self.invariant.fed fed h) ended rest))
 
 pub returns : goal.returns
 returns c = λ fed h.
     let ended : c.loop-self.self.ended ≡ true = ap (λ (s : Stage). s.ended) (sym c.self.view_is) ∙ c.loop-self-test.false in
-    let items = c.self-2.inside.bytes.items in
-    let none : drop c.self-2.inside.start items ≡ []
-    = nil_from_length (drop c.self-2.inside.start items) (omega (arith, length-drop c.self-2.inside.start items, c.self-2.inside.bytes.ok.0, c.len.ensures, c.if-self-len.false)) in
-    let rest : c.loop-self.self.rest ≡ [] = ap (λ (s : Stage). s.rest) (sym c.self-2.view_is) ∙ none in
+    let view : c.rest.result.now ≡ c.loop-self.self.rest = c.rest.ensures ∙ ap (λ (s : Stage). s.rest) c.self-2.view_is in
+    let none : length c.rest.result.now ≡ 0 = search rules in
+    let rest : c.loop-self.self.rest ≡ [] = sym view ∙ nil_from_length c.rest.result.now none in
     (c.loop-self.invariant.fed fed h, ends_settled c.loop-self.self ended rest)

@@ -1,21 +1,18 @@
-use Rattle.std.proofs.Common.{◌≡◌, ◌+◌, ◌++◌, length, sym, ap, subst, inl, refl, arith}
+use Rattle.std.proofs.Common.{◌≡◌, ◌+◌, ◌++◌, List, ℕ, length, sym, ap, subst, arith}
 use Rattle.std.proofs.lemmas.List.{length-append}
-use Rattle.std.proofs.lemmas.Result.{err_from_is_err_and}
 use Rattle.cops_trace.specs.Parsing.{Stage, Fed}
 use Rattle.cops_trace.proofs.Feeding.{fed_more}
 use Rattle.cops_trace.proofs.parser.Parser.take_piece.Goals as goal
 
-pub returns-in_err-feed : goal.returns-in_err-feed
-returns-in_err-feed c = λ fed h.
-    let p = err_from_is_err_and c.from_residual.result c.from_residual.ensures.1 in
-    rw (p.1, p.2) (inl refl)
-
 pub advance-requires : goal.advance-requires
 advance-requires c =
-    let sum : c.feed.new.self.at + length c.feed.new.self.rest ≡ c.args.self.now.at + length (c.args.self.now.rest ++ c.args.piece.now) = ap (λ (s : Stage). s.at + length s.rest) c.in_ok-feed.ensures.ok in
-    omega (arith, sum, length-append c.args.self.now.rest c.args.piece.now, c.requires)
+    let sum : c.self.inside.at + length c.self.inside.buffer ≡ c.args.self.now.at + length c.args.self.now.rest = ap (λ (s : Stage). s.at + length s.rest) c.self.view_is in
+    let rest : length c.feed.new.self ≡ length (c.self.inside.buffer ++ c.args.piece.now) = ap length c.in-Ok.ensures.ok in
+    omega (arith, sum, rest, length-append c.self.inside.buffer c.args.piece.now, c.requires)
 
 pub returns : goal.returns
 returns c = λ fed h.
-    let more = fed_more fed c.args.piece.now c.args.self.now (λ i. omega (arith, c.type_inv.piece i)) h in
-    c.advance.ensures (fed ++ c.args.piece.now) (subst (Fed (fed ++ c.args.piece.now)) (sym c.in_ok-feed.ensures.ok) more)
+    let inside = c.self.inside in
+    let state : List ℕ → Stage = λ rest. record { begun = inside.begun; at = inside.at; ended = inside.ended; rest = rest } in
+    let more = fed_more fed c.args.piece.now (state inside.buffer) (λ i. omega (arith, c.type_inv.piece i)) (subst (Fed fed) (sym c.self.view_is) h) in
+    c.advance.ensures (fed ++ c.args.piece.now) (subst (λ (rest : List ℕ). Fed (fed ++ c.args.piece.now) (state rest)) (sym c.in-Ok.ensures.ok) more)

@@ -1,7 +1,8 @@
 use Rattle.std.proofs.Common.{◌≡◌, suc, ◌+◌, ◌<◌, [], ◌++◌, length, take, get_or, Some, None, sym, ap, subst, ◌∙◌, append_assoc, arith}
 use Rattle.std.proofs.Math.ListN.{set, length-set}
 use Rattle.cops_types.specs.Histories.{op_at}
-use Rattle.cops_trace.specs.Text.{records_text, spelled, op_message}
+use Rattle.cops_wire.specs.Message.{spelled}
+use Rattle.cops_trace.specs.Text.{records_text, op_message}
 use Rattle.cops_trace.specs.Kept.{records_from, op_in}
 use Rattle.cops_trace.proofs.Lists.{times}
 use Rattle.cops_trace.proofs.Spellings.{client_inside, arrival, turns_next, text_next, read_any}

@@ -1,0 +1,71 @@
+-- A book that gains the entry of a step still replays.
+use Rattle.std.proofs.Common.{◌≡◌, ◌⊎◌, inl, inr, ℕ, Bool, true, false, if◌then◌else◌, List, [], ◌∷◌, ◌++◌, Option, None, Some, refl, sym, ap, subst, ◌∙◌, ◌==◌}
+use Rattle.cops_types.specs.declared.refusal.Refusal.TheVariants.{Memory}
+use Rattle.cops_held.specs.Held.{Waiting, waiting}
+use Rattle.cops_node.specs.declared.event.NodeEvent.{NodeEvent}
+use Rattle.cops_node.specs.declared.event.NodeEvent.TheVariants.{Put, Get, Deliver, Ask, Mark, Settle}
+use Rattle.cops_node.specs.declared.outcome.Outcome.{Outcome}
+use Rattle.cops_node.specs.declared.outcome.Outcome.TheVariants.{Yes, Wait, Refused}
+use Rattle.cops_store.specs.Store.{Stored, has_pair, shown}
+use Rattle.cops_node.specs.Node.{Node, opened, node_step, mark_at, settle_at, answer}
+use Rattle.cops_book.specs.declared.entry.Entry.{Entry}
+use Rattle.cops_book.specs.Book.{Replays, entry}
+
+-- refused for want of memory
+abbrev is_memory : Outcome → Bool
+is_memory (Refused Memory) = true
+is_memory _ = false
+
+-- a step of this node: its number stays, and it is never refused for want of memory
+abbrev IsTame : Node → Outcome × Node → Type 0
+IsTame n x = (x.1.number ≡ n.number) × (is_memory x.0 ≡ false)
+
+if_tame : (n : Node) (b : Bool) (x y : Outcome × Node) → IsTame n x → IsTame n y → IsTame n (if b then x else y)
+if_tame n true x y p q = p
+if_tame n false x y p q = q
+
+mark_tame : (n : Node) (version dep : ℕ) (w : Option Waiting) → IsTame n (mark_at n version dep w)
+mark_tame n version dep None = (refl, refl)
+mark_tame n version dep (Some w) = if_tame n _ _ _ (refl, refl) (refl, refl)
+
+settle_tame : (n : Node) (w : Option Waiting) → IsTame n (settle_at n w)
+settle_tame n None = (refl, refl)
+settle_tame n (Some w) = if_tame n _ _ _ (refl, refl) (refl, refl)
+
+get_tame : (n : Node) (o : Option Stored) → IsTame n (answer o, n)
+get_tame n None = (refl, refl)
+get_tame n (Some s) = (refl, refl)
+
+ask_tame : (n : Node) (b : Bool) → IsTame n (if b then Yes else Wait, n)
+ask_tame n true = (refl, refl)
+ask_tame n false = (refl, refl)
+
+step_tame : (n : Node) (e : NodeEvent) → IsTame n (node_step n e)
+step_tame n (Put client key value deps) = if_tame n _ _ _ (refl, refl) (refl, refl)
+step_tame n (Get client key) = get_tame n (shown n.settled key)
+step_tame n (Deliver put) = if_tame n _ _ _ (refl, refl) (refl, refl)
+step_tame n (Ask key version) = ask_tame n (has_pair n.settled (record { key = key; version = version }))
+step_tame n (Mark version dep) = mark_tame n version dep (waiting n.held version)
+step_tame n (Settle version) = settle_tame n (waiting n.held version)
+
+replays_more : (s : Node) (es : List Entry) (t u : Node) (ticket : ℕ) (e : NodeEvent) (out : Outcome) → Replays s es t → node_step t e ≡ (out, u)
+    → Replays s (es ++ entry ticket e out ∷ []) u
+replays_more s [] t u ticket e out r is =
+    let moved : node_step s e ≡ (out, u) = ap (λ n. node_step n e) r ∙ is in
+    (sym (ap (λ (x : Outcome × Node). x.0) moved), ap (λ (x : Outcome × Node). x.1) moved)
+replays_more s (x ∷ xs) t u ticket e out r is = (r.0, replays_more (node_step s x.event).1 xs t u ticket e out r.1 is)
+
+-- a book that gains the entry of a step still replays
+pub book_more : (es : List Entry) (t u : Node) (ticket : ℕ) (e : NodeEvent) (out : Outcome) → Replays (opened t.number) es t → node_step t e ≡ (out, u)
+    → Replays (opened u.number) (es ++ entry ticket e out ∷ []) u
+book_more es t u ticket e out r is =
+    let number : u.number ≡ t.number = sym (ap (λ (x : Outcome × Node). x.1.number) is) ∙ (step_tame t e).0 in
+    subst (λ n. Replays (opened n) (es ++ entry ticket e out ∷ []) u) (sym number) (replays_more (opened t.number) es t u ticket e out r is)
+
+-- where memory was refused the node is as it was
+pub memory_keeps : (t u : Node) (e : NodeEvent) (out : Outcome) → (node_step t e ≡ (out, u)) ⊎ ((out ≡ Refused Memory) × (u ≡ t)) → out ≡ Refused Memory → u ≡ t
+memory_keeps t u e out (inl is) m =
+    let yes : is_memory (node_step t e).0 ≡ true = ap (λ (x : Outcome × Node). is_memory x.0) is ∙ ap is_memory m in
+    let no : is_memory (node_step t e).0 ≡ false = (step_tame t e).1 in
+    absurd (let f : true ≡ false = sym yes ∙ no in cc)
+memory_keeps t u e out (inr r) m = r.1

@@ -1,0 +1,190 @@
+//! What a book tells of its steps beside their answers.
+ghost use Rattle.std.specs.Prelude.{◌≡◌, ◌≢◌, [], IfOk, OnErr};
+ghost use Rattle.cops_node.specs.Outcomes.{IsGot};
+ghost use Rattle.cops_book.specs.Book.{put_made, puts_in};
+
+use crate::book::{Book, stepped};
+use crate::entry::Entry;
+use cops_node::{Node, NodeEvent, Outcome};
+use cops_types::{Memory, PutRecord};
+use std::alloc::{AllocError, Global};
+
+/// What a step answered, for whoever keeps its entry and what was seen too.
+#[derive(Debug, Drop)]
+pub struct Told {
+    pub outcome: Outcome,
+    /// A copy of the outcome.
+    pub seen: Outcome,
+    /// The entry that was made.
+    pub entry: Entry,
+}
+
+/// The puts that were issued at a node, from some entry on.
+#[derive(Debug, Drop)]
+pub struct Puts {
+    /// In order of their entries.
+    pub puts: Vec<PutRecord>,
+    /// How many entries there are in all.
+    pub entries: usize,
+}
+
+/// Copies of an event.
+#[derive(Drop)]
+struct Events {
+    kept: NodeEvent,
+    shared: NodeEvent,
+}
+
+/// What a node answered to an event, and copies of it.
+#[derive(Drop)]
+struct Answers {
+    outcome: Outcome,
+    kept: Outcome,
+    shared: Outcome,
+    seen: Outcome,
+}
+
+/// Copies of an outcome.
+#[derive(Drop)]
+pub(crate) struct Copies {
+    pub(crate) kept: Outcome,
+    pub(crate) shared: Outcome,
+    pub(crate) seen: Outcome,
+}
+
+impl Book {
+    ghost use Rattle.std.specs.Prelude.{◌≡◌, ◌≢◌, [], ◌∷◌, ◌++◌, drop, length, IfOk, OnErr};
+    ghost use Rattle.cops_node.specs.Node.{node_step};
+    ghost use Rattle.cops_book.specs.Book.{entry, puts_in};
+
+    /// The node takes one event as by `step`, for whoever keeps the entry too: with the answer comes a copy of it, and the entry. Where memory runs out
+    /// for any of these nothing changes, and no entry is made.
+    pub fn step_told(&mut self, ticket: u64, event: NodeEvent) -> Result<Told, Memory>
+        ensures memory { OnErr result (self.new ≡ self.old) }
+        ensures stepped { IfOk result (λ told. node_step self.old.node event ≡ (told.outcome, self.new.node)) }
+        ensures entered { IfOk result (λ told. self.new.entries ≡ self.old.entries ++ entry ticket event told.outcome ∷ []) }
+        ensures told { IfOk result (λ told. (told.seen ≡ told.outcome) × (told.entry ≡ entry ticket event told.outcome)) }
+    {
+        self.entries.reserve(1)?;
+        let events = Events::of(&event)?;
+        let answers = Answers::of(&mut self.node, event)?;
+        self.entries.push_reserved(Entry {
+            ticket,
+            event: events.kept,
+            outcome: answers.kept,
+        });
+        Ok(Told {
+            outcome: answers.outcome,
+            seen: answers.seen,
+            entry: Entry {
+                ticket,
+                event: events.shared,
+                outcome: answers.shared,
+            },
+        })
+    }
+
+    /// Copies of the puts that were issued here, from the entry at a place on, and how many entries there are: from there
+    /// on the next copies are to be made. From a place that is not there on no put was issued. It takes memory only where one was.
+    pub fn puts_from(&self, alloc: Global, place: usize) -> Result<Puts, Memory>
+        ensures puts { IfOk result (λ r. r.puts.items ≡ puts_in (drop place self.now.entries)) }
+        ensures entries { IfOk result (λ r. r.entries ≡ length self.now.entries) }
+        ensures err { OnErr result (puts_in (drop place self.now.entries) ≢ []) }
+    {
+        let entries = self.entries.len();
+        let rest = &self.entries[place.min(entries)..];
+        let puts = puts_of(alloc, rest)?;
+        Ok(Puts { puts, entries })
+    }
+}
+
+impl Events {
+    fn of(event: &NodeEvent) -> Result<Events, AllocError>
+        ensures { IfOk result (λ events. (events.kept ≡ event.now) × (events.shared ≡ event.now)) }
+    {
+        let kept = event.clone()?;
+        match event.clone() {
+            Ok(shared) => Ok(Events { kept, shared }),
+            Err(error) => {
+                drop(kept);
+                Err(error)
+            }
+        }
+    }
+}
+
+impl Answers {
+    ghost use Rattle.std.specs.Prelude.{◌≡◌, IfOk, OnErr};
+    ghost use Rattle.cops_node.specs.Node.{node_step};
+
+    /// The node takes one event, and its answer is copied. Where memory runs out nothing changes.
+    fn of(node: &mut Node, event: NodeEvent) -> Result<Answers, Memory>
+        ensures memory { OnErr result (node.new ≡ node.old) }
+        ensures stepped { IfOk result (λ answers. node_step node.old event ≡ (answers.outcome, node.new)) }
+        ensures copied { IfOk result (λ answers. (answers.kept ≡ answers.outcome) × (answers.shared ≡ answers.outcome) × (answers.seen ≡ answers.outcome)) }
+    {
+        let outcome = stepped(node, event)?;
+        let copies = Copies::of(&outcome)?;
+        Ok(Answers {
+            outcome,
+            kept: copies.kept,
+            shared: copies.shared,
+            seen: copies.seen,
+        })
+    }
+}
+
+impl Copies {
+    /// They take memory for the value of a get alone.
+    pub(crate) fn of(outcome: &Outcome) -> Result<Copies, Memory>
+        ensures kept { IfOk result (λ copies. copies.kept ≡ outcome.now) }
+        ensures shared { IfOk result (λ copies. copies.shared ≡ outcome.now) }
+        ensures seen { IfOk result (λ copies. copies.seen ≡ outcome.now) }
+        ensures err { OnErr result (IsGot outcome.now) }
+    {
+        Ok(Copies {
+            kept: outcome.copy()?,
+            shared: outcome.copy()?,
+            seen: outcome.copy()?,
+        })
+    }
+}
+
+/// Copies of the puts that entries issued. It takes memory only where one was.
+fn puts_of(alloc: Global, entries: &[Entry]) -> Result<Vec<PutRecord>, Memory>
+    ensures puts { IfOk result (λ puts. puts.items ≡ puts_in entries.now) }
+    ensures err { OnErr result (puts_in entries.now ≢ []) }
+{
+    let mut puts = Vec::new(alloc);
+    for entry in entries {
+        if let Some(put) = put_of(entry)? {
+            puts.push(put)?;
+        }
+    }
+    Ok(puts)
+}
+
+/// A copy of the put that an entry issued, if it issued one. It takes memory only where it did.
+pub(crate) fn put_of(entry: &Entry) -> Result<Option<PutRecord>, Memory>
+    ensures put { IfOk result (λ put. put ≡ put_made entry.now.event entry.now.outcome) }
+    ensures err { OnErr result (put_made entry.now.event entry.now.outcome ≢ None) }
+{
+    let NodeEvent::Put {
+        key,
+        value,
+        deps,
+        ..
+    } = &entry.event
+    else {
+        return Ok(None);
+    };
+    let Outcome::PutDone(version) = &entry.outcome else {
+        return Ok(None);
+    };
+    Ok(Some(PutRecord {
+        key: key.clone()?,
+        value: value.clone()?,
+        version: *version,
+        deps: deps.clone()?,
+    }))
+}
