@@ -1,4 +1,5 @@
 ghost use Rattle.std.specs.Prelude.{◌≡◌, ◌<◌, ◌≤◌, ◌+◌, ◌^◌, ◌↔◌, List, IfOk, OnOk, IsTrue, length, map, vec_len, All, AllPairs, slice_index_or, []};
+ghost use Rattle.cops_types.specs.declared.limits.TheConstants.{MAX_CLIENTS};
 ghost use Rattle.cops_types.specs.declared.op.OpName.{OpName};
 ghost use Rattle.cops_types.specs.Histories.{IsNamed};
 ghost use Rattle.cops_types.specs.Faults.{IsBefore};
@@ -140,7 +141,7 @@ fn note_all(
     place: usize,
 ) -> Result<(), AllocError>
     requires table { IsVersionTable history.now.sessions table.now }
-    requires few { first + length sessions.old.items ≤ 65535 }
+    requires few { first + length sessions.old.items ≤ MAX_CLIENTS }
     requires fronts { AreFrontsNoted history.now.sessions table.now first (map (λ s. s.items) sessions.old.items) }
     ensures count { length sessions.new.items ≡ length sessions.old.items }
     ensures fronts { OnOk result (AreFrontsNoted history.now.sessions table.now first (map (λ s. s.items) sessions.new.items)) }
@@ -161,7 +162,7 @@ fn no_notes(
     first: usize,
     end: usize,
 ) -> Result<Vec<Vec<Note>>, AllocError>
-    requires { end ≤ 65535 }
+    requires { end ≤ MAX_CLIENTS }
     ensures { IfOk result (λ v. (first ≤ end → first + length v.items ≡ end) × All (λ s. s.items ≡ []) v.items) }
 {
     let mut sessions = Vec::new(alloc);

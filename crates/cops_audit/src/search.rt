@@ -1,4 +1,5 @@
 ghost use Rattle.std.specs.Prelude.{◌≡◌, ◌<◌, ◌≤◌, ◌+◌, ℕ, IfOk, OnOk, length, slice_index_or, [], map};
+ghost use Rattle.cops_types.specs.declared.limits.TheConstants.{MAX_CLIENTS};
 ghost use Rattle.cops_types.specs.declared.op.OpName.{OpName};
 ghost use Rattle.cops_types.specs.Histories.{IsNamed, SourceStep};
 ghost use Rattle.cops_audit.specs.declared.table.VersionedPut.{VersionedPut};
@@ -101,7 +102,7 @@ fn look_at_all(
 
 /// The counts above 0, in order of clients.
 fn counted(alloc: Global, search: &Sweep, clients: usize) -> Result<Vec<(u16, u32)>, AllocError>
-    requires few { clients ≤ 65535 }
+    requires few { clients ≤ MAX_CLIENTS }
     requires clients { length search.now.counts ≡ clients }
     ensures { IfOk result (λ v. ListsCounts search.now.counts v.items) }
 {

@@ -1,10 +1,10 @@
 -- For which answers the world takes memory.
-use Rattle.std.specs.Prelude.{◌≡◌, Bool, true, false}
+use Rattle.std.specs.Prelude.{◌≡◌, Bool, true, false, List, [], ◌∷◌}
 use Rattle.cops_types.specs.declared.refusal.Refusal.{Refusal}
-use Rattle.cops_types.specs.declared.refusal.Refusal.TheVariants.{ClockExhausted, NoYes}
+use Rattle.cops_types.specs.declared.refusal.Refusal.TheVariants.{ClockExhausted, Memory, NoYes}
 use Rattle.cops_node.specs.declared.outcome.Outcome.{Outcome}
 use Rattle.cops_node.specs.declared.outcome.Outcome.TheVariants.{Refused}
-use Rattle.cops_core.specs.World.{Event, PutBy, MarkAt}
+use Rattle.cops_core.specs.World.{Event, Happens, MarkAt, PutBy, Setting, World, happens}
 
 -- a refusal that comes after memory is taken: of a put whose clock is exhausted, and of a mark that no Yes allows
 abbrev pub is_late : Event → Refusal → Bool
@@ -16,3 +16,14 @@ is_late _ _ = false
 abbrev pub TakesMemory : Event → Outcome → Type 0
 TakesMemory event (Refused refused) = is_late event refused ≡ true
 TakesMemory event outcome = Unit {0}
+
+-- an event is answered so, and with want of memory only where memory is taken for what it would have been answered
+abbrev pub Answers : Setting → World → Event → Outcome → World → Type 0
+Answers s old event outcome new = Happens s old event outcome new × (outcome ≡ Refused Memory → TakesMemory event (happens s old event).0)
+
+-- events are answered so, one after the other
+abbrev pub AnswersEach : Setting → World → List Event → List Outcome → World → Type 0
+AnswersEach s old [] [] new = new ≡ old
+AnswersEach s old (event ∷ events) (outcome ∷ outcomes) new = (mid : World) × (Answers s old event outcome mid × AnswersEach s mid events outcomes new)
+AnswersEach s old [] (outcome ∷ outcomes) new = ⊥
+AnswersEach s old (event ∷ events) [] new = ⊥

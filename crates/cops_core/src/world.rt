@@ -35,7 +35,7 @@ impl World {
     ghost use Rattle.cops_node.specs.declared.outcome.Outcome.TheVariants.{Refused as RefusedWith};
     ghost use Rattle.cops_core.specs.Machine.{Step, view};
     ghost use Rattle.cops_core.specs.World.{Happens, context_in, happens, home, sent, settled_in, Run};
-    ghost use Rattle.cops_core.specs.Memory.{TakesMemory};
+    ghost use Rattle.cops_core.specs.Memory.{AnswersEach, TakesMemory};
     ghost use Rattle.cops_types.specs.Verdicts.{HasAcceptedVerdict};
     ghost use Rattle.cops_core.specs.Opened.{opened_world};
     ghost use Rattle.cops_place.specs.Clients.{AreClients};
@@ -104,10 +104,12 @@ impl World {
         self.state.step(&self.setting, event)
     }
 
-    /// Answers events one after the other. `Memory` where there is none for the answers: then no event has happened.
+    /// Answers events one after the other, each as `apply` does. `Memory` where there is none for the answers: then no event has
+    /// happened.
     pub fn run(&mut self, events: &[Event]) -> Result<Vec<Outcome>, Memory>
         ensures setting { self.new.setting ≡ self.old.setting }
         ensures ok { IfOk result (λ outcomes. Run self.old.setting self.old.world events.now outcomes.items self.new.world) }
+        ensures memory { IfOk result (λ outcomes. AnswersEach self.old.setting self.old.world events.now outcomes.items self.new.world) }
         ensures err { OnErr result (self.new ≡ self.old) }
     {
         let mut outcomes = Vec::with_capacity(self.alloc, events.len())?;

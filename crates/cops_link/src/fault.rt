@@ -17,7 +17,7 @@ pub enum LinkFault {
 /// Why a frame was not sent. It takes no memory, so want of memory is not among them.
 #[derive(Debug, Drop, Error)]
 pub enum SendFault {
-    /// The frame comes back.
+    /// 1: the link is full. The frame comes back.
     #[error("the link is full")]
     Full(Frame),
 }

@@ -48,12 +48,13 @@ impl fmt::Display for Field {
 /// Why bytes are no scenario.
 #[derive(Clone, Copy, Debug, PartialEq, Eq, Error)]
 pub enum ScenarioFault {
+    /// 0: out of memory.
     #[error("out of memory")]
     Memory,
-    /// The bytes are no JSON text: by its grammar, for their encoding, or nested deeper than 127.
+    /// 1: the bytes are no JSON text: by its grammar, for their encoding, or nested deeper than 127.
     #[error("scenario is not JSON")]
     NotJson,
-    /// The first field that is missing and has no default, is not of its form, or is not within its limits.
+    /// 2: the first field that is missing and has no default, is not of its form, or is not within its limits.
     #[error("scenario field {0}")]
     BadField(Field),
 }

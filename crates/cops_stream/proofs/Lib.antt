@@ -1,3 +1,4 @@
 pub mod Frames
 pub mod Shown
 pub mod Told
+pub mod Unique

@@ -4,7 +4,9 @@
 #![tactic(auto)]
 
 mod audit;
+mod laws;
 mod show;
 
 pub use audit::{Answer, StreamFault, audit_stream};
+pub use laws::one_audit;
 pub use show::show_stream;

@@ -20,6 +20,14 @@ pub const STALE: [(u16, Did); 5] = [
     (1, Did::Got(b'x', 1, 1, 0)),
 ];
 
+/// The text of a trace: the first client puts 1 at x under 1.0, and the second gets it.
+pub const TWO: [u8; 66] = [
+    0, 0, 0, 5, 17, 0, 1, 0, 2, //
+    0, 0, 0, 20, 18, 0, 0, 0, 0, 0, 0, 1, 120, 0, 1, 49, 0, 0, 0, 0, 0, 1, 0, 0, //
+    0, 0, 0, 20, 19, 0, 1, 0, 0, 0, 0, 1, 120, 0, 1, 49, 0, 0, 0, 0, 0, 1, 0, 0, //
+    0, 0, 0, 5, 21, 0, 0, 0, 2,
+];
+
 /// A key and a value of one byte each, and a version.
 fn versioned(
     alloc: Global,

@@ -1,7 +1,8 @@
 use crate::building::*;
 use cops_audit::SoFar::{Clean, Refused, Waiting};
 use cops_audit::{FeedFault, Online, SoFar};
-use cops_types::OpName;
+use cops_trace::{Partial, read_so_far};
+use cops_types::{Counted, OpName};
 use std::alloc::Global;
 use std::test::Fail;
 
@@ -184,5 +185,35 @@ fn clients_that_are_not_there(rt: HostRuntime) -> Result<(), Fail> {
     let refused = refuses_others(rt.alloc(), &mut online);
     let ended = ends(rt.alloc(), online, 1, &[(0, WAITS)])?;
     assert!(rt; refused? && ended);
+    Ok(())
+}
+
+/// The place where a text is cut, and what is said so far of the whole records before it.
+fn said_of(alloc: Global, text: &[u8]) -> Result<(Option<u64>, SoFar), Fail> {
+    let Partial { trace, cut } = read_so_far(alloc, &mut Counted::new(text))?;
+    let mut online = Online::new(alloc, trace.clients())?;
+    for client in 0..trace.clients() {
+        for op in trace.history().session(client) {
+            online.feed(client, op.clone()?)?;
+        }
+    }
+    let so_far = online.so_far();
+    Ok((cut, so_far))
+}
+
+#[test]
+fn a_text_that_is_cut(rt: HostRuntime) -> Result<(), Fail> {
+    let (head, get) = (&TWO[..9], &TWO[33..57]);
+    let mut waiting = Vec::new(rt.alloc());
+    waiting.extend_from_slice(head)?;
+    waiting.extend_from_slice(get)?;
+    for (text, wanted) in [
+        (&TWO[..65], (Some(57), Clean)),
+        (&TWO[..], (None, Clean)),
+        (&TWO[..8], (Some(0), Clean)),
+        (waiting.as_slice(), (Some(33), Waiting(1))),
+    ] {
+        assert_eq!(rt; said_of(rt.alloc(), text)?, wanted);
+    }
     Ok(())
 }

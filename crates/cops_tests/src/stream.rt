@@ -1,15 +1,8 @@
+use crate::building::TWO;
 use cops_gates::HoldsAt;
 use cops_stream::*;
 use cops_types::{Counted, FailingReader, FailingWriter, OpenGate, Point};
 use std::test::Fail;
-
-/// The first client puts 1 at x under 1.0, and the second gets it.
-const TWO: [u8; 66] = [
-    0, 0, 0, 5, 17, 0, 1, 0, 2, //
-    0, 0, 0, 20, 18, 0, 0, 0, 0, 0, 0, 1, 120, 0, 1, 49, 0, 0, 0, 0, 0, 1, 0, 0, //
-    0, 0, 0, 20, 19, 0, 1, 0, 0, 0, 0, 1, 120, 0, 1, 49, 0, 0, 0, 0, 0, 1, 0, 0, //
-    0, 0, 0, 5, 21, 0, 0, 0, 2,
-];
 
 /// A get whose put is nowhere, and what is told of it.
 const NO_SOURCE: [u8; 42] = [

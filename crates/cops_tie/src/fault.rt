@@ -9,10 +9,10 @@ use thiserror::Error;
 /// Why the books and a trace are not tied.
 #[derive(Clone, Copy, Debug, PartialEq, Eq, Error)]
 pub enum TieFault {
-    /// Memory was refused.
+    /// 0: out of memory.
     #[error("out of memory")]
     Memory,
-    /// The books are no run of the world in which the clients saw what the trace says. The ticket is the least one whose
+    /// 1: the books are no run of the world in which the clients saw what the trace says. The ticket is the least one whose
     /// entry does not continue the run; where the sessions alone differ from the trace's, the one above the greatest: 0
     /// where there is no entry, and the greatest `u64` where that is a ticket.
     #[error("untied at ticket {ticket}")]

@@ -9,6 +9,7 @@ use thiserror::Error;
 /// for a field that is not legal the place of that field.
 #[derive(Clone, Copy, Debug, PartialEq, Eq, Error)]
 pub enum TraceFault {
+    /// 0: out of memory.
     #[error("out of memory")]
     Memory,
     /// 1: the first frame is no head.
@@ -70,6 +71,7 @@ impl TraceFault {
 /// Why no trace was written.
 #[derive(Clone, Copy, Debug, PartialEq, Eq, Error)]
 pub enum WriteFault {
+    /// 0: out of memory.
     #[error("out of memory")]
     Memory,
     /// 1: the writer failed, after exactly so many of the text's first bytes.

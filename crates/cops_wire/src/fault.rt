@@ -4,23 +4,23 @@ use thiserror::Error;
 /// looks.
 #[derive(Clone, Copy, Debug, PartialEq, Eq, Error)]
 pub enum WireFault {
-    /// Memory ran out, at a legal key or value or at dependencies. What was read stays to be read again.
+    /// 0: memory ran out, at a legal key or value or at dependencies. What was read stays to be read again.
     #[error("out of memory")]
     Memory,
-    /// The frame is not whole: fewer than 4 bytes, or fewer than its length says.
+    /// 1: the frame is not whole: fewer than 4 bytes, or fewer than its length says.
     #[error("the frame is not whole")]
     Short,
-    /// The length is 0, or above the most that the format allows (32,768 in format 1).
+    /// 2: the length is 0, or above the most that the format allows (32,768 in format 1).
     #[error("bad length")]
     BadLength,
-    /// The kind is none of the format's.
+    /// 3: the kind is none of the format's.
     #[error("unknown kind")]
     UnknownKind,
-    /// A field runs past the body's end or is out of its range. The offset is that of the first such field's first
+    /// 4: a field runs past the body's end or is out of its range. The offset is that of the first such field's first
     /// byte, counted from the frame's first byte: the kind is at 4, the first field at 5.
     #[error("bad field at byte {offset} of the frame")]
     BadField { offset: u32 },
-    /// Bytes of the body are left after the last field.
+    /// 5: bytes of the body are left after the last field.
     #[error("bytes after the last field")]
     TrailingBytes,
 }
