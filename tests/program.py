@@ -27,6 +27,9 @@ from events import scenario  # noqa: E402
 LOOPBACK = "0100007F"
 LISTENS = "0A"
 
+# For how many seconds a client of these tests waits for the front door.
+PATIENCE = 60
+
 
 def audited(name, data, text, status):
     """The trace is audited the same by standard input, by `-` and by file."""
@@ -397,12 +400,23 @@ def free_port():
         return listener.getsockname()[1]
 
 
+def read_to_end(connection):
+    """All that comes to the end of the stream. A connection that is cut has no end: then the fault comes last, which no test takes for right."""
+    got = b""
+    try:
+        while piece := connection.recv(4096):
+            got += piece
+    except OSError as fault:
+        got += repr(fault).encode()
+    return got
+
+
 class Server:
     """A `cops serve` of so many sessions. Each session is a call, which waits for the port at first."""
 
-    def __init__(self, text, sessions):
+    def __init__(self, text, sessions, *words):
         self.port = free_port()
-        command = [os.path.join(ROOT, "cops"), "serve", str(self.port), "-", "--sessions", str(sessions)]
+        command = [os.path.join(ROOT, "cops"), "serve", str(self.port), "-", "--sessions", str(sessions), *words]
         self.process = subprocess.Popen(command, stdin=subprocess.PIPE, stdout=subprocess.PIPE, stderr=subprocess.PIPE)
         self.process.stdin.write(text)
         self.process.stdin.close()
@@ -410,7 +424,7 @@ class Server:
     def connect(self):
         for _ in range(2000):
             try:
-                return socket.create_connection(("127.0.0.1", self.port))
+                return socket.create_connection(("127.0.0.1", self.port), PATIENCE)
             except ConnectionRefusedError:
                 if self.process.poll() is not None:
                     break
@@ -421,23 +435,23 @@ class Server:
         """The replies to a client that sends these lines and goes."""
         return list(talk(self.port, given, connect=self.connect))
 
-    def bytes(self, given, rest=b"", reads=True):
-        """All that comes back for these bytes, which end the client's side; or it goes without a look."""
+    def bytes(self, given, rest=b"", ends=True):
+        """All that comes back for these bytes, which end the client's side or do not."""
         with self.connect() as connection:
             try:
                 connection.sendall(given)
                 for at in range(len(rest)):
                     connection.sendall(rest[at : at + 1])
-                connection.shutdown(socket.SHUT_WR)
-                got = b""
-                while reads:
-                    piece = connection.recv(4096)
-                    if not piece:
-                        break
-                    got += piece
-                return got
-            except OSError:
-                return b"reset"
+                if ends:
+                    connection.shutdown(socket.SHUT_WR)
+            except OSError as fault:
+                return repr(fault).encode()
+            return read_to_end(connection)
+
+    def leave(self, given):
+        """Sends these bytes, and goes without a look at what comes back."""
+        with self.connect() as connection:
+            connection.sendall(given)
 
     def ended(self):
         out, err = self.process.stdout.read(), self.process.stderr.read()
@@ -546,7 +560,7 @@ def strange_peers():
     for name, given, rest, wanted in peers:
         got = server.bytes(given, rest)
         check(f"peer: {name}", got.hex(), wanted.hex())
-    server.bytes(hello + put * 5000, reads=False)
+    server.leave(hello + put * 5000)
     got = server.lines("hello 0", "put y 2", "get y", "bye")
     check("a peer after all of them", (got[0], got[2].split()[:2], got[3]), ("hello from data centre 0, 1 nodes", ["got", "2"], "bye"))
     status, out, err = server.ended()
@@ -559,9 +573,82 @@ def strange_peers():
         check("a port in use", cops("serve", str(port), "-", stdin=one_client()), (4, b"", b"failed: bind\n"))
     check("serve of a faulty scenario", cops("serve", str(port), "-", stdin=b"{}"), (2, b"faulty: scenario field data_centres\n", b""))
     check("serve of no file", cops("serve", str(port), "/nothing/there"), (4, b"", b"failed: open\n"))
-    for given in (["0", "a"], ["65536", "a"], ["x", "a"], ["1"], ["1", "a", "--sessions", "0"], ["1", "a", "--sessions", "65536"]):
+    idle = [["1", "a", "--idle", given] for given in ("0", "65536", "x", "-1", "1.5", "")]
+    for given in (["0", "a"], ["65536", "a"], ["x", "a"], ["1"], ["1", "a", "--sessions", "0"], ["1", "a", "--sessions", "65536"], *idle):
         status, out, err = cops("serve", *given)
         check(f"usage of serve {given}", (status, out, err != b""), (2, b"", True))
+
+
+def sent_behind():
+    """A reply that was written is read, whatever a client sends behind its session's end, and one that stays there does not keep the door."""
+    hello, bye = message(["hello", "0"], 0), message(["bye"], 0)
+    get, put = message(["get", "x"], 7), message(["put", "x", "1"], 7)
+    welcome, missed, goodbye = (bytes.fromhex(given) for given in ("00000003020001", "000000050700000007", "0000000110"))
+    fault, more = bytes.fromhex("00008001"), (put * 8000)[:100_000]
+    server = Server(one_client(), 700)
+    for number in range(500):
+        got = server.bytes(hello + get * 20 + bye + more, ends=number % 2 == 0)
+        check(f"replies before bytes behind a goodbye {number}", got.hex(), (welcome + missed * 20 + goodbye).hex())
+    for number in range(100):
+        got = server.bytes(hello + get * 20 + fault + more, ends=number % 2 == 0)
+        check(f"replies before bytes behind a fault {number}", got.hex(), (welcome + missed * 20).hex())
+    for number in range(100):
+        got = server.bytes(hello + get + bye, more[:50], ends=number % 2 == 0)
+        check(f"replies before single bytes behind a goodbye {number}", got.hex(), (welcome + missed + goodbye).hex())
+    check("the report behind them", server.ended(), (0, b"accepted: 12100 operations, 0 puts\n", b""))
+
+    server = Server(one_client(), 4)
+    with server.connect() as silent, server.connect() as cut, server.connect() as endless:
+        silent.sendall(hello + get + bye)
+        cut.sendall(hello + get + fault)
+        check("a client that sends without an end is cut", sent_until_cut(endless, hello + bye, more), True)
+        got = server.lines("hello 0", "get x", "bye")
+        check("a client behind three that stay", got, ["hello from data centre 0, 1 nodes", "missed", "bye"])
+        check("replies to a client that stays behind its goodbye", read_to_end(silent).hex(), (welcome + missed + goodbye).hex())
+        check("replies to a client that stays behind a fault", read_to_end(cut).hex(), (welcome + missed).hex())
+    check("the report behind clients that stay", server.ended(), (0, b"accepted: 3 operations, 0 puts\n", b""))
+
+
+def sent_until_cut(connection, given, more):
+    """Whether the connection was cut, while these bytes were sent, and then more again and again."""
+    try:
+        connection.sendall(given)
+        while True:
+            connection.sendall(more)
+    except ConnectionError:
+        return True
+    except TimeoutError:
+        return False
+
+
+def idle_clients():
+    """A client that is idle for longer than it may be is given up, and no other."""
+    hello, bye = message(["hello", "0"], 0), message(["bye"], 0)
+    put, get, other = message(["put", "x", "v" * 4096], 7), message(["get", "x"], 7), message(["get", "y"], 7)
+    welcome, missed, goodbye = (bytes.fromhex(given) for given in ("00000003020001", "000000050700000007", "0000000110"))
+    done = bytes.fromhex("0000000d05000000070000000000010000")
+    server = Server(one_client(), 5, "--idle", "1")
+    with server.connect() as silent, server.connect() as inside, server.connect() as mute, server.connect() as full:
+        silent.sendall(hello + other)
+        inside.sendall(hello + other + put[:-1])
+        full.sendall(hello + put + get * 8000)
+        check("replies to a client that falls silent", read_to_end(silent).hex(), (welcome + missed).hex())
+        check("replies to one that does so inside a frame", read_to_end(inside).hex(), (welcome + missed).hex())
+        check("replies to one that says nothing", read_to_end(mute), b"")
+        check("a client behind idle ones", server.bytes(hello + other + bye).hex(), (welcome + missed + goodbye).hex())
+        got = read_to_end(full)
+        check("replies to one that takes nothing", (got[:24].hex(), b"Error" in got, len(got) < 8000 * 4096), ((welcome + done).hex(), False, True))
+    status, out, err = server.ended()
+    check("the report behind idle clients", (status, out.startswith(b"accepted: "), err), (0, True, b""))
+
+    for words, seconds, gets in ((["--idle", "2"], 0.4, 6), ([], 1.5, 1)):
+        server = Server(one_client(), 1, *words)
+        with server.connect() as slow:
+            for given in (hello, *[get] * gets, bye):
+                slow.sendall(given)
+                time.sleep(seconds)
+            check(f"replies to a slow client, {words}", read_to_end(slow).hex(), (welcome + missed * gets + goodbye).hex())
+        check(f"the report on it, {words}", server.ended(), (0, f"accepted: {gets} operations, 0 puts\n".encode(), b""))
 
 
 def listening(port):
@@ -602,6 +689,8 @@ def words():
     for given in (["--help"], ["audit", "--help"], ["show", "--help"], ["run", "--help"], ["serve", "--help"], ["help"]):
         status, out, err = cops(*given)
         check(f"help of {given}", (status, b"Usage: cops" in out, err), (0, True, b""))
+    for option in (b"--sessions <N>", b"--idle <SECONDS>"):
+        check(f"help of {option}", option in cops("serve", "--help")[1], True)
     for given in ("--version", "-V"):
         status, out, err = cops(given)
         check(f"version, {given}", (status, out.startswith(b"cops 0.1.0 (rattle-kit-"), err), (0, True, b""))
@@ -712,8 +801,9 @@ def wrong_edits():
 
 
 for tests in (
-    examples, long_chain, many_rounds, faults, shown, scenarios, refusals, faulty_scenarios, scripts, mixed_scripts, working_clusters, plain_cluster.random_worlds, many_workers, served,
-    replies, strange_peers, listens_here_alone, words, devices, generated, little_memory, no_thread, definition_files, wrong_edits, plain.rows, plain.random_histories,
+    examples, long_chain, many_rounds, faults, shown, scenarios, refusals, faulty_scenarios, scripts, mixed_scripts, working_clusters,
+    plain_cluster.random_worlds, many_workers, served, replies, strange_peers, sent_behind, idle_clients, listens_here_alone, words, devices,
+    generated, little_memory, no_thread, definition_files, wrong_edits, plain.rows, plain.random_histories,
 ):
     tests()
 sys.exit(ended())

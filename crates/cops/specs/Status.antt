@@ -39,7 +39,7 @@ abbrev pub EndsWell : Job → List ℕ → Type 0
 EndsWell (Audit trace workers) bytes = SpellsConvergent bytes
 EndsWell (Show trace) bytes = TellsTrace bytes
 EndsWell (Run scenario trace) bytes = TellsRun bytes
-EndsWell (Serve port scenario sessions) bytes = TellsServed sessions bytes
+EndsWell (Serve port scenario sessions idle) bytes = TellsServed sessions bytes
 
 -- the bytes are those of a trace that is refused
 abbrev pub TellsRefused : List ℕ → Type 0

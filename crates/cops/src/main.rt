@@ -118,9 +118,10 @@ where
     }
 }
 
-/// Serves so many sessions of clients of the cluster of the scenario that the input holds, and gives the status: accepted only of a
-/// scenario with a report on so many sessions, whose history is accepted.
-fn serve<R, I, E>(rt: &R, input: I, port: u16, sessions: u16, errors: E) -> u8
+/// Serves so many sessions of clients of the cluster of the scenario that the input holds, each of which may be idle for so many
+/// seconds, where they are given, and gives the status: accepted only of a scenario with a report on so many sessions, whose history
+/// is accepted.
+fn serve<R, I, E>(rt: &R, input: I, port: u16, sessions: u16, idle: Option<u16>, errors: E) -> u8
 where
     R: Net<Listener = TcpListener, Stream = TcpStream> + Print + Eprint + AllocGlobal + Wait,
     I: Read + Drop,
@@ -138,6 +139,7 @@ where
         &mut reader,
         port,
         sessions,
+        idle,
         &mut out,
         &mut errors,
     ) {
@@ -160,7 +162,12 @@ where
         Job::Audit { workers, .. } => audit(rt, input, workers),
         Job::Show { .. } => show(rt, input, errors),
         Job::Run { trace, .. } => run_scenario(rt, input, trace, errors),
-        Job::Serve { port, sessions, .. } => serve(rt, input, port, sessions, errors),
+        Job::Serve {
+            port,
+            sessions,
+            idle,
+            ..
+        } => serve(rt, input, port, sessions, idle, errors),
     }
 }
 

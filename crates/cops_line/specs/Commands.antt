@@ -6,7 +6,7 @@ use Rattle.clap.specs.declared.builder.action.ArgAction.TheVariants.{Set}
 use Rattle.clap.specs.declared.builder.value_parser.ValueParser.{ValueParser}
 use Rattle.clap.specs.declared.builder.value_parser.ValueParser.TheVariants as parser
 use Rattle.cops_types.specs.declared.limits.TheConstants.{MAX_WORKERS}
-use Rattle.cops_line.specs.declared.job.TheConstants.{MAX_PORT, MAX_SESSIONS}
+use Rattle.cops_line.specs.declared.job.TheConstants.{MAX_PORT, MAX_SESSIONS, MAX_IDLE}
 
 -- an argument that has to be there, and takes one word
 abbrev pub positional : Text → Rule
@@ -38,6 +38,10 @@ sessions_option = record (new_rule (codes "sessions")) {
   parser = Some (parser.Signed (pos 1) (pos MAX_SESSIONS));
 }
 
+-- `--idle SECONDS`, which may be left out and takes a number from 1 to 65,535
+abbrev pub idle_option : Rule
+idle_option = number_option (codes "idle") (parser.Signed (pos 1) (pos MAX_IDLE))
+
 -- `audit TRACE`, with `--workers N` or without it
 abbrev pub audit_app : App
 audit_app = with_rule (with_rule (new_app (codes "audit")) (positional (codes "trace"))) workers_option
@@ -50,9 +54,9 @@ show_app = with_rule (new_app (codes "show")) (positional (codes "trace"))
 abbrev pub run_app : App
 run_app = with_rule (with_rule (new_app (codes "run")) (positional (codes "scenario"))) (positional (codes "trace"))
 
--- `serve PORT SCENARIO`, with `--sessions N` or without it
+-- `serve PORT SCENARIO`, with `--sessions N` or without it, and with `--idle SECONDS` or without it
 abbrev pub serve_app : App
-serve_app = with_rule (with_rule (with_rule (new_app (codes "serve")) port_argument) (positional (codes "scenario"))) sessions_option
+serve_app = with_rule (with_rule (with_rule (with_rule (new_app (codes "serve")) port_argument) (positional (codes "scenario"))) sessions_option) idle_option
 
 -- with a version, and with a subcommand that has to be there as the first of the words
 abbrev pub versioned : App → App

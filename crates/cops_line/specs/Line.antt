@@ -5,7 +5,7 @@ use Rattle.clap.specs.Words.{Row, Text, first_of, subcommand_of, fault_of, IsAmo
 use Rattle.clap.specs.declared.error.kind.ErrorKind.{ErrorKind}
 use Rattle.clap.specs.declared.error.kind.ErrorKind.TheVariants.{DisplayHelp, DisplayVersion, OutOfMemory}
 use Rattle.cops_types.specs.declared.limits.TheConstants.{MAX_WORKERS}
-use Rattle.cops_line.specs.declared.job.TheConstants.{MAX_PORT, MAX_SESSIONS}
+use Rattle.cops_line.specs.declared.job.TheConstants.{MAX_PORT, MAX_SESSIONS, MAX_IDLE}
 use Rattle.cops_line.specs.declared.job.Job.{Job}
 use Rattle.cops_line.specs.declared.job.Job.TheVariants.{Audit, Show, Run, Serve}
 use Rattle.cops_line.specs.declared.fault.LineFault.{LineFault}
@@ -22,6 +22,13 @@ abbrev pub IsNumberOr1 : ℕ → Option Text → ℕ → Type 0
 IsNumberOr1 most None n = n ≡ 1
 IsNumberOr1 most (Some text) n = IsNumber most text n
 
+-- the number that a value tells, where there is one
+abbrev pub IsNumberIfGiven : ℕ → Option Text → Option ℕ → Type 0
+IsNumberIfGiven most None None = Unit {0}
+IsNumberIfGiven most None (Some n) = ⊥
+IsNumberIfGiven most (Some text) None = ⊥
+IsNumberIfGiven most (Some text) (Some n) = IsNumber most text n
+
 -- the port that a value tells
 abbrev pub IsPort : Option Text → ℕ → Type 0
 IsPort None n = ⊥
@@ -32,8 +39,9 @@ abbrev pub IsJobOf : Text → List Row → Job → Type 0
 IsJobOf name rows (Audit trace workers) = (name ≡ codes "audit") × (first_of (codes "trace") rows ≡ Some trace.now) × IsNumberOr1 MAX_WORKERS (first_of (codes "workers") rows) workers
 IsJobOf name rows (Show trace) = (name ≡ codes "show") × (first_of (codes "trace") rows ≡ Some trace.now)
 IsJobOf name rows (Run scenario trace) = (name ≡ codes "run") × (first_of (codes "scenario") rows ≡ Some scenario.now) × (first_of (codes "trace") rows ≡ Some trace.now)
-IsJobOf name rows (Serve port scenario sessions) =
+IsJobOf name rows (Serve port scenario sessions idle) =
     (name ≡ codes "serve") × IsPort (first_of (codes "port") rows) port × (first_of (codes "scenario") rows ≡ Some scenario.now) × IsNumberOr1 MAX_SESSIONS (first_of (codes "sessions") rows) sessions
+    × IsNumberIfGiven MAX_IDLE (first_of (codes "idle") rows) idle
 
 -- no job has this subcommand and these values
 abbrev pub HasNoJob : Text → List Row → Type 0
@@ -52,7 +60,7 @@ abbrev pub IsDefault : Job → Type 0
 IsDefault (Audit trace workers) = (trace.now ≡ codes "-") × (workers ≡ 1)
 IsDefault (Show trace) = ⊥
 IsDefault (Run scenario trace) = ⊥
-IsDefault (Serve port scenario sessions) = ⊥
+IsDefault (Serve port scenario sessions idle) = ⊥
 
 -- the program's command takes the words, and they name a subcommand with the job's values
 abbrev pub IsRead : List Text → Job → Type 0

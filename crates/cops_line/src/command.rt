@@ -2,7 +2,7 @@ ghost use Rattle.std.specs.Prelude.{◌≡◌, IfOk, codes, false, pos};
 ghost use Rattle.clap.specs.Words.{app_of, new_app, rule_of, with_rule, with_subcommand};
 ghost use Rattle.clap.specs.declared.builder.command.Command.TheViews.{out-Command as fields_of};
 ghost use Rattle.clap.specs.declared.builder.value_parser.ValueParser.TheVariants as parser;
-ghost use Rattle.cops_line.specs.Commands.{number_option, positional, port_argument, sessions_option, workers_option, versioned, cops_top, cops_app, audit_app, show_app, run_app, serve_app};
+ghost use Rattle.cops_line.specs.Commands.{number_option, positional, port_argument, sessions_option, idle_option, workers_option, versioned, cops_top, cops_app, audit_app, show_app, run_app, serve_app};
 ghost use Rattle.cops_line.specs.declared.job.TheConstants.{MAX_PORT};
 
 use crate::job::MAX_PORT;
@@ -64,11 +64,15 @@ Serves clients of the cluster that a scenario describes, on a port of 127.0.0.1.
 
 Takes one connection after the other. A client greets with its number in the scenario, and then
 puts and gets in its data centre. What was put is replicated to the other data centres once a
-session has ended. After the last session the report of what all clients saw is printed.";
+session has ended. A client that sends nothing, or takes nothing, for longer than it may be idle
+ends its session. After the last session the report of what all clients saw is printed.";
 
 const PORT_HELP: &str = "The port to listen on, 1 to 65535";
 
 const SESSIONS_HELP: &str = "How many sessions are served, 1 to 65535, and 1 where it is not given";
+
+const IDLE_HELP: &str =
+    "How many seconds a client may be idle, 1 to 65535, and any number where it is not given";
 
 const TRACE_HELP: &str = "The trace file, or `-` for standard input";
 
@@ -94,6 +98,7 @@ fn file_arg<'a>(alloc: Global, id: &'static str, name: &'static str, help: &'sta
 fn number_arg<'a>(
     alloc: Global,
     id: &'static str,
+    name: &'static str,
     number: ValueParser<'a>,
     help: &'static str,
 ) -> Arg<'a>
@@ -103,7 +108,7 @@ fn number_arg<'a>(
     Arg::new(alloc, id)
         .long(id)
         .action(ArgAction::Set)
-        .value_name("N")
+        .value_name(name)
         .value_parser(number)
         .help(help)
 }
@@ -121,7 +126,7 @@ fn workers_arg<'a>(alloc: Global) -> Arg<'a>
     ensures local { result.global ≡ false }
 {
     let number = value_parser!(u8).range(1..=i64::from(MAX_WORKERS));
-    number_arg(alloc, "workers", number, WORKERS_HELP)
+    number_arg(alloc, "workers", "N", number, WORKERS_HELP)
 }
 
 /// The port, which has to be there.
@@ -137,7 +142,15 @@ fn sessions_arg<'a>(alloc: Global) -> Arg<'a>
     ensures rule { rule_of result ≡ sessions_option }
     ensures local { result.global ≡ false }
 {
-    number_arg(alloc, "sessions", large_number(), SESSIONS_HELP)
+    number_arg(alloc, "sessions", "N", large_number(), SESSIONS_HELP)
+}
+
+/// The option that names for how many seconds a client may be idle.
+fn idle_arg<'a>(alloc: Global) -> Arg<'a>
+    ensures rule { rule_of result ≡ idle_option }
+    ensures local { result.global ≡ false }
+{
+    number_arg(alloc, "idle", "SECONDS", large_number(), IDLE_HELP)
 }
 
 /// A subcommand of this name with its texts, and without arguments.
@@ -221,7 +234,7 @@ fn serve_command<'a>(alloc: Global) -> Result<Command<'a>, AllocError>
         port_arg(alloc),
     )?;
     let command = command.arg(file_arg(alloc, "scenario", "SCENARIO", SCENARIO_HELP))?;
-    command.arg(sessions_arg(alloc))
+    command.arg(sessions_arg(alloc))?.arg(idle_arg(alloc))
 }
 
 /// The command with the version. A subcommand has to be there, and the words begin after the program's name.

@@ -1,8 +1,8 @@
-ghost use Rattle.std.specs.Prelude.{◌≡◌, ℕ, IfSome, IfNone, Some, codes, option_map};
+ghost use Rattle.std.specs.Prelude.{◌≡◌, ℕ, IfSome, IfNone, Option, Some, codes, option_map};
 ghost use Rattle.clap.specs.Words.{first_of, found_of, rows_of, subcommand_rows_of};
 ghost use Rattle.cops_types.specs.declared.limits.TheConstants.{MAX_WORKERS};
-ghost use Rattle.cops_line.specs.declared.job.TheConstants.{MAX_SESSIONS};
-ghost use Rattle.cops_line.specs.Line.{IsNumber, IsNumberOr1, IsPort, IsJobOf, HasNoJob, IsJobIn, HasNoJobIn};
+ghost use Rattle.cops_line.specs.declared.job.TheConstants.{MAX_IDLE, MAX_SESSIONS};
+ghost use Rattle.cops_line.specs.Line.{IsNumber, IsNumberOr1, IsNumberIfGiven, IsPort, IsJobOf, HasNoJob, IsJobIn, HasNoJobIn};
 
 use clap::ArgMatches;
 use cops_types::MAX_WORKERS;
@@ -12,6 +12,9 @@ pub const MAX_PORT: u16 = 65_535;
 
 /// The most sessions of a serving.
 pub const MAX_SESSIONS: u16 = 65_535;
+
+/// The most seconds that a client of a serving may be idle, where a number is given.
+pub const MAX_IDLE: u16 = 65_535;
 
 /// What the words ask for.
 #[derive(Clone, Copy, Debug, PartialEq, Eq)]
@@ -31,11 +34,12 @@ pub enum Job<'a> {
         trace: &'a str,
     },
     /// Serve so many sessions, 1 to 65,535, of a scenario's cluster on a port of 127.0.0.1, and print the report. `-` is standard
-    /// input.
+    /// input. A client that is idle for so many seconds, 1 to 65,535, is given up, and none where they are not given.
     Serve {
         port: u16,
         scenario: &'a str,
         sessions: u16,
+        idle: Option<u16>,
     },
 }
 
@@ -96,6 +100,17 @@ fn sessions(matches: &ArgMatches<'_>) -> Option<u16>
     }
 }
 
+/// For how many seconds a client may be idle: nothing where it is not given.
+fn idle(matches: &ArgMatches<'_>) -> Option<Option<u16>>
+    ensures some { IfSome result (IsNumberIfGiven MAX_IDLE (first_of (codes "idle") (rows_of (found_of matches.now)))) }
+    ensures none { IfNone result ((n : Option ℕ) → ¬ IsNumberIfGiven MAX_IDLE (first_of (codes "idle") (rows_of (found_of matches.now))) n) }
+{
+    match value(matches, "idle") {
+        Some(text) => Some(Some(number_in(text, MAX_IDLE)?)),
+        None => Some(None),
+    }
+}
+
 fn audit_job<'a>(matches: &ArgMatches<'a>) -> Option<Job<'a>>
     ensures some { IfSome result (IsJobOf (codes "audit") (rows_of (found_of matches.now))) }
     ensures none { IfNone result (HasNoJob (codes "audit") (rows_of (found_of matches.now))) }
@@ -129,10 +144,12 @@ fn serve_job<'a>(matches: &ArgMatches<'a>) -> Option<Job<'a>>
     let port = port(matches)?;
     let scenario = value(matches, "scenario")?;
     let sessions = sessions(matches)?;
+    let idle = idle(matches)?;
     Some(Job::Serve {
         port,
         scenario,
         sessions,
+        idle,
     })
 }
 

@@ -26,11 +26,11 @@ fn as_fault(alloc: Global, error: &Error) -> LineFault
 }
 
 /// The job that the words ask for: `audit TRACE`, with `--workers N` or without it, which is as 1, `show TRACE`,
-/// `run SCENARIO TRACE`, `serve PORT SCENARIO`, with `--sessions N` or without it, which is as 1, or none, which is as `audit -`.
-/// `words` are those after the program's name. `Usage` where they are no job, `Help` where they ask for help, by `--help`, `-h` or
-/// `help`, and `Version` where they ask for the version, by `--version` or `-V`, each with `clap`'s text; `Memory` where there are
-/// words and a growth was refused. No words that tell a job are answered with one of these texts, and words that only ask for the
-/// help or the version are not answered with `Usage`.
+/// `run SCENARIO TRACE`, `serve PORT SCENARIO`, with `--sessions N` or without it, which is as 1, and with `--idle SECONDS` or without
+/// it, or none, which is as `audit -`. `words` are those after the program's name. `Usage` where they are no job, `Help` where they ask
+/// for help, by `--help`, `-h` or `help`, and `Version` where they ask for the version, by `--version` or `-V`, each with `clap`'s text;
+/// `Memory` where there are words and a growth was refused. No words that tell a job are answered with one of these texts, and words
+/// that only ask for the help or the version are not answered with `Usage`.
 pub fn line<'a>(alloc: Global, words: &'a [&'a str]) -> Result<Job<'a>, LineFault>
     ensures job { IfOk result (Tells (map (λ s. s.now) words.entry.now)) }
     ensures fault { IfErr result (Explains (map (λ s. s.now) words.entry.now)) }

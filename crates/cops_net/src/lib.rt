@@ -3,8 +3,8 @@
 //!
 //! `specs/Protocol.antt` has the protocol as functions of whole lists: which messages are handed over, as which calls, and
 //! the replies told from the messages and those calls. `serve_session` does that and nothing else; `listen` does it for
-//! one connection after the other. Who answers stands behind the trait `Session`, which keeps the list of its calls with
-//! their answers.
+//! one connection after the other, and so does `listen_with_idle`, which waits for an idle client no longer than it is
+//! told. Who answers stands behind the trait `Session`, which keeps the list of its calls with their answers.
 //!
 //! Stands on `cops_types` and on the messages of `cops_wire`. The program uses that the
 //! replies tell the messages and what the session's list gained.
@@ -16,13 +16,14 @@ mod incoming;
 mod laws;
 mod listening;
 mod own;
+mod parting;
 mod reply;
 mod serving;
 mod session;
 
 pub use fault::NetFault;
 pub use laws::one_reply_each;
-pub use listening::listen;
+pub use listening::{listen, listen_with_idle};
 pub use reply::{Call, Reply};
 pub use serving::{Served, serve_session};
 pub use session::Session;

@@ -9,13 +9,16 @@ ghost use Rattle.cops_net.specs.Listening.{IsSession, AreSessions, AreServed, Is
 ghost use Rattle.cops_net.specs.Sessions.{Serves};
 
 use crate::fault::NetFault;
+use crate::parting::part_from;
 use crate::serving::serve_session;
 use crate::session::Session;
 use cops_types::{Counted, Memory};
 use std::alloc::Global;
+use std::io;
 use std::io::{Read, Write};
 use std::net::{Ipv4Addr, Net, TcpListener, TcpStream};
 use std::sync::Wait;
+use std::time::Duration;
 
 /// Serves one client over a reader and a writer. Want of memory alone is told: what else ended the session ended it alone.
 fn serve_client<R: Wait, I: Read, W: Write, S: Session>(
@@ -43,19 +46,33 @@ fn serve_client<R: Wait, I: Read, W: Write, S: Session>(
     }
 }
 
-/// Serves one connection.
+/// Lets a read or a write wait so long, where a time is given, and as long as it likes where none is.
+fn let_wait(stream: &TcpStream, idle: Option<Duration>) -> io::Result<()> {
+    stream.set_read_timeout(idle)?;
+    stream.set_write_timeout(idle)
+}
+
+/// Serves one connection, on which a read or a write that waits longer than the time that is given fails. Where the system
+/// does not take that time the session ends before its first read. What was written is read by a client that reads it,
+/// whatever it sends behind the end of its session, within the bounds of `part_from`.
 fn serve_connection<R: Wait, S: Session>(
     rt: &R,
     alloc: Global,
     stream: &TcpStream,
     session: &mut S,
+    idle: Option<Duration>,
 ) -> Result<(), Memory>
     ensures served { (gained : List Call) × (S.calls session.new ≡ S.calls session.old ++ gained) × IsSession gained }
     ensures ended { S.ended session.new ≡ S.ended session.old }
 {
+    if let_wait(stream, idle).is_err() {
+        return Ok(());
+    }
     let mut reader = Counted::new(stream);
     let mut writer = Counted::new(stream);
-    serve_client(rt, alloc, &mut reader, &mut writer, session)
+    let served = serve_client(rt, alloc, &mut reader, &mut writer, session);
+    part_from(stream);
+    served
 }
 
 /// Listens on a port of 127.0.0.1, and serves so many connections, one after the other, each by `serve_session`. What
@@ -75,6 +92,23 @@ pub fn listen<R: Net<Listener = TcpListener, Stream = TcpStream> + Wait, S: Sess
         × AreSessions begun gained × AreServed S.calls S.ends begun session.old session.new × IsCount sessions begun result
         × (S.ended session.old + begun < 2 ^ 64 → S.ended session.new ≡ S.ended session.old + begun) }
 {
+    listen_with_idle(rt, alloc, port, session, sessions, None)
+}
+
+/// As `listen`. Where a time is given, a client that sends nothing, or takes nothing, for longer than that in mid-session
+/// ends its session alone, as a failed read or a failed write does.
+pub fn listen_with_idle<R: Net<Listener = TcpListener, Stream = TcpStream> + Wait, S: Session>(
+    rt: &R,
+    alloc: Global,
+    port: u16,
+    session: &mut S,
+    sessions: u16,
+    idle: Option<Duration>,
+) -> Result<(), NetFault>
+    ensures sessions { (begun : ℕ) × (gained : List Call) × (S.calls session.new ≡ S.calls session.old ++ gained)
+        × AreSessions begun gained × AreServed S.calls S.ends begun session.old session.new × IsCount sessions begun result
+        × (S.ended session.old + begun < 2 ^ 64 → S.ended session.new ≡ S.ended session.old + begun) }
+{
     let listener = match TcpListener::bind(rt, (Ipv4Addr::LOCALHOST, port)) {
         Ok(listener) => listener,
         Err(_) => return Err(NetFault::BindFailed),
@@ -84,7 +118,7 @@ pub fn listen<R: Net<Listener = TcpListener, Stream = TcpStream> + Wait, S: Sess
             Ok((stream, _)) => stream,
             Err(_) => return Err(NetFault::AcceptFailed),
         };
-        let served = serve_connection(rt, alloc, &stream, session);
+        let served = serve_connection(rt, alloc, &stream, session, idle);
         drop(stream);
         session.after_session(rt);
         if let Err(Memory) = served {

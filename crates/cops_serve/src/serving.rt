@@ -14,16 +14,26 @@ ghost use Rattle.cops_serve.specs.Serving.{EndsAs, IsServed};
 use crate::fault::ServeFault;
 use crate::front_end::FrontEnd;
 use cops_command::{Status, failed, print, read_scenario};
-use cops_net::{NetFault, listen};
+use cops_net::{NetFault, listen_with_idle};
 use cops_scenario::Scenario;
 use cops_types::{Counted, Memory};
 use std::alloc::Global;
 use std::io::{Read, Write};
 use std::net::{Net, TcpListener, TcpStream};
 use std::sync::Wait;
+use std::time::Duration;
+
+/// A port, how many sessions are served there, and for how many seconds a client may be idle, where that is limited.
+#[derive(Clone, Copy)]
+struct Door {
+    port: u16,
+    sessions: u16,
+    idle: Option<u16>,
+}
 
 /// Reads a scenario, serves so many sessions of clients of its cluster on a port of 127.0.0.1, one after the other, and
-/// prints the report of what the clients saw. The answer is the status: 0 for a report, which is of an accepted history; 2 for a faulty
+/// prints the report of what the clients saw. A client that is idle for so many seconds, where they are given, is given up: its session
+/// alone ends, and counts as served. The answer is the status: 0 for a report, which is of an accepted history; 2 for a faulty
 /// scenario, which a line on `out` tells; and 4 where a read or a write failed, the port could not be bound, no connection
 /// could be accepted, or the nodes' books are not tied to what was recorded, which a line on `errors` tells.
 pub fn serve_stream<R, I, W, E>(
@@ -32,6 +42,7 @@ pub fn serve_stream<R, I, W, E>(
     reader: &mut Counted<I>,
     port: u16,
     sessions: u16,
+    idle: Option<u16>,
     out: &mut Counted<W>,
     errors: &mut Counted<E>,
 ) -> Result<u8, Memory>
@@ -45,8 +56,13 @@ where
         EndsAs bytes sessions status (W.contents (inner out.old)) (W.contents (inner out.new)))) }
     ensures heard { (result ≡ Ok (number Failed)) ⊎ ((failures reader.new ≡ failures reader.old) × (failures out.new ≡ failures out.old)) }
 {
+    let door = Door {
+        port,
+        sessions,
+        idle,
+    };
     match read_scenario(alloc, reader, out, errors)? {
-        Ok(scenario) => serve_scenario(rt, alloc, &scenario, port, sessions, out, errors),
+        Ok(scenario) => serve_scenario(rt, alloc, &scenario, door, out, errors),
         Err(status) => Ok(status),
     }
 }
@@ -56,8 +72,7 @@ fn serve_scenario<R, W, E>(
     rt: &R,
     alloc: Global,
     scenario: &Scenario,
-    port: u16,
-    sessions: u16,
+    door: Door,
     out: &mut Counted<W>,
     errors: &mut Counted<E>,
 ) -> Result<u8, Memory>
@@ -66,11 +81,11 @@ where
     W: Write,
     E: Write,
     ensures status { IfOk result (λ status. (status ≡ number Accepted) ⊎ (status ≡ number Failed)) }
-    ensures served { IfOk result (λ status. (status ≡ number Failed) ⊎ ((text : List ℕ) × IsServed sessions scenario.now text
+    ensures served { IfOk result (λ status. (status ≡ number Failed) ⊎ ((text : List ℕ) × IsServed door.sessions scenario.now text
         × Appends (W.contents (inner out.old)) (W.contents (inner out.new)) text)) }
     ensures heard { (result ≡ Ok (number Failed)) ⊎ (failures out.new ≡ failures out.old) }
 {
-    match served(rt, alloc, scenario, port, sessions) {
+    match served(rt, alloc, scenario, door) {
         Ok(report) => Ok(print(&report, Status::Accepted, out, errors)),
         Err(ServeFault::Memory) => Err(Memory),
         Err(fault) => unserved(alloc, fault, errors),
@@ -94,12 +109,11 @@ fn served<R: Net<Listener = TcpListener, Stream = TcpStream> + Wait>(
     rt: &R,
     alloc: Global,
     scenario: &Scenario,
-    port: u16,
-    sessions: u16,
+    door: Door,
 ) -> Result<Vec<u8>, ServeFault>
-    ensures { IfOk result (λ text. IsServed sessions scenario.now text.items) }
+    ensures { IfOk result (λ text. IsServed door.sessions scenario.now text.items) }
 {
-    let front_end = attended(rt, alloc, scenario, port, sessions)?;
+    let front_end = attended(rt, alloc, scenario, door)?;
     front_end.finish(scenario)
 }
 
@@ -108,37 +122,38 @@ fn attended<R: Net<Listener = TcpListener, Stream = TcpStream> + Wait>(
     rt: &R,
     alloc: Global,
     scenario: &Scenario,
-    port: u16,
-    sessions: u16,
+    door: Door,
 ) -> Result<FrontEnd, ServeFault>
-    ensures calls { IfOk result (λ f. AreSessions sessions f.calls.items) }
+    ensures calls { IfOk result (λ f. AreSessions door.sessions f.calls.items) }
     ensures served { IfOk result (λ f. (opened : AFrontEnd) × IsOpened scenario.now opened
-        × AreServed (λ (g : AFrontEnd). g.calls.items) Ends sessions opened f) }
-    ensures count { IfOk result (λ f. f.ended ≡ sessions) }
+        × AreServed (λ (g : AFrontEnd). g.calls.items) Ends door.sessions opened f) }
+    ensures count { IfOk result (λ f. f.ended ≡ door.sessions) }
 {
     let Ok(mut front_end) = FrontEnd::open(alloc, scenario) else {
         return Err(ServeFault::Memory);
     };
-    attend(rt, alloc, port, &mut front_end, sessions)?;
+    attend(rt, alloc, door, &mut front_end)?;
     Ok(front_end)
 }
 
-/// Serves so many sessions.
+/// Serves the sessions.
 fn attend<R: Net<Listener = TcpListener, Stream = TcpStream> + Wait>(
     rt: &R,
     alloc: Global,
-    port: u16,
+    door: Door,
     front_end: &mut FrontEnd,
-    sessions: u16,
 ) -> Result<(), ServeFault>
     ensures calls { IfOk result (λ _. (gained : List Call)
-        × (front_end.new.calls.items ≡ front_end.old.calls.items ++ gained) × AreSessions sessions gained) }
+        × (front_end.new.calls.items ≡ front_end.old.calls.items ++ gained) × AreSessions door.sessions gained) }
     ensures served { IfOk result (λ _.
-        AreServed (λ (f : AFrontEnd). f.calls.items) Ends sessions front_end.old front_end.new) }
+        AreServed (λ (f : AFrontEnd). f.calls.items) Ends door.sessions front_end.old front_end.new) }
     ensures count { IfOk result (λ _.
-        front_end.old.ended + sessions < 2 ^ 64 → front_end.new.ended ≡ front_end.old.ended + sessions) }
+        front_end.old.ended + door.sessions < 2 ^ 64 → front_end.new.ended ≡ front_end.old.ended + door.sessions) }
 {
-    match listen(rt, alloc, port, front_end, sessions) {
+    let idle = door
+        .idle
+        .map(|seconds| Duration::from_secs(u64::from(seconds)));
+    match listen_with_idle(rt, alloc, door.port, front_end, door.sessions, idle) {
         Ok(()) => Ok(()),
         Err(NetFault::BindFailed) => Err(ServeFault::BindFailed),
         Err(NetFault::AcceptFailed) => Err(ServeFault::AcceptFailed),

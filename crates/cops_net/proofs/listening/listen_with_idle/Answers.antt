@@ -2,7 +2,7 @@ use Rattle.std.proofs.Common.{◌+◌, List, [], ◌++◌, refl, sym, ap, ◌∙
 use Rattle.std.proofs.lemmas.List.{append-nil}
 use Rattle.cops_net.specs.declared.reply.Call.{Call}
 use Rattle.cops_net.proofs.Following.{served_more, session_more}
-use Rattle.cops_net.proofs.listening.listen.Goals as goal
+use Rattle.cops_net.proofs.listening.listen_with_idle.Goals as goal
 
 pub loop-init : goal.loop-init
 loop-init g c = ([], sym (append-nil _), refl, refl, λ few. omega arith)
