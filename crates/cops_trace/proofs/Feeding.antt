@@ -9,7 +9,7 @@ use Rattle.cops_trace.specs.declared.fault.TraceFault.{TraceFault}
 use Rattle.cops_trace.specs.declared.fault.TraceFault.TheVariants.{Memory, ReadFailed, Cut, BytesAfterEnd}
 use Rattle.cops_trace.specs.declared.trace.Partial.{Partial}
 use Rattle.cops_trace.specs.declared.found.Item.{Item}
-use Rattle.cops_trace.specs.declared.found.Item.TheVariants.{Head, Entry, End}
+use Rattle.cops_trace.specs.declared.found.Item.TheVariants.{Head, Op as Entry, End}
 use Rattle.cops_trace.specs.declared.found.Found.{Found}
 use Rattle.cops_trace.specs.declared.found.Found.TheVariants.{Gives, Waits, Fails}
 use Rattle.cops_trace.specs.Text.{ATrace, IsTrace, beginning, text}
@@ -17,8 +17,9 @@ use Rattle.cops_trace.proofs.Ends.{end_text}
 use Rattle.cops_trace.specs.Next.{Progress, Stands}
 use Rattle.cops_trace.specs.Answer.{progress_of, progress_at, front, Begins, HasFault, Says, IsCutAfter, BeginsAs, Agrees}
 use Rattle.cops_trace.specs.Answer as answer
-use Rattle.cops_trace.specs.Parsing.{Stage, progress_with, progress_in, with_item, is_end, after, StepGives, FedTo, Fed, IsSettledAt, IsSettled, HasFailed, Advances}
-use Rattle.cops_trace.proofs.Items.{item_message, Stood, stood, stands_still, front_with, trace_with, waits_len, nothing_waits, is_of_frame, frame_fails}
+use Rattle.cops_trace.specs.Parsing.{Stage, progress_with, progress_in, with_item, is_end, after, FailsAt, StepGives, FedTo, Fed, IsSettledAt, IsSettled, HasFailed, Advances}
+use Rattle.cops_trace.proofs.Lists.{nothing_before}
+use Rattle.cops_trace.proofs.Items.{item_message, Stood, stood, stands_still, front_with, trace_with, stands_used, waits_len, nothing_waits, is_of_frame, frame_fails}
 use Rattle.cops_trace.proofs.Readings.{front_len, text_len, one_answer, only_answer}
 
 -- ---- bytes in a row
@@ -84,7 +85,7 @@ item_taken fed s i used true k o st = go s.begun i used k o.begins.is_trace st o
     )
     go None End used k is st parts place = absurd st.allowed
     go b (Head clients) used k is st parts place = absurd cc
-    go b (Entry r) used k is st parts place = absurd cc
+    go b (Entry client op) used k is st parts place = absurd cc
 
 pub fed_item : (fed : List ℕ) (s : Stage) (i : Item) (used : ℕ) → Fed fed s → s.ended ≡ false → Stands (progress_in s) s.rest (Gives i used) → Fed fed (after i used s)
 fed_item fed s i used h e st =
@@ -105,10 +106,6 @@ fed_fault fed s e more h going st =
       begins = record { is_trace = o.begins.is_trace; parts = ap (λ (x : List ℕ). x ++ more) o.begins.parts ∙ append_assoc (front s.begun) s.rest more };
       stands = stands_still (progress_at s.begun) s.rest more (Fails e) (λ q. cc) (stands_at fed s (Fails e) o st);
     })
-
-nothing_before : (xs ys : List ℕ) → xs ≢ [] → xs ++ ys ≢ []
-nothing_before [] ys some e = some refl
-nothing_before (x ∷ xs) ys some e = cc
 
 fed_after_end : (fed : List ℕ) (s : Stage) (more : List ℕ) → Fed fed s → s.ended ≡ true → s.rest ≢ [] → HasFault (fed ++ more) (BytesAfterEnd s.at)
 fed_after_end fed s more h ended some =
@@ -153,29 +150,32 @@ fed_ended fed s h ended none = let o = subst (FedTo fed s) ended h.stage in let 
 
 -- ---- a step, and all of them
 
-pub step_fails : (fed : List ℕ) (s new : Stage) (e : TraceFault) → Fed fed s → s.ended ≡ false → (e ≡ Memory) ⊎ Stands (progress_in s) s.rest (Fails e) → Advances fed (Err e) new
-step_fails fed s new e h going (inl m) = inl m
-step_fails fed s new e h going (inr st) =
-    let real = frame_fails (progress_in s) st.frame e st.found_is in
-    inr (record {
-      no_cut = λ offset q. let bad : is_of_frame (Cut offset) ≡ true = subst (λ (x : TraceFault). is_of_frame x ≡ true) q real in cc;
-      device = λ q. let bad : is_of_frame ReadFailed ≡ true = subst (λ (x : TraceFault). is_of_frame x ≡ true) q real in cc;
-      stays = λ more. fed_fault fed s e more h going st;
-    })
+pub step_fails : (fed : List ℕ) (s new : Stage) (e : TraceFault) → Fed fed s → (e ≡ Memory) ⊎ FailsAt s.ended s e → Advances fed (Err e) new
+step_fails fed s new e h (inl m) = inl m
+step_fails fed s new e h (inr f) = inr (go s.ended refl f)
+  where
+    go : (b : Bool) → s.ended ≡ b → FailsAt b s e → HasFailed fed e
+    go false going st =
+        let real = frame_fails (progress_in s) st.frame e st.found_is in
+        record {
+          no_cut = λ offset q. let bad : is_of_frame (Cut offset) ≡ true = subst (λ (x : TraceFault). is_of_frame x ≡ true) q real in cc;
+          device = λ q. let bad : is_of_frame ReadFailed ≡ true = subst (λ (x : TraceFault). is_of_frame x ≡ true) q real in cc;
+          stays = λ more. fed_fault fed s e more h going st;
+        }
+    go true ended f = subst (HasFailed fed) (sym f.1) (more_fails fed s h ended f.0)
 
-pub step_waits : (fed : List ℕ) (s new : Stage) → Fed fed s → s.ended ≡ false → StepGives s (Ok false) new → Fed fed new × IsSettled new
-step_waits fed s new h going st = subst (λ (x : Stage). Fed fed x × IsSettled x) (sym st.1) (h, subst (λ (b : Bool). IsSettledAt b s) (sym going) st.0)
+pub step_waits : (fed : List ℕ) (s new : Stage) → Fed fed s → StepGives s (Ok false) new → Fed fed new × IsSettled new
+step_waits fed s new h st = subst (λ (x : Stage). Fed fed x × IsSettled x) (sym st.1) (h, st.0)
 
-pub step_takes : (fed : List ℕ) (s new : Stage) → Fed fed s → s.ended ≡ false → StepGives s (Ok true) new → Fed fed new
-step_takes fed s new h going st = subst (Fed fed) (sym st.5) (fed_item fed s st.0 st.1 h going st.2)
+pub step_takes : (fed : List ℕ) (s new : Stage) → Fed fed s → StepGives s (Ok true) new → Fed fed new
+step_takes fed s new h st = subst (Fed fed) (sym st.1.3) (fed_item fed s st.1.0 st.1.1 h st.0 st.1.2)
 
-pub step_sum : (s new : Stage) → StepGives s (Ok true) new → new.at + length new.rest ≡ s.at + length s.rest
-step_sum s new st =
-    let sum : s.at + st.1 + length (drop st.1 s.rest) ≡ s.at + length s.rest = omega (arith, length-drop st.1 s.rest, st.4) in
-    ap (λ (x : Stage). x.at + length x.rest) st.5 ∙ sum
-
-pub ends_settled : (s : Stage) → s.ended ≡ true → s.rest ≡ [] → IsSettled s
-ends_settled s ended none = subst (λ (b : Bool). IsSettledAt b s) (sym ended) none
+-- an item takes some bytes
+pub step_less : (s new : Stage) → StepGives s (Ok true) new → length new.rest < length s.rest
+step_less s new st =
+    let used = stands_used (progress_in s) s.rest st.1.0 st.1.1 st.1.2 in
+    let less : length (drop st.1.1 s.rest) < length s.rest = omega (arith, length-drop st.1.1 s.rest, used.0, used.1) in
+    subst (λ (x : Stage). length x.rest < length s.rest) (sym st.1.3) less
 
 -- ---- how many bytes there may be
 

@@ -7,12 +7,19 @@ use Rattle.cops_wire.specs.declared.fault.WireFault.{WireFault}
 use Rattle.cops_wire.specs.declared.fault.WireFault.TheVariants as wire
 use Rattle.cops_wire.specs.Grammar.{grammar, Parts}
 use Rattle.cops_wire.specs.Answer.{Answers, IsAnswer}
-use Rattle.cops_trace.specs.declared.found.Item.TheVariants.{Head, Entry, End}
+use Rattle.cops_types.specs.declared.op.Op.TheVariants.{Put, Got, Missed}
+use Rattle.cops_wire.specs.declared.message.Message.{Message}
+use Rattle.cops_wire.specs.declared.message.Message.TheVariants.{TracePut, TraceGot, TraceMissed, TraceEnd}
+use Rattle.cops_trace.specs.declared.found.Item.{Item}
+use Rattle.cops_trace.specs.declared.found.Item.TheVariants.{Head, Op as Entry, End}
 use Rattle.cops_trace.specs.declared.found.Found.{Found}
 use Rattle.cops_trace.specs.declared.found.Found.TheVariants.{Gives, Waits, Fails}
 use Rattle.cops_trace.specs.Text.{ATrace}
-use Rattle.cops_trace.specs.Next.{Progress, Stands, found_in, unread}
-use Rattle.cops_trace.specs.Parsing.{progress_with, HasRoom}
+use Rattle.cops_trace.specs.Counts.{ACounts, AreCountsOf, progress_from}
+use Rattle.cops_trace.specs.Next.{Progress, Stands, found_in, later_message, record_found, unread}
+use Rattle.cops_trace.specs.Parsing.{progress_with, IsBegunAs, ItemHasRoom}
+use Rattle.cops_trace.specs.Reading.{ItemHasTurn}
+use Rattle.cops_trace.specs.declared.record.Record.{Record}
 use Rattle.cops_trace.proofs.Items.{given}
 
 fault_answer : (f : WireFault) (P : Result (Parts × ℕ) WireFault → Type 0) → f ≢ wire.Memory → Answers (Err f) P → P (Err f)
@@ -29,15 +36,43 @@ pub unread_stands : (p : Option Progress) (at : ℕ) (rest : List ℕ) (f : Wire
 unread_stands p at rest f (Ok found) is answer h = record { frame = Err f; frame_is = fault_answer f (IsAnswer (grammar One) rest) h.0 answer; found_is = is ∙ sym h.1 }
 unread_stands p at rest f (Err e) is answer h = tt
 
-has_room : (at : ℕ) (b : Option ATrace) (rest : List ℕ) (found : Found) → Stands (option_map (progress_with at) b) rest found → HasRoom found b
-has_room at b rest (Gives (Head clients) used) s = tt
-has_room at None rest (Gives (Entry r) used) s = (given None s.frame (Entry r) used s.found_is).0
-has_room at (Some t) rest (Gives (Entry r) used) s = (given (Some (progress_with at t)) s.frame (Entry r) used s.found_is).0
-has_room at b rest (Gives End used) s = tt
-has_room at b rest Waits s = tt
-has_room at b rest (Fails e) s = tt
+-- ---- counts in place of the trace
 
--- there is room for a record that is found
-pub all_room : (at : ℕ) (b : Option ATrace) (rest : List ℕ) (r : Result Found Memory) → IfOk r (Stands (option_map (progress_with at) b) rest) → IfOk r (λ found. HasRoom found b)
-all_room at b rest (Ok found) h = has_room at b rest found h
-all_room at b rest (Err e) h = tt
+-- what a frame means after a trace is what it means after its counts
+same_record : (at : ℕ) (t : ATrace) (c : ACounts) (r : Record) (index used : ℕ) → AreCountsOf t c → record_found (progress_from at c) r index used ≡ record_found (progress_with at t) r index used
+same_record at t c r index used h = rw (h.clients, h.next r.client, h.total) refl
+
+same_message : (at : ℕ) (t : ATrace) (c : ACounts) (m : Message) (used : ℕ) → AreCountsOf t c → later_message (progress_from at c) m used ≡ later_message (progress_with at t) m used
+same_message at t c (TracePut client index key value version) used h = same_record at t c (record { client = client; op = Put key value version }) index used h
+same_message at t c (TraceGot client index key value version) used h = same_record at t c (record { client = client; op = Got key value version }) index used h
+same_message at t c (TraceMissed client index key) used h = same_record at t c (record { client = client; op = Missed key }) index used h
+same_message at t c (TraceEnd ops) used h = rw (h.total) refl
+same_message at t c _ used h = refl
+
+same_found : (at : ℕ) (t : ATrace) (c : ACounts) (d : Result (Message × ℕ) WireFault) → AreCountsOf t c → found_in (Some (progress_from at c)) d ≡ found_in (Some (progress_with at t)) d
+same_found at t c (Ok frame) h = same_message at t c frame.0 frame.1 h
+same_found at t c (Err e) h = unread_same at t c e
+  where
+    unread_same : (at : ℕ) (t : ATrace) (c : ACounts) (e : WireFault) → found_in (Some (progress_from at c)) (Err e) ≡ found_in (Some (progress_with at t)) (Err e)
+    unread_same at t c e = refl
+
+-- what stands after the counts stands after the trace
+pub stands_after : (at : ℕ) (b : Option ATrace) (c : Option ACounts) (rest : List ℕ) (found : Found) → IsBegunAs b c
+    → Stands (option_map (progress_from at) c) rest found → Stands (option_map (progress_with at) b) rest found
+stands_after at None None rest found h s = s
+stands_after at (Some t) (Some c) rest found h s = record { frame = s.frame; frame_is = s.frame_is; found_is = sym (same_found at t c s.frame h) ∙ s.found_is }
+stands_after at None (Some c) rest found h s = absurd h
+stands_after at (Some t) None rest found h s = absurd h
+
+-- there is room for an item that stands there
+pub item_room : (at : ℕ) (b : Option ATrace) (rest : List ℕ) (i : Item) (used : ℕ) → Stands (option_map (progress_with at) b) rest (Gives i used) → ItemHasRoom i b
+item_room at b rest (Head clients) used s = tt
+item_room at None rest (Entry client op) used s = (given None s.frame (Entry client op) used s.found_is).0
+item_room at (Some t) rest (Entry client op) used s = (given (Some (progress_with at t)) s.frame (Entry client op) used s.found_is).0
+item_room at b rest End used s = tt
+
+pub item_turn : (at : ℕ) (b : Option ACounts) (rest : List ℕ) (i : Item) (used : ℕ) → Stands (option_map (progress_from at) b) rest (Gives i used) → ItemHasTurn i b
+item_turn at b rest (Head clients) used s = tt
+item_turn at None rest (Entry client op) used s = (given None s.frame (Entry client op) used s.found_is).0
+item_turn at (Some c) rest (Entry client op) used s = (given (Some (progress_from at c)) s.frame (Entry client op) used s.found_is).0
+item_turn at b rest End used s = tt

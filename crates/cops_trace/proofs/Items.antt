@@ -2,6 +2,7 @@
 use Rattle.std.proofs.Common.{◌≡◌, ◌≢◌, ℕ, ◌+◌, ◌^◌, ◌<◌, ◌≤◌, Bool, true, false, cond, ltb, eqb, List, [], ◌++◌, length, drop, Option, Some, None, Result, Ok, Err, refl, sym, ap, subst, ◌∙◌, arith, inl, inr, eq-eqb}
 use Rattle.std.specs.Prelude.{◌&&◌, IfSome}
 use Rattle.std.proofs.lemmas.Bool.{ltb-true, lt-ltb, eqb-true}
+use Rattle.std.proofs.lemmas.List.{length-append}
 use Rattle.cops_types.specs.declared.limits.TheConstants.{MAX_CLIENT_OPS, MAX_OPS}
 use Rattle.cops_types.specs.declared.format.Format.TheVariants.{One}
 use Rattle.cops_types.specs.declared.op.Op.{Op}
@@ -21,7 +22,7 @@ use Rattle.cops_trace.specs.declared.record.Record.{Record}
 use Rattle.cops_trace.specs.declared.fault.TraceFault.{TraceFault}
 use Rattle.cops_trace.specs.declared.fault.TraceFault.TheVariants as fault
 use Rattle.cops_trace.specs.declared.found.Item.{Item}
-use Rattle.cops_trace.specs.declared.found.Item.TheVariants.{Head, Entry, End}
+use Rattle.cops_trace.specs.declared.found.Item.TheVariants.{Head, Op as Entry, End}
 use Rattle.cops_trace.specs.declared.found.Found.{Found}
 use Rattle.cops_trace.specs.declared.found.Found.TheVariants.{Gives, Waits, Fails}
 use Rattle.cops_trace.specs.Text.{ATrace, IsTrace, IsOp, turn, op_message}
@@ -45,14 +46,14 @@ and_is false b e = absurd cc
 
 abbrev pub item_message : Option Progress → Item → Message
 item_message None (Head clients) = TraceHead 1 clients
-item_message (Some p) (Entry r) = op_message r.client (p.turn r.client) r.op
+item_message (Some p) (Entry client op) = op_message client (p.turn client) op
 item_message (Some p) End = TraceEnd p.total
 item_message _ _ = ByeOk
 
 -- the item may stand there
 abbrev pub Allows : Option Progress → Item → Type 0
 Allows None (Head clients) = Unit {0}
-Allows (Some p) (Entry r) = (r.client < p.clients) × (p.turn r.client < MAX_CLIENT_OPS) × (p.total < MAX_OPS)
+Allows (Some p) (Entry client op) = (client < p.clients) × (p.turn client < MAX_CLIENT_OPS) × (p.total < MAX_OPS)
 Allows (Some p) End = Unit {0}
 Allows _ _ = ⊥
 
@@ -84,12 +85,12 @@ first_given _ n i used e = absurd cc
 
 record_given : (p : Progress) (s : Record) (index n : ℕ) (i : Item) (used : ℕ) → record_found p s index n ≡ Gives i used → IsItem (Some p) (Ok (op_message s.client index s.op, n)) i used
 record_given p s index n i used e =
-    let inner = cond (ltb (p.turn s.client) MAX_CLIENT_OPS && ltb p.total MAX_OPS) (Gives (Entry s) n) (Fails (fault.TooLong p.at)) in
+    let inner = cond (ltb (p.turn s.client) MAX_CLIENT_OPS && ltb p.total MAX_OPS) (Gives (Entry s.client s.op) n) (Fails (fault.TooLong p.at)) in
     let a = then_is (ltb s.client p.clients) (cond (eqb index (p.turn s.client)) inner (Fails (fault.IndexOutOfTurn p.at))) (Fails (fault.ClientOutOfRange p.at)) (Gives i used) (λ h. absurd cc) e in
     let b = then_is (eqb index (p.turn s.client)) inner (Fails (fault.IndexOutOfTurn p.at)) (Gives i used) (λ h. absurd cc) a.1 in
-    let c = then_is (ltb (p.turn s.client) MAX_CLIENT_OPS && ltb p.total MAX_OPS) (Gives (Entry s) n) (Fails (fault.TooLong p.at)) (Gives i used) (λ h. absurd cc) b.1 in
+    let c = then_is (ltb (p.turn s.client) MAX_CLIENT_OPS && ltb p.total MAX_OPS) (Gives (Entry s.client s.op) n) (Fails (fault.TooLong p.at)) (Gives i used) (λ h. absurd cc) b.1 in
     let d = and_is (ltb (p.turn s.client) MAX_CLIENT_OPS) (ltb p.total MAX_OPS) c.0 in
-    moved (IsItem (Some p) (Ok (op_message s.client index s.op, n))) (Entry s) i n used c.1
+    moved (IsItem (Some p) (Ok (op_message s.client index s.op, n))) (Entry s.client s.op) i n used c.1
     ((ltb-true _ _ a.0, ltb-true _ _ d.0, ltb-true _ _ d.1), ap (λ (k : ℕ). Ok (op_message s.client k s.op, n)) (eqb-true _ _ b.0))
 
 end_given : (p : Progress) (ops n : ℕ) (i : Item) (used : ℕ) → end_found p ops n ≡ Gives i used → IsItem (Some p) (Ok (TraceEnd ops, n)) i used
@@ -118,9 +119,9 @@ op_found p c index n (Missed key) = refl
 -- an item that may stand there does where its message's frame stands
 pub again : (p : Option Progress) (i : Item) (n : ℕ) → Allows p i → found_in p (Ok (item_message p i, n)) ≡ Gives i n
 again None (Head clients) n h = refl
-again (Some p) (Entry r) n h =
-    op_found p r.client (p.turn r.client) n r.op
-    ∙ rw (lt-ltb _ _ h.0, eq-eqb (p.turn r.client) (p.turn r.client) refl, lt-ltb _ _ h.1, lt-ltb _ _ h.2) refl
+again (Some p) (Entry client op) n h =
+    op_found p client (p.turn client) n op
+    ∙ rw (lt-ltb _ _ h.0, eq-eqb (p.turn client) (p.turn client) refl, lt-ltb _ _ h.1, lt-ltb _ _ h.2) refl
 again (Some p) End n h = rw (eq-eqb p.total p.total refl) refl
 again _ _ n h = absurd h
 
@@ -200,8 +201,8 @@ neither false x y z p q = q
 
 record_there : (p : Progress) (s : Record) (index n : ℕ) → record_found p s index n ≢ Waits
 record_there p s index n =
-    let inner = cond (ltb (p.turn s.client) MAX_CLIENT_OPS && ltb p.total MAX_OPS) (Gives (Entry s) n) (Fails (fault.TooLong p.at)) in
-    let first = neither (ltb (p.turn s.client) MAX_CLIENT_OPS && ltb p.total MAX_OPS) (Gives (Entry s) n) (Fails (fault.TooLong p.at)) Waits (λ q. cc) (λ q. cc) in
+    let inner = cond (ltb (p.turn s.client) MAX_CLIENT_OPS && ltb p.total MAX_OPS) (Gives (Entry s.client s.op) n) (Fails (fault.TooLong p.at)) in
+    let first = neither (ltb (p.turn s.client) MAX_CLIENT_OPS && ltb p.total MAX_OPS) (Gives (Entry s.client s.op) n) (Fails (fault.TooLong p.at)) Waits (λ q. cc) (λ q. cc) in
     let second = neither (eqb index (p.turn s.client)) inner (Fails (fault.IndexOutOfTurn p.at)) Waits first (λ q. cc) in
     neither (ltb s.client p.clients) (cond (eqb index (p.turn s.client)) inner (Fails (fault.IndexOutOfTurn p.at))) (Fails (fault.ClientOutOfRange p.at)) Waits second (λ q. cc)
 
@@ -242,6 +243,15 @@ waits_len p rest s = short_len rest (subst (FrameIs rest) (waits_short p s.frame
 pub nothing_waits : Stands None [] Waits
 nothing_waits = record { frame = Err wire.Short; frame_is = inl (omega arith); found_is = refl }
 
+-- an item takes some of the bytes
+pub stands_used : (p : Option Progress) (rest : List ℕ) (i : Item) (used : ℕ) → Stands p rest (Gives i used) → (0 < used) × (used ≤ length rest) × (used ≤ 32772)
+unfolding spelled
+stands_used p rest i used s =
+    let st = stood p rest i used s in
+    let bounds = spelling_bounds One (parts (item_message p i)) st.legal in
+    let all : length rest ≡ length (spelled (item_message p i)) + length (drop used rest) = ap length st.parts_are ∙ length-append (spelled (item_message p i)) (drop used rest) in
+    (omega (arith, st.used_is, bounds.0), omega (arith, st.used_is, all), omega (arith, st.used_is, bounds.1))
+
 pub spelled_len : (m : Message) → IsLegalMessage m → length (spelled m) ≤ 32772
 unfolding spelled
 spelled_len m legal = let b = spelling_bounds One (parts m) legal in omega (arith, b.1)
@@ -271,8 +281,8 @@ gives_so i n d q = absurd cc
 
 record_fails : (p : Progress) (s : Record) (index n : ℕ) → FailsAsFrame (record_found p s index n)
 record_fails p s index n =
-    let inner = cond (ltb (p.turn s.client) MAX_CLIENT_OPS && ltb p.total MAX_OPS) (Gives (Entry s) n) (Fails (fault.TooLong p.at)) in
-    let first = either_fails (ltb (p.turn s.client) MAX_CLIENT_OPS && ltb p.total MAX_OPS) (Gives (Entry s) n) (Fails (fault.TooLong p.at)) (gives_so (Entry s) n) (fails_so (fault.TooLong p.at) refl) in
+    let inner = cond (ltb (p.turn s.client) MAX_CLIENT_OPS && ltb p.total MAX_OPS) (Gives (Entry s.client s.op) n) (Fails (fault.TooLong p.at)) in
+    let first = either_fails (ltb (p.turn s.client) MAX_CLIENT_OPS && ltb p.total MAX_OPS) (Gives (Entry s.client s.op) n) (Fails (fault.TooLong p.at)) (gives_so (Entry s.client s.op) n) (fails_so (fault.TooLong p.at) refl) in
     let second = either_fails (eqb index (p.turn s.client)) inner (Fails (fault.IndexOutOfTurn p.at)) first (fails_so (fault.IndexOutOfTurn p.at) refl) in
     either_fails (ltb s.client p.clients) (cond (eqb index (p.turn s.client)) inner (Fails (fault.IndexOutOfTurn p.at))) (Fails (fault.ClientOutOfRange p.at)) second (fails_so (fault.ClientOutOfRange p.at) refl)
 
@@ -316,12 +326,12 @@ op_legal c i (Missed key) cl il h = (cl, (il, ((omega (arith, h.1), omega (arith
 
 pub front_with : (b : Option ATrace) (i : Item) → Allows (progress_at b) i → is_end i ≡ false → front (with_item i b) ≡ front b ++ spelled (item_message (progress_at b) i)
 front_with None (Head clients) h k = beginning-none clients
-front_with (Some t) (Entry r) h k = beginning-grown t r
+front_with (Some t) (Entry client op) h k = beginning-grown t (record { client = client; op = op })
 front_with (Some t) End h k = absurd cc
 front_with _ _ h k = absurd h
 
 pub trace_with : (b : Option ATrace) (i : Item) → IfSome b IsTrace → Allows (progress_at b) i → IsLegalMessage (item_message (progress_at b) i) → is_end i ≡ false → IfSome (with_item i b) IsTrace
 trace_with None (Head clients) t h legal k = IsTrace-none clients legal.1.0
-trace_with (Some t) (Entry r) is h legal k = IsTrace-grown t r is h.0 (op_fits r.client (turn r.client t.records) r.op legal) h.1 h.2
+trace_with (Some t) (Entry client op) is h legal k = IsTrace-grown t (record { client = client; op = op }) is h.0 (op_fits client (turn client t.records) op legal) h.1 h.2
 trace_with (Some t) End is h legal k = absurd cc
 trace_with _ _ t h legal k = absurd h

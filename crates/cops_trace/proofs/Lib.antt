@@ -7,3 +7,4 @@ pub mod Items
 pub mod Founds
 pub mod Readings
 pub mod Feeding
+pub mod Underway

@@ -1,5 +1,5 @@
 -- Facts of all elements, and counts.
-use Rattle.std.proofs.Common.{◌≡◌, ℕ, ◌+◌, ◌<◌, Bool, true, false, cond, eqb, List, [], ◌∷◌, ◌++◌, refl, ◌∙◌, arith, inl, inr, eq-eqb}
+use Rattle.std.proofs.Common.{◌≡◌, ◌≢◌, ℕ, ◌+◌, ◌<◌, Bool, true, false, cond, eqb, List, [], ◌∷◌, ◌++◌, refl, ◌∙◌, arith, inl, inr, eq-eqb}
 use Rattle.std.specs.Prelude.{count_by, ◌⊎◌}
 use Rattle.std.specs.List.{AllByRecursion}
 use Rattle.std.proofs.lemmas.Bool.{cases_Bool, cases_lt, eqb-true}
@@ -62,3 +62,8 @@ not_refused a b m n h =
       | inl p ↦ elim (cases_lt b n) [ inl q ↦ (p, q) | inr q ↦ absurd (h (λ r. let below = r.1 in absurd (omega arith))) ]
       | inr p ↦ absurd (h (λ r. let below = r.0 in absurd (omega arith)))
     ]
+
+-- a list that is not empty is none with more behind it
+pub nothing_before : (xs ys : List ℕ) → xs ≢ [] → xs ++ ys ≢ []
+nothing_before [] ys some e = some refl
+nothing_before (x ∷ xs) ys some e = cc

@@ -15,7 +15,7 @@ use Rattle.cops_trace.specs.declared.record.Record.{Record}
 use Rattle.cops_trace.specs.declared.fault.TraceFault.{TraceFault}
 use Rattle.cops_trace.specs.declared.fault.TraceFault.TheVariants.{Memory, Cut, BytesAfterEnd}
 use Rattle.cops_trace.specs.declared.found.Item.{Item}
-use Rattle.cops_trace.specs.declared.found.Item.TheVariants.{Head, Entry, End}
+use Rattle.cops_trace.specs.declared.found.Item.TheVariants.{Head, Op as Entry, End}
 use Rattle.cops_trace.specs.declared.found.Found.{Found}
 use Rattle.cops_trace.specs.declared.found.Found.TheVariants.{Gives, Waits, Fails}
 use Rattle.cops_wire.specs.Message.{spelled}
@@ -85,7 +85,7 @@ same_items b (i ∷ is) (j ∷ js) x y h k s t e =
 
 abbrev entries : List Record → List Item
 entries [] = []
-entries (r ∷ rs) = Entry r ∷ entries rs
+entries (r ∷ rs) = Entry r.client r.op ∷ entries rs
 
 abbrev items_of : Option ATrace → List Item
 items_of None = []
@@ -107,7 +107,7 @@ entries_stand c earlier (r ∷ rs) h =
 
 entries_text : (c : ℕ) (earlier rs : List Record) → items_text (Some (with_records c earlier)) (entries rs) ≡ records_text earlier rs
 entries_text c earlier [] = refl
-entries_text c earlier (r ∷ rs) = ap (λ (x : List ℕ). spelled (item_message (progress_at (Some (with_records c earlier))) (Entry r)) ++ x) (entries_text c (earlier ++ r ∷ []) rs)
+entries_text c earlier (r ∷ rs) = ap (λ (x : List ℕ). spelled (item_message (progress_at (Some (with_records c earlier))) (Entry r.client r.op)) ++ x) (entries_text c (earlier ++ r ∷ []) rs)
 
 entries_after : (c : ℕ) (earlier rs : List Record) → after_items (Some (with_records c earlier)) (entries rs) ≡ Some (with_records c (earlier ++ rs))
 entries_after c earlier [] = ap (λ (l : List Record). Some (with_records c l)) (sym (append-nil earlier))
@@ -194,7 +194,7 @@ rest_fits bytes b rest fits h = IsBytes-right (front b) rest (subst IsBytes h.pa
 
 not_other : (i : Item) (used n : ℕ) → is_end i ≡ false → Gives End n ≢ Gives i used
 not_other (Head clients) used n h e = cc
-not_other (Entry r) used n h e = cc
+not_other (Entry client op) used n h e = cc
 not_other End used n h e = cc
 
 end_stands : (t : ATrace) (rest : List ℕ) → IsTrace t → Stands (Some (progress_of t)) (end_text t ++ rest) (Gives End (length (end_text t)))

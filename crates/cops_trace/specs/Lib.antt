@@ -1,6 +1,8 @@
 pub mod Faults
 pub mod Text
 pub mod Next
+pub mod Counts
+pub mod Reading
 pub mod Answer
 pub mod Kept
 pub mod Parsing

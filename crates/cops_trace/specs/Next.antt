@@ -12,7 +12,7 @@ use Rattle.cops_wire.specs.Message.{parts}
 use Rattle.cops_wire.specs.Answer.{IsAnswer}
 use Rattle.cops_trace.specs.declared.record.Record.{Record}
 use Rattle.cops_trace.specs.declared.fault.TraceFault.TheVariants as fault
-use Rattle.cops_trace.specs.declared.found.Item.TheVariants.{Head, Entry, End}
+use Rattle.cops_trace.specs.declared.found.Item.TheVariants.{Head, Op as Entry, End}
 use Rattle.cops_trace.specs.declared.found.Found.{Found}
 use Rattle.cops_trace.specs.declared.found.Found.TheVariants.{Gives, Waits, Fails}
 
@@ -44,7 +44,7 @@ abbrev pub record_found : Progress → Record → ℕ → ℕ → Found
 record_found p r index used =
     if nat_lt r.client p.clients then
     if index == p.turn r.client then
-    if nat_lt (p.turn r.client) MAX_CLIENT_OPS && nat_lt p.total MAX_OPS then Gives (Entry r) used
+    if nat_lt (p.turn r.client) MAX_CLIENT_OPS && nat_lt p.total MAX_OPS then Gives (Entry r.client r.op) used
     else Fails (fault.TooLong p.at)
     else Fails (fault.IndexOutOfTurn p.at)
     else Fails (fault.ClientOutOfRange p.at)

@@ -3,25 +3,21 @@ use Rattle.std.specs.Prelude.{◌≡◌, ◌≢◌, ℕ, ◌+◌, ◌<◌, ◌�
 use Rattle.cops_types.specs.declared.limits.TheConstants.{MAX_CLIENT_OPS, MAX_OPS}
 use Rattle.cops_wire.specs.Answer.{IsBytes}
 use Rattle.cops_trace.specs.declared.fault.TraceFault.{TraceFault}
-use Rattle.cops_trace.specs.declared.fault.TraceFault.TheVariants.{Memory, ReadFailed, Cut}
+use Rattle.cops_trace.specs.declared.fault.TraceFault.TheVariants.{Memory, ReadFailed, Cut, BytesAfterEnd}
 use Rattle.cops_trace.specs.declared.found.Item.{Item}
-use Rattle.cops_trace.specs.declared.found.Item.TheVariants.{Head, Entry, End}
+use Rattle.cops_trace.specs.declared.found.Item.TheVariants.{Head, Op as Entry, End}
 use Rattle.cops_trace.specs.declared.found.Found.{Found}
 use Rattle.cops_trace.specs.declared.found.Found.TheVariants.{Gives, Waits, Fails}
 use Rattle.cops_trace.specs.Text.{ATrace, IsTrace, turn, text}
 use Rattle.cops_trace.specs.Answer.{Begins, front, HasFault}
 use Rattle.cops_trace.specs.Kept.{grown}
+use Rattle.cops_trace.specs.Counts.{ACounts, AreCountsOf}
 use Rattle.cops_trace.specs.Next.{Progress, Stands}
+pub use Rattle.cops_trace.specs.Reading.{is_end}
 
 -- how far a text has come that stands at this place
 abbrev pub progress_with : ℕ → ATrace → Progress
 progress_with at t = record { clients = t.clients; turn = λ client. turn client t.records; total = length t.records; at = at }
-
--- an item takes some of the bytes
-abbrev pub IsWithin : Found → ℕ → Type 0
-IsWithin (Gives item used) len = (0 < used) × (used ≤ len)
-IsWithin Waits len = Unit {0}
-IsWithin (Fails e) len = Unit {0}
 
 -- what was read: the head with the records so far, how many bytes that was, whether the end came, and the bytes
 -- that are left
@@ -37,13 +33,8 @@ progress_in s = option_map (progress_with s.at) s.begun
 -- the trace with an item more
 abbrev pub with_item : Item → Option ATrace → Option ATrace
 with_item (Head clients) begun = Some (record { clients = clients; records = [] })
-with_item (Entry r) begun = option_map (λ t. grown t r) begun
+with_item (Entry client op) begun = option_map (λ t. grown t (record { client = client; op = op })) begun
 with_item End begun = begun
-
-abbrev pub is_end : Item → Bool
-is_end (Head clients) = false
-is_end (Entry r) = false
-is_end End = true
 
 -- the stage after an item of this many bytes
 abbrev pub after : Item → ℕ → Stage → Stage
@@ -52,20 +43,15 @@ after item used s = record { begun = with_item item s.begun; at = s.at + used; e
 -- there is room for a record's operation in the trace that was begun
 abbrev pub ItemHasRoom : Item → Option ATrace → Type 0
 ItemHasRoom (Head clients) begun = Unit {0}
-ItemHasRoom (Entry r) None = ⊥
-ItemHasRoom (Entry r) (Some t) = (r.client < t.clients) × (turn r.client t.records < MAX_CLIENT_OPS) × (length t.records < MAX_OPS)
+ItemHasRoom (Entry client op) None = ⊥
+ItemHasRoom (Entry client op) (Some t) = (client < t.clients) × (turn client t.records < MAX_CLIENT_OPS) × (length t.records < MAX_OPS)
 ItemHasRoom End begun = Unit {0}
 
-abbrev pub HasRoom : Found → Option ATrace → Type 0
-HasRoom (Gives item used) begun = ItemHasRoom item begun
-HasRoom Waits begun = Unit {0}
-HasRoom (Fails e) begun = Unit {0}
-
--- what a step answers, and what it leaves: it took an item, or none is whole
-abbrev pub StepGives : Stage → Result Bool TraceFault → Stage → Type 0
-StepGives old (Ok true) new = (item : Item) × (used : ℕ) × Stands (progress_in old) old.rest (Gives item used) × (0 < used) × (used ≤ length old.rest) × (new ≡ after item used old)
-StepGives old (Ok false) new = Stands (progress_in old) old.rest Waits × (new ≡ old)
-StepGives old (Err e) new = (e ≡ Memory) ⊎ Stands (progress_in old) old.rest (Fails e)
+-- the counts are those of the trace that was begun
+abbrev pub IsBegunAs : Option ATrace → Option ACounts → Type 0
+IsBegunAs None None = Unit {0}
+IsBegunAs (Some t) (Some c) = AreCountsOf t c
+IsBegunAs _ _ = ⊥
 
 -- Of these bytes, the stage has what was read and what is left.
 abbrev pub FedTo : List ℕ → Stage → Bool → Type 0
@@ -83,6 +69,17 @@ IsSettledAt true s = s.rest ≡ []
 
 abbrev pub IsSettled : Stage → Type 0
 IsSettled s = IsSettledAt s.ended s
+
+-- this fault stands at the front of the rest; after the end, a byte
+abbrev pub FailsAt : Bool → Stage → TraceFault → Type 0
+FailsAt false s e = Stands (progress_in s) s.rest (Fails e)
+FailsAt true s e = (s.rest ≢ []) × (e ≡ BytesAfterEnd s.at)
+
+-- what a step answers, and what it leaves: it took an item, none is whole, or a fault stands there
+abbrev pub StepGives : Stage → Result Bool TraceFault → Stage → Type 0
+StepGives old (Ok true) new = (old.ended ≡ false) × ((item : Item) × (used : ℕ) × Stands (progress_in old) old.rest (Gives item used) × (new ≡ after item used old))
+StepGives old (Ok false) new = IsSettled old × (new ≡ old)
+StepGives old (Err e) new = (e ≡ Memory) ⊎ FailsAt old.ended old e
 
 -- there is a fault, whatever comes, so it is no cut
 pub record HasFailed (fed : List ℕ) (e : TraceFault) : Type 0 where

@@ -2,12 +2,11 @@
 ghost use Rattle.std.specs.Prelude.{◌≡◌, ◌≢◌, ◌<◌, ◌≤◌, ◌^◌, ◌+◌, ℕ, length, None, Some, IfOk, IfNone, IfSome};
 ghost use Rattle.cops_types.specs.declared.op.Op.{Op as AnOp};
 ghost use Rattle.cops_trace.specs.Next.{Stands, unread, first_message, later_message, record_found, end_found};
-ghost use Rattle.cops_trace.specs.Parsing.{progress_with, IsWithin};
+ghost use Rattle.cops_trace.specs.Counts.{progress_from};
 
+use crate::counts::Counts;
 use crate::fault::TraceFault;
 use crate::found::{Found, Item};
-use crate::record::Record;
-use crate::trace::Trace;
 use cops_types::{MAX_CLIENT_OPS, MAX_OPS, Memory, Op};
 use cops_wire::{Message, WireFault, decode};
 use std::alloc::Global;
@@ -15,8 +14,7 @@ use std::alloc::Global;
 /// A frame at this place that is no message: it is waited for, or a fault stands there.
 fn unread(at: u64, fault: WireFault) -> Result<Found, Memory>
     requires { at < 2 ^ 63 }
-    ensures ok { IfOk result (λ found. (fault ≢ WireFault.Memory) × (found ≡ unread at fault)) }
-    ensures none { (len : ℕ) → IfOk result (λ found. IsWithin found len) }
+    ensures { IfOk result (λ found. (fault ≢ WireFault.Memory) × (found ≡ unread at fault)) }
 {
     match fault {
         WireFault::Memory => Err(Memory),
@@ -46,8 +44,7 @@ fn first_message(message: &Message, used: usize) -> Found
 
 /// What stands at the front of a text.
 pub(crate) fn first_found(alloc: Global, bytes: &[u8]) -> Result<Found, Memory>
-    ensures stands { IfOk result (Stands None bytes.now) }
-    ensures within { IfOk result (λ found. IsWithin found (length bytes.now)) }
+    ensures { IfOk result (Stands None bytes.now) }
 {
     match decode(alloc, bytes) {
         Ok(decoded) => {
@@ -59,46 +56,46 @@ pub(crate) fn first_found(alloc: Global, bytes: &[u8]) -> Result<Found, Memory>
     }
 }
 
-/// The fault of a client's record with this index after those of the trace, if it has one.
-fn record_fault(trace: &Trace, at: u64, client: u16, index: u32) -> Option<TraceFault>
-    ensures none { IfNone result ((op : AnOp) (used : ℕ) → record_found (progress_with at trace.now) (record { client = client; op = op }) index used ≡ Found.Gives (Item.Entry (record { client = client; op = op })) used) }
-    ensures some { IfSome result (λ fault. (op : AnOp) (used : ℕ) → record_found (progress_with at trace.now) (record { client = client; op = op }) index used ≡ Found.Fails fault) }
+/// The fault of a client's record with this index after those that were counted, if it has one.
+fn record_fault(counts: &Counts, at: u64, client: u16, index: u32) -> Option<TraceFault>
+    ensures none { IfNone result ((op : AnOp) (used : ℕ) → record_found (progress_from at counts.now) (record { client = client; op = op }) index used ≡ Found.Gives (Item.Op client op) used) }
+    ensures some { IfSome result (λ fault. (op : AnOp) (used : ℕ) → record_found (progress_from at counts.now) (record { client = client; op = op }) index used ≡ Found.Fails fault) }
 {
-    let turn = trace.turn(client);
-    if client >= trace.clients() {
+    let next = counts.next(client);
+    if client >= counts.clients() {
         return Some(TraceFault::ClientOutOfRange { offset: at });
     }
-    if index as usize != turn {
+    if index != next {
         return Some(TraceFault::IndexOutOfTurn { offset: at });
     }
-    if turn < MAX_CLIENT_OPS && trace.len() < MAX_OPS {
+    if (next as usize) < MAX_CLIENT_OPS && (counts.total() as usize) < MAX_OPS {
         None
     } else {
         Some(TraceFault::TooLong { offset: at })
     }
 }
 
-/// A record with this index after those of the trace, with a frame of this many bytes at this place.
-fn record_found(trace: &Trace, at: u64, entry: Record, index: u32, used: usize) -> Found
-    ensures { result ≡ record_found (progress_with at trace.now) entry index used }
+/// A record with this index after those that were counted, with a frame of this many bytes at this place.
+fn record_found(counts: &Counts, at: u64, client: u16, op: Op, index: u32, used: usize) -> Found
+    ensures { result ≡ record_found (progress_from at counts.now) (record { client = client; op = op }) index used }
 {
-    match record_fault(trace, at, entry.client, index) {
+    match record_fault(counts, at, client, index) {
         Some(fault) => {
-            drop(entry);
+            drop(op);
             Found::Fails(fault)
         }
         None => {
-            let item = Item::Entry(entry);
+            let item = Item::Op { client, op };
             Found::Gives { item, used }
         }
     }
 }
 
 /// What an end that counts so many records means.
-fn end_found(trace: &Trace, at: u64, ops: u32, used: usize) -> Found
-    ensures { result ≡ end_found (progress_with at trace.now) ops used }
+fn end_found(counts: &Counts, at: u64, ops: u32, used: usize) -> Found
+    ensures { result ≡ end_found (progress_from at counts.now) ops used }
 {
-    if ops as usize == trace.len() {
+    if ops == counts.total() {
         let item = Item::End;
         Found::Gives { item, used }
     } else {
@@ -106,9 +103,9 @@ fn end_found(trace: &Trace, at: u64, ops: u32, used: usize) -> Found
     }
 }
 
-/// What a message means after the head and the records of the trace.
-fn later_message(trace: &Trace, at: u64, message: Message, used: usize) -> Found
-    ensures { result ≡ later_message (progress_with at trace.now) message used }
+/// What a message means after the head and the records that were counted.
+fn later_message(counts: &Counts, at: u64, message: Message, used: usize) -> Found
+    ensures { result ≡ later_message (progress_from at counts.now) message used }
 {
     match message {
         Message::TracePut {
@@ -123,7 +120,7 @@ fn later_message(trace: &Trace, at: u64, message: Message, used: usize) -> Found
                 value,
                 version,
             };
-            record_found(trace, at, Record { client, op }, index, used)
+            record_found(counts, at, client, op, index, used)
         }
         Message::TraceGot {
             client,
@@ -137,13 +134,13 @@ fn later_message(trace: &Trace, at: u64, message: Message, used: usize) -> Found
                 value,
                 version,
             };
-            record_found(trace, at, Record { client, op }, index, used)
+            record_found(counts, at, client, op, index, used)
         }
         Message::TraceMissed { client, index, key } => {
             let op = Op::Missed { key };
-            record_found(trace, at, Record { client, op }, index, used)
+            record_found(counts, at, client, op, index, used)
         }
-        Message::TraceEnd { ops } => end_found(trace, at, ops, used),
+        Message::TraceEnd { ops } => end_found(counts, at, ops, used),
         other => {
             drop(other);
             Found::Fails(TraceFault::NotARecord { offset: at })
@@ -151,19 +148,18 @@ fn later_message(trace: &Trace, at: u64, message: Message, used: usize) -> Found
     }
 }
 
-/// What stands at this place, after the head and the records of the trace.
+/// What stands at this place, after the head and the records that were counted.
 pub(crate) fn later_found(
     alloc: Global,
-    trace: &Trace,
+    counts: &Counts,
     at: u64,
     rest: &[u8],
 ) -> Result<Found, Memory>
     requires { at < 2 ^ 63 }
-    ensures stands { IfOk result (Stands (Some (progress_with at trace.now)) rest.now) }
-    ensures within { IfOk result (λ found. IsWithin found (length rest.now)) }
+    ensures { IfOk result (Stands (Some (progress_from at counts.now)) rest.now) }
 {
     match decode(alloc, rest) {
-        Ok(decoded) => Ok(later_message(trace, at, decoded.message, decoded.used)),
+        Ok(decoded) => Ok(later_message(counts, at, decoded.message, decoded.used)),
         Err(fault) => unread(at, fault),
     }
 }

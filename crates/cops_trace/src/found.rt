@@ -1,11 +1,14 @@
 use crate::fault::TraceFault;
-use crate::record::Record;
+use cops_types::Op;
 
 /// An item of a trace's text.
 #[derive(Debug, Drop)]
 pub enum Item {
+    /// The head, with the number of clients.
     Head { clients: u16 },
-    Entry(Record),
+    /// A record: the next operation of a client.
+    Op { client: u16, op: Op },
+    /// The end.
     End,
 }
 

@@ -3,11 +3,13 @@
 //! offset, and the sessions that it records.
 #![tactic(auto)]
 
+mod counts;
 mod fault;
 mod finding;
 mod found;
 mod lines;
 mod parser;
+mod reader;
 mod reading;
 mod record;
 mod trace;
@@ -16,6 +18,7 @@ mod writing;
 pub use fault::{TraceFault, WriteFault};
 pub use found::{Found, Item};
 pub use lines::fault_line;
+pub use reader::TraceReader;
 pub use reading::{read_so_far, read_trace};
 pub use record::Record;
 pub use trace::{Partial, Trace};

@@ -1,0 +1,70 @@
+//! How many records a trace has so far.
+ghost use Rattle.std.specs.Prelude.{◌≡◌};
+
+use cops_types::Memory;
+use std::alloc::Global;
+use std::marker::Model;
+
+/// The index of each client's next record, and how many records there are in all.
+#[derive(Debug, Drop)]
+pub(crate) struct Counts {
+    next: Vec<u32>,
+    total: u32,
+}
+
+impl Model for Counts {
+    ghost use Rattle.std.specs.Prelude.{◌<◌, ◌^◌, length};
+    ghost use Rattle.cops_trace.specs.Counts.{ACounts};
+
+    ghost Value = { ACounts };
+
+    ghost view = { λ c. record { next = c.next.items; total = c.total } };
+
+    ghost invariant = { λ c. length c.next.items < 2 ^ 16 };
+}
+
+impl Counts {
+    ghost use Rattle.std.specs.Prelude.{◌≡◌, ◌<◌, ◌^◌, length, IfOk};
+    ghost use Rattle.cops_trace.specs.Counts.{HasTurn, counted, next_of, nothing};
+
+    /// No record of any of so many clients.
+    pub(crate) fn new(alloc: Global, clients: u16) -> Result<Counts, Memory>
+        ensures { IfOk result (λ counts. counts ≡ nothing clients) }
+    {
+        let next = vec![in alloc; 0u32; usize::from(clients)]?;
+        Ok(Counts { next, total: 0 })
+    }
+
+    /// How many clients there are.
+    pub(crate) fn clients(&self) -> u16
+        ensures { result ≡ length self.now.next }
+    {
+        self.next.len() as u16
+    }
+
+    /// The index of a client's next record: 0 for a client that is not there.
+    pub(crate) fn next(&self, client: u16) -> u32
+        ensures { result ≡ next_of self.now client }
+    {
+        match self.next.get(usize::from(client)) {
+            Some(next) => *next,
+            None => 0,
+        }
+    }
+
+    /// How many records there are in all.
+    pub(crate) fn total(&self) -> u32
+        ensures { result ≡ self.now.total }
+    {
+        self.total
+    }
+
+    /// Counts one more record of a client.
+    pub(crate) fn add(&mut self, client: u16)
+        requires { HasTurn self.old client }
+        ensures { self.new ≡ counted self.old client }
+    {
+        self.next[usize::from(client)] += 1;
+        self.total += 1;
+    }
+}

@@ -1,0 +1,192 @@
+//! The items of a trace's text that comes in pieces.
+ghost use Rattle.std.specs.Prelude.{◌≡◌, OnErr, OnOk};
+ghost use Rattle.cops_trace.specs.Reading.{ItemHasTurn, counts_with, is_end};
+
+use crate::counts::Counts;
+use crate::fault::TraceFault;
+use crate::finding::{first_found, later_found};
+use crate::found::{Found, Item};
+use cops_types::Memory;
+use cops_wire::Buffer;
+use std::alloc::Global;
+use std::marker::Model;
+
+/// Reads the items of a trace's text that comes in pieces: the head, the records one after the other, and the end. It keeps the
+/// bytes that no item was taken from, and of the items that it gave out nothing but counts.
+#[derive(Debug, Drop)]
+pub struct TraceReader {
+    alloc: Global,
+    buffer: Buffer,
+    counts: Option<Counts>,
+    at: u64,
+    ended: bool,
+    fault: Option<TraceFault>,
+}
+
+impl Model for TraceReader {
+    ghost use Rattle.cops_trace.specs.Reading.{IsStoppedBy, IsWithinReach, Reading};
+
+    ghost Value = { Reading };
+
+    ghost view = { λ r. record { counts = r.counts; at = r.at; ended = r.ended; rest = r.buffer; fault = r.fault } };
+
+    ghost invariant = { λ r.
+        IsWithinReach r.counts r.ended r.at
+        × IsStoppedBy (record { counts = r.counts; at = r.at; ended = r.ended; rest = r.buffer; fault = r.fault }) r.fault };
+}
+
+impl TraceReader {
+    ghost use Rattle.std.specs.Prelude.{◌≡◌, ◌++◌, [], None, false, true, IfOk, IfSome, OnErr, OnOk, Err};
+    ghost use Rattle.cops_trace.specs.Next.{Stands};
+    ghost use Rattle.cops_trace.specs.Reading.{GivesNext, closing, progress_so_far};
+
+    /// A reader that was given nothing.
+    pub fn new(alloc: Global) -> Self
+        ensures { result ≡ record { counts = None; at = 0; ended = false; rest = []; fault = None } }
+    {
+        TraceReader {
+            alloc,
+            buffer: Buffer::new(alloc),
+            counts: None,
+            at: 0,
+            ended: false,
+            fault: None,
+        }
+    }
+
+    /// Appends a piece to the rest. For want of memory nothing changes.
+    pub fn feed(&mut self, piece: &[u8]) -> Result<(), Memory>
+        ensures ok { OnOk result (self.new ≡ record self.old { rest = self.old.rest ++ piece.now }) }
+        ensures err { OnErr result (self.new ≡ self.old) }
+    {
+        self.buffer.feed(piece)?;
+        Ok(())
+    }
+
+    /// The item at the front of the rest, which is taken off, or nothing while no whole one is there. A fault that stands there
+    /// is answered again by every later call. For want of memory nothing changes.
+    pub fn next(&mut self) -> Result<Option<Item>, TraceFault>
+        ensures next { GivesNext self.old result self.new }
+        ensures again { IfSome self.old.fault (λ fault. result ≡ Err fault) }
+    {
+        if let Some(fault) = self.fault {
+            return Err(fault);
+        }
+        if self.ended {
+            return self.after_end();
+        }
+        match self.found().or(Err(TraceFault::Memory))? {
+            Found::Waits => Ok(None),
+            Found::Fails(fault) => {
+                self.fault = Some(fault);
+                Err(fault)
+            }
+            Found::Gives { item, used } => self.give(item, used),
+        }
+    }
+
+    /// Where nothing more comes: the fault that was answered; else `Cut` where the end was not given out; else
+    /// `BytesAfterEnd` where a byte is left after it.
+    pub fn close(&self) -> Result<(), TraceFault>
+        ensures { result ≡ closing self.now }
+    {
+        if let Some(fault) = self.fault {
+            return Err(fault);
+        }
+        let at = self.at;
+        if !self.ended {
+            return Err(TraceFault::Cut { offset: at });
+        }
+        if self.buffer.rest().is_empty() {
+            Ok(())
+        } else {
+            Err(TraceFault::BytesAfterEnd { offset: at })
+        }
+    }
+
+    /// What stands at the front of the rest, before the end.
+    fn found(&self) -> Result<Found, Memory>
+        ensures { IfOk result (Stands (progress_so_far self.now) self.now.rest) }
+    {
+        let rest = self.buffer.rest();
+        match &self.counts {
+            None => first_found(self.alloc, rest),
+            Some(counts) => later_found(self.alloc, counts, self.at, rest),
+        }
+    }
+
+    /// Gives out the item of so many bytes that stands at the front of the rest.
+    fn give(&mut self, item: Item, used: usize) -> Result<Option<Item>, TraceFault>
+        requires stands { Stands (progress_so_far self.old) self.old.rest (Found.Gives item used) }
+        requires open { self.old.ended ≡ false }
+        requires fine { self.old.fault ≡ None }
+        ensures { GivesNext self.old result self.new }
+    {
+        match count(self.alloc, &mut self.counts, &item) {
+            Ok(()) => {}
+            Err(Memory) => {
+                drop(item);
+                return Err(TraceFault::Memory);
+            }
+        }
+        self.at += used as u64;
+        self.ended = is_end(&item);
+        self.buffer.take(used);
+        Ok(Some(item))
+    }
+
+    /// After the end: nothing, or a byte that may not be there.
+    fn after_end(&mut self) -> Result<Option<Item>, TraceFault>
+        requires ended { self.old.ended ≡ true }
+        requires fine { self.old.fault ≡ None }
+        ensures { GivesNext self.old result self.new }
+    {
+        if self.buffer.rest().is_empty() {
+            return Ok(None);
+        }
+        let fault = TraceFault::BytesAfterEnd { offset: self.at };
+        self.fault = Some(fault);
+        Err(fault)
+    }
+
+    /// How many bytes the items took that were given out: where the next one begins.
+    pub(crate) fn at(&self) -> u64
+        ensures { result ≡ self.now.at }
+    {
+        self.at
+    }
+
+    /// Whether the end was given out.
+    pub(crate) fn has_ended(&self) -> bool
+        ensures { result ≡ self.now.ended }
+    {
+        self.ended
+    }
+}
+
+/// Whether an item is the end.
+fn is_end(item: &Item) -> bool
+    ensures { result ≡ is_end item.now }
+{
+    matches!(item, Item::End)
+}
+
+/// Counts an item that is given out. For want of memory nothing changes.
+fn count(alloc: Global, counts: &mut Option<Counts>, item: &Item) -> Result<(), Memory>
+    requires { ItemHasTurn item.now counts.old }
+    ensures ok { OnOk result (counts.new ≡ counts_with item.now counts.old) }
+    ensures err { OnErr result (counts.new ≡ counts.old) }
+{
+    match item {
+        Item::Head { clients } => {
+            let begun = Counts::new(alloc, *clients)?;
+            drop(counts.replace(begun));
+        }
+        Item::Op { client, .. } => match counts {
+            Some(counts) => counts.add(*client),
+            None => unreachable!(),
+        },
+        Item::End => {}
+    }
+    Ok(())
+}
