@@ -65,7 +65,7 @@ counts_grown t c r h inside = record {
   clients = length-set c.next r.client (next_of c r.client + 1) ∙ h.clients;
   next = λ d. elim (same_or_other r.client d) [
     | inl p ↦ subst (λ (n : ℕ). next_of (counted c r.client) n ≡ turn n (t.records ++ r ∷ [])) p
-      (get_or-set_same c.next r.client (next_of c r.client + 1) 0 inside ∙ ap (λ (n : ℕ). n + 1) (h.next r.client) ∙ sym (turn-same t.records r))
+        (get_or-set_same c.next r.client (next_of c r.client + 1) 0 inside ∙ ap (λ (n : ℕ). n + 1) (h.next r.client) ∙ sym (turn-same t.records r))
     | inr p ↦ get_or-set_other c.next r.client d (next_of c r.client + 1) 0 (λ q. let bad = eq-eqb r.client d (sym q) in cc) ∙ h.next d ∙ sym (turn-other t.records r d p)
   ];
   total = omega (arith, h.total, length-append t.records (r ∷ []));

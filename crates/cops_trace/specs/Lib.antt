@@ -3,6 +3,7 @@ pub mod Text
 pub mod Next
 pub mod Counts
 pub mod Reading
+pub mod Writing
 pub mod Answer
 pub mod Kept
 pub mod Parsing

@@ -13,6 +13,7 @@ mod reader;
 mod reading;
 mod record;
 mod trace;
+mod writer;
 mod writing;
 
 pub use fault::{TraceFault, WriteFault};
@@ -22,4 +23,5 @@ pub use reader::TraceReader;
 pub use reading::{read_so_far, read_trace};
 pub use record::Record;
 pub use trace::{Partial, Trace};
+pub use writer::{TraceWriter, Unwritten};
 pub use writing::write_trace;

@@ -129,7 +129,12 @@ pub struct Partial {
 
 /// Appends the spelling of an operation's record.
 #[tactic(auto, unfolding(cops_wire::specs::Message::spelled))]
-fn append_record(client: u16, index: u32, op: &Op, out: &mut Vec<u8>) -> Result<(), Memory>
+pub(crate) fn append_record(
+    client: u16,
+    index: u32,
+    op: &Op,
+    out: &mut Vec<u8>,
+) -> Result<(), Memory>
     ensures { OnOk result (out.new.items ≡ out.old.items ++ spelled (op_message client index op.now)) }
 {
     let message = message(client, index, op)?;

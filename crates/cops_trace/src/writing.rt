@@ -16,10 +16,10 @@ use std::alloc::Global;
 use std::io::Write;
 
 /// The number of the format that is written.
-const FORMAT: u16 = 1;
+pub(crate) const FORMAT: u16 = 1;
 
 /// Appends the frame of a legal message.
-fn append(message: Message, out: &mut Vec<u8>) -> Result<(), Memory>
+pub(crate) fn append(message: Message, out: &mut Vec<u8>) -> Result<(), Memory>
     requires { IsMessage (grammar One) (parts message) }
     ensures { OnOk result (out.new.items ≡ out.old.items ++ spelled message) }
 {

@@ -32,8 +32,7 @@ invariant_of-self-2 c =
     let fine : inside.fault ≡ None = ap (λ (r : Reading). r.fault) c.self.view_is ∙ c.requires.fine in
     let reach : IsWithinReach inside.counts false inside.at = subst (λ (e : Bool). IsWithinReach inside.counts e inside.at) going c.self.invariant.0 in
     let after : IsWithinReach (counts_with item inside.counts) (is_end item) at = reach_after inside.at c.args.used inside.counts item allowed reach used.2 in
-    let counted : IsWithinReach c.count.new.counts (is_end item) at = subst (λ (k : Option ACounts). IsWithinReach k (is_end item) at) (sym c.in-Ok.ensures.ok) after in
-    (
+    let counted : IsWithinReach c.count.new.counts (is_end item) at = subst (λ (k : Option ACounts). IsWithinReach k (is_end item) at) (sym c.in-Ok.ensures.ok) after in (
       subst (λ (e : Bool). IsWithinReach c.count.new.counts e at) (sym c.is_end-self-inside.ensures) counted,
       stopped_none (record { counts = c.count.new.counts; at = at; ended = c.is_end-self-inside.result; rest = c.take.new.self; fault = inside.fault }) inside.fault fine,
     )

@@ -1,0 +1,153 @@
+//! A trace's text that is written as its records come.
+use crate::counts::Counts;
+use crate::fault::WriteFault;
+use crate::trace::append_record;
+use crate::writing::{FORMAT, append};
+use cops_types::{Counted, Op, write_text};
+use cops_wire::Message;
+use std::alloc::Global;
+use std::io::Write;
+
+/// Writes a trace's text a frame at a time: the head, each record as it comes, and the end. Of the records it keeps nothing but
+/// counts. A failed write is not tried again, and leaves a text that is cut.
+#[derive(Drop)]
+pub struct TraceWriter<W: Write> {
+    writer: Counted<W>,
+    counts: Counts,
+    /// How many bytes went out; the greatest number stays.
+    written: usize,
+    frame: Vec<u8>,
+}
+
+/// A writer that comes back, with why a frame was not written.
+#[derive(Drop)]
+pub struct Unwritten<W: Write> {
+    pub writer: Counted<W>,
+    pub fault: WriteFault,
+}
+
+impl<W: Write> TraceWriter<W> {
+    ghost use Rattle.std.specs.Prelude.{◌≡◌, ◌≢◌, IfErr, IfOk, OnErr, OnOk, length};
+    ghost use Rattle.std.specs.Io.KnownBytes.{Appends};
+    ghost use Rattle.cops_types.specs.Failures.{Failed};
+    ghost use Rattle.cops_types.specs.Counted.{failures, inner};
+    ghost use Rattle.cops_types.specs.declared.format.Format.TheVariants.{One};
+    ghost use Rattle.cops_wire.specs.Grammar.{grammar};
+    ghost use Rattle.cops_wire.specs.Legal.{IsMessage};
+    ghost use Rattle.cops_wire.specs.Message.{parts, spelled};
+    ghost use Rattle.cops_trace.specs.Counts.{HasTurn, counted, nothing};
+    ghost use Rattle.cops_trace.specs.Writing.{IsUnwritten, end_frame, head_frame, more_written, record_frame};
+
+    /// Writes the head of so many clients. Where it is not written, the writer comes back.
+    pub fn new(alloc: Global, writer: Counted<W>, clients: u16) -> Result<Self, Unwritten<W>>
+        ensures ok { IfOk result (λ w. Appends (W.contents (inner writer)) (W.contents (inner w.writer)) (head_frame clients)) }
+        ensures counts { IfOk result (λ w. (w.counts ≡ nothing clients) × (w.written ≡ more_written 0 (length (head_frame clients)))) }
+        ensures failed { IfErr result (λ u. u.fault ≢ WriteFault.Memory → Failed (failures writer) (failures u.writer)) }
+        ensures heard { IfOk result (λ w. failures w.writer ≡ failures writer) }
+        ensures err { IfErr result (λ u. IsUnwritten (head_frame clients) 0 (W.contents (inner writer)) (W.contents (inner u.writer)) u.fault) }
+    {
+        let Ok(counts) = Counts::new(alloc, clients) else {
+            let fault = WriteFault::Memory;
+            return Err(Unwritten { writer, fault });
+        };
+        let mut begun = TraceWriter {
+            writer,
+            counts,
+            written: 0,
+            frame: Vec::new(alloc),
+        };
+        let head = Message::TraceHead {
+            format: FORMAT,
+            clients,
+        };
+        match begun.write(head) {
+            Ok(()) => Ok(begun),
+            Err(fault) => {
+                let writer = begun.into_writer();
+                Err(Unwritten { writer, fault })
+            }
+        }
+    }
+
+    /// Writes the next record of a client, which is there and has one operation fewer than it may have at least, as have all.
+    pub fn op(&mut self, client: u16, op: &Op) -> Result<(), WriteFault>
+        requires { HasTurn self.old.counts client }
+        ensures ok { OnOk result (Appends (W.contents (inner self.old.writer)) (W.contents (inner self.new.writer)) (record_frame self.old.counts client op.now)) }
+        ensures counts { OnOk result (self.new.counts ≡ counted self.old.counts client) }
+        ensures written { OnOk result (self.new.written ≡ more_written self.old.written (length (record_frame self.old.counts client op.now))) }
+        ensures err { IfErr result (IsUnwritten (record_frame self.old.counts client op.now) self.old.written (W.contents (inner self.old.writer)) (W.contents (inner self.new.writer))) }
+        ensures failed { IfErr result (λ e. e ≢ WriteFault.Memory → Failed (failures self.old.writer) (failures self.new.writer)) }
+        ensures heard { OnOk result (failures self.new.writer ≡ failures self.old.writer) }
+    {
+        self.frame.clear();
+        let index = self.counts.next(client);
+        append_record(client, index, op, &mut self.frame).or(Err(WriteFault::Memory))?;
+        self.send()?;
+        self.counts.add(client);
+        Ok(())
+    }
+
+    /// Writes the end, and gives the writer back.
+    pub fn end(mut self) -> Result<Counted<W>, Unwritten<W>>
+        ensures ok { IfOk result (λ w. Appends (W.contents (inner self.writer)) (W.contents (inner w)) (end_frame self.counts)) }
+        ensures failed { IfErr result (λ u. u.fault ≢ WriteFault.Memory → Failed (failures self.writer) (failures u.writer)) }
+        ensures heard { IfOk result (λ w. failures w ≡ failures self.writer) }
+        ensures err { IfErr result (λ u. IsUnwritten (end_frame self.counts) self.written (W.contents (inner self.writer)) (W.contents (inner u.writer)) u.fault) }
+    {
+        let end = Message::TraceEnd {
+            ops: self.counts.total(),
+        };
+        let written = self.write(end);
+        let writer = self.into_writer();
+        match written {
+            Ok(()) => Ok(writer),
+            Err(fault) => Err(Unwritten { writer, fault }),
+        }
+    }
+
+    /// The writer, without an end.
+    pub fn into_writer(self) -> Counted<W>
+        ensures { result ≡ self.writer }
+    {
+        let TraceWriter { writer, .. } = self;
+        writer
+    }
+
+    /// Writes the frame of a legal message.
+    fn write(&mut self, message: Message) -> Result<(), WriteFault>
+        requires { IsMessage (grammar One) (parts message) }
+        ensures ok { OnOk result (Appends (W.contents (inner self.old.writer)) (W.contents (inner self.new.writer)) (spelled message)) }
+        ensures err { IfErr result (IsUnwritten (spelled message) self.old.written (W.contents (inner self.old.writer)) (W.contents (inner self.new.writer))) }
+        ensures written { OnOk result (self.new.written ≡ more_written self.old.written (length (spelled message))) }
+        ensures counts { self.new.counts ≡ self.old.counts }
+        ensures failed { IfErr result (λ e. e ≢ WriteFault.Memory → Failed (failures self.old.writer) (failures self.new.writer)) }
+        ensures heard { OnOk result (failures self.new.writer ≡ failures self.old.writer) }
+    {
+        self.frame.clear();
+        append(message, &mut self.frame).or(Err(WriteFault::Memory))?;
+        self.send()
+    }
+
+    /// Writes the frame at hand.
+    fn send(&mut self) -> Result<(), WriteFault>
+        ensures ok { OnOk result (Appends (W.contents (inner self.old.writer)) (W.contents (inner self.new.writer)) self.old.frame.items) }
+        ensures err { IfErr result (λ e. (e ≢ WriteFault.Memory) × IsUnwritten self.old.frame.items self.old.written (W.contents (inner self.old.writer)) (W.contents (inner self.new.writer)) e) }
+        ensures written { OnOk result (self.new.written ≡ more_written self.old.written (length self.old.frame.items)) }
+        ensures counts { self.new.counts ≡ self.old.counts }
+        ensures failed { OnErr result (Failed (failures self.old.writer) (failures self.new.writer)) }
+        ensures heard { OnOk result (failures self.new.writer ≡ failures self.old.writer) }
+    {
+        match write_text(&mut self.writer, &self.frame) {
+            Ok(()) => {
+                self.written = self.written.saturating_add(self.frame.len());
+                Ok(())
+            }
+            Err(count) => {
+                self.written = self.written.saturating_add(count);
+                Err(WriteFault::WriteFailed {
+                    written: self.written,
+                })
+            }
+        }
+    }
+}
