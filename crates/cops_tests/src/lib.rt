@@ -15,6 +15,8 @@ mod link;
 #[cfg(test)]
 mod online;
 #[cfg(test)]
+mod pieces;
+#[cfg(test)]
 mod record;
 #[cfg(test)]
 mod report;
