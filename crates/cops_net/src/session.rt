@@ -1,5 +1,5 @@
 //! Who answers a client.
-use crate::reply::Reply;
+use crate::reply::{Call, Reply};
 use cops_types::{Key, Memory, NodeStatus, Refusal, Value, Version};
 use std::sync::Wait;
 
@@ -44,6 +44,10 @@ pub trait Session {
 
     /// What is done when a client's session has ended.
     ghost ends: { Self → Self → Type 0 } = { λ _ _. ⊤ };
+
+    /// Its calls so far, each with its answer, in order.
+    fn calls(&self) -> &[Call]
+        ensures { result.now ≡ calls self.now };
 
     /// Makes room for one call.
     fn room(&mut self) -> Result<(), Memory>

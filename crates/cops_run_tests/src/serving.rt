@@ -1,5 +1,5 @@
 //! A scenario's cluster behind the front door.
-use cops_net::{NetFault, Served, serve_session};
+use cops_net::{Call, NetFault, Reply, Served, Session, serve_session};
 use cops_scenario::Scenario;
 use cops_serve::{FrontEnd, ServeFault};
 use cops_types::{Counted, FailingReader, FailingWriter};
@@ -55,6 +55,34 @@ fn a_device_fails(rt: HostRuntime) -> Result<(), Fail> {
             "{reads} {writes}"
         );
     }
+    Ok(())
+}
+
+/// The greeting and the put are handed over, the goodbye is not.
+#[test]
+fn calls_are_listed(rt: HostRuntime) -> Result<(), Fail> {
+    let mut front_end = front_end(rt.alloc())?;
+    assert_eq!(rt; front_end.calls().len(), 0);
+    let mut reader = Counted::new(MESSAGES.as_slice());
+    let mut writer = Counted::new(Vec::new(rt.alloc()));
+    let ended = serve_session(&rt, rt.alloc(), &mut reader, &mut writer, &mut front_end);
+    let calls = front_end.calls();
+    let is_listed = matches!(
+        calls,
+        [
+            Call::Hello {
+                client: 0,
+                answer: Ok((0, 1))
+            },
+            Call::Put {
+                answer: Reply::PutDone(_),
+                ..
+            },
+        ]
+    );
+    drop(front_end);
+    assert_eq!(rt; ended, Ok(Served { answered: 3 }));
+    assert!(rt; is_listed);
     Ok(())
 }
 

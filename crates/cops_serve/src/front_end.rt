@@ -198,6 +198,10 @@ impl Session for FrontEnd {
 
     ghost ends = { Ends };
 
+    fn calls(&self) -> &[Call] {
+        &self.calls
+    }
+
     fn room(&mut self) -> Result<(), Memory> {
         if self.room.is_none() {
             self.room = Some(Room::new(self.alloc)?);
