@@ -5,6 +5,7 @@ use Rattle.std.proofs.lemmas.List.{get_or-map, length-map, take-map, take_more_s
 use Rattle.std.specs.List.{Contains}
 use Rattle.std.specs.List.Sorted.{IsNonDecreasingBy, IsPermutation}
 use Rattle.std.proofs.lemmas.List.Sorted.{IsPermutation-refl, IsPermutation-map, IsPermutation-sym, IsPermutation-trans}
+use Rattle.std.specs.Prelude.{Result, Ok, Err, IfNone, IfOk, IfSome}
 use Rattle.cops_cluster.specs.declared.share.Made.{Made}
 use Rattle.cops_cluster.specs.declared.noted.Noted.{Noted}
 use Rattle.cops_cluster.specs.Differences.{Compares, IsLeastDifference}
@@ -87,3 +88,15 @@ missing_from l i j n passed later stands =
     let inside : k < length l = omega (arith, length-drop i (map shown l), length-map l shown, stands.1) in
     let e : shown (get_or l k n) ≡ shown n = sym (get_or-map shown l k n (shown n) inside) ∙ (sym (get_or-drop i (map shown l) stands.0 (shown n)) ∙ stands.2) in
     ⊎_elim (λ less. passed k (omega arith) less e) (λ le. omega (arith, later k le inside, ap ticket e)) (cases_lt k j)
+
+-- what a comparison finds is the least ticket at which the lists differ
+pub found : (xs ys : List Made) {E : Type 0} (r : Result (Option ℕ) E) → IfOk r (Compares xs ys) → IfOk r (λ o. IfSome o (IsLeastDifference xs ys))
+found xs ys (Err e) h = tt
+found xs ys (Ok None) h = tt
+found xs ys (Ok (Some t)) h = h
+
+-- where it finds nothing they are the same, each entry as often
+pub found_none : (A : Type 0) (xs ys : List Made) {E : Type 0} (r : Result (Option ℕ) E) → IfOk r (Compares xs ys) → IfOk r (λ o. IfNone o (A → IsPermutation xs ys))
+found_none A xs ys (Err e) h = tt
+found_none A xs ys (Ok None) h = λ _. h
+found_none A xs ys (Ok (Some t)) h = tt

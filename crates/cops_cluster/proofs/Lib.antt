@@ -1,4 +1,5 @@
 pub mod Tellings
+pub mod Marks
 pub mod Lists
 pub mod Shuffles
 pub mod Differences

@@ -59,7 +59,7 @@ a_step n (Settle version) = settle_step n (waiting n.held version)
 pub step_of_node : (n : Node) (e : NodeEvent) → is_of_node (node_step n e).0 ≡ true
 step_of_node n e = (a_step n e).1
 
-true_is_false : {A : Type 0} (b : Bool) → b ≡ true → b ≡ false → A
+pub true_is_false : {A : Type 0} (b : Bool) → b ≡ true → b ≡ false → A
 true_is_false b e f = absurd (let h : true ≡ false = sym e ∙ f in cc)
 
 module _ (before after : List Made) (node : ℕ) (event : NodeEvent) where

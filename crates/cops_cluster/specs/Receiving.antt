@@ -1,11 +1,17 @@
 -- Questions, and what an answer Yes allows.
-use Rattle.std.specs.Prelude.{◌≡◌, ℕ, List, Option, None, Some}
+use Rattle.std.specs.Prelude.{◌≡◌, ◌⊎◌, ℕ, true, false, List, Option, None, Some}
 use Rattle.cops_types.specs.declared.dep.Dep.{Dep}
+use Rattle.cops_types.specs.declared.refusal.Refusal.TheVariants.{NoYes}
+use Rattle.cops_held.specs.Held.{waiting}
+use Rattle.cops_node.specs.declared.event.NodeEvent.TheVariants.{Mark}
 use Rattle.cops_node.specs.declared.outcome.Outcome.{Outcome}
-use Rattle.cops_node.specs.declared.outcome.Outcome.TheVariants.{Yes as IsSettled}
+use Rattle.cops_node.specs.declared.outcome.Outcome.TheVariants.{Yes as IsSettled, Refused as RefusedWith}
+use Rattle.cops_node.specs.Node.{Node, dep_at, node_step}
 use Rattle.cops_cluster.specs.declared.receiving.Yes.{Yes}
 use Rattle.cops_cluster.specs.declared.receiving.Asked.{Asked}
 use Rattle.cops_cluster.specs.declared.receiving.Asked.TheVariants.{Yes as AnsweredYes, Other}
+use Rattle.cops_cluster.specs.Outcomes.{IsWant}
+use Rattle.cops_cluster.specs.Shares.{is_of_node}
 
 -- the answer is one for this pair, in this data centre
 abbrev pub IsFor : Yes → ℕ → Dep → Type 0
@@ -15,6 +21,27 @@ IsFor answer dc pair = (answer.dc ≡ dc) × (pair ≡ record { key = answer.key
 abbrev pub Allows : Yes → ℕ → Option Dep → Type 0
 Allows answer dc None = Unit {0}
 Allows answer dc (Some pair) = IsFor answer dc pair
+
+-- there is such a dependency, and the answer is one for another pair, or of another data centre
+abbrev pub Forbids : Yes → ℕ → Option Dep → Type 0
+Forbids answer dc None = ⊥
+Forbids answer dc (Some pair) = IsFor answer dc pair → ⊥
+
+-- some node answers a mark so, and the answer Yes allowed it there
+abbrev pub IsAllowedMark : Yes → ℕ → ℕ → ℕ → Outcome → Type 0
+IsAllowedMark answer dc version dep outcome =
+    (old : Node) × (new : Node) × (node_step old (Mark version dep) ≡ (outcome, new)) × Allows answer dc (dep_at (waiting old.held version) dep)
+
+-- a mark that no node was asked for: at some node the answer Yes forbids it, or memory was wanting
+abbrev pub IsUnaskedMark : Yes → ℕ → ℕ → ℕ → Outcome → Type 0
+IsUnaskedMark answer dc version dep outcome =
+    ((outcome ≡ RefusedWith NoYes) × ((node : Node) × Forbids answer dc (dep_at (waiting node.held version) dep))) ⊎ IsWant outcome
+
+-- what a mark ends with: a node's answer where it was allowed, and else why no node was asked
+abbrev pub IsMarkedAs : Yes → ℕ → ℕ → ℕ → Outcome → Type 0
+IsMarkedAs answer dc version dep outcome =
+    (is_of_node outcome ≡ true → IsAllowedMark answer dc version dep outcome)
+    × (is_of_node outcome ≡ false → IsUnaskedMark answer dc version dep outcome)
 
 -- what the node answered
 abbrev pub outcome_of : Asked → Outcome

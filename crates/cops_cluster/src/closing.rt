@@ -1,10 +1,11 @@
 //! Ending a cluster: what the books have against what their callers were told.
-ghost use Rattle.std.specs.Prelude.{◌≡◌, ◌≤◌, ◌<◌, ◌+◌, ◌↔◌, ◌||◌, ℕ, true, length, vec_len, vec_capacity, IfOk, IsTrue, slice_index_or};
+ghost use Rattle.std.specs.Prelude.{◌≡◌, ◌≤◌, ◌<◌, ◌+◌, ◌↔◌, ◌||◌, ℕ, true, length, vec_len, vec_capacity, IfOk, IfNone, IfSome, IsTrue, slice_index_or};
 ghost use Rattle.std.specs.List.{list_any};
+ghost use Rattle.std.specs.List.Sorted.{IsPermutation};
 ghost use Rattle.cops_types.specs.declared.limits.TheConstants.{NODES, PLACES};
 ghost use Rattle.cops_cluster.specs.declared.share.Share.{Share};
 ghost use Rattle.cops_cluster.specs.Close.{AllReplay, AreAll, IsReplay, entries_at, is_seat, made_by, made_in, number_of, told};
-ghost use Rattle.cops_cluster.specs.Differences.{Compares};
+ghost use Rattle.cops_cluster.specs.Differences.{IsLeastDifference};
 
 use crate::cluster::Cluster;
 use crate::differing::difference;
@@ -37,7 +38,8 @@ pub enum CloseFault {
     Memory(Cluster, Vec<Share>),
     /// There is not one share of each client and of each receiver, or there are others. The cluster and the shares come back.
     SharesMissing(Cluster, Vec<Share>),
-    /// The books have other entries than the shares. The least ticket whose entries differ.
+    /// The books have other entries than the shares. The least ticket whose entries in the books, which replay, and in the shares
+    /// are not the same, each as often.
     NotKept { ticket: u64 },
 }
 
@@ -48,7 +50,8 @@ impl Cluster {
     ghost use Rattle.cops_cluster.specs.HandedBack.{HandsBack, HasRooms};
 
     /// Ends the cluster. The lists replay, and their entries are those of the shares, each as often. `SharesMissing` unless the
-    /// share of each client and of each receiver is there once, then `NotKept` where the entries differ.
+    /// share of each client and of each receiver is there once, then `NotKept` where the entries differ, with the least ticket
+    /// at which they do.
     pub fn close(self, shares: Vec<Share>) -> Result<Closed, CloseFault>
         ensures len { IfOk result (λ closed. length closed.books.items ≡ self.place.dcs * (length self.place.splits + 1)) }
         ensures replays { IfOk result (λ closed. AllReplay (length self.place.splits + 1) closed.books.items) }
@@ -144,7 +147,10 @@ impl Cluster {
         let places = usize::from(place.nodes());
         let books = taken_out(books, nodes);
         let recorder = match difference_where(compares, alloc, places, &books, &shares) {
-            Ok(Some(ticket)) => return Err(CloseFault::NotKept { ticket }),
+            Ok(Some(ticket)) => {
+                drop(listed(alloc, places, lists, books));
+                return Err(CloseFault::NotKept { ticket });
+            }
             Ok(None) => match recorder.into_trace() {
                 Ok(trace) => {
                     let books = listed(alloc, places, lists, books);
@@ -167,7 +173,7 @@ impl Cluster {
     }
 }
 
-/// The least ticket whose entries in the books and in the shares differ, where they are to be compared.
+/// The least ticket whose entries in the books and in the shares differ, where they are to be compared: else `None`.
 fn difference_where(
     compares: bool,
     alloc: Global,
@@ -177,7 +183,8 @@ fn difference_where(
 ) -> Result<Option<u64>, AllocError>
     requires places { 0 < places × places ≤ PLACES }
     requires few { length books.now ≤ NODES }
-    ensures { IfOk result (λ o. IsTrue compares → Compares (made_by places 0 books.now) (told shares.now) o) }
+    ensures some { IfOk result (λ o. IfSome o (IsLeastDifference (made_by places 0 books.now) (told shares.now))) }
+    ensures none { IfOk result (λ o. IfNone o (IsTrue compares → IsPermutation (made_by places 0 books.now) (told shares.now))) }
 {
     if compares {
         difference(alloc, places, books, shares)

@@ -52,8 +52,8 @@ impl Yes {
 }
 
 impl Cluster {
-    ghost use Rattle.std.specs.Prelude.{◌≡◌, ◌<◌, ◌≤◌, ◌⊎◌, ◌++◌, [], ◌∷◌, ℕ, true, length, Ok, IfOk, IfErr, OnOk, OnErr};
-    ghost use Rattle.cops_types.specs.declared.refusal.Refusal.TheVariants.{NotHeld, UnknownDc};
+    ghost use Rattle.std.specs.Prelude.{◌≡◌, ◌<◌, ◌≤◌, ◌↔◌, ◌⊎◌, ◌++◌, [], ◌∷◌, ℕ, true, length, Ok, IfOk, IfErr, IsErrOf, OnOk, OnErr};
+    ghost use Rattle.cops_types.specs.declared.refusal.Refusal.TheVariants.{NotHeld, NoYes, UnknownDc};
     ghost use Rattle.cops_types.specs.NodeNumber.{place_of, node_number};
     ghost use Rattle.cops_cluster.specs.declared.receiving.TheConstants.{RECEIVER};
     ghost use Rattle.cops_node.specs.declared.outcome.Outcome.TheVariants.{Refused as RefusedWith};
@@ -64,8 +64,9 @@ impl Cluster {
     ghost use Rattle.cops_book.specs.Book.{entry};
     ghost use Rattle.cops_cluster.specs.Shares.{Adds, AddsAtMostOne, AddsEntry, is_of_node};
     ghost use Rattle.cops_cluster.specs.Cluster.{IsNode, IsStop, MayHoldStep, node_of};
-    ghost use Rattle.cops_cluster.specs.Outcomes.{IsAskOutcome, IsNodeAnswer, IsWant};
-    ghost use Rattle.cops_cluster.specs.Receiving.{Allows, IsAskedOf, outcome_of};
+    ghost use Rattle.cops_cluster.specs.Outcomes.{IsAskOutcome, IsNodeAnswer, IsWant, StopsWith};
+    ghost use Rattle.cops_cluster.specs.Receiving.{Allows, Forbids, IsAllowedMark, IsAskedOf, IsMarkedAs, IsUnaskedMark, outcome_of};
+    ghost use Rattle.cops_cluster.specs.declared.fault.Stop.TheVariants.{Refused};
 
     /// A put of another data centre comes to its key's node in a data centre. Refused where there is no such data centre,
     /// and for want of memory.
@@ -136,7 +137,8 @@ impl Cluster {
 
     /// Marks a dependency, by its index, of a put that waits at the node of its version in a data centre, for which this
     /// answer Yes was given. Refused where there is no such data centre, where no put waits at the version, where it has no
-    /// such dependency, where the answer is one for another pair or of another data centre, and for want of memory.
+    /// such dependency, where the answer is one for another pair or of another data centre (`NoYes`, and for nothing else), and
+    /// for want of memory.
     pub fn mark<R: Wait, G: Gate>(
         &self,
         rt: &R,
@@ -150,6 +152,7 @@ impl Cluster {
         ensures who { share.new.holder ≡ share.old.holder }
         ensures told { IsNode self.now dc (place_of version) → IfOk result (λ out. Adds share.old.entries.items share.new.entries.items (node_number dc (place_of version)) (Mark version dep) out) }
         ensures most { AddsAtMostOne share.old.entries.items share.new.entries.items (node_number dc (place_of version)) (Mark version dep) }
+        ensures marked { IsNode self.now dc (place_of version) → IfOk result (IsMarkedAs yes.now dc version dep) }
         ensures no_node { (IsNode self.now dc (place_of version) → ⊥) → share.new.entries.items ≡ share.old.entries.items }
         ensures unknown { self.now.place.dcs ≤ dc → result ≡ Ok (RefusedWith UnknownDc) }
         ensures not_held { dc < self.now.place.dcs → length self.now.place.splits < place_of version → result ≡ Ok (RefusedWith NotHeld) }
@@ -235,6 +238,8 @@ impl Cluster {
         ensures who { share.new.holder ≡ share.old.holder }
         ensures told { IfOk result (λ t. AddsEntry share.old.entries.items share.new.entries.items (node_number spot.dc spot.place) (Mark version dep) t.outcome) }
         ensures answers { IfOk result (λ t. (t.seen ≡ t.outcome) × (is_of_node t.outcome ≡ true)) }
+        ensures allowed { IfOk result (λ t. IsAllowedMark yes.now spot.dc version dep t.outcome) }
+        ensures stops { IfErr result (StopsWith (IsUnaskedMark yes.now spot.dc version dep)) }
         ensures none { OnErr result (share.new.entries.items ≡ share.old.entries.items) }
         ensures stop { IfErr result (IsStop (G.may_hold gate.now) (node_number spot.dc spot.place) RECEIVER) }
     {
@@ -247,7 +252,7 @@ impl Cluster {
         Ok(gained(share, spot.number(), told))
     }
 
-    /// A mark at a node whose lock is held.
+    /// A mark at a node whose lock is held: refused with `NoYes` exactly where the answer is not one for the dependency that is there.
     fn marked<R: Wait, G: Gate>(
         &self,
         rt: &R,
@@ -259,6 +264,8 @@ impl Cluster {
         yes: &Yes,
     ) -> Result<Told, Stop>
         ensures allowed { OnOk result (Allows yes.now spot.dc (dep_at (waiting book.old.node.held version) dep)) }
+        ensures no_yes { IsErrOf result (Refused NoYes) ↔ Forbids yes.now spot.dc (dep_at (waiting book.old.node.held version) dep) }
+        ensures stops { IfErr result (StopsWith (IsUnaskedMark yes.now spot.dc version dep)) }
         ensures stepped { IfOk result (λ t. node_step book.old.node (Mark version dep) ≡ (t.outcome, book.new.node)) }
         ensures entered { IfOk result (λ t. book.new.entries ≡ book.old.entries ++ t.entry ∷ []) }
         ensures told { IfOk result (λ t. (t.seen ≡ t.outcome) × ((ticket : ℕ) × (t.entry ≡ entry ticket (Mark version dep) t.outcome))) }

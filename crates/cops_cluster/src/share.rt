@@ -1,4 +1,6 @@
 //! What each caller of a cluster was told.
+ghost use Rattle.std.specs.Prelude.{◌≡◌};
+
 use cops_book::Entry;
 
 /// An entry, with the number of the node whose step it is.
@@ -15,9 +17,27 @@ pub enum Holder {
     Receiver(u8),
 }
 
-/// The entries that a holder's steps made, in order.
+/// The entries that a holder's steps made, in order. It gains an entry by a step of a node alone.
 #[derive(Debug, Drop)]
 pub struct Share {
-    pub holder: Holder,
-    pub entries: Vec<Made>,
+    pub(crate) holder: Holder,
+    pub(crate) entries: Vec<Made>,
+}
+
+impl Share {
+    ghost use Rattle.std.specs.Prelude.{◌≡◌};
+
+    /// Who holds it.
+    pub fn holder(&self) -> Holder
+        ensures { result ≡ self.now.holder }
+    {
+        self.holder
+    }
+
+    /// The entries.
+    pub fn entries(&self) -> &[Made]
+        ensures { result.now ≡ self.now.entries.items }
+    {
+        &self.entries
+    }
 }

@@ -73,7 +73,7 @@ fn gets_what_it_put<R: Wait + Abort>(
     assert!(*rt; put(rt, alloc, cluster, client, &OpenGate, b'x')? == Outcome::PutDone(version));
     assert!(*rt; get(rt, alloc, cluster, client, b'x')? == Outcome::Got(value(alloc)?, version));
     assert!(*rt; get(rt, alloc, cluster, client, b'y')? == Outcome::Missed);
-    assert_eq!(*rt; client.share().entries.len(), 3);
+    assert_eq!(*rt; client.share().entries().len(), 3);
     Ok(())
 }
 
@@ -152,8 +152,8 @@ fn a_held_step_changes_nothing(rt: HostRuntime) -> Result<(), Fail> {
     let (zero, one) = clients.split_at_mut(1);
     assert!(rt; !puts(&rt, alloc, &cluster, &mut zero[0], &HOLDING, b'x'));
     assert!(rt; puts(&rt, alloc, &cluster, &mut one[0], &HOLDING, b'x'));
-    assert_eq!(rt; zero[0].share().entries.len(), 0);
-    assert_eq!(rt; one[0].share().entries.len(), 1);
+    assert_eq!(rt; zero[0].share().entries().len(), 0);
+    assert_eq!(rt; one[0].share().entries().len(), 1);
     Ok(())
 }
 
@@ -199,7 +199,7 @@ fn a_put_comes_into_another_data_centre(rt: HostRuntime) -> Result<(), Fail> {
     assert!(rt; puts(&rt, alloc, &cluster, &mut clients[0], &OpenGate, b'x'));
     assert!(rt; get(&rt, alloc, &cluster, &mut clients[1], b'x')? == Outcome::Missed);
     comes_once(&rt, alloc, &cluster, share)?;
-    assert_eq!(rt; share.entries.len(), 5);
+    assert_eq!(rt; share.entries().len(), 5);
     Ok(())
 }
 
@@ -229,18 +229,19 @@ fn yes_of(asked: Asked) -> Result<Yes, Fail> {
     }
 }
 
-/// A put comes into data centre 1 and is settled, and the node says so.
+/// A put comes into a data centre and is settled, and the node says so.
 fn settled<R: Wait>(
     rt: &R,
     alloc: Global,
     cluster: &Cluster,
     share: &mut Share,
+    dc: u8,
     put: PutRecord,
 ) -> Result<Yes, Fail> {
     let (key, version) = (put.key.clone()?, put.version);
-    drop(cluster.deliver(rt, share, &OpenGate, 1, put)?);
-    drop(cluster.settle(rt, share, &OpenGate, 1, version)?);
-    yes_of(cluster.ask(rt, share, &OpenGate, 1, &key, version)?)
+    drop(cluster.deliver(rt, share, &OpenGate, dc, put)?);
+    drop(cluster.settle(rt, share, &OpenGate, dc, version)?);
+    yes_of(cluster.ask(rt, share, &OpenGate, dc, &key, version)?)
 }
 
 /// A put of y that depends on x comes into data centre 1.
@@ -260,43 +261,58 @@ fn deliver_y<R: Wait>(
     Ok(cluster.deliver(rt, share, &OpenGate, 1, put)?)
 }
 
-/// A put is settled in data centre 1, and then the Yes for it marks the one dependency of y there.
+/// The answer marks the one dependency of y in data centre 1, or is refused.
 fn mark_y<R: Wait>(
     rt: &R,
-    alloc: Global,
     cluster: &Cluster,
     share: &mut Share,
-    put: PutRecord,
+    yes: &Yes,
 ) -> Result<Outcome, Fail> {
-    let yes = settled(rt, alloc, cluster, share, put)?;
-    Ok(cluster.mark(rt, share, &OpenGate, 1, Version::new(2, 0)?, 0, &yes)?)
+    Ok(cluster.mark(rt, share, &OpenGate, 1, Version::new(2, 0)?, 0, yes)?)
 }
 
-/// A put of y waits for x: the Yes for z marks nothing, and that for x does.
+/// Whether the answer is refused as none for the one dependency of y, and the share gains nothing.
+fn is_no_yes<R: Wait>(
+    rt: &R,
+    cluster: &Cluster,
+    share: &mut Share,
+    yes: &Yes,
+) -> Result<bool, Fail> {
+    let entries = share.entries().len();
+    let outcome = mark_y(rt, cluster, share, yes)?;
+    Ok(outcome == Outcome::Refused(Refusal::NoYes) && share.entries().len() == entries)
+}
+
+/// A put of y waits for x: the Yes for z marks nothing, nor does that for x of another data centre, and that for x does.
 fn waits_for_x<R: Wait + Abort>(
     rt: &R,
     alloc: Global,
     cluster: &Cluster,
     share: &mut Share,
+    elsewhere: &Yes,
 ) -> Result<(), Fail> {
     assert!(*rt; deliver_y(rt, alloc, cluster, share)? == Outcome::Held);
     let put = put_of(alloc, b'z', 3, Vec::new(alloc))?;
-    assert!(*rt; mark_y(rt, alloc, cluster, share, put)? == Outcome::Refused(Refusal::NoYes));
-    assert!(*rt; mark_y(rt, alloc, cluster, share, sent(alloc)?)? == Outcome::Marked);
+    let another = settled(rt, alloc, cluster, share, 1, put)?;
+    assert!(*rt; is_no_yes(rt, cluster, share, &another)?);
+    assert!(*rt; is_no_yes(rt, cluster, share, elsewhere)?);
+    let yes = settled(rt, alloc, cluster, share, 1, sent(alloc)?)?;
+    assert!(*rt; mark_y(rt, cluster, share, &yes)? == Outcome::Marked);
     let version = Version::new(2, 0)?;
     assert!(*rt; cluster.settle(rt, share, &OpenGate, 1, version)? == Outcome::Settled);
     Ok(())
 }
 
 #[test]
-fn a_yes_for_another_pair_marks_nothing(rt: HostRuntime) -> Result<(), Fail> {
+fn a_yes_of_another_pair_or_data_centre_marks_nothing(rt: HostRuntime) -> Result<(), Fail> {
     let alloc = rt.alloc();
     let Opened {
         cluster,
         mut shares,
         ..
     } = opened(alloc, 2, false, &[])?;
-    waits_for_x(&rt, alloc, &cluster, &mut shares[1])
+    let elsewhere = settled(&rt, alloc, &cluster, &mut shares[0], 0, sent(alloc)?)?;
+    waits_for_x(&rt, alloc, &cluster, &mut shares[1], &elsewhere)
 }
 
 /// The shares of the clients, and then of the receivers.
@@ -315,13 +331,11 @@ fn all_shares(
     Ok(shares)
 }
 
-/// A cluster with one node before its end, with its shares: client 0 was held, and client 1 put twice. An entry of its share may be
-/// lost, or a whole share.
+/// A cluster with one node before its end, with its shares: client 0 was held, and client 1 put at each of these keys.
 fn before_the_end<R: Wait>(
     rt: &R,
     alloc: Global,
-    is_entry_lost: bool,
-    is_share_lost: bool,
+    keys: &[u8],
 ) -> Result<(Cluster, Vec<Share>), Fail> {
     let Opened {
         cluster,
@@ -329,15 +343,39 @@ fn before_the_end<R: Wait>(
         shares,
     } = opened(alloc, 1, false, &[0, 0])?;
     let _held = puts(rt, alloc, &cluster, &mut clients[0], &HOLDING, b'x');
-    let _one = puts(rt, alloc, &cluster, &mut clients[1], &HOLDING, b'x');
-    let _two = puts(rt, alloc, &cluster, &mut clients[1], &HOLDING, b'y');
-    if is_entry_lost {
-        let _lost = clients[1].share().entries.pop();
+    for byte in keys {
+        let _done = puts(rt, alloc, &cluster, &mut clients[1], &HOLDING, *byte);
     }
-    let mut shares = all_shares(alloc, clients, shares)?;
-    if is_share_lost {
-        let _lost = shares.pop();
+    let shares = all_shares(alloc, clients, shares)?;
+    Ok((cluster, shares))
+}
+
+/// Such a cluster with the shares of another one, in which client 1 put at other keys.
+fn with_shares_of<R: Wait>(
+    rt: &R,
+    alloc: Global,
+    keys: &[u8],
+    others: &[u8],
+) -> Result<(Cluster, Vec<Share>), Fail> {
+    let (cluster, own) = before_the_end(rt, alloc, keys)?;
+    drop(own);
+    match before_the_end(rt, alloc, others) {
+        Ok((other, shares)) => {
+            drop(other);
+            Ok((cluster, shares))
+        }
+        Err(fault) => {
+            drop(cluster);
+            Err(fault)
+        }
     }
+}
+
+/// The same where a share is lost.
+fn without_a_share<R: Wait>(rt: &R, alloc: Global) -> Result<(Cluster, Vec<Share>), Fail> {
+    let (cluster, mut shares) = before_the_end(rt, alloc, b"xy")?;
+    let lost = shares.pop();
+    drop(lost);
     Ok((cluster, shares))
 }
 
@@ -351,7 +389,7 @@ fn has_two(closed: &Closed) -> bool {
 
 #[test]
 fn a_cluster_ends_with_its_entries(rt: HostRuntime) -> Result<(), Fail> {
-    let (cluster, shares) = before_the_end(&rt, rt.alloc(), false, false)?;
+    let (cluster, shares) = before_the_end(&rt, rt.alloc(), b"xy")?;
     let Ok(closed) = cluster.close(shares) else {
         return Err(Fail::new("not closed"));
     };
@@ -359,32 +397,45 @@ fn a_cluster_ends_with_its_entries(rt: HostRuntime) -> Result<(), Fail> {
     Ok(())
 }
 
+/// The ticket at which the books of a cluster are not the shares of another one.
+fn ticket_not_kept<R: Wait>(
+    rt: &R,
+    alloc: Global,
+    keys: &[u8],
+    others: &[u8],
+) -> Result<u64, Fail> {
+    let (cluster, shares) = with_shares_of(rt, alloc, keys, others)?;
+    match cluster.close(shares) {
+        Err(CloseFault::NotKept { ticket }) => Ok(ticket),
+        _ => Err(Fail::new("all is kept")),
+    }
+}
+
 #[test]
-fn a_share_without_an_entry_is_not_kept(rt: HostRuntime) -> Result<(), Fail> {
-    let (cluster, shares) = before_the_end(&rt, rt.alloc(), true, false)?;
-    assert!(rt;
-        matches!(
-            cluster.close(shares),
-            Err(CloseFault::NotKept { ticket: 1 })
-        )
-    );
+fn shares_without_or_with_other_entries_are_not_kept(rt: HostRuntime) -> Result<(), Fail> {
+    let alloc = rt.alloc();
+    assert_eq!(rt; ticket_not_kept(&rt, alloc, b"xy", b"x")?, 1);
+    assert_eq!(rt; ticket_not_kept(&rt, alloc, b"x", b"xyz")?, 1);
+    assert_eq!(rt; ticket_not_kept(&rt, alloc, b"vwxyz", b"vwaxy")?, 2);
+    assert_eq!(rt; ticket_not_kept(&rt, alloc, b"", b"x")?, 0);
     Ok(())
 }
 
 #[test]
 fn a_cluster_without_all_shares_comes_back(rt: HostRuntime) -> Result<(), Fail> {
-    let (cluster, shares) = before_the_end(&rt, rt.alloc(), false, true)?;
+    let (cluster, shares) = without_a_share(&rt, rt.alloc())?;
     assert!(rt; matches!(cluster.close(shares), Err(CloseFault::SharesMissing(_, _))));
     Ok(())
 }
 
-/// The difference of a cluster's entries and shares, where nobody compared them as it ended.
+/// The difference of a cluster's entries from the shares of another one, where nobody compared them as it ended.
 fn difference_at_the_end<R: Wait>(
     rt: &R,
     alloc: Global,
-    is_entry_lost: bool,
+    keys: &[u8],
+    others: &[u8],
 ) -> Result<Option<u64>, Fail> {
-    let (cluster, shares) = before_the_end(rt, alloc, is_entry_lost, false)?;
+    let (cluster, shares) = with_shares_of(rt, alloc, keys, others)?;
     let Ok(Uncompared { closed, shares }) = cluster.close_uncompared(shares) else {
         return Err(Fail::new("not closed"));
     };
@@ -396,14 +447,15 @@ fn difference_at_the_end<R: Wait>(
 
 #[test]
 fn entries_are_compared_with_shares_after_the_end(rt: HostRuntime) -> Result<(), Fail> {
-    assert_eq!(rt; difference_at_the_end(&rt, rt.alloc(), false)?, None);
-    assert_eq!(rt; difference_at_the_end(&rt, rt.alloc(), true)?, Some(1));
+    let alloc = rt.alloc();
+    assert_eq!(rt; difference_at_the_end(&rt, alloc, b"xy", b"xy")?, None);
+    assert_eq!(rt; difference_at_the_end(&rt, alloc, b"xy", b"x")?, Some(1));
     Ok(())
 }
 
 #[test]
 fn a_cluster_without_all_shares_comes_back_uncompared(rt: HostRuntime) -> Result<(), Fail> {
-    let (cluster, shares) = before_the_end(&rt, rt.alloc(), false, true)?;
+    let (cluster, shares) = without_a_share(&rt, rt.alloc())?;
     let ended = cluster.close_uncompared(shares);
     assert!(rt; matches!(ended, Err(CloseFault::SharesMissing(_, _))));
     Ok(())

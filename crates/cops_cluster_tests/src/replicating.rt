@@ -164,7 +164,7 @@ impl Scene {
 
     /// How many entries the receiver's share has.
     fn entries(&mut self) -> u32 {
-        self.receiver.share().entries.len().min(1_000) as u32
+        self.receiver.share().entries().len().min(1_000) as u32
     }
 
     /// So many turns at most, until nothing is kept back.
@@ -304,7 +304,7 @@ fn fifty() -> [u8; 50] {
 fn asks_twice<R: Wait>(rt: &R, scene: &mut Scene) -> bool {
     scene.drain(rt, &OpenGate, 51) == 0
         && scene.entries() == 50 + 98 + 49 + 50
-        && questions(&scene.receiver.share().entries) == 98
+        && questions(scene.receiver.share().entries()) == 98
 }
 
 #[test]
@@ -334,7 +334,7 @@ fn are_in_order(entries: &[Made], last: u64) -> bool {
 fn come_in_order<R: Wait>(rt: &R, alloc: Global, joined: &mut Both) -> Result<bool, TypeFault> {
     joined.scene.put_all(rt, alloc, b"abc")?;
     let told = joined.one_by_one(rt);
-    let in_order = are_in_order(&joined.scene.receiver.share().entries, 3);
+    let in_order = are_in_order(joined.scene.receiver.share().entries(), 3);
     Ok(told == [1, 0, TURN_LIMIT, 1, 1, 0] && in_order)
 }
 
@@ -404,6 +404,6 @@ fn what_is_not_there_is_drained(rt: HostRuntime) -> Result<(), Fail> {
     assert!(rt; nothing(&rt, &mut joined) == [0, 0, 0]);
     let Both { scene, sender } = joined;
     sender.finish();
-    assert_eq!(rt; scene.receiver.into_share().entries.len(), 0);
+    assert_eq!(rt; scene.receiver.into_share().entries().len(), 0);
     Ok(())
 }

@@ -3,7 +3,9 @@ use Rattle.std.specs.Prelude.{IfOk}
 use Rattle.cops_node.specs.declared.event.NodeEvent.TheVariants.{Mark}
 use Rattle.cops_types.specs.NodeNumber.{place_of, node_number}
 use Rattle.cops_cluster.specs.Shares.{Adds, AddsAtMostOne}
+use Rattle.cops_cluster.specs.Receiving.{IsMarkedAs}
 use Rattle.cops_cluster.proofs.Tellings.{most_adds, seen_kept, told_adds}
+use Rattle.cops_cluster.proofs.Marks.{told_marked}
 use Rattle.cops_cluster.proofs.cluster.Cluster.mark.Goals as goal
 
 pub returns-clause-told : goal.returns-clause-told
@@ -30,3 +32,12 @@ returns-clause-most g c =
     subst (λ (m : ℕ). AddsAtMostOne b a m e) is
     (most_adds b a n e c.replied.result
     (seen_kept b a n e (g.G.Gate.may_hold c.args.gate.now) n 65535 c.number.result s.result c.replied.result s.ensures.told s.ensures.answers s.ensures.none s.ensures.stop c.replied.ensures))
+
+pub returns-clause-marked : goal.returns-clause-marked
+returns-clause-marked g c = λ _.
+    let s = c.mark_step-answered in
+    let spot = c.in-Some.spot in
+    let n = node_number spot.dc spot.place in
+    subst (λ (dc : ℕ). IfOk c.passed.result (IsMarkedAs c.args.yes.now dc c.args.version c.args.dep)) c.in-Some.ensures.some.0
+    (told_marked c.args.yes.now spot.dc c.args.version c.args.dep (g.G.Gate.may_hold c.args.gate.now) n 65535 c.number.result s.result c.replied.result c.passed.result
+    s.ensures.allowed s.ensures.answers s.ensures.stops s.ensures.stop c.replied.ensures c.passed.ensures.told)
