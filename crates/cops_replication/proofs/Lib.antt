@@ -5,3 +5,4 @@ pub mod Carrying
 pub mod Gained
 pub mod Taken
 pub mod Joining
+pub mod Doings

@@ -4,6 +4,9 @@ pub mod Reading
 pub mod Shares
 pub mod Sending
 pub mod Receiving
+pub mod Answers
+pub mod Doing
+pub mod Drains
 pub mod Lending
 pub mod Wiring
 pub mod Making

@@ -1,5 +1,11 @@
 //! Puts that were taken from links, and what nodes answer to them.
+ghost use Rattle.std.specs.Prelude.{◌≡◌, [], ◌∷◌, ◌++◌, IfNone, IfOk, IfSome};
+ghost use Rattle.cops_types.specs.declared.put_record.PutRecord.{PutRecord};
+ghost use Rattle.cops_wire.specs.Replicated.{put_after};
+ghost use Rattle.cops_link.specs.Frame.{spelled};
+ghost use Rattle.cops_link.specs.Link.{seen, taken};
 ghost use Rattle.cops_replication.specs.Receiving.{TakesUpTo};
+ghost use Rattle.cops_replication.specs.Answers.{answer_to};
 
 use cops_link::LinkOut;
 use cops_node::Outcome;
@@ -36,7 +42,9 @@ pub struct Arrival {
 
 impl Answer {
     /// The answer in short: `Memory` where it is want of memory.
-    pub fn of(outcome: Outcome) -> Result<Self, Memory> {
+    pub fn of(outcome: Outcome) -> Result<Self, Memory>
+        ensures { IfOk result (λ answer. answer ≡ answer_to outcome) }
+    {
         let is_memory = outcome.is_memory();
         let answer = match &outcome {
             Outcome::Held => Answer::Waits,
@@ -61,23 +69,28 @@ pub fn waits(answer: Answer, stage: Stage) -> bool {
 
 /// Takes the next frame, if one is there.
 pub fn next_arrival(link: &mut LinkOut) -> Result<Option<Arrival>, Memory>
-    ensures { TakesUpTo 1 link.old link.new }
+    ensures takes { TakesUpTo 1 link.old link.new }
+    ensures some { IfOk result (λ o. IfSome o (λ a. taken link.new ≡ taken link.old ++ spelled a.put ∷ [])) }
+    ensures none { IfOk result (λ o. IfNone o ((taken link.new ≡ taken link.old) × (seen link.new ≡ []))) }
 {
     match link.take()? {
-        Some(message) => Ok(arrival_of(message)),
+        Some(message) => Ok(Some(arrival_of(message))),
         None => Ok(None),
     }
 }
 
 /// The put that a message replicates.
-fn arrival_of(message: Message) -> Option<Arrival> {
+fn arrival_of(message: Message) -> Arrival
+    requires { (put : PutRecord) × (message ≡ put_after put) }
+    ensures { message ≡ put_after result.put }
+{
     match message {
         Message::PutAfter {
             key,
             value,
             version,
             deps,
-        } => Some(Arrival {
+        } => Arrival {
             put: PutRecord {
                 key,
                 value,
@@ -85,10 +98,7 @@ fn arrival_of(message: Message) -> Option<Arrival> {
                 deps,
             },
             stage: Stage::Taken,
-        }),
-        other => {
-            drop(other);
-            None
-        }
+        },
+        _ => unreachable!(),
     }
 }

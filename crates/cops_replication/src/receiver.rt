@@ -1,5 +1,5 @@
 use crate::arrival::{Answer, Arrival, Stage, next_arrival, waits};
-use crate::backlog::{Backlog, Question};
+use crate::backlog::Backlog;
 use crate::turn::{Turn, TurnFault};
 use cops_cluster::{Asked, Cluster, Share, Yes};
 use cops_link::LinkOut;
@@ -19,12 +19,14 @@ pub struct Receiver {
 }
 
 impl Receiver {
-    ghost use Rattle.std.specs.Prelude.{◌≡◌, ◌↔◌, IsTrue, OnOk, OnErr, IfErr, Err};
+    ghost use Rattle.std.specs.Prelude.{◌≡◌, ◌↔◌, ◌+◌, ◌-◌, IsTrue, OnOk, OnErr, IfOk, IfErr, Ok, Err, None};
     ghost use Rattle.std.specs.Borrow.{sem};
     ghost use Rattle.cops_replication.specs.Lending.{LendsShare};
+    ghost use Rattle.cops_replication.specs.Drains.{IsDrained};
     ghost use Rattle.cops_replication.specs.Receiving.{EachTakesUpTo, IsSame, KeepsNothing, ends};
     ghost use Rattle.cops_replication.specs.Shares.{Gains};
-    ghost use Rattle.cops_replication.specs.Turns.{IsEndAt, IsFaultAt};
+    ghost use Rattle.cops_replication.specs.Turns.{IsCountOf, IsEndAt, IsFaultAt, IsTurnOf};
+    ghost use Rattle.cops_replication.specs.Doing.{AreEmpty, advances, at_hand, delivered, done};
 
     /// The receiver of a data centre, with these links and this share. It takes no memory.
     pub fn new(alloc: Global, dc: u8, links: Vec<LinkOut>, share: Share) -> Self
@@ -41,6 +43,13 @@ impl Receiver {
         }
     }
 
+    /// Its data centre.
+    pub fn dc(&self) -> u8
+        ensures { result ≡ self.now.dc }
+    {
+        self.dc
+    }
+
     /// Takes at most one frame from each link and delivers its put. Then it asks for each dependency that it has not asked for,
     /// or whose pair was settled since, marks those with a yes, and settles each put whose dependencies are all marked. What
     /// met want of memory is tried on the next turn.
@@ -54,6 +63,8 @@ impl Receiver {
         ensures links { EachTakesUpTo 1 (ends self.old) (ends self.new) }
         ensures share { Gains self.old.share self.new.share }
         ensures fault { IfErr result (IsFaultAt (G.may_hold gate.now) cluster.now self.old.dc) }
+        ensures did { IfOk result (IsTurnOf (done self.old self.new)) }
+        ensures idle { IfOk result (λ turn. turn ≡ Turn.Idle → AreEmpty (ends self.new)) }
     {
         let delivered = self.take_in(rt, cluster, gate)?;
         let done = self.work(rt, cluster, gate)?;
@@ -74,10 +85,11 @@ impl Receiver {
         ensures share { Gains self.old.share self.new.share }
         ensures fault { IfErr result (IsEndAt (G.may_hold gate.now) cluster.now self.old.dc) }
         ensures ok { OnOk result (KeepsNothing self.new) }
+        ensures idle { OnOk result (IsDrained turns self.old self.new) }
     {
         for _ in 0..turns {
             let turn = self.turn(rt, cluster, gate)?;
-            if turn == Turn::Idle && self.is_clear() {
+            if turn.is_idle() && self.is_clear() {
                 return Ok(());
             }
         }
@@ -118,6 +130,9 @@ impl Receiver {
         ensures links { EachTakesUpTo 1 (ends self.old) (ends self.new) }
         ensures share { Gains self.old.share self.new.share }
         ensures fault { IfErr result (IsFaultAt (G.may_hold gate.now) cluster.now self.old.dc) }
+        ensures still { advances self.new.share ≡ advances self.old.share }
+        ensures did { IfOk result (IsCountOf (delivered self.old self.new)) }
+        ensures idle { IfOk result (λ did. did ≡ 0 → AreEmpty (ends self.new)) }
     {
         let mut delivered = self.arrive(rt, cluster, gate)?;
         for k in 0..self.links.len() {
@@ -140,6 +155,8 @@ impl Receiver {
     ) -> Result<usize, TurnFault>
         ensures same { IsSame self.old self.new }
         ensures share { Gains self.old.share self.new.share }
+        ensures still { advances self.new.share ≡ advances self.old.share }
+        ensures did { IfOk result (λ did. (did ≡ at_hand self.old.arrival) × (self.new.arrival ≡ None)) }
         ensures fault { IfErr result (IsFaultAt (G.may_hold gate.now) cluster.now self.old.dc) }
     {
         let Some(arrival) = &self.arrival else {
@@ -169,6 +186,7 @@ impl Receiver {
     ) -> Result<Answer, TurnFault>
         ensures same { IsSame self.old self.new }
         ensures share { Gains self.old.share self.new.share }
+        ensures still { advances self.new.share ≡ advances self.old.share }
         ensures fault { IfErr result (IsFaultAt (G.may_hold gate.now) cluster.now self.old.dc) }
     {
         let Ok(outcome) = cluster.deliver(rt, &mut self.share, gate, self.dc, copy) else {
@@ -192,6 +210,7 @@ impl Receiver {
     fn keep(&mut self) -> Result<usize, TurnFault>
         ensures same { IsSame self.old self.new }
         ensures share { self.new.share ≡ self.old.share }
+        ensures did { IfOk result (λ did. (did ≡ 1) × (self.new.arrival ≡ None)) }
         ensures fault { OnErr result (result ≡ Err TurnFault.Memory) }
     {
         if let Some(arrival) = &self.arrival {
@@ -205,6 +224,7 @@ impl Receiver {
     fn forget(&mut self)
         ensures same { IsSame self.old self.new }
         ensures share { self.new.share ≡ self.old.share }
+        ensures none { self.new.arrival ≡ None }
     {
         drop(self.arrival.take());
     }
@@ -217,7 +237,9 @@ impl Receiver {
         gate: &G,
     ) -> Result<usize, TurnFault>
         ensures same { IsSame self.old self.new }
+        ensures arrival { self.new.arrival ≡ self.old.arrival }
         ensures share { Gains self.old.share self.new.share }
+        ensures did { IfOk result (IsCountOf (advances self.new.share - advances self.old.share)) }
         ensures fault { IfErr result (IsFaultAt (G.may_hold gate.now) cluster.now self.old.dc) }
     {
         let mut done = 0;
@@ -242,7 +264,9 @@ impl Receiver {
         gate: &G,
     ) -> Result<usize, TurnFault>
         ensures same { IsSame self.old self.new }
+        ensures arrival { self.new.arrival ≡ self.old.arrival }
         ensures share { Gains self.old.share self.new.share }
+        ensures did { IfOk result (λ did. advances self.new.share ≡ advances self.old.share + did) }
         ensures fault { IfErr result (IsFaultAt (G.may_hold gate.now) cluster.now self.old.dc) }
     {
         let Some(pair) = self.backlog.pair() else {
@@ -274,16 +298,22 @@ impl Receiver {
         yes: &Yes,
     ) -> Result<usize, TurnFault>
         ensures same { IsSame self.old self.new }
+        ensures arrival { self.new.arrival ≡ self.old.arrival }
         ensures share { Gains self.old.share self.new.share }
+        ensures did { IfOk result (λ did. advances self.new.share ≡ advances self.old.share + did) }
         ensures fault { IfErr result (IsFaultAt (G.may_hold gate.now) cluster.now self.old.dc) }
     {
-        let Some(Question { version, dep }) = self.backlog.question() else {
+        let Some(asked) = self.backlog.question() else {
             return Ok(0);
         };
+        let (version, dep) = (asked.version, asked.dep);
         let outcome = cluster.mark(rt, &mut self.share, gate, self.dc, version, dep, yes)?;
         let answer = Answer::of(outcome)?;
         self.backlog.mark();
-        Ok(usize::from(matches!(answer, Answer::Marked)))
+        match answer {
+            Answer::Marked => Ok(1),
+            _ => Ok(0),
+        }
     }
 
     /// Settles a put whose dependencies are all marked, and has those asked again that wait for it.
@@ -295,13 +325,18 @@ impl Receiver {
         version: Version,
     ) -> Result<usize, TurnFault>
         ensures same { IsSame self.old self.new }
+        ensures arrival { self.new.arrival ≡ self.old.arrival }
         ensures share { Gains self.old.share self.new.share }
+        ensures did { IfOk result (λ did. advances self.new.share ≡ advances self.old.share + did) }
         ensures fault { IfErr result (IsFaultAt (G.may_hold gate.now) cluster.now self.old.dc) }
     {
         self.backlog.wake(version)?;
         let outcome = cluster.settle(rt, &mut self.share, gate, self.dc, version)?;
         let answer = Answer::of(outcome)?;
         self.backlog.settle(version);
-        Ok(usize::from(matches!(answer, Answer::Settled)))
+        match answer {
+            Answer::Settled => Ok(1),
+            _ => Ok(0),
+        }
     }
 }

@@ -21,6 +21,7 @@ pub struct Sender {
 impl Sender {
     ghost use Rattle.std.specs.Prelude.{◌≡◌, ◌-◌, IfOk, OnOk, Err, map};
     ghost use Rattle.cops_types.specs.declared.limits.TheConstants.{PLACES};
+    ghost use Rattle.cops_replication.specs.Drains.{IsSentOut};
     ghost use Rattle.cops_replication.specs.Lanes.{HasSentAll, frames, idle};
     ghost use Rattle.cops_replication.specs.Reading.{unread};
     ghost use Rattle.cops_replication.specs.Sending.{Carries, CarriesBelow, lanes};
@@ -59,11 +60,12 @@ impl Sender {
         ensures carries { Carries cluster.now self.old self.new }
         ensures all { OnOk result (CarriesBelow PLACES cluster.now self.old self.new) }
         ensures ok { OnOk result (HasSentAll (lanes self.new)) }
+        ensures idle { OnOk result (IsSentOut cluster.now self.old self.new) }
         ensures not_held { result ≡ Err TurnFault.Held → ⊥ }
     {
         for _ in 0..turns {
             let turn = self.turn(rt, cluster)?;
-            if turn == Turn::Idle && self.outbox.is_clear() {
+            if turn.is_idle() && self.outbox.is_clear() {
                 return Ok(());
             }
         }

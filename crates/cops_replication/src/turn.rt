@@ -31,6 +31,8 @@ pub enum TurnFault {
 }
 
 impl Turn {
+    ghost use Rattle.std.specs.Prelude.{◌≡◌, ◌↔◌, IsTrue};
+    ghost use Rattle.cops_replication.specs.declared.turn.Turn.TheVariants.{Idle as DidNothing};
     ghost use Rattle.cops_replication.specs.Turns.{IsTurnOf};
 
     /// The turn that did so much.
@@ -44,6 +46,13 @@ impl Turn {
             return Turn::Did(u32::MAX);
         }
         Turn::Did(done as u32)
+    }
+
+    /// Whether it did nothing.
+    pub(crate) fn is_idle(self) -> bool
+        ensures { IsTrue result ↔ (self ≡ DidNothing) }
+    {
+        matches!(self, Turn::Idle)
     }
 }
 

@@ -1,0 +1,13 @@
+-- What nodes answer, as far as a receiver heeds it.
+use Rattle.cops_node.specs.declared.outcome.Outcome.{Outcome}
+use Rattle.cops_node.specs.declared.outcome.Outcome.TheVariants.{Held, Repeat, Marked, Settled}
+use Rattle.cops_replication.specs.declared.arrival.Answer.{Answer}
+use Rattle.cops_replication.specs.declared.arrival.Answer.TheVariants.{Waits, Repeat as Repeats, Marked as WasMarked, Settled as WasSettled, Other}
+
+-- the outcome in short
+abbrev pub answer_to : Outcome → Answer
+answer_to Held = Waits
+answer_to Repeat = Repeats
+answer_to Marked = WasMarked
+answer_to Settled = WasSettled
+answer_to _ = Other
