@@ -1,10 +1,11 @@
 //! A scripted client's thread.
-ghost use Rattle.std.specs.Prelude.{◌≡◌, IfOk, OnErr};
-ghost use Rattle.cops_run.specs.Gates.{MayHold};
+ghost use Rattle.std.specs.Prelude.{◌≡◌, ◌+◌, IfOk, OnErr, length};
+ghost use Rattle.cops_cluster.specs.Cluster.{IsSameClient};
+ghost use Rattle.cops_run.specs.Gates.{MayHoldIn};
 
 use crate::ends::{End, Returned};
 use crate::stage::Stage;
-use cops_cluster::{Client, Cluster};
+use cops_cluster::Client;
 use cops_core::ScriptOp;
 use cops_node::Outcome;
 use cops_outcomes::ClientOutcome;
@@ -26,7 +27,8 @@ pub(crate) fn work<R: Wait, G: Gate>(
     mut client: Client,
     script: &[ScriptOp],
 ) -> Returned
-    ensures { result.end ≡ End.Held → MayHold (G.may_hold gate.now) }
+    ensures share { result.share.holder ≡ client.share.holder }
+    ensures held { result.end ≡ End.Held → MayHoldIn (G.may_hold gate.now) (length stage.now.cluster.place.splits + 1) client.dc client.number }
 {
     let end = match follow(rt, stage, gate, &mut client, script) {
         Ok(end) => end,
@@ -49,14 +51,15 @@ fn follow<R: Wait, G: Gate>(
     client: &mut Client,
     script: &[ScriptOp],
 ) -> Result<End, GateHeld>
+    ensures same { IsSameClient client.old client.new }
     ensures ended { IfOk result (λ end. end ≡ End.Held → ⊥) }
-    ensures held { OnErr result (MayHold (G.may_hold gate.now)) }
+    ensures held { OnErr result (MayHoldIn (G.may_hold gate.now) (length stage.now.cluster.place.splits + 1) client.old.dc client.old.number) }
 {
     for op in script {
         if stage.is_broken() {
             return Ok(End::Broken);
         }
-        if let Some(refusal) = perform(rt, stage.cluster(), gate, client, op)? {
+        if let Some(refusal) = perform(rt, stage, gate, client, op)? {
             return Ok(End::Client(ClientOutcome::Stopped(refusal)));
         }
     }
@@ -66,26 +69,28 @@ fn follow<R: Wait, G: Gate>(
 /// One operation of a script: why it is refused, where it is.
 fn perform<R: Wait, G: Gate>(
     rt: &R,
-    cluster: &Cluster,
+    stage: &Stage,
     gate: &G,
     client: &mut Client,
     op: &ScriptOp,
 ) -> Result<Option<Refusal>, GateHeld>
-    ensures { OnErr result (MayHold (G.may_hold gate.now)) }
+    ensures same { IsSameClient client.old client.new }
+    ensures held { OnErr result (MayHoldIn (G.may_hold gate.now) (length stage.now.cluster.place.splits + 1) client.old.dc client.old.number) }
 {
-    let outcome = outcome_of(rt, cluster, gate, client, op)?;
+    let outcome = outcome_of(rt, stage, gate, client, op)?;
     Ok(refusal(&outcome))
 }
 
 /// The outcome of one operation of a script.
 fn outcome_of<R: Wait, G: Gate>(
     rt: &R,
-    cluster: &Cluster,
+    stage: &Stage,
     gate: &G,
     client: &mut Client,
     op: &ScriptOp,
 ) -> Result<Outcome, GateHeld>
-    ensures { OnErr result (MayHold (G.may_hold gate.now)) }
+    ensures same { IsSameClient client.old client.new }
+    ensures held { OnErr result (MayHoldIn (G.may_hold gate.now) (length stage.now.cluster.place.splits + 1) client.old.dc client.old.number) }
 {
     match op {
         ScriptOp::Put { key, value } => {
@@ -95,13 +100,13 @@ fn outcome_of<R: Wait, G: Gate>(
             let Ok(value) = value.clone() else {
                 return Ok(Outcome::Refused(Refusal::Memory));
             };
-            cluster.put(rt, client, gate, key, value)
+            stage.cluster().put(rt, client, gate, key, value)
         }
         ScriptOp::Get { key } => {
             let Ok(key) = key.clone() else {
                 return Ok(Outcome::Refused(Refusal::Memory));
             };
-            cluster.get(rt, client, gate, key)
+            stage.cluster().get(rt, client, gate, key)
         }
     }
 }

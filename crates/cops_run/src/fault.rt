@@ -1,26 +1,26 @@
 //! Why there is no run.
 use thiserror::Error;
 
-/// Why there is no run. Where several apply, the order is `NoThread`, `Held`, `TurnLimit`, `Untied`.
+/// Why there is no run. The numbers are the faults' codes. Where several apply, the order is `NoThread`, `Held`, `TurnLimit`, `Untied`.
 #[derive(Clone, Copy, Debug, PartialEq, Eq, Error)]
 pub enum RunFault {
-    /// Memory was refused.
+    /// 0: out of memory.
     #[error("out of memory")]
     Memory,
-    /// What the threads left is no run. The ticket is the least one whose entry does not continue the world's run, or whose
+    /// 1: what the threads left is no run. The ticket is the least one whose entry does not continue the world's run, or whose
     /// entries in the books are not those that its callers were told; where only the sessions differ from the trace's, a
     /// client's outcome is not one of its session, or a data centre has not settled a put, the one above the greatest: 0
     /// where there is no entry, and the greatest `u64` where that is a ticket.
     #[error("untied at ticket {ticket}")]
     Untied { ticket: u64 },
-    /// The gate held a step.
+    /// 2: the gate held a step.
     #[error("held")]
     Held,
-    /// A sender, once the clients were joined, or a receiver, once the senders were, made the scenario's number of turns and
-    /// still kept something back.
+    /// 3: once the clients were joined, a sender or a receiver made the scenario's number of turns and was not done: it kept something
+    /// back, or more was still to come.
     #[error("turn limit")]
     TurnLimit,
-    /// The system refused a thread. Those that were made were ended and joined.
+    /// 5: the system refused a thread. Those that were made were ended and joined.
     #[error("no thread")]
     NoThread,
 }

@@ -1,7 +1,8 @@
 //! What the threads of a run handed back.
-use crate::ends::{End, HeldBy, Returned};
+use crate::ends::{End, Owed, Returned};
 use crate::fault::RunFault;
 use cops_cluster::Share;
+use cops_core::Setting;
 use cops_outcomes::ClientOutcome;
 use cops_types::Gate;
 use std::alloc::Global;
@@ -21,11 +22,13 @@ pub(crate) struct Gathered {
 }
 
 impl Gathered {
-    ghost use Rattle.std.specs.Prelude.{◌≡◌, ◌⊎◌, ◌↔◌, All, IfOk, IsErrOf, IsTrue};
+    ghost use Rattle.std.specs.Prelude.{◌≡◌, ◌⊎◌, ◌↔◌, [], ◌∷◌, ◌++◌, All, IfOk, IsErrOf, IsTrue, OnOk, map};
     ghost use Rattle.cops_run.specs.Gates.{MayHold};
+    ghost use Rattle.cops_run.specs.Callers.{holders};
 
     pub(crate) fn new(alloc: Global) -> Gathered
-        ensures { ¬ IsTrue result.held }
+        ensures held { ¬ IsTrue result.held }
+        ensures shares { result.shares.items ≡ [] }
     {
         Gathered {
             shares: Vec::new(alloc),
@@ -40,12 +43,15 @@ impl Gathered {
     pub(crate) fn join<R: Threads, G: Gate>(
         &mut self,
         rt: &R,
+        setting: &Setting,
         gate: &G,
-        handles: Vec<PromisedHandle<Returned, HeldBy<G>>>,
+        handles: Vec<PromisedHandle<Returned, Owed<G>>>,
     )
-        requires promised { All (λ (h : _). h.promise.0.value ≡ gate.now) handles.items }
-        requires held { IsTrue self.old.held → MayHold (G.may_hold gate.now) }
-        ensures { IsTrue self.new.held → MayHold (G.may_hold gate.now) }
+        requires promised { All (λ (h : _). (h.promise.gate.value ≡ gate.now) × (h.promise.setting.value ≡ setting.now)) handles.items }
+        requires held { IsTrue self.old.held → MayHold setting.now (G.may_hold gate.now) }
+        ensures shares { IsTrue self.new.lost ⊎ (holders self.new.shares.items ≡ holders self.old.shares.items ++ map (λ (h : _). h.promise.who) handles.items) }
+        ensures lost { IsTrue self.old.lost → IsTrue self.new.lost }
+        ensures held { IsTrue self.new.held → MayHold setting.now (G.may_hold gate.now) }
     {
         for handle in handles {
             self.add(handle.join(rt));
@@ -54,7 +60,9 @@ impl Gathered {
 
     /// What one thread handed back.
     fn add(&mut self, returned: Returned)
-        ensures { IsTrue self.new.held → IsTrue self.old.held ⊎ (returned.end ≡ End.Held) }
+        ensures shares { IsTrue self.new.lost ⊎ (self.new.shares.items ≡ self.old.shares.items ++ returned.share ∷ []) }
+        ensures lost { IsTrue self.old.lost → IsTrue self.new.lost }
+        ensures held { IsTrue self.new.held → IsTrue self.old.held ⊎ (returned.end ≡ End.Held) }
     {
         let Returned { share, end } = returned;
         if self.shares.push(share).is_err() {
@@ -74,7 +82,9 @@ impl Gathered {
 
     /// Joins senders, each of which says whether it ended within its turns.
     pub(crate) fn join_senders<R: Threads>(&mut self, rt: &R, handles: Vec<JoinHandle<bool>>)
-        ensures { self.new.held ≡ self.old.held }
+        ensures held { self.new.held ≡ self.old.held }
+        ensures lost { self.new.lost ≡ self.old.lost }
+        ensures shares { self.new.shares ≡ self.old.shares }
     {
         for handle in handles {
             if !handle.join(rt) {
@@ -87,6 +97,7 @@ impl Gathered {
     /// was none for what came back.
     pub(crate) fn whole(self) -> Result<Gathered, RunFault>
         ensures ok { IfOk result (λ g. g ≡ self) }
+        ensures kept { OnOk result (¬ IsTrue self.lost) }
         ensures held { IsErrOf result RunFault.Held ↔ IsTrue self.held }
         ensures limit { IsErrOf result RunFault.TurnLimit ↔ (¬ IsTrue self.held × IsTrue self.limit) }
         ensures lost { IsErrOf result RunFault.Memory ↔ (¬ IsTrue self.held × (¬ IsTrue self.limit × IsTrue self.lost)) }

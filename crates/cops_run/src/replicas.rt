@@ -1,6 +1,7 @@
 //! The threads of a data centre that send its puts to the others, and bring theirs into it.
-ghost use Rattle.std.specs.Prelude.{◌≡◌, IsTrue};
-ghost use Rattle.cops_run.specs.Gates.{MayHold};
+ghost use Rattle.std.specs.Prelude.{◌≡◌, IsTrue, Some};
+ghost use Rattle.cops_replication.specs.Receiving.{KeepsNothing};
+ghost use Rattle.cops_run.specs.Gates.{MayHoldReceiving};
 
 use crate::ends::{End, Returned};
 use crate::stage::Stage;
@@ -35,15 +36,16 @@ fn drain<R: Wait>(rt: &R, stage: &Stage, sender: &mut Sender) -> bool {
     false
 }
 
-/// A receiver's thread: it turns until the senders are joined, and then for at most so many turns as the stage says, until nothing
-/// is kept back.
+/// A receiver's thread: it turns until the clients are joined, and then for at most so many turns as the stage says, until the senders
+/// are joined and nothing is kept back.
 pub(crate) fn receive<R: Wait, G: Gate>(
     rt: &R,
     stage: &Stage,
     gate: &G,
     mut receiver: Receiver,
 ) -> Returned
-    ensures { result.end ≡ End.Held → MayHold (G.may_hold gate.now) }
+    ensures share { result.share.holder ≡ receiver.share.holder }
+    ensures held { result.end ≡ End.Held → MayHoldReceiving stage.now.cluster (G.may_hold gate.now) }
 {
     let end = if take_in(rt, stage, gate, &mut receiver) {
         End::Held
@@ -59,36 +61,77 @@ pub(crate) fn receive<R: Wait, G: Gate>(
     }
 }
 
-/// Turns of a receiver until the senders are joined. It says whether the gate held a step.
+/// Turns of a receiver until the clients are joined. It says whether the gate held a step.
 fn take_in<R: Wait, G: Gate>(rt: &R, stage: &Stage, gate: &G, receiver: &mut Receiver) -> bool
-    ensures { IsTrue result → MayHold (G.may_hold gate.now) }
+    ensures share { receiver.new.share.holder ≡ receiver.old.share.holder }
+    ensures held { IsTrue result → MayHoldReceiving stage.now.cluster (G.may_hold gate.now) }
 {
     for _ in rt.forever() {
-        if stage.are_senders_joined() {
+        if stage.are_clients_joined() {
             break;
         }
-        match receiver.turn(rt, stage.cluster(), gate) {
-            Ok(Turn::Did(_)) => {}
-            Err(TurnFault::Held) => return true,
-            Ok(Turn::Idle) | Err(TurnFault::Memory | TurnFault::TurnLimit) => stage.rest(rt),
+        if turn(rt, stage, gate, receiver) {
+            return true;
         }
     }
     false
 }
 
-/// The counted turns of a receiver, until nothing is kept back. Want of memory in a turn is tried again.
+/// The counted turns of a receiver, until the senders are joined and nothing is kept back.
 fn settle<R: Wait, G: Gate>(rt: &R, stage: &Stage, gate: &G, receiver: &mut Receiver) -> End
-    ensures { result ≡ End.Held → MayHold (G.may_hold gate.now) }
+    ensures share { receiver.new.share.holder ≡ receiver.old.share.holder }
+    ensures drained { result ≡ End.Drained → KeepsNothing receiver.new }
+    ensures held { result ≡ End.Held → MayHoldReceiving stage.now.cluster (G.may_hold gate.now) }
 {
     for _ in 0..stage.turns() {
-        if stage.is_broken() {
-            return End::Broken;
-        }
-        match receiver.drain(rt, stage.cluster(), gate, 1) {
-            Ok(()) => return End::Drained,
-            Err(TurnFault::Held) => return End::Held,
-            Err(TurnFault::Memory | TurnFault::TurnLimit) => stage.rest(rt),
+        if let Some(end) = counted(rt, stage, gate, receiver) {
+            return end;
         }
     }
     End::TurnLimit
+}
+
+/// A counted turn of a receiver, and how its thread ends, if it does. Once the senders are joined all that will come stands on the
+/// links, so only a turn from then on may be the last.
+fn counted<R: Wait, G: Gate>(
+    rt: &R,
+    stage: &Stage,
+    gate: &G,
+    receiver: &mut Receiver,
+) -> Option<End>
+    ensures share { receiver.new.share.holder ≡ receiver.old.share.holder }
+    ensures drained { result ≡ Some End.Drained → KeepsNothing receiver.new }
+    ensures held { result ≡ Some End.Held → MayHoldReceiving stage.now.cluster (G.may_hold gate.now) }
+{
+    if stage.is_broken() {
+        return Some(End::Broken);
+    }
+    if !stage.are_senders_joined() {
+        if turn(rt, stage, gate, receiver) {
+            return Some(End::Held);
+        }
+        return None;
+    }
+    match receiver.drain(rt, stage.cluster(), gate, 1) {
+        Ok(()) => Some(End::Drained),
+        Err(TurnFault::Held) => Some(End::Held),
+        Err(TurnFault::Memory | TurnFault::TurnLimit) => {
+            stage.rest(rt);
+            None
+        }
+    }
+}
+
+/// One turn of a receiver, and a rest where it did nothing. Want of memory is tried again in the next. It says whether the gate held
+/// a step.
+fn turn<R: Wait, G: Gate>(rt: &R, stage: &Stage, gate: &G, receiver: &mut Receiver) -> bool
+    ensures share { receiver.new.share.holder ≡ receiver.old.share.holder }
+    ensures held { IsTrue result → MayHoldReceiving stage.now.cluster (G.may_hold gate.now) }
+{
+    match receiver.turn(rt, stage.cluster(), gate) {
+        Ok(Turn::Did(_)) => {}
+        Err(TurnFault::Held) => return true,
+        Ok(Turn::Idle) | Err(TurnFault::Memory | TurnFault::TurnLimit) => stage.rest(rt),
+    }
+    false
 }

@@ -1,7 +1,7 @@
 ghost use Rattle.std.specs.Prelude.{◌≡◌, ◌<◌, ◌≤◌, ◌+◌, ◌*◌, Err, IfOk, IsErrOf, OnOk, length, map};
 ghost use Rattle.std.specs.List.Sorted.{IsPermutation};
 ghost use Rattle.cops_types.specs.declared.limits.TheConstants.{NODES, PLACES};
-ghost use Rattle.cops_cluster.specs.Close.{made_in, told};
+ghost use Rattle.cops_cluster.specs.Close.{AreAll, made_in, told};
 ghost use Rattle.cops_types.specs.Verdicts.{HasAcceptedVerdict};
 ghost use Rattle.cops_trace.specs.Text.{sessions_of};
 ghost use Rattle.cops_scenario.specs.Scenario.{setting_of};
@@ -11,14 +11,12 @@ ghost use Rattle.cops_run.specs.Gates.{MayHold};
 use crate::driving::drive;
 use crate::fault::RunFault;
 use crate::gathering::Gathered;
-use crate::opening::jobs;
+use crate::opening::{Opening, opened};
 use crate::ran::Run;
-use crate::stage::Stage;
 use cops_book::Entry;
-use cops_cluster::{CloseFault, Closed, Cluster, Opened, Share, Uncompared, difference_of_lists};
+use cops_cluster::{CloseFault, Closed, Cluster, Share, Uncompared, difference_of_lists};
 use cops_core::{Event, ScriptedClient, Setting};
 use cops_outcomes::{CheckFault, checked};
-use cops_replication::wired;
 use cops_scenario::Scenario;
 use cops_types::Gate;
 use std::alloc::Global;
@@ -29,9 +27,9 @@ use std::thread::Threads;
 /// Runs the scripts of the scenario's clients, each on a thread of its own, in a cluster with a sender and a receiver for each
 /// data centre, each on a thread of its own too, and a link for each ordered pair of data centres. What it hands out is one run
 /// of the world in which each client ended so and each data centre has settled each put (COPS, section 3: replicas converge),
-/// and what its clients saw is accepted. A client stops at its first operation that is refused. Turns of senders before the
-/// clients are joined, and of receivers before the senders are, are not counted against the scenario's number of turns, and want
-/// of memory in a turn is tried again in the next. A scenario with events has clients without scripts, for whom nothing happens.
+/// and what its clients saw is accepted. A client stops at its first operation that is refused. Turns of senders and receivers
+/// before the clients are joined are not counted against the scenario's number of turns, and want of memory in a turn is tried
+/// again in the next. A scenario with events has clients without scripts, for whom nothing happens.
 pub fn run<R: Threads + Wait + Sync, G: Gate>(
     rt: &R,
     alloc: Global,
@@ -40,7 +38,7 @@ pub fn run<R: Threads + Wait + Sync, G: Gate>(
 ) -> Result<Run, RunFault>
     ensures ok { IfOk result (λ r. IsRun (setting_of scenario) scenario.clients (map (λ b. b.items) r.entries.items) (sessions_of r.trace) r.events.items r.outcomes.items) }
     ensures accepted { IfOk result (λ r. HasAcceptedVerdict (sessions_of r.trace)) }
-    ensures held { IsErrOf result RunFault.Held → MayHold (G.may_hold gate.now) }
+    ensures held { IsErrOf result RunFault.Held → MayHold (setting_of scenario) (G.may_hold gate.now) }
 {
     let ran = ran(rt, alloc, &scenario, gate);
     drop(scenario);
@@ -56,7 +54,7 @@ fn ran<R: Threads + Wait + Sync, G: Gate>(
 ) -> Result<Run, RunFault>
     ensures ok { IfOk result (λ r. IsRun (setting_of scenario.now) scenario.now.clients (map (λ b. b.items) r.entries.items) (sessions_of r.trace) r.events.items r.outcomes.items) }
     ensures accepted { IfOk result (λ r. HasAcceptedVerdict (sessions_of r.trace)) }
-    ensures held { IsErrOf result RunFault.Held → MayHold (G.may_hold gate.now) }
+    ensures held { IsErrOf result RunFault.Held → MayHold (setting_of scenario.now) (G.may_hold gate.now) }
 {
     let setting = scenario.setting(alloc).or(Err(RunFault::Memory))?;
     let ran = ran_in(rt, alloc, &setting, scenario, gate);
@@ -72,33 +70,21 @@ fn ran_in<R: Threads + Wait + Sync, G: Gate>(
     scenario: &Scenario,
     gate: &G,
 ) -> Result<Run, RunFault>
+    requires { setting.now ≡ setting_of scenario.now }
     ensures ok { IfOk result (λ r. IsRun setting.now scenario.now.clients (map (λ b. b.items) r.entries.items) (sessions_of r.trace) r.events.items r.outcomes.items) }
     ensures accepted { IfOk result (λ r. HasAcceptedVerdict (sessions_of r.trace)) }
-    ensures held { IsErrOf result RunFault.Held → MayHold (G.may_hold gate.now) }
+    ensures held { IsErrOf result RunFault.Held → MayHold setting.now (G.may_hold gate.now) }
 {
-    let Opened {
-        cluster,
-        clients,
-        shares,
-    } = Cluster::of(alloc, setting).or(Err(RunFault::Memory))?;
-    let jobs = match jobs(alloc, scenario.clients(), clients) {
-        Ok(jobs) => jobs,
-        Err(_) => {
-            drop(cluster);
-            drop(shares);
-            return Err(RunFault::Memory);
-        }
+    let opening = match opened(alloc, setting, scenario) {
+        Ok(opening) => opening,
+        Err(_) => return Err(RunFault::Memory),
     };
-    let replicas = match wired(alloc, setting.dcs(), scenario.link(), shares) {
-        Ok(replicas) => replicas,
-        Err(_) => {
-            drop(cluster);
-            drop(jobs);
-            return Err(RunFault::Memory);
-        }
-    };
-    let stage = Stage::new(cluster, scenario.turns());
-    let gathered = match drive(rt, alloc, &stage, gate, jobs, replicas) {
+    let Opening {
+        stage,
+        jobs,
+        replicas,
+    } = opening;
+    let gathered = match drive(rt, alloc, setting, &stage, gate, jobs, replicas) {
         Ok(gathered) => gathered,
         Err(fault) => {
             drop(stage);
@@ -124,7 +110,8 @@ fn tied<R: Threads + Sync>(
     cluster: Cluster,
     gathered: Gathered,
 ) -> Result<Run, RunFault>
-    requires { cluster.place ≡ setting.now.place }
+    requires place { cluster.place ≡ setting.now.place }
+    requires all { AreAll cluster.clients cluster.place.dcs gathered.shares.items }
     ensures ok { IfOk result (λ r. IsRun setting.now clients.now (map (λ b. b.items) r.entries.items) (sessions_of r.trace) r.events.items r.outcomes.items) }
     ensures accepted { IfOk result (λ r. HasAcceptedVerdict (sessions_of r.trace)) }
     ensures told { IfOk result (λ r. IsPermutation (made_in (length setting.now.place.splits + 1) 0 r.entries.items) (told gathered.shares.items)) }
@@ -193,16 +180,17 @@ fn compare(
     }
 }
 
-/// What is left of a cluster whose threads are joined. Each thread brought its share, so none is missing.
+/// What is left of a cluster whose threads are joined.
 fn closed(cluster: Cluster, shares: Vec<Share>) -> Result<Uncompared, RunFault>
+    requires all { AreAll cluster.clients cluster.place.dcs shares.items }
     ensures len { IfOk result (λ u. length u.closed.books.items ≡ cluster.place.dcs * (length cluster.place.splits + 1)) }
     ensures shares { IfOk result (λ u. u.shares ≡ shares) }
-    ensures fault { result ≡ Err RunFault.Held → ⊥ }
+    ensures fault { (result ≡ Err RunFault.Held → ⊥) × (result ≡ Err RunFault.NoThread → ⊥) }
 {
     match cluster.close_uncompared(shares) {
         Ok(uncompared) => Ok(uncompared),
         Err(CloseFault::Memory(_, _)) => Err(RunFault::Memory),
-        Err(CloseFault::SharesMissing(_, _)) => Err(RunFault::NoThread),
+        Err(CloseFault::SharesMissing(_, _)) => unreachable!(),
         Err(CloseFault::NotKept { ticket }) => Err(RunFault::Untied { ticket }),
     }
 }

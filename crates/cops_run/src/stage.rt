@@ -23,7 +23,8 @@ impl Stage {
 
     /// A stage of this cluster and this number of turns, on which all is to come.
     pub(crate) fn new(cluster: Cluster, turns: u32) -> Stage
-        ensures { result.cluster ≡ cluster }
+        ensures cluster { result.cluster ≡ cluster }
+        ensures turns { result.turns ≡ turns }
     {
         Stage {
             cluster,
@@ -48,8 +49,10 @@ impl Stage {
         cluster
     }
 
-    /// How many turns a loop may make that others no longer bring work to.
-    pub(crate) fn turns(&self) -> u32 {
+    /// How many turns a loop may make once the clients are joined.
+    pub(crate) fn turns(&self) -> u32
+        ensures { result ≡ self.now.turns }
+    {
         self.turns
     }
 

@@ -1,0 +1,5 @@
+use Rattle.std.proofs.Common.{◌≡◌}
+use Rattle.cops_run.proofs.replicas.settle.Given as goal
+
+abbrev pub invariant-loop : goal.invariant-loop
+invariant-loop g l = l.receiver.share.holder ≡ l.initial.receiver.share.holder
