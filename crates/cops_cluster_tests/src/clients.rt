@@ -344,7 +344,9 @@ fn before_the_end<R: Wait>(
     } = opened(alloc, 1, false, &[0, 0])?;
     let _held = puts(rt, alloc, &cluster, &mut clients[0], &HOLDING, b'x');
     for byte in keys {
-        let _done = puts(rt, alloc, &cluster, &mut clients[1], &HOLDING, *byte);
+        if let Some(client) = clients.get_mut(1) {
+            let _done = puts(rt, alloc, &cluster, client, &HOLDING, *byte);
+        }
     }
     let shares = all_shares(alloc, clients, shares)?;
     Ok((cluster, shares))
