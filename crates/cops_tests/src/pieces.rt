@@ -8,7 +8,7 @@ use std::test::Fail;
 /// What an item says: its client, 100 for the head and 200 for the end.
 fn told(item: &Item) -> u16 {
     match item {
-        Item::Head { clients } => 100 + clients,
+        Item::Head { clients } => clients.saturating_add(100),
         Item::Op { client, .. } => *client,
         Item::End => 200,
     }
@@ -20,7 +20,10 @@ fn items(alloc: Global, text: &[u8]) -> Result<(Vec<u16>, Result<(), TraceFault>
     let mut all = Vec::new(alloc);
     for k in 0..text.len() {
         reader.feed(&text[k..k + 1])?;
-        while let Ok(Some(item)) = reader.next() {
+        for _ in 0..TWO.len() {
+            let Ok(Some(item)) = reader.next() else {
+                break;
+            };
             let said = told(&item);
             drop(item);
             all.push(said)?;
@@ -87,10 +90,12 @@ fn written(alloc: Global, bytes: usize) -> Result<(Vec<u8>, Option<WriteFault>),
             return Ok((writer.into_inner().into_inner(), Some(fault)));
         }
     };
-    for (client, op) in [(0, &put), (1, &got)] {
-        if let Err(fault) = writer.op(client, op) {
-            return Ok((writer.into_writer().into_inner().into_inner(), Some(fault)));
-        }
+    let mut ended = writer.op(0, &put);
+    if ended.is_ok() {
+        ended = writer.op(1, &got);
+    }
+    if let Err(fault) = ended {
+        return Ok((writer.into_writer().into_inner().into_inner(), Some(fault)));
     }
     match writer.end() {
         Ok(writer) => Ok((writer.into_inner().into_inner(), None)),
