@@ -53,3 +53,7 @@ abbrev pub AreAll : ℕ → ℕ → List Share → Type 0
 AreAll clients dcs shares =
     (length shares ≡ clients + dcs)
     × ((seat : ℕ) → seat < clients + dcs → list_any (λ (s : Share). is_seat clients seat s.holder) shares ≡ true)
+
+-- who holds the shares
+abbrev pub holders : List Share → List Holder
+holders shares = map (λ (s : Share). s.holder) shares

@@ -44,7 +44,7 @@ pub enum CloseFault {
 }
 
 impl Cluster {
-    ghost use Rattle.std.specs.Prelude.{◌≡◌, ◌+◌, ◌*◌, length, vec_len, IfOk, IfErr, IfSome, IfNone, IsTrue};
+    ghost use Rattle.std.specs.Prelude.{◌≡◌, ◌+◌, ◌*◌, ℕ, length, vec_len, Err, IfOk, IfErr, IfSome, IfNone, IsTrue};
     ghost use Rattle.std.specs.List.Sorted.{IsPermutation};
     ghost use Rattle.cops_cluster.specs.Close.{AllReplay, AreAll, made_in, told};
     ghost use Rattle.cops_cluster.specs.HandedBack.{HandsBack, HasRooms};
@@ -68,14 +68,15 @@ impl Cluster {
         }
     }
 
-    /// Ends the cluster as `close` does, for whoever compares the books with the shares by `difference_of_lists`. The lists replay.
-    /// `SharesMissing` unless the share of each client and of each receiver is there once.
+    /// Ends the cluster as `close` does, for whoever compares the books with the shares by `difference_of_lists`, and so never answers
+    /// `NotKept`. The lists replay. `SharesMissing` unless the share of each client and of each receiver is there once.
     pub fn close_uncompared(self, shares: Vec<Share>) -> Result<Uncompared, CloseFault>
         ensures len { IfOk result (λ u. length u.closed.books.items ≡ self.place.dcs * (length self.place.splits + 1)) }
         ensures replays { IfOk result (λ u. AllReplay (length self.place.splits + 1) u.closed.books.items) }
         ensures shares { IfOk result (λ u. u.shares ≡ shares) }
         ensures all { IfOk result (λ _. AreAll self.clients self.place.dcs shares.items) }
         ensures back { IfErr result (HandsBack self shares) }
+        ensures uncompared { (ticket : ℕ) → result ≡ Err (CloseFault.NotKept ticket) → ⊥ }
     {
         self.ended(shares, false)
     }
@@ -88,6 +89,7 @@ impl Cluster {
         ensures shares { IfOk result (λ u. u.shares ≡ shares) }
         ensures all { IfOk result (λ _. AreAll self.clients self.place.dcs shares.items) }
         ensures back { IfErr result (HandsBack self shares) }
+        ensures compared { (ticket : ℕ) → result ≡ Err (CloseFault.NotKept ticket) → IsTrue compares }
     {
         let rooms = match self.rooms_for(&shares) {
             Ok(Some(rooms)) => rooms,
@@ -111,7 +113,7 @@ impl Cluster {
 }
 
 impl Cluster {
-    ghost use Rattle.std.specs.Prelude.{◌≡◌, ◌≤◌, ◌+◌, ◌*◌, length, vec_len, vec_capacity, IfOk, IfErr, IsTrue};
+    ghost use Rattle.std.specs.Prelude.{◌≡◌, ◌≤◌, ◌+◌, ◌*◌, ℕ, length, vec_len, vec_capacity, Err, IfOk, IfErr, IsTrue};
     ghost use Rattle.std.specs.List.Sorted.{IsPermutation};
     ghost use Rattle.cops_cluster.specs.Close.{AllReplay, AreAll, made_in, told};
     ghost use Rattle.cops_cluster.specs.HandedBack.{HandsBack, HasRooms};
@@ -130,6 +132,7 @@ impl Cluster {
         ensures told { IfOk result (λ u. IsTrue compares → IsPermutation (made_in (length self.place.splits + 1) 0 u.closed.books.items) (told shares.items)) }
         ensures shares { IfOk result (λ u. u.shares ≡ shares) }
         ensures back { IfErr result (HandsBack self shares) }
+        ensures compared { (ticket : ℕ) → result ≡ Err (CloseFault.NotKept ticket) → IsTrue compares }
     {
         let Cluster {
             place,
@@ -185,6 +188,7 @@ fn difference_where(
     requires few { length books.now ≤ NODES }
     ensures some { IfOk result (λ o. IfSome o (IsLeastDifference (made_by places 0 books.now) (told shares.now))) }
     ensures none { IfOk result (λ o. IfNone o (IsTrue compares → IsPermutation (made_by places 0 books.now) (told shares.now))) }
+    ensures compared { IfOk result (λ o. IfSome o (λ _. IsTrue compares)) }
 {
     if compares {
         difference(alloc, places, books, shares)

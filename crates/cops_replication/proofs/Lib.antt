@@ -6,3 +6,4 @@ pub mod Gained
 pub mod Taken
 pub mod Joining
 pub mod Doings
+pub mod Seats

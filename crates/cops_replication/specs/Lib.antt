@@ -1,3 +1,4 @@
+pub mod Backlog
 pub mod Lanes
 pub mod Turns
 pub mod Reading

@@ -1,4 +1,5 @@
 //! Puts that were delivered and are not settled yet, and what is to be asked of their dependencies.
+ghost use Rattle.std.specs.Prelude.{◌≡◌, IfOk, length};
 
 use cops_types::{Dep, Deps, Memory, PutRecord, Version};
 use indexmap::IndexMap;
@@ -35,7 +36,9 @@ pub(crate) struct Backlog {
 }
 
 impl Waiting {
-    fn of(put: &PutRecord) -> Result<Self, AllocError> {
+    fn of(put: &PutRecord) -> Result<Self, AllocError>
+        ensures { IfOk result (λ w. w.open ≡ length put.now.deps) }
+    {
         let deps = put.deps.clone()?;
         let open = deps.as_slice().len();
         let pair = Dep {
@@ -60,7 +63,9 @@ impl Waiting {
 }
 
 impl Backlog {
-    ghost use Rattle.std.specs.Prelude.{◌↔◌, IsTrue};
+    ghost use Rattle.std.specs.Prelude.{◌≡◌, ◌↔◌, IfSome, IsNone, IsTrue, OnOk, Some, length};
+    ghost use Rattle.std.specs.Option.{option_map_or};
+    ghost use Rattle.cops_replication.specs.Backlog.{marked, next, open_of, ready_after};
     ghost use Rattle.cops_replication.specs.Receiving.{IsSettled};
 
     pub(crate) fn new(alloc: Global) -> Self {
@@ -81,7 +86,9 @@ impl Backlog {
     }
 
     /// A put that waits from now on, unless it does so already. A refusal changes nothing.
-    pub(crate) fn add(&mut self, put: &PutRecord) -> Result<(), Memory> {
+    pub(crate) fn add(&mut self, put: &PutRecord) -> Result<(), Memory>
+        ensures open { OnOk result (IsNone (open_of self.old put.now.version) → open_of self.new put.now.version ≡ Some (length put.now.deps)) }
+    {
         if self.waiting.contains_key(&put.version) {
             return Ok(());
         }
@@ -135,17 +142,27 @@ impl Backlog {
         Ok(())
     }
 
-    /// The dependency of the next question is marked.
-    pub(crate) fn mark(&mut self) {
-        let Some(question) = self.questions.pop() else {
-            return;
-        };
-        let Some(waiting) = self.waiting.get_mut(&question.version) else {
+    /// The dependency of the next question is marked. Its put is to be settled where that was the last.
+    pub(crate) fn mark(&mut self)
+        ensures ready { self.new.ready ≡ option_map_or (λ q. ready_after self.old q.version) (next self.old) self.old.ready }
+        ensures open { IfSome (next self.old) (λ q. open_of self.new q.version ≡ marked (open_of self.old q.version)) }
+    {
+        if let Some(question) = self.questions.pop() {
+            self.mark_put(question.version);
+        }
+    }
+
+    /// A dependency of the put of this version is marked.
+    fn mark_put(&mut self, version: Version)
+        ensures ready { self.new.ready ≡ ready_after self.old version }
+        ensures open { open_of self.new version ≡ marked (open_of self.old version) }
+    {
+        let Some(waiting) = self.waiting.get_mut(&version) else {
             return;
         };
         waiting.open = waiting.open.saturating_sub(1);
         if waiting.open == 0 {
-            self.ready = Some(question.version);
+            self.ready = Some(version);
         }
     }
 

@@ -5,7 +5,6 @@ use Rattle.cops_core.specs.World.{Setting, home}
 use Rattle.cops_cluster.specs.declared.client.Client.{Client}
 use Rattle.cops_cluster.specs.declared.share.Holder.{Holder}
 use Rattle.cops_cluster.specs.declared.share.Holder.TheVariants.{Client as HeldByClient, Receiver as HeldByReceiver}
-use Rattle.cops_cluster.specs.declared.share.Share.{Share}
 use Rattle.cops_replication.specs.Wiring.{numbers}
 use Rattle.cops_replication.specs.declared.receiver.Receiver.{Receiver}
 use Rattle.cops_run.specs.declared.clients.Job.{Job}
@@ -21,10 +20,6 @@ AreJobsOf s jobs = (map (λ (j : Job). j.client.number) jobs ≡ numbers (length
 -- the receiver of each data centre of the setting, in order, with a share of its own
 abbrev pub AreReceiversOf : Setting → List Receiver → Type 0
 AreReceiversOf s receivers = (map (λ (r : Receiver). r.dc) receivers ≡ numbers s.place.dcs) × All (λ (r : Receiver). r.share.holder ≡ HeldByReceiver r.dc) receivers
-
--- who holds the shares
-abbrev pub holders : List Share → List Holder
-holders shares = map (λ (s : Share). s.holder) shares
 
 -- the clients of these jobs, and then these receivers
 abbrev pub callers : List Job → List Receiver → List Holder

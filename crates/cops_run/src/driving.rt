@@ -2,7 +2,8 @@
 ghost use Rattle.std.specs.Prelude.{◌≡◌, ◌⊎◌, ◌+◌, [], ◌++◌, All, Err, IfOk, IsErrOf, IsTrue, OnOk, length, map};
 ghost use Rattle.cops_cluster.specs.declared.share.Holder.TheVariants.{Client as HeldByClient, Receiver as HeldByReceiver};
 ghost use Rattle.cops_run.specs.Gates.{MayHold, MayHoldIn, MayHoldReceiving};
-ghost use Rattle.cops_run.specs.Callers.{AreJobsOf, AreReceiversOf, callers, holders};
+ghost use Rattle.cops_cluster.specs.Close.{holders};
+ghost use Rattle.cops_run.specs.Callers.{AreJobsOf, AreReceiversOf, callers};
 
 use crate::clients::{Job, work};
 use crate::ends::{End, Owed, Returned};

@@ -24,7 +24,7 @@ pub(crate) struct Gathered {
 impl Gathered {
     ghost use Rattle.std.specs.Prelude.{◌≡◌, ◌⊎◌, ◌↔◌, [], ◌∷◌, ◌++◌, All, IfOk, IsErrOf, IsTrue, OnOk, map};
     ghost use Rattle.cops_run.specs.Gates.{MayHold};
-    ghost use Rattle.cops_run.specs.Callers.{holders};
+    ghost use Rattle.cops_cluster.specs.Close.{holders};
 
     pub(crate) fn new(alloc: Global) -> Gathered
         ensures held { ¬ IsTrue result.held }

@@ -1,11 +1,14 @@
-ghost use Rattle.std.specs.Prelude.{◌≡◌, ◌<◌, ◌≤◌, ◌+◌, ◌*◌, Err, IfOk, IsErrOf, OnOk, length, map};
+ghost use Rattle.std.specs.Prelude.{◌≡◌, ◌<◌, ◌≤◌, ◌+◌, ◌*◌, ◌⊎◌, Err, IfErr, IfOk, IsErrOf, OnErr, OnOk, length, map};
 ghost use Rattle.std.specs.List.Sorted.{IsPermutation};
 ghost use Rattle.cops_types.specs.declared.limits.TheConstants.{NODES, PLACES};
 ghost use Rattle.cops_cluster.specs.Close.{AreAll, made_in, told};
 ghost use Rattle.cops_types.specs.Verdicts.{HasAcceptedVerdict};
 ghost use Rattle.cops_trace.specs.Text.{sessions_of};
 ghost use Rattle.cops_scenario.specs.Scenario.{setting_of};
+ghost use Rattle.cops_cluster.specs.Differences.{IsLeastDifference};
+ghost use Rattle.cops_outcomes.specs.NoRun.{IsNoRun, WhereNoRun};
 ghost use Rattle.cops_outcomes.specs.Runs.{IsRun};
+ghost use Rattle.cops_run.specs.Faults.{WhereUntied};
 ghost use Rattle.cops_run.specs.Gates.{MayHold};
 
 use crate::driving::drive;
@@ -16,8 +19,9 @@ use crate::ran::Run;
 use cops_book::Entry;
 use cops_cluster::{CloseFault, Closed, Cluster, Share, Uncompared, difference_of_lists};
 use cops_core::{Event, ScriptedClient, Setting};
-use cops_outcomes::{CheckFault, checked};
+use cops_outcomes::{CheckFault, ClientOutcome, checked};
 use cops_scenario::Scenario;
+use cops_trace::Trace;
 use cops_types::Gate;
 use std::alloc::Global;
 use std::sync::Wait;
@@ -130,32 +134,63 @@ fn tied<R: Threads + Sync>(
         }
     };
     let Closed { books, trace } = closed;
-    let places = setting.nodes();
-    let (compared, checked) = thread::join(
-        rt,
-        || -> Result<(), RunFault>
-            requires places { (0 < places) × (places ≤ PLACES) }
-            requires few { length books.items ≤ NODES }
-            ensures told { OnOk result (IsPermutation (made_in places 0 books.items) (told shares.items)) }
-            ensures fault { result ≡ Err RunFault.Held → ⊥ }
-        { compare(alloc, places, &books, shares) },
-        || -> Result<Vec<Event>, CheckFault>
-            requires { length books.items ≡ setting.now.place.dcs * (length setting.now.place.splits + 1) }
-            ensures ok { IfOk result (λ events. IsRun setting.entry.now clients.entry.now (map (λ b. b.items) books.items) (sessions_of trace) events.items outcomes.items) }
-            ensures accepted { OnOk result (HasAcceptedVerdict (sessions_of trace)) }
-        { checked(alloc, setting, clients, &books, &trace, &outcomes) },
-    );
-    match compared {
-        Ok(()) => {}
-        Err(fault) => return Err(fault),
-    }
-    match checked {
+    match examined(
+        rt, alloc, setting, clients, &books, &trace, shares, &outcomes,
+    ) {
         Ok(events) => Ok(Run {
             entries: books,
             events,
             trace,
             outcomes,
         }),
+        Err(fault) => Err(fault),
+    }
+}
+
+/// The world's events of the run that these books are. That their entries are those of the shares is found beside the check that
+/// they are a run. `Untied` has the least ticket at which they differ from the shares, or that of the check.
+fn examined<R: Threads + Sync>(
+    rt: &R,
+    alloc: Global,
+    setting: &Setting,
+    clients: &[ScriptedClient],
+    books: &[Vec<Entry>],
+    trace: &Trace,
+    shares: Vec<Share>,
+    outcomes: &[ClientOutcome],
+) -> Result<Vec<Event>, RunFault>
+    requires { length books.now ≡ setting.now.place.dcs * (length setting.now.place.splits + 1) }
+    ensures ok { IfOk result (λ events. IsRun setting.now clients.now (map (λ b. b.items) books.now) (sessions_of trace.now) events.items outcomes.now) }
+    ensures accepted { OnOk result (HasAcceptedVerdict (sessions_of trace.now)) }
+    ensures told { OnOk result (IsPermutation (made_in (length setting.now.place.splits + 1) 0 books.now) (told shares.items)) }
+    ensures fault { result ≡ Err RunFault.Held → ⊥ }
+    ensures untied { IfErr result (WhereUntied (λ ticket.
+        IsLeastDifference (made_in (length setting.now.place.splits + 1) 0 books.now) (told shares.items) ticket
+        ⊎ IsNoRun setting.now clients.now (map (λ b. b.items) books.now) (sessions_of trace.now) outcomes.now ticket)) }
+{
+    let places = setting.nodes();
+    let (compared, checked) = thread::join(
+        rt,
+        || -> Result<(), RunFault>
+            requires places { (0 < places) × (places ≤ PLACES) }
+            requires few { length books.now ≤ NODES }
+            ensures told { OnOk result (IsPermutation (made_in places 0 books.entry.now) (told shares.items)) }
+            ensures fault { result ≡ Err RunFault.Held → ⊥ }
+            ensures untied { IfErr result (WhereUntied (IsLeastDifference (made_in places 0 books.entry.now) (told shares.items))) }
+        { compare(alloc, places, books, shares) },
+        || -> Result<Vec<Event>, CheckFault>
+            requires { length books.now ≡ setting.now.place.dcs * (length setting.now.place.splits + 1) }
+            ensures ok { IfOk result (λ events. IsRun setting.entry.now clients.entry.now (map (λ b. b.items) books.entry.now) (sessions_of trace.entry.now) events.items outcomes.entry.now) }
+            ensures accepted { OnOk result (HasAcceptedVerdict (sessions_of trace.entry.now)) }
+            ensures untied { IfErr result (WhereNoRun (IsNoRun setting.entry.now clients.entry.now (map (λ b. b.items) books.entry.now) (sessions_of trace.entry.now) outcomes.entry.now)) }
+        { checked(alloc, setting, clients, books, trace, outcomes) },
+    );
+    match compared {
+        Ok(()) => {}
+        Err(fault) => return Err(fault),
+    }
+    match checked {
+        Ok(events) => Ok(events),
         Err(CheckFault::Memory) => Err(RunFault::Memory),
         Err(CheckFault::Untied { ticket }) => Err(RunFault::Untied { ticket }),
     }
@@ -172,6 +207,7 @@ fn compare(
     requires few { length books.now ≤ NODES }
     ensures told { OnOk result (IsPermutation (made_in places 0 books.now) (told shares.items)) }
     ensures fault { result ≡ Err RunFault.Held → ⊥ }
+    ensures untied { IfErr result (WhereUntied (IsLeastDifference (made_in places 0 books.now) (told shares.items))) }
 {
     match difference_of_lists(alloc, places, books, &shares) {
         Ok(None) => Ok(()),
@@ -185,12 +221,11 @@ fn closed(cluster: Cluster, shares: Vec<Share>) -> Result<Uncompared, RunFault>
     requires all { AreAll cluster.clients cluster.place.dcs shares.items }
     ensures len { IfOk result (λ u. length u.closed.books.items ≡ cluster.place.dcs * (length cluster.place.splits + 1)) }
     ensures shares { IfOk result (λ u. u.shares ≡ shares) }
-    ensures fault { (result ≡ Err RunFault.Held → ⊥) × (result ≡ Err RunFault.NoThread → ⊥) }
+    ensures fault { OnErr result (result ≡ Err RunFault.Memory) }
 {
     match cluster.close_uncompared(shares) {
         Ok(uncompared) => Ok(uncompared),
         Err(CloseFault::Memory(_, _)) => Err(RunFault::Memory),
-        Err(CloseFault::SharesMissing(_, _)) => unreachable!(),
-        Err(CloseFault::NotKept { ticket }) => Err(RunFault::Untied { ticket }),
+        Err(CloseFault::SharesMissing(_, _)) | Err(CloseFault::NotKept { .. }) => unreachable!(),
     }
 }

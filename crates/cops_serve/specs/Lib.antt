@@ -1,3 +1,4 @@
+pub mod Seats
 pub mod Replying
 pub mod FrontEnd
 pub mod Serving

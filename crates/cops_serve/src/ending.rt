@@ -2,7 +2,7 @@
 ghost use Rattle.std.specs.Prelude.{◌≡◌, ◌+◌, ◌*◌, ◌++◌, ◌↔◌, length, map, IfOk, IsTrue};
 ghost use Rattle.std.specs.List.Sorted.{IsPermutation};
 ghost use Rattle.cops_scenario.specs.Scenario.{setting_of};
-ghost use Rattle.cops_cluster.specs.Close.{made_in, told as told_in};
+ghost use Rattle.cops_cluster.specs.Close.{AreAll, made_in, told as told_in};
 ghost use Rattle.cops_serve.specs.Serving.{HasNodesOf, IsTiedReport};
 
 use crate::fault::ServeFault;
@@ -74,9 +74,9 @@ fn shares(
     Ok(shares)
 }
 
-/// What is left of the cluster, whose entries are those of the shares. A share that is missing, which none is, would leave
-/// nothing tied.
+/// What is left of the cluster, whose entries are those of the shares. None of these is missing.
 fn closed(cluster: Cluster, shares: Vec<Share>) -> Result<Closed, ServeFault>
+    requires all { AreAll cluster.clients cluster.place.dcs shares.items }
     ensures len { IfOk result (λ closed. length closed.books.items ≡ cluster.place.dcs * (length cluster.place.splits + 1)) }
     ensures told { IfOk result (λ closed. IsPermutation (made_in (length cluster.place.splits + 1) 0 closed.books.items) (told_in shares.items)) }
 {
@@ -84,7 +84,7 @@ fn closed(cluster: Cluster, shares: Vec<Share>) -> Result<Closed, ServeFault>
         Ok(closed) => Ok(closed),
         Err(CloseFault::NotKept { ticket }) => Err(ServeFault::Untied { ticket }),
         Err(CloseFault::Memory(_, _)) => Err(ServeFault::Memory),
-        Err(CloseFault::SharesMissing(_, _)) => Err(ServeFault::Untied { ticket: 0 }),
+        Err(CloseFault::SharesMissing(_, _)) => unreachable!(),
     }
 }
 

@@ -1,12 +1,14 @@
 //! Who answers the clients of a cluster.
 ghost use Rattle.std.specs.Option.{ForSome};
 ghost use Rattle.std.specs.Prelude.{◌≡◌, ◌<◌, vec_len};
+ghost use Rattle.cops_serve.specs.Seats.{AreSeated};
 
+use crate::replicating::{receive_each, send_each};
 use crate::replying::{Replies, check_replies, get_replies, not_yet, put_replies};
 use cops_cluster::{Client, Cluster};
 use cops_net::{Call, Reply, Session};
 use cops_node::Outcome;
-use cops_replication::{Receiver, Sender, Turn};
+use cops_replication::{Receiver, Sender};
 use cops_types::{
     GateHeld, Key, KeyRoom, Memory, NodeStatus, OpenGate, Refusal, Value, ValueRoom, Version,
 };
@@ -52,6 +54,7 @@ pub struct FrontEnd {
     pub(crate) room: Option<Room>,
     pub(crate) alloc: Global,
     ghost at_home: { ForSome greeted (λ g. (g.client < vec_len clients) × (g.dc < cluster.place.dcs)) },
+    ghost seated: { AreSeated cluster.clients cluster.place.dcs clients.items receivers.items },
 }
 
 impl FrontEnd {
@@ -163,15 +166,9 @@ impl FrontEnd {
         ensures same { (self.new.turns ≡ self.old.turns) × (self.new.cluster ≡ self.old.cluster)
             × (self.new.ended ≡ self.old.ended) }
     {
-        let mut is_busy = false;
-        for sender in self.senders.iter_mut() {
-            is_busy = is_busy | !matches!(sender.turn(rt, &self.cluster), Ok(Turn::Idle));
-        }
-        for receiver in self.receivers.iter_mut() {
-            let turn = receiver.turn(rt, &self.cluster, &OpenGate);
-            is_busy = is_busy | !matches!(turn, Ok(Turn::Idle));
-        }
-        is_busy
+        let is_sending = send_each(rt, &self.cluster, &mut self.senders);
+        let is_receiving = receive_each(rt, &self.cluster, &mut self.receivers);
+        is_sending | is_receiving
     }
 }
 

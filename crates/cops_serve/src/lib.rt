@@ -10,6 +10,7 @@ mod ending;
 mod fault;
 mod front_end;
 mod opening;
+mod replicating;
 mod replying;
 mod serving;
 

@@ -1,6 +1,6 @@
 -- What a reader of a trace's text keeps while the text comes in pieces, and what it gives next.
 use Rattle.std.specs.Prelude.{◌≡◌, ◌≢◌, ℕ, ◌+◌, ◌*◌, ◌≤◌, ◌⊎◌, Bool, true, false, List, [], ◌∷◌, drop, Option, Some, None, Result, Ok, Err, option_map}
-use Rattle.cops_types.specs.declared.limits.TheConstants.{MAX_OPS}
+use Rattle.cops_types.specs.declared.limits.TheConstants.{MAX_BODY, MAX_OPS}
 use Rattle.cops_trace.specs.declared.fault.TraceFault.{TraceFault}
 use Rattle.cops_trace.specs.declared.fault.TraceFault.TheVariants.{Memory, Cut, BytesAfterEnd}
 use Rattle.cops_trace.specs.declared.found.Item.{Item}
@@ -81,5 +81,5 @@ IsStoppedBy r (Some e) = FailsIn r.ended r e
 -- the place is at most as far as so many frames reach
 abbrev pub IsWithinReach : Option ACounts → Bool → ℕ → Type 0
 IsWithinReach None ended at = (at ≡ 0) × (ended ≡ false)
-IsWithinReach (Some c) false at = (c.total ≤ MAX_OPS) × (at ≤ 32772 * (c.total + 1))
-IsWithinReach (Some c) true at = (c.total ≤ MAX_OPS) × (at ≤ 32772 * (c.total + 2))
+IsWithinReach (Some c) false at = (c.total ≤ MAX_OPS) × (at ≤ (4 + MAX_BODY) * (c.total + 1))
+IsWithinReach (Some c) true at = (c.total ≤ MAX_OPS) × (at ≤ (4 + MAX_BODY) * (c.total + 2))

@@ -2,7 +2,7 @@ use Rattle.std.proofs.Common.{◌≡◌, ◌⊎◌, ◌++◌, IsTrue, map, subst
 use Rattle.std.proofs.lemmas.List.{map-id}
 use Rattle.std.proofs.lemmas.Iterator.Adapters.{YieldsList-from_vec}
 use Rattle.std.proofs.lemmas.Iterator.Consumers.{YieldsList-end}
-use Rattle.cops_run.specs.Callers.{holders}
+use Rattle.cops_cluster.specs.Close.{holders}
 use Rattle.cops_run.proofs.gathering.Gathered.join.Goals as goal
 
 pub returns-clause-shares : goal.returns-clause-shares

@@ -1,6 +1,6 @@
 use Rattle.std.specs.Prelude.{◌≡◌, ◌⊎◌, ◌++◌, IsTrue, map}
 use Rattle.cops_run.specs.Gates.{MayHold}
-use Rattle.cops_run.specs.Callers.{holders}
+use Rattle.cops_cluster.specs.Close.{holders}
 use Rattle.cops_run.proofs.gathering.Gathered.join.Given as goal
 
 abbrev pub invariant-loop-handle : goal.invariant-loop-handle

@@ -1,8 +1,10 @@
-use Rattle.std.proofs.Common.{refl}
+use Rattle.std.proofs.Common.{refl, ap, ◌∙◌}
 use Rattle.cops_node.specs.declared.outcome.Outcome.TheVariants.{Wait}
 use Rattle.cops_cluster.specs.Lending.{with_share}
 use Rattle.cops_cluster.specs.Receiving.{outcome_of}
 use Rattle.cops_serve.proofs.Changes.{changed, asked_of}
+use Rattle.cops_cluster.specs.declared.share.Share.{Share}
+use Rattle.cops_serve.proofs.Seats.{kept}
 use Rattle.cops_serve.proofs.front_end.FrontEnd.checked.Goals as goal
 
 pub returns-in_default-clause-done : goal.returns-in_default-clause-done
@@ -21,3 +23,9 @@ returns-clause-done g c =
             c.share-share.ensures.value c.in-Ok.ensures.who c.in-Ok.ensures.told),
       ),
     )
+
+pub invariant_of-self-clause-seated : goal.invariant_of-self-clause-seated
+invariant_of-self-clause-seated g c =
+    let client = c.in-Some-get_mut.client.now in
+    kept _ _ _ _ _ client (with_share client c.ask.new.share) c.args.self.now.seated c.in-Some-get_mut.ensures.item.3.1
+    (c.ask.ensures.who ∙ ap (λ (s : Share). s.holder) c.share-share.ensures.value)

@@ -5,6 +5,7 @@ use Rattle.cops_scenario.specs.Scenario.{setting_of}
 use Rattle.cops_cluster.specs.Close.{made_in, told}
 use Rattle.cops_cluster.specs.declared.share.Share.{Share}
 use Rattle.cops_serve.specs.Serving.{IsReportOn, IsTiedReport, told_to}
+use Rattle.cops_serve.proofs.Seats.{all_of}
 use Rattle.cops_serve.proofs.front_end.FrontEnd.finish.Goals as goal
 
 pub returns : goal.returns
@@ -15,3 +16,6 @@ returns c =
     (subst (λ (shares : List Share). IsPermutation (made_in (length c.args.self.cluster.place.splits + 1) 0 books) (told shares)) c.in-Ok.ensures c.in_ok-closed.ensures.told) in
     IfOk-weaker c.told.result (λ text. IsTiedReport (setting_of c.args.scenario.now) books text.items) (λ text. IsReportOn c.args.scenario.now c.args.self text.items)
     (λ text report. record { books = books; same = same; report = report }) c.told.ensures
+
+pub closed-requires : goal.closed-requires
+closed-requires c = record { all = all_of _ _ c.args.self.clients.items c.args.self.receivers.items c.in-Ok.shares.items c.args.self.seated c.in-Ok.ensures }

@@ -1,5 +1,6 @@
 use Rattle.std.proofs.Common.{refl}
 use Rattle.cops_serve.proofs.Changes.{changed, put_of, no_put}
+use Rattle.cops_serve.proofs.Seats.{kept}
 use Rattle.cops_serve.proofs.front_end.FrontEnd.put_outcome.Goals as goal
 
 pub returns-in_default-clone-clause-done : goal.returns-in_default-clone-clause-done
@@ -26,3 +27,6 @@ returns-clause-done g c =
       changed _ _ _ _ _ _ c.from.ensures c.in-Some-get_mut.ensures.item.3
           (put_of c.args.self.now.cluster c.args.key.now c.args.value.now c.in-Ok.key c.in-Ok-clone.value c.in-Ok-put.outcome c.in-Some-get_mut.client.now c.put.new.client c.in-Ok.ensures.cases c.in-Ok-clone.ensures.cases (p.who, p.told, p.context)),
     )
+
+pub invariant_of-self-2-clause-seated : goal.invariant_of-self-2-clause-seated
+invariant_of-self-2-clause-seated g c = kept _ _ _ _ _ _ _ c.args.self.now.seated c.in-Some-get_mut.ensures.item.3.1 c.put.ensures.who.2

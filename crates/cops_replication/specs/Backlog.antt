@@ -1,0 +1,23 @@
+-- What a backlog knows of the puts that wait.
+use Rattle.std.specs.Prelude.{ℕ, ◌-◌, nat_eq, if◌then◌else◌, length, slice_get, Option, Some}
+use Rattle.std.specs.Option.{option_map, option_map_or}
+use Rattle.indexmap.specs.IndexMap.{get}
+use Rattle.cops_replication.specs.declared.backlog.Backlog.{Backlog}
+use Rattle.cops_replication.specs.declared.backlog.Question.{Question}
+use Rattle.cops_replication.specs.declared.backlog.Waiting.{Waiting}
+
+-- the question that is asked next
+abbrev pub next : Backlog → Option Question
+next b = slice_get b.questions.items (length b.questions.items - 1)
+
+-- how many dependencies of the put of a version are not marked, where it waits
+abbrev pub open_of : Backlog → ℕ → Option ℕ
+open_of b version = option_map (λ (w : Waiting). w.open) (get nat_eq b.waiting version)
+
+-- what is left of them after one more mark
+abbrev pub marked : Option ℕ → Option ℕ
+marked count = option_map (λ (n : ℕ). n - 1) count
+
+-- the put that is to be settled first after a mark of the put of this version: that one, where nothing of it is left open
+abbrev pub ready_after : Backlog → ℕ → Option ℕ
+ready_after b version = option_map_or (λ (left : ℕ). if nat_eq left 0 then Some version else b.ready) (marked (open_of b version)) b.ready
