@@ -15,7 +15,7 @@ const ABOUT: &str =
     "A COPS cluster in one process, and an auditor of the histories that clients recorded";
 
 /// The version of the program, and the kit and its logic by which it is proved and built.
-const VERSION: &str = "0.1.0 (rattle-kit-13b, logic dac8208d650f15bf)";
+const VERSION: &str = "0.1.0 (rattle-kit-13f, logic dac8208d650f15bf)";
 
 const LONG_ABOUT: &str = "\
 A COPS cluster in one process, and an auditor of the histories that clients recorded.
