@@ -11,13 +11,13 @@ abbrev pub next : Backlog → Option Question
 next b = slice_get b.questions.items (length b.questions.items - 1)
 
 -- how many dependencies of the put of a version are not marked, where it waits
-abbrev pub open_of : Backlog → ℕ → Option ℕ
-open_of b version = option_map (λ (w : Waiting). w.open) (get nat_eq b.waiting version)
+abbrev pub unmarked_of : Backlog → ℕ → Option ℕ
+unmarked_of b version = option_map (λ (w : Waiting). w.unmarked) (get nat_eq b.waiting version)
 
--- what is left of them after one more mark
-abbrev pub marked : Option ℕ → Option ℕ
-marked count = option_map (λ (n : ℕ). n - 1) count
+-- so many after one more mark
+abbrev pub one_fewer : Option ℕ → Option ℕ
+one_fewer count = option_map (λ (n : ℕ). n - 1) count
 
--- the put that is to be settled first after a mark of the put of this version: that one, where nothing of it is left open
+-- the put that is to be settled first after a mark of the put of this version: that one, where all of it is marked then
 abbrev pub ready_after : Backlog → ℕ → Option ℕ
-ready_after b version = option_map_or (λ (left : ℕ). if nat_eq left 0 then Some version else b.ready) (marked (open_of b version)) b.ready
+ready_after b version = option_map_or (λ (left : ℕ). if nat_eq left 0 then Some version else b.ready) (one_fewer (unmarked_of b version)) b.ready

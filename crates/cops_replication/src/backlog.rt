@@ -11,7 +11,7 @@ struct Waiting {
     pair: Dep,
     deps: Deps,
     /// How many dependencies are not marked.
-    open: usize,
+    unmarked: usize,
 }
 
 /// A question to be asked: that of a dependency, by its index, of the put of this version. A put with no dependency has one
@@ -37,15 +37,19 @@ pub(crate) struct Backlog {
 
 impl Waiting {
     fn of(put: &PutRecord) -> Result<Self, AllocError>
-        ensures { IfOk result (λ w. w.open ≡ length put.now.deps) }
+        ensures { IfOk result (λ w. w.unmarked ≡ length put.now.deps) }
     {
         let deps = put.deps.clone()?;
-        let open = deps.as_slice().len();
+        let unmarked = deps.as_slice().len();
         let pair = Dep {
             key: put.key.clone()?,
             version: put.version,
         };
-        Ok(Waiting { pair, deps, open })
+        Ok(Waiting {
+            pair,
+            deps,
+            unmarked,
+        })
     }
 
     /// The questions that it begins with, the first one last.
@@ -65,7 +69,7 @@ impl Waiting {
 impl Backlog {
     ghost use Rattle.std.specs.Prelude.{◌≡◌, ◌↔◌, IfSome, IsNone, IsTrue, OnOk, Some, length};
     ghost use Rattle.std.specs.Option.{option_map_or};
-    ghost use Rattle.cops_replication.specs.Backlog.{marked, next, open_of, ready_after};
+    ghost use Rattle.cops_replication.specs.Backlog.{next, one_fewer, ready_after, unmarked_of};
     ghost use Rattle.cops_replication.specs.Receiving.{IsSettled};
 
     pub(crate) fn new(alloc: Global) -> Self {
@@ -87,7 +91,7 @@ impl Backlog {
 
     /// A put that waits from now on, unless it does so already. A refusal changes nothing.
     pub(crate) fn add(&mut self, put: &PutRecord) -> Result<(), Memory>
-        ensures open { OnOk result (IsNone (open_of self.old put.now.version) → open_of self.new put.now.version ≡ Some (length put.now.deps)) }
+        ensures unmarked { OnOk result (IsNone (unmarked_of self.old put.now.version) → unmarked_of self.new put.now.version ≡ Some (length put.now.deps)) }
     {
         if self.waiting.contains_key(&put.version) {
             return Ok(());
@@ -145,7 +149,7 @@ impl Backlog {
     /// The dependency of the next question is marked. Its put is to be settled where that was the last.
     pub(crate) fn mark(&mut self)
         ensures ready { self.new.ready ≡ option_map_or (λ q. ready_after self.old q.version) (next self.old) self.old.ready }
-        ensures open { IfSome (next self.old) (λ q. open_of self.new q.version ≡ marked (open_of self.old q.version)) }
+        ensures unmarked { IfSome (next self.old) (λ q. unmarked_of self.new q.version ≡ one_fewer (unmarked_of self.old q.version)) }
     {
         if let Some(question) = self.questions.pop() {
             self.mark_put(question.version);
@@ -155,13 +159,13 @@ impl Backlog {
     /// A dependency of the put of this version is marked.
     fn mark_put(&mut self, version: Version)
         ensures ready { self.new.ready ≡ ready_after self.old version }
-        ensures open { open_of self.new version ≡ marked (open_of self.old version) }
+        ensures unmarked { unmarked_of self.new version ≡ one_fewer (unmarked_of self.old version) }
     {
         let Some(waiting) = self.waiting.get_mut(&version) else {
             return;
         };
-        waiting.open = waiting.open.saturating_sub(1);
-        if waiting.open == 0 {
+        waiting.unmarked = waiting.unmarked.saturating_sub(1);
+        if waiting.unmarked == 0 {
             self.ready = Some(version);
         }
     }
