@@ -3,11 +3,9 @@
 
 Prints a line for each test that fails, and at the end `N passed, M failed`.
 """
-import glob
 import json
 import os
 import random
-import re
 import resource
 import socket
 import subprocess
@@ -18,9 +16,11 @@ import time
 sys.dont_write_bytecode = True
 import plain  # noqa: E402
 import plain_cluster  # noqa: E402
+from cut_traces import cut_traces  # noqa: E402
 from traces import ROOT, check, cops, ended, example, ran, skip, trace  # noqa: E402
 from client import message, talk  # noqa: E402
 from events import scenario  # noqa: E402
+from named import definition_files, wrong_edits  # noqa: E402
 
 
 # As the system's tables of sockets write them: 127.0.0.1, and a socket that listens.
@@ -763,45 +763,8 @@ def no_thread():
     check("a run with more threads than the memory's limit lets be", got, (4, b"", b"failed: no thread\n"))
 
 
-def definition_files():
-    """The page of proofs names files of definitions that are there, each with its number of lines that are not empty, and how many those of its
-    lists are together."""
-    with open(os.path.join(ROOT, "docs", "PROOFS.md"), encoding="utf-8") as page:
-        text = page.read()
-    row = re.compile(r"^\| `([\w/]+\.antt)` \| (\d+) \|", re.MULTILINE)
-    rows = row.findall(text)
-    check("the page of proofs names files", len(rows) > 20, True)
-    for name, lines in rows:
-        with open(os.path.join(ROOT, "crates", name), encoding="utf-8") as file:
-            check(f"the lines of {name}", sum(1 for line in file if line.strip()), int(lines))
-    lists = re.findall(r"these files, (\d+) lines.*?\n\n(.*?)\n\n", text, re.DOTALL)
-    check("the page has three lists of what is to be believed", len(lists), 3)
-    for told, files in lists:
-        check("the lines of a list", sum(int(lines) for _, lines in row.findall(files)), int(told))
-    whole = int(re.search(r"which makes (\d+) for the whole promise", text)[1])
-    check("the lines of the lists together", sum(int(told) for told, _ in lists), whole)
-
-
-def wrong_edits():
-    """Each wrong edit, also one that the gate does not try, could be tried: what it replaces is in its file, once."""
-    paths = sorted(glob.glob(os.path.join(ROOT, "crates", "*", "must-fail", "*.edit")) + glob.glob(os.path.join(ROOT, "crates", "*", "tried", "*.edit")))
-    check("there are edits", len(paths) > 0, True)
-    for path in paths:
-        crate, source = os.path.dirname(os.path.dirname(path)), ""
-        with open(path, encoding="utf-8") as file:
-            lines = file.read().split("\n")
-        for line in lines:
-            word, _, text = line.partition(": ")
-            if word == "file":
-                with open(os.path.join(crate, text), encoding="utf-8") as file:
-                    source = file.read()
-            elif word == "old":
-                check(f"{os.path.relpath(path, ROOT)} finds its place", source.count(text), 1)
-                source = source.replace(text, "")
-
-
 for tests in (
-    examples, long_chain, many_rounds, faults, shown, scenarios, refusals, faulty_scenarios, scripts, mixed_scripts, working_clusters,
+    examples, long_chain, many_rounds, faults, cut_traces, shown, scenarios, refusals, faulty_scenarios, scripts, mixed_scripts, working_clusters,
     plain_cluster.random_worlds, many_workers, served, replies, strange_peers, sent_behind, idle_clients, listens_here_alone, words, devices,
     generated, little_memory, no_thread, definition_files, wrong_edits, plain.rows, plain.random_histories,
 ):

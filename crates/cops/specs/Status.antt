@@ -1,8 +1,9 @@
 -- The statuses that the program ends with, and what they say.
-use Rattle.std.specs.Prelude.{ℕ, List, Ok, Err}
+use Rattle.std.specs.Prelude.{◌≢◌, ℕ, List, Ok, Err}
 use Rattle.cops_line.specs.declared.job.Job.{Job}
-use Rattle.cops_line.specs.declared.job.Job.TheVariants.{Audit, Show, Run, Serve}
+use Rattle.cops_line.specs.declared.job.Job.TheVariants.{Audit, SoFar, Show, Run, Serve}
 use Rattle.cops_trace.specs.declared.fault.TraceFault.{TraceFault}
+use Rattle.cops_trace.specs.declared.fault.TraceFault.TheVariants.{Cut}
 use Rattle.cops_trace.specs.Text.{ATrace}
 use Rattle.cops_trace.specs.Answer.{Says}
 use Rattle.cops_scenario.specs.Scenario.{AScenario}
@@ -12,6 +13,7 @@ use Rattle.cops_command.specs.declared.status.Status.TheVariants as status
 use Rattle.cops_stream.specs.declared.audit.Answer.{Answer}
 use Rattle.cops_stream.specs.declared.audit.Answer.TheVariants.{Accepted, Refused, Faulty}
 use Rattle.cops_stream.specs.Audit.{AuditSays}
+use Rattle.cops_stream.specs.SoFar.{IsSoundSoFar, SaysSoFar}
 use Rattle.cops_stream.specs.Convergent.{SpellsConvergent}
 use Rattle.cops_run_stream.specs.Running.{IsLeft}
 use Rattle.cops_serve.specs.Serving.{IsServed}
@@ -37,6 +39,7 @@ TellsServed sessions bytes = (s : AScenario) × (text : List ℕ) × IsTextOf by
 -- what is so of the bytes of a job's input where the job ends as accepted
 abbrev pub EndsWell : Job → List ℕ → Type 0
 EndsWell (Audit trace workers) bytes = SpellsConvergent bytes
+EndsWell (SoFar trace) bytes = IsSoundSoFar bytes
 EndsWell (Show trace) bytes = TellsTrace bytes
 EndsWell (Run scenario trace) bytes = TellsRun bytes
 EndsWell (Serve port scenario sessions idle) bytes = TellsServed sessions bytes
@@ -45,11 +48,20 @@ EndsWell (Serve port scenario sessions idle) bytes = TellsServed sessions bytes
 abbrev pub TellsRefused : List ℕ → Type 0
 TellsRefused bytes = (told : List ℕ) × AuditSays bytes Refused told
 
+-- the bytes are those of a trace that is refused, or whose records before a cut are refused so far
+abbrev pub TellsRefusedSoFar : List ℕ → Type 0
+TellsRefusedSoFar bytes = (told : List ℕ) × SaysSoFar bytes Refused told
+
 -- what is so of them where it ends as refused, as audits alone do
 abbrev pub EndsRefused : Job → List ℕ → Type 0
 EndsRefused (Audit trace workers) bytes = TellsRefused bytes
+EndsRefused (SoFar trace) bytes = TellsRefusedSoFar bytes
 EndsRefused job bytes = ⊥
 
 -- the bytes are no trace's text, by the fault that is told
 abbrev pub TellsNoTrace : List ℕ → Type 0
 TellsNoTrace bytes = (e : TraceFault) × Says bytes (Err e)
+
+-- the same by a fault that is no cut
+abbrev pub TellsOtherFault : List ℕ → Type 0
+TellsOtherFault bytes = (e : TraceFault) × ((offset : ℕ) → e ≢ Cut offset) × Says bytes (Err e)

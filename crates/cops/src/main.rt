@@ -2,19 +2,20 @@
 //! with the command's status: 0 accepted, 1 refused, 2 faulty input or usage, 3 want of memory, 4 a device's fault.
 #![tactic(auto)]
 
-ghost use Rattle.std.specs.Prelude.{◌≡◌, ◌≤◌, IfSome};
+ghost use Rattle.std.specs.Prelude.{◌≡◌, ◌≤◌, ◌⊎◌, IfSome, Ok, Err};
 ghost use Rattle.cops_types.specs.declared.limits.TheConstants.{MAX_WORKERS};
 ghost use Rattle.cops_stream.specs.Convergent.{SpellsConvergent};
+ghost use Rattle.cops_stream.specs.SoFar.{IsSoundSoFar};
 ghost use Rattle.cops_command.specs.Scenario.{TellsNone};
 ghost use Rattle.cops_command.specs.Status.{number};
 ghost use Rattle.cops_command.specs.declared.status.Status.TheVariants.{Accepted, Faulty, Refused};
-ghost use Rattle.cops.specs.Status.{EndsRefused, EndsWell, TellsNoTrace, TellsRefused, TellsRun, TellsServed, TellsTrace, status_of};
+ghost use Rattle.cops.specs.Status.{EndsRefused, EndsWell, TellsNoTrace, TellsOtherFault, TellsRefused, TellsRefusedSoFar, TellsRun, TellsServed, TellsTrace, status_of};
 
 use cops_command::Status;
 use cops_line::{Job, LineFault, line};
 use cops_run_stream::run_stream;
 use cops_serve::serve_stream;
-use cops_stream::{Answer, StreamFault, audit_stream, show_stream};
+use cops_stream::{Answer, StreamFault, audit_so_far, audit_stream, show_stream};
 use cops_types::{Counted, Memory, OpenGate};
 use std::alloc::AllocError;
 use std::fs::File;
@@ -45,6 +46,22 @@ fn status_of(answer: Answer) -> Status
     }
 }
 
+/// The status that an audit ends with; a line tells why there is no answer.
+fn ended<R: Eprint>(rt: &R, audited: Result<Answer, StreamFault>) -> u8
+    ensures accepted { result ≡ number Accepted → audited ≡ Ok Answer.Accepted }
+    ensures refused { result ≡ number Refused → audited ≡ Ok Answer.Refused }
+    ensures faulty { result ≡ number Faulty → (audited ≡ Ok Answer.Faulty) ⊎ (audited ≡ Err StreamFault.BadWorkers) }
+{
+    match audited {
+        Ok(answer) => status_of(answer).number(),
+        Err(StreamFault::Memory) => failed(rt, "memory", Status::NoMemory),
+        Err(StreamFault::BadWorkers) => failed(rt, "workers", Status::Faulty),
+        Err(StreamFault::Held) => failed(rt, "held", Status::Failed),
+        Err(StreamFault::ReadFailed) => failed(rt, "read", Status::Failed),
+        Err(StreamFault::WriteFailed) => failed(rt, "write", Status::Failed),
+    }
+}
+
 /// Audits the input by so many workers, and gives the status: accepted only where the bytes spell one history, and it is
 /// causally convergent.
 fn audit<R, I>(rt: &R, input: I, workers: u8) -> u8
@@ -57,14 +74,24 @@ where
 {
     let mut reader = Counted::new(input);
     let mut writer = Counted::new(io::writer(rt));
-    match audit_stream(rt, rt.alloc(), &mut reader, &mut writer, workers, &OpenGate) {
-        Ok(answer) => status_of(answer).number(),
-        Err(StreamFault::Memory) => failed(rt, "memory", Status::NoMemory),
-        Err(StreamFault::BadWorkers) => failed(rt, "workers", Status::Faulty),
-        Err(StreamFault::Held) => failed(rt, "held", Status::Failed),
-        Err(StreamFault::ReadFailed) => failed(rt, "read", Status::Failed),
-        Err(StreamFault::WriteFailed) => failed(rt, "write", Status::Failed),
-    }
+    let audited = audit_stream(rt, rt.alloc(), &mut reader, &mut writer, workers, &OpenGate);
+    ended(rt, audited)
+}
+
+/// Audits the input, which may be cut, and gives the status: accepted only where the bytes spell one history, and it is
+/// causally convergent, or where they are cut after records without a lasting fault.
+fn so_far<R, I>(rt: &R, input: I) -> u8
+where
+    R: Print + Eprint + AllocGlobal,
+    I: Read + Drop,
+    ensures accepted { result ≡ number Accepted → IfSome (I.remaining input) IsSoundSoFar }
+    ensures refused { result ≡ number Refused → IfSome (I.remaining input) TellsRefusedSoFar }
+    ensures faulty { result ≡ number Faulty → IfSome (I.remaining input) TellsOtherFault }
+{
+    let mut reader = Counted::new(input);
+    let mut writer = Counted::new(io::writer(rt));
+    let audited = audit_so_far(rt.alloc(), &mut reader, &mut writer);
+    ended(rt, audited)
 }
 
 /// Shows the input, and gives the status: accepted only of a trace's text.
@@ -160,6 +187,7 @@ where
 {
     match job {
         Job::Audit { workers, .. } => audit(rt, input, workers),
+        Job::SoFar { .. } => so_far(rt, input),
         Job::Show { .. } => show(rt, input, errors),
         Job::Run { trace, .. } => run_scenario(rt, input, trace, errors),
         Job::Serve {
@@ -175,6 +203,7 @@ where
 fn input_of<'a>(job: Job<'a>) -> &'a str {
     match job {
         Job::Audit { trace, .. } => trace,
+        Job::SoFar { trace } => trace,
         Job::Show { trace } => trace,
         Job::Run { scenario, .. } => scenario,
         Job::Serve { scenario, .. } => scenario,

@@ -5,7 +5,7 @@ use Rattle.std.specs.Borrow.{Bor}
 use Rattle.clap.specs.Faults.{is_free_app}
 use Rattle.clap.specs.Words.{App, Row, Text, fault_of, is_simple, is_simple_and_free, built, subcommand_of, IsAmong}
 use Rattle.clap.specs.declared.error.kind.ErrorKind.{ErrorKind}
-use Rattle.clap.specs.declared.error.kind.ErrorKind.TheVariants.{DisplayHelp, DisplayVersion, OutOfMemory}
+use Rattle.clap.specs.declared.error.kind.ErrorKind.TheVariants.{ArgumentConflict, DisplayHelp, DisplayVersion, OutOfMemory}
 use Rattle.clap.proofs.OnLiterals.{clap_on_literals}
 use Rattle.cops_line.specs.declared.job.Job.{Job}
 use Rattle.cops_line.specs.declared.fault.LineFault.{LineFault}
@@ -65,6 +65,13 @@ pub asks_for_none : (words : List Text) (asked : ErrorKind) (app : App) → app 
 asks_for_none words asked app same kinds only =
     let Taken : App → Type 0 = λ a. is_simple_and_free a ≡ true → fault_of a words ≡ [] in
     let none = subst Taken same kinds simple_command in cc
+
+-- words that were taken, and have no job, are told so by a usage
+pub refused : (words : List Text) (fault : LineFault) → Reports ArgumentConflict fault → TellsNone words → ¬ OnlyAsksFor DisplayHelp words → ¬ OnlyAsksFor DisplayVersion words → Explains words fault
+refused words Memory report none help version = tt
+refused words (Usage text) report none help version = (none, help, version)
+refused words (Help text) report none help version = absurd cc
+refused words (Version text) report none help version = absurd cc
 
 -- an error of the parse explains itself
 pub explained : (words : List Text) (app : App) (kind : ErrorKind) (fault : LineFault) → 0 < length words → app ≡ cops_app

@@ -2,7 +2,7 @@
 use Rattle.std.specs.Prelude.{codes, pos, true, [], Some}
 use Rattle.clap.specs.Words.{App, Rule, Text, new_app, new_rule, with_rule, with_subcommand}
 use Rattle.clap.specs.Simple.{new_shape}
-use Rattle.clap.specs.declared.builder.action.ArgAction.TheVariants.{Set}
+use Rattle.clap.specs.declared.builder.action.ArgAction.TheVariants.{Set, SetTrue}
 use Rattle.clap.specs.declared.builder.value_parser.ValueParser.{ValueParser}
 use Rattle.clap.specs.declared.builder.value_parser.ValueParser.TheVariants as parser
 use Rattle.cops_types.specs.declared.limits.TheConstants.{MAX_WORKERS}
@@ -25,6 +25,10 @@ workers_option = record (new_rule (codes "workers")) {
   parser = Some (parser.Signed (pos 1) (pos MAX_WORKERS));
 }
 
+-- `--so-far`, which may be left out and takes no value
+abbrev pub so_far_option : Rule
+so_far_option = record (new_rule (codes "so-far")) { long = Some (codes "so-far"); action = Some SetTrue }
+
 -- `PORT`, which has to be there, and is a number from 1 to 65,535
 abbrev pub port_argument : Rule
 port_argument = record (positional (codes "port")) { parser = Some (parser.Signed (pos 1) (pos MAX_PORT)) }
@@ -42,9 +46,9 @@ sessions_option = record (new_rule (codes "sessions")) {
 abbrev pub idle_option : Rule
 idle_option = number_option (codes "idle") (parser.Signed (pos 1) (pos MAX_IDLE))
 
--- `audit TRACE`, with `--workers N` or without it
+-- `audit TRACE`, with `--workers N` or without it, and with `--so-far` or without it
 abbrev pub audit_app : App
-audit_app = with_rule (with_rule (new_app (codes "audit")) (positional (codes "trace"))) workers_option
+audit_app = with_rule (with_rule (with_rule (new_app (codes "audit")) (positional (codes "trace"))) workers_option) so_far_option
 
 -- `show TRACE`
 abbrev pub show_app : App

@@ -7,7 +7,7 @@ use Rattle.clap.specs.declared.error.kind.ErrorKind.TheVariants.{DisplayHelp, Di
 use Rattle.cops_types.specs.declared.limits.TheConstants.{MAX_WORKERS}
 use Rattle.cops_line.specs.declared.job.TheConstants.{MAX_PORT, MAX_SESSIONS, MAX_IDLE}
 use Rattle.cops_line.specs.declared.job.Job.{Job}
-use Rattle.cops_line.specs.declared.job.Job.TheVariants.{Audit, Show, Run, Serve}
+use Rattle.cops_line.specs.declared.job.Job.TheVariants.{Audit, SoFar, Show, Run, Serve}
 use Rattle.cops_line.specs.declared.fault.LineFault.{LineFault}
 use Rattle.cops_line.specs.declared.fault.LineFault.TheVariants.{Memory, Usage, Help, Version}
 use Rattle.cops_line.specs.Commands.{cops_app}
@@ -34,9 +34,16 @@ abbrev pub IsPort : Option Text → ℕ → Type 0
 IsPort None n = ⊥
 IsPort (Some text) n = IsNumber MAX_PORT text n
 
--- the job of a subcommand with these values
+-- a value tells that its flag was given
+abbrev pub IsGiven : Option Text → Type 0
+IsGiven value = value ≡ Some (codes "true")
+
+-- the job of a subcommand with these values: `audit` has one for its flag, which stands beside no number of workers
 abbrev pub IsJobOf : Text → List Row → Job → Type 0
-IsJobOf name rows (Audit trace workers) = (name ≡ codes "audit") × (first_of (codes "trace") rows ≡ Some trace.now) × IsNumberOr1 MAX_WORKERS (first_of (codes "workers") rows) workers
+IsJobOf name rows (Audit trace workers) =
+    (name ≡ codes "audit") × (first_of (codes "trace") rows ≡ Some trace.now) × (¬ IsGiven (first_of (codes "so-far") rows)) × IsNumberOr1 MAX_WORKERS (first_of (codes "workers") rows) workers
+IsJobOf name rows (SoFar trace) =
+    (name ≡ codes "audit") × (first_of (codes "trace") rows ≡ Some trace.now) × IsGiven (first_of (codes "so-far") rows) × (first_of (codes "workers") rows ≡ None)
 IsJobOf name rows (Show trace) = (name ≡ codes "show") × (first_of (codes "trace") rows ≡ Some trace.now)
 IsJobOf name rows (Run scenario trace) = (name ≡ codes "run") × (first_of (codes "scenario") rows ≡ Some scenario.now) × (first_of (codes "trace") rows ≡ Some trace.now)
 IsJobOf name rows (Serve port scenario sessions idle) =
@@ -58,6 +65,7 @@ HasNoJobIn met = (job : Job) → ¬ IsJobIn met job
 -- the job of no words: the audit of standard input by one worker
 abbrev pub IsDefault : Job → Type 0
 IsDefault (Audit trace workers) = (trace.now ≡ codes "-") × (workers ≡ 1)
+IsDefault (SoFar trace) = ⊥
 IsDefault (Show trace) = ⊥
 IsDefault (Run scenario trace) = ⊥
 IsDefault (Serve port scenario sessions idle) = ⊥

@@ -2,7 +2,7 @@ ghost use Rattle.std.specs.Prelude.{◌≡◌, IfOk, codes, false, pos};
 ghost use Rattle.clap.specs.Words.{app_of, new_app, rule_of, with_rule, with_subcommand};
 ghost use Rattle.clap.specs.declared.builder.command.Command.TheViews.{out-Command as fields_of};
 ghost use Rattle.clap.specs.declared.builder.value_parser.ValueParser.TheVariants as parser;
-ghost use Rattle.cops_line.specs.Commands.{number_option, positional, port_argument, sessions_option, idle_option, workers_option, versioned, cops_top, cops_app, audit_app, show_app, run_app, serve_app};
+ghost use Rattle.cops_line.specs.Commands.{number_option, positional, port_argument, sessions_option, idle_option, workers_option, so_far_option, versioned, cops_top, cops_app, audit_app, show_app, run_app, serve_app};
 ghost use Rattle.cops_line.specs.declared.job.TheConstants.{MAX_PORT};
 
 use crate::job::MAX_PORT;
@@ -26,9 +26,10 @@ With no words at all, cops judges the trace on standard input. A scenario is a f
 what a cluster is made of and what happens in it; cops runs it and records a trace, or serves
 the clients of such a cluster.
 
-The exit status is 0 where the trace is accepted or the command did its work, 1 where the trace
-is refused, 2 where the input or the words are faulty, 3 where memory ran out, and 4 where a
-file could not be opened, read or written, or a run or a serving failed.";
+The exit status is 0 where the trace is accepted, or not refused so far, or the command did its
+work, 1 where the trace is refused, or refused so far, 2 where the input or the words are faulty,
+3 where memory ran out, and 4 where a file could not be opened, read or written, or a run or a
+serving failed.";
 
 const AUDIT_ABOUT: &str = "Judges whether a recorded history is causally convergent";
 
@@ -37,7 +38,11 @@ Judges whether a recorded history is causally convergent.
 
 Prints one line, `accepted: ..`, or `refused: ..` and a line for each operation at fault with
 what it contradicts. A file that is no trace is answered with one line, `faulty: ..`, that says
-what is wrong and at which byte.";
+what is wrong and at which byte.
+
+With --so-far a trace that is cut is judged by the whole records before the cut: it prints where
+the trace is cut, and then `so far: clean`, `so far: waiting N` where N gets have no put of their
+version yet, or `so far: refused` where a fault is there that no further record takes away.";
 
 const SHOW_ABOUT: &str = "Prints a trace as text, a line for each frame";
 
@@ -77,6 +82,9 @@ const IDLE_HELP: &str =
 const TRACE_HELP: &str = "The trace file, or `-` for standard input";
 
 const WORKERS_HELP: &str = "How many workers judge the trace, 1 to 64, and 1 where it is not given";
+
+const SO_FAR_HELP: &str =
+    "Judge the records before the cut of a trace that is cut, without --workers";
 
 const NEW_TRACE_HELP: &str = "The trace file to write";
 
@@ -127,6 +135,17 @@ fn workers_arg<'a>(alloc: Global) -> Arg<'a>
 {
     let number = value_parser!(u8).range(1..=i64::from(MAX_WORKERS));
     number_arg(alloc, "workers", "N", number, WORKERS_HELP)
+}
+
+/// The flag that asks for what is said so far.
+fn so_far_arg<'a>(alloc: Global) -> Arg<'a>
+    ensures rule { rule_of result ≡ so_far_option }
+    ensures local { result.global ≡ false }
+{
+    Arg::new(alloc, "so-far")
+        .long("so-far")
+        .action(ArgAction::SetTrue)
+        .help(SO_FAR_HELP)
 }
 
 /// The port, which has to be there.
@@ -203,7 +222,7 @@ fn audit_command<'a>(alloc: Global) -> Result<Command<'a>, AllocError>
     ensures local { IfOk result (λ c. (fields_of c).has_globals ≡ false) }
 {
     let command = of_trace(alloc, "audit", AUDIT_ABOUT, AUDIT_LONG_ABOUT)?;
-    command.arg(workers_arg(alloc))
+    command.arg(workers_arg(alloc))?.arg(so_far_arg(alloc))
 }
 
 fn show_command<'a>(alloc: Global) -> Result<Command<'a>, AllocError>

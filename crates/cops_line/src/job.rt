@@ -1,8 +1,8 @@
-ghost use Rattle.std.specs.Prelude.{◌≡◌, ℕ, IfSome, IfNone, Option, Some, codes, option_map};
+ghost use Rattle.std.specs.Prelude.{◌≡◌, ◌↔◌, ℕ, IfSome, IfNone, IsTrue, Option, Some, codes, option_map};
 ghost use Rattle.clap.specs.Words.{first_of, found_of, rows_of, subcommand_rows_of};
 ghost use Rattle.cops_types.specs.declared.limits.TheConstants.{MAX_WORKERS};
 ghost use Rattle.cops_line.specs.declared.job.TheConstants.{MAX_IDLE, MAX_SESSIONS};
-ghost use Rattle.cops_line.specs.Line.{IsNumber, IsNumberOr1, IsNumberIfGiven, IsPort, IsJobOf, HasNoJob, IsJobIn, HasNoJobIn};
+ghost use Rattle.cops_line.specs.Line.{IsGiven, IsNumber, IsNumberOr1, IsNumberIfGiven, IsPort, IsJobOf, HasNoJob, IsJobIn, HasNoJobIn};
 
 use clap::ArgMatches;
 use cops_types::MAX_WORKERS;
@@ -23,6 +23,10 @@ pub enum Job<'a> {
     Audit {
         trace: &'a str,
         workers: u8,
+    },
+    /// The same by one worker, and where the trace is cut, print where, and what is said so far of what came before.
+    SoFar {
+        trace: &'a str,
     },
     /// Print a trace, a line for each frame. `-` is standard input.
     Show {
@@ -48,6 +52,16 @@ fn value<'a>(matches: &ArgMatches<'a>, id: &str) -> Option<&'a str>
     ensures { option_map (λ s. s.now) result ≡ first_of id.now (rows_of (found_of matches.now)) }
 {
     matches.get_str(id)
+}
+
+/// Whether a flag was given.
+fn is_given(matches: &ArgMatches<'_>, id: &str) -> bool
+    ensures { IsTrue result ↔ IsGiven (first_of id.now (rows_of (found_of matches.now))) }
+{
+    match value(matches, id) {
+        Some(text) => text == "true",
+        None => false,
+    }
 }
 
 /// The number that a text tells, from 1 to some other.
@@ -111,13 +125,20 @@ fn idle(matches: &ArgMatches<'_>) -> Option<Option<u16>>
     }
 }
 
+/// The audit of a trace, also of one that is cut: a number of workers has no job beside `--so-far`.
 fn audit_job<'a>(matches: &ArgMatches<'a>) -> Option<Job<'a>>
     ensures some { IfSome result (IsJobOf (codes "audit") (rows_of (found_of matches.now))) }
     ensures none { IfNone result (HasNoJob (codes "audit") (rows_of (found_of matches.now))) }
 {
     let trace = value(matches, "trace")?;
-    let workers = workers(matches)?;
-    Some(Job::Audit { trace, workers })
+    if !is_given(matches, "so-far") {
+        let workers = workers(matches)?;
+        return Some(Job::Audit { trace, workers });
+    }
+    match value(matches, "workers") {
+        Some(_) => None,
+        None => Some(Job::SoFar { trace }),
+    }
 }
 
 fn show_job<'a>(matches: &ArgMatches<'a>) -> Option<Job<'a>>

@@ -1,5 +1,6 @@
 ghost use Rattle.std.specs.Prelude.{◌≡◌, [], IsOk, IfOk, IfErr, map};
 ghost use Rattle.clap.specs.Words.{kind_of};
+ghost use Rattle.clap.specs.declared.error.kind.ErrorKind.TheVariants.{ArgumentConflict};
 ghost use Rattle.cops_line.specs.Line.{Tells, Explains, Reports};
 
 use crate::command::cops_command;
@@ -25,12 +26,33 @@ fn as_fault(alloc: Global, error: &Error) -> LineFault
     }
 }
 
-/// The job that the words ask for: `audit TRACE`, with `--workers N` or without it, which is as 1, `show TRACE`,
-/// `run SCENARIO TRACE`, `serve PORT SCENARIO`, with `--sessions N` or without it, which is as 1, and with `--idle SECONDS` or without
-/// it, or none, which is as `audit -`. `words` are those after the program's name. `Usage` where they are no job, `Help` where they ask
-/// for help, by `--help`, `-h` or `help`, and `Version` where they ask for the version, by `--version` or `-V`, each with `clap`'s text;
-/// `Memory` where there are words and a growth was refused. No words that tell a job are answered with one of these texts, and words
-/// that only ask for the help or the version are not answered with `Usage`.
+/// What is told where `--so-far` stands beside `--workers`.
+const CONFLICT: &str = "\
+error: the argument '--so-far' cannot be used with '--workers <N>'
+
+Usage: cops audit --so-far <TRACE>
+
+For more information, try '--help'.
+";
+
+/// The fault of words that the command takes, though they have no job. `--so-far` stands beside `--workers` in them: no
+/// others are without a job, though that is not proved, as no clause says that a required argument has a value.
+fn no_job(alloc: Global) -> LineFault
+    ensures { Reports ArgumentConflict result }
+{
+    match String::from_str(alloc, CONFLICT) {
+        Ok(text) => LineFault::Usage(text),
+        Err(_) => LineFault::Memory,
+    }
+}
+
+/// The job that the words ask for: `audit TRACE`, with `--workers N` or without it, which is as 1, or with `--so-far`,
+/// `show TRACE`, `run SCENARIO TRACE`, `serve PORT SCENARIO`, with `--sessions N` or without it, which is as 1, and with `--idle
+/// SECONDS` or without it, or none, which is as `audit -`. `words` are those after the program's name. `Usage` where they are no job,
+/// as `audit` with both `--workers` and `--so-far`, `Help` where they ask for help, by `--help`, `-h` or `help`, and `Version` where
+/// they ask for the version, by `--version` or `-V`, each with `clap`'s text, but for those of both options, whose text is shaped as
+/// `clap`'s; `Memory` where there are words and a growth was refused. No words that tell a job are answered with one of these texts,
+/// and words that only ask for the help or the version are not answered with `Usage`.
 pub fn line<'a>(alloc: Global, words: &'a [&'a str]) -> Result<Job<'a>, LineFault>
     ensures job { IfOk result (Tells (map (λ s. s.now) words.entry.now)) }
     ensures fault { IfErr result (Explains (map (λ s. s.now) words.entry.now)) }
@@ -48,11 +70,7 @@ pub fn line<'a>(alloc: Global, words: &'a [&'a str]) -> Result<Job<'a>, LineFaul
     match command.try_get_matches_from(words) {
         Ok(matches) => match job_in(&matches) {
             Some(job) => Ok(job),
-            // Not reached, though not proved so: no clause says that a subcommand's required argument has a value.
-            None => match String::from_str(alloc, "error: no such command\n") {
-                Ok(text) => Err(LineFault::Usage(text)),
-                Err(_) => Err(LineFault::Memory),
-            },
+            None => Err(no_job(alloc)),
         },
         Err(error) => Err(as_fault(alloc, &error)),
     }

@@ -1,4 +1,8 @@
+pub mod Fed
 pub mod Frames
+pub mod OneText
 pub mod Shown
 pub mod Told
+pub mod ToldSoFar
 pub mod Unique
+pub mod UniqueSoFar

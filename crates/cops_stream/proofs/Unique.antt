@@ -1,5 +1,5 @@
 -- Bytes have one answer and one text of an audit.
-use Rattle.std.proofs.Common.{◌≡◌, ℕ, List, [], ◌∷◌, ◌++◌, length, codes, Result, Ok, Err, refl, sym, ap, ap₂, subst, ◌∙◌, inl, inr}
+use Rattle.std.proofs.Common.{◌≡◌, ℕ, List, [], ◌∷◌, ◌++◌, length, codes, Ok, Err, refl, sym, ap, ap₂, subst, ◌∙◌, inl, inr}
 use Rattle.std.specs.List.{flat_map}
 use Rattle.cops_types.specs.Histories.{Sessions}
 use Rattle.cops_types.specs.declared.op.OpName.{OpName}
@@ -13,9 +13,7 @@ use Rattle.cops_audit.specs.Verdicts.{SameFaults, SameVerdict}
 use Rattle.cops_audit.proofs.Unique.{same_verdict}
 use Rattle.cops_report.specs.Reports.{AreStaleLines, IsRefusal, IsReport, named_line, not_above_line, refusal, stale_line}
 use Rattle.cops_report.proofs.ChainLaws.{one_first}
-use Rattle.cops_trace.specs.Answer.{Says}
 use Rattle.cops_trace.specs.Text.{ATrace, sessions_of}
-use Rattle.cops_trace.specs.declared.fault.TraceFault.{TraceFault}
 use Rattle.cops_trace.specs.Lines.{fault_line}
 use Rattle.cops_trace.proofs.Readings.{one_answer}
 use Rattle.cops_wire.specs.Answer.{IsBytes}
@@ -60,7 +58,7 @@ same_report h (Refused a) (Refused b) x y s p q = (refl, same_refusal h a b x y 
 same_report h (Accepted a) (Refused b) x y s p q = absurd s
 same_report h (Refused a) (Accepted b) x y s p q = absurd s
 
-same_told : (t : ATrace) (a b : Answer) (x y : List ℕ) → IsTold t a x → IsTold t b y → (a ≡ b) × (x ≡ y)
+pub same_told : (t : ATrace) (a b : Answer) (x y : List ℕ) → IsTold t a x → IsTold t b y → (a ≡ b) × (x ≡ y)
 same_told t a b x y p q =
     let h = sessions_of t in
     let verdicts = same_verdict h p.verdict q.verdict p.is_report.is_verdict q.is_report.is_verdict in

@@ -1,4 +1,5 @@
 pub mod Convergent
 pub mod Audit
+pub mod SoFar
 pub mod Show
 pub mod NextLine

@@ -1,10 +1,22 @@
-ghost use Rattle.std.specs.Prelude.{◌≡◌, List, ℕ};
+ghost use Rattle.std.specs.Prelude.{◌≡◌, ◌↔◌, List, ℕ};
 ghost use Rattle.cops_wire.specs.Answer.{IsBytes};
+ghost use Rattle.cops_trace.specs.declared.fault.TraceFault.TheVariants.{Cut};
+ghost use Rattle.cops_trace.specs.Answer.{HasFault};
 ghost use Rattle.cops_stream.specs.Audit.{AuditSays};
+ghost use Rattle.cops_stream.specs.SoFar.{SaysSoFar};
 ghost use Rattle.cops_stream.specs.declared.audit.Answer.{Answer};
 
 /// A law of the definitions: bytes have one answer and one text of an audit.
 pub fn one_audit()
     ensures { (bytes : List ℕ) → IsBytes bytes → (answer other : Answer) (told text : List ℕ) →
         AuditSays bytes answer told → AuditSays bytes other text → (answer ≡ other) × (told ≡ text) }
+{}
+
+/// A law of the definitions: bytes have one answer and one text also where they may be cut, and where they are not cut it is
+/// that of an audit.
+pub fn one_audit_so_far()
+    ensures one { (bytes : List ℕ) → IsBytes bytes → (answer other : Answer) (told text : List ℕ) →
+        SaysSoFar bytes answer told → SaysSoFar bytes other text → (answer ≡ other) × (told ≡ text) }
+    ensures uncut { (bytes : List ℕ) → ((offset : ℕ) → ¬ HasFault bytes (Cut offset)) → (answer : Answer) (told : List ℕ) →
+        SaysSoFar bytes answer told ↔ AuditSays bytes answer told }
 {}

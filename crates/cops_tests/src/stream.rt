@@ -13,6 +13,9 @@ const NO_SOURCE: [u8; 42] = [
 
 const TOLD: &[u8] = b"refused: 1 operations, 0 puts, 1 faults\nno source (0,0) at 1.0\n";
 
+/// What is told of the first 65 bytes of those that have a put and its get.
+const CUT: &[u8] = b"cut at 57\nso far: clean\n";
+
 #[test]
 fn bad_or_held_workers_write_nothing(rt: HostRuntime) {
     for (workers, fault) in [
@@ -42,6 +45,25 @@ fn a_failed_read_writes_nothing(rt: HostRuntime) {
         assert_eq!(rt; got, Err(StreamFault::ReadFailed), "{reads}");
         assert_eq!(rt; reader.failures(), 1, "{reads}");
         assert_eq!(rt; writer.into_inner().len(), 0, "{reads}");
+    }
+}
+
+/// The first 65 bytes come in ten reads, and one more finds that they are cut.
+#[test]
+fn a_failed_read_writes_nothing_so_far(rt: HostRuntime) {
+    let failed = Err(StreamFault::ReadFailed);
+    for reads in 0..12 {
+        let reader = FailingReader::new(&TWO[..65], reads, 1_000_000, 7);
+        let mut reader = Counted::new(reader);
+        let mut writer = Counted::new(Vec::new(rt.alloc()));
+        let got = audit_so_far(rt.alloc(), &mut reader, &mut writer);
+        let (answer, count, text) = match reads {
+            11 => (Ok(Answer::Accepted), 0, CUT),
+            _ => (failed, 1, b"".as_slice()),
+        };
+        assert_eq!(rt; got, answer, "{reads}");
+        assert_eq!(rt; reader.failures(), count, "{reads}");
+        assert_eq!(rt; writer.into_inner().as_slice(), text, "{reads}");
     }
 }
 

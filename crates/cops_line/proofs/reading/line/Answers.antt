@@ -2,7 +2,7 @@ use Rattle.std.proofs.Common.{List, map}
 use Rattle.std.specs.Borrow.{Bor}
 use Rattle.clap.specs.Words.{Text, app_of, kind_of, subcommand_rows_of}
 use Rattle.clap.specs.declared.error.kind.ErrorKind.TheVariants.{DisplayHelp, DisplayVersion}
-use Rattle.cops_line.proofs.LineLemmas.{asks_for_none, explained, not_read, read_as_met, some_words, told, untold}
+use Rattle.cops_line.proofs.LineLemmas.{asks_for_none, explained, not_read, read_as_met, refused, some_words, told, untold}
 use Rattle.cops_line.proofs.reading.line.Goals as goal
 
 abbrev texts : List (Bor Text) → List Text
@@ -15,15 +15,15 @@ returns-in-Some-clause-job c =
     (read_as_met (texts c.args.words.now) (app_of c.in-Ok.command) (subcommand_rows_of c.in-Ok-try_get_matches_from.matches) c.in-Some.job c.in-Ok.ensures
     c.in-Ok-try_get_matches_from.ensures.kinds (λ s. (matches s).1) c.in-Some.ensures.some)
 
-pub returns-in-Ok-from_str-clause-fault : goal.returns-in-Ok-from_str-clause-fault
-returns-in-Ok-from_str-clause-fault c =
-    let matches = c.in-Ok-try_get_matches_from.ensures.matches in (
-      untold (texts c.args.words.now) (some_words c.args.words.now c.if-is_empty.ensures)
-          (not_read (texts c.args.words.now) (app_of c.in-Ok.command) (subcommand_rows_of c.in-Ok-try_get_matches_from.matches) c.in-Ok.ensures
-          (λ s. (matches s).1) c.in-None.ensures.none),
-      asks_for_none (texts c.args.words.now) DisplayHelp (app_of c.in-Ok.command) c.in-Ok.ensures c.in-Ok-try_get_matches_from.ensures.kinds,
-      asks_for_none (texts c.args.words.now) DisplayVersion (app_of c.in-Ok.command) c.in-Ok.ensures c.in-Ok-try_get_matches_from.ensures.kinds,
-    )
+pub returns-in-Ok-try_get_matches_from-clause-fault : goal.returns-in-Ok-try_get_matches_from-clause-fault
+returns-in-Ok-try_get_matches_from-clause-fault c =
+    let matches = c.in-Ok-try_get_matches_from.ensures.matches in
+    refused (texts c.args.words.now) c.no_job.result c.no_job.ensures
+    (untold (texts c.args.words.now) (some_words c.args.words.now c.if-is_empty.ensures)
+    (not_read (texts c.args.words.now) (app_of c.in-Ok.command) (subcommand_rows_of c.in-Ok-try_get_matches_from.matches) c.in-Ok.ensures
+    (λ s. (matches s).1) c.in-None.ensures.none))
+    (asks_for_none (texts c.args.words.now) DisplayHelp (app_of c.in-Ok.command) c.in-Ok.ensures c.in-Ok-try_get_matches_from.ensures.kinds)
+    (asks_for_none (texts c.args.words.now) DisplayVersion (app_of c.in-Ok.command) c.in-Ok.ensures c.in-Ok-try_get_matches_from.ensures.kinds)
 
 pub returns-clause-fault : goal.returns-clause-fault
 returns-clause-fault c =

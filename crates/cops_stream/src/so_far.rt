@@ -1,0 +1,174 @@
+//! The audit of a trace's bytes that may be cut.
+ghost use Rattle.std.specs.Prelude.{◌≡◌, ◌⊎◌, ◌++◌, ◌<◌, [], ℕ, List, length, slice_index_or, slice_set, Err, IfErr, IfOk, IfSome, IsErrOf, OnOk};
+ghost use Rattle.std.specs.Io.KnownBytes.{Keeps};
+ghost use Rattle.cops_types.specs.Failures.{Failed};
+ghost use Rattle.cops_types.specs.Counted.{failures, inner};
+ghost use Rattle.cops_audit.specs.SoFar.{IsSoFar};
+ghost use Rattle.cops_audit.specs.declared.verdict.SoFar.{SoFar as ASoFar};
+ghost use Rattle.cops_trace.specs.Text.{sessions_of};
+ghost use Rattle.cops_trace.specs.Answer.{AgreesSoFar, BeginsAs};
+ghost use Rattle.cops_stream.specs.Audit.{IsTold, answer_of};
+ghost use Rattle.cops_stream.specs.SoFar.{IsSoundSoFar, SaysSoFar, WritesFrontSoFar, WritesSoFar, answer_so_far, cut_text};
+
+use crate::audit::{Answer, StreamFault};
+use cops_audit::{Online, SoFar, Verdict, judge};
+use cops_report::report;
+use cops_trace::{Partial, Trace, TraceFault, fault_line, read_so_far};
+use cops_types::{Counted, History, Memory, Op, write_text};
+use std::alloc::Global;
+use std::io::{Read, Write};
+
+/// Feeds a client's operations.
+fn feed_session(online: &mut Online, client: u16, session: &[Op]) -> Result<(), Memory>
+    requires { client < length online.old }
+    ensures { OnOk result (online.new ≡ slice_set online.old client (slice_index_or online.old client [] ++ session.now)) }
+{
+    for op in session {
+        let op = op.clone()?;
+        match online.feed(client, op) {
+            Ok(()) => {}
+            // An auditor takes as many operations as a history, so that memory alone is refused, though not proved so.
+            Err(_) => return Err(Memory),
+        }
+    }
+    Ok(())
+}
+
+/// An auditor that was fed a history.
+fn fed(alloc: Global, history: &History) -> Result<Online, Memory>
+    ensures { IfOk result (λ online. online ≡ history.now.sessions) }
+{
+    let mut online = Online::new(alloc, history.clients() as u16)?;
+    for client in 0..history.clients() {
+        let session = history.session(client as u16);
+        feed_session(&mut online, client as u16, session)?;
+    }
+    Ok(online)
+}
+
+/// What is said so far of a history.
+fn said_of(alloc: Global, history: &History) -> Result<SoFar, Memory>
+    ensures { IfOk result (IsSoFar history.now.sessions) }
+{
+    let mut online = fed(alloc, history)?;
+    Ok(online.so_far())
+}
+
+/// The answer that is made of what is said so far.
+fn answer_so_far(so_far: SoFar) -> Answer
+    ensures { result ≡ answer_so_far so_far }
+{
+    match so_far {
+        SoFar::Clean | SoFar::Waiting(_) => Answer::Accepted,
+        SoFar::Refused => Answer::Refused,
+    }
+}
+
+/// Where the bytes are cut, and in a line of its own what is said so far.
+fn cut_text(alloc: Global, offset: u64, so_far: SoFar) -> Result<Vec<u8>, Memory>
+    ensures { IfOk result (λ text. text.items ≡ cut_text offset so_far) }
+{
+    let text = match so_far {
+        SoFar::Clean => format!(in alloc; "cut at {offset}\nso far: clean\n")?,
+        SoFar::Waiting(gets) => format!(in alloc; "cut at {offset}\nso far: waiting {gets}\n")?,
+        SoFar::Refused => format!(in alloc; "cut at {offset}\nso far: refused\n")?,
+    };
+    Ok(text.into_bytes())
+}
+
+/// The answer for the whole records before a cut, with its text.
+fn cut(alloc: Global, trace: &Trace, offset: u64) -> Result<(Answer, Vec<u8>), Memory>
+    ensures { IfOk result (λ told. (so_far : ASoFar) × IsSoFar (sessions_of trace.now) so_far
+        × (told.0 ≡ answer_so_far so_far) × (told.1.items ≡ cut_text offset so_far)) }
+{
+    let so_far = said_of(alloc, trace.history())?;
+    let text = cut_text(alloc, offset, so_far)?;
+    Ok((answer_so_far(so_far), text))
+}
+
+/// The answer that a verdict makes.
+fn answer_of(verdict: &Verdict) -> Answer
+    ensures { result ≡ answer_of verdict.now }
+{
+    match verdict {
+        Verdict::Accepted(_) => Answer::Accepted,
+        Verdict::Refused(_) => Answer::Refused,
+    }
+}
+
+/// The answer for a whole trace, with its report.
+fn whole(alloc: Global, trace: &Trace) -> Result<(Answer, Vec<u8>), Memory>
+    ensures { IfOk result (λ told. IsTold trace.now told.0 told.1.items) }
+{
+    let history = trace.history();
+    let verdict = judge(alloc, history)?;
+    let text = report(alloc, history, &verdict)?;
+    Ok((answer_of(&verdict), text))
+}
+
+/// The answer for a trace, whole or up to a cut, with its text.
+fn told_of(alloc: Global, partial: &Partial) -> Result<(Answer, Vec<u8>), Memory>
+    ensures { (bytes : List ℕ) → BeginsAs bytes partial.now.trace partial.now.cut → IfOk result (λ told. SaysSoFar bytes told.0 told.1.items) }
+{
+    match partial.cut {
+        Some(offset) => cut(alloc, &partial.trace, offset),
+        None => whole(alloc, &partial.trace),
+    }
+}
+
+/// The answer for what was read, with its text.
+fn told(alloc: Global, read: Result<Partial, TraceFault>) -> Result<(Answer, Vec<u8>), StreamFault>
+    ensures says { (bytes : List ℕ) → AgreesSoFar bytes read → IfOk result (λ told. SaysSoFar bytes told.0 told.1.items) }
+    ensures faults { IfErr result (λ e. (e ≡ StreamFault.Memory) ⊎ (e ≡ StreamFault.ReadFailed)) }
+    ensures read_failed { IsErrOf result StreamFault.ReadFailed → read ≡ Err TraceFault.ReadFailed }
+    ensures read_told { IsErrOf read TraceFault.ReadFailed → IsErrOf result StreamFault.ReadFailed }
+{
+    match read {
+        Ok(partial) => told_of(alloc, &partial).or(Err(StreamFault::Memory)),
+        Err(TraceFault::Memory) => Err(StreamFault::Memory),
+        Err(TraceFault::ReadFailed) => Err(StreamFault::ReadFailed),
+        Err(fault) => {
+            let mut text = Vec::new(alloc);
+            fault_line(alloc, &fault, &mut text).or(Err(StreamFault::Memory))?;
+            Ok((Answer::Faulty, text))
+        }
+    }
+}
+
+/// Reads a trace to its end or its first fault, and answers and writes what `audit_stream` does of it, by one worker, unless
+/// it is cut. Then two lines are written: `cut at OFFSET`, and what is said so far of the whole records before that, `so
+/// far: clean`, `so far: waiting N` or `so far: refused`. The last is refused, and the others are accepted. `ReadFailed`
+/// where a read failed, and `WriteFailed` where a write failed: neither is tried again. Nothing is written before the
+/// input's end. Where memory is refused nothing is written.
+pub fn audit_so_far<R: Read, W: Write>(
+    alloc: Global,
+    reader: &mut Counted<R>,
+    writer: &mut Counted<W>,
+) -> Result<Answer, StreamFault>
+    // What is written is the text of what is said of the reader's bytes, and the answer is made of that.
+    ensures ok { IfOk result (λ answer. IfSome (R.remaining (inner reader.old)) (λ bytes.
+        WritesSoFar bytes answer (W.contents (inner writer.old)) (W.contents (inner writer.new)))) }
+
+    // Where it accepts, the bytes spell one history, which is causally convergent, or are cut after records without a
+    // lasting fault.
+    ensures accepted { IfOk result (λ answer. answer ≡ Answer.Accepted → IfSome (R.remaining (inner reader.old)) IsSoundSoFar) }
+
+    // A front of the text, where a write failed; else a fault writes nothing. There are no other faults than these.
+    ensures write_failed { IsErrOf result StreamFault.WriteFailed → IfSome (R.remaining (inner reader.old)) (λ bytes.
+        WritesFrontSoFar bytes (W.contents (inner writer.old)) (W.contents (inner writer.new))) }
+    ensures nothing { (IsErrOf result StreamFault.ReadFailed ⊎ IsErrOf result StreamFault.Memory)
+        → Keeps (W.contents (inner writer.old)) (W.contents (inner writer.new)) }
+    ensures faults { IfErr result (λ e. (e ≡ StreamFault.Memory) ⊎ (e ≡ StreamFault.ReadFailed) ⊎ (e ≡ StreamFault.WriteFailed)) }
+
+    // The devices' faults are told exactly where they were met.
+    ensures write_count { IsErrOf result StreamFault.WriteFailed → Failed (failures writer.old) (failures writer.new) }
+    ensures read_count { IsErrOf result StreamFault.ReadFailed → Failed (failures reader.old) (failures reader.new) }
+    ensures write_heard { IsErrOf result StreamFault.WriteFailed ⊎ (failures writer.new ≡ failures writer.old) }
+    ensures read_heard { IsErrOf result StreamFault.ReadFailed ⊎ (failures reader.new ≡ failures reader.old) }
+{
+    let (answer, text) = told(alloc, read_so_far(alloc, reader))?;
+    match write_text(writer, &text) {
+        Ok(()) => Ok(answer),
+        Err(_) => Err(StreamFault::WriteFailed),
+    }
+}
