@@ -3,14 +3,22 @@ use Rattle.std.proofs.Common.{◌≡◌, ℕ, List, take, drop, Option, Some, No
 use Rattle.std.specs.Prelude.{IfSome, IfOk, IsErrOf}
 use Rattle.std.specs.Io.KnownBytes.{Appends}
 use Rattle.std.proofs.lemmas.List.{take-append-drop}
+use Rattle.cops_audit.specs.Verdicts.{Accepts}
+use Rattle.cops_audit.specs.declared.verdict.Verdict.{Verdict}
+use Rattle.cops_audit.specs.declared.verdict.Verdict.TheVariants as verdict
 use Rattle.cops_trace.specs.declared.fault.TraceFault.{TraceFault}
 use Rattle.cops_trace.specs.declared.fault.TraceFault.TheVariants.{Memory, ReadFailed}
 use Rattle.cops_trace.specs.Text.{ATrace}
 use Rattle.cops_trace.specs.Answer.{HasFault, Says, Agrees}
 use Rattle.cops_stream.specs.declared.audit.Answer.{Answer}
 use Rattle.cops_stream.specs.declared.audit.Answer.TheVariants.{Accepted}
-use Rattle.cops_stream.specs.Audit.{AuditSays, Writes, WritesFront, Converges}
+use Rattle.cops_stream.specs.Audit.{AuditSays, Writes, WritesFront, Converges, answer_of}
 use Rattle.cops_stream.specs.Convergent.{SpellsConvergent}
+
+-- a verdict whose answer is accepted
+pub accepts : (v : Verdict) → answer_of v ≡ Accepted → Accepts v
+accepts (verdict.Accepted puts) is = tt
+accepts (verdict.Refused faults) is = absurd cc
 
 pub told_writes : (a : Option (List ℕ)) (read : Result ATrace TraceFault) (answer : Answer) (told : List ℕ) (old new : Option (List ℕ)) → IfSome a (λ bytes. Agrees bytes read)
     → ((bytes : List ℕ) → Agrees bytes read → AuditSays bytes answer told) → Appends old new told → IfSome a (λ bytes. Writes bytes answer old new)

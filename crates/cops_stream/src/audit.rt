@@ -6,14 +6,16 @@ ghost use Rattle.cops_types.specs.declared.limits.TheConstants.{MAX_WORKERS};
 ghost use Rattle.cops_types.specs.Counted.{failures, inner};
 ghost use Rattle.cops_trace.specs.Answer.{Agrees};
 ghost use Rattle.cops_batch.specs.Pieces.{MayHoldPiece};
-ghost use Rattle.cops_stream.specs.Audit.{AuditSays, Writes, WritesFront, IsTold, Converges};
+ghost use Rattle.cops_audit.specs.Verdicts.{IsVerdict};
+ghost use Rattle.cops_trace.specs.Text.{sessions_of};
+ghost use Rattle.cops_stream.specs.Audit.{AuditSays, Writes, WritesFront, IsTold, Converges, answer_of};
 ghost use Rattle.cops_stream.specs.Convergent.{SpellsConvergent};
 
 use cops_audit::Verdict;
 use cops_batch::{BatchFault, judge_with};
 use cops_report::report;
 use cops_trace::{Trace, TraceFault, fault_line, read_trace};
-use cops_types::{Counted, Gate, MAX_WORKERS, write_text};
+use cops_types::{Counted, Gate, MAX_WORKERS, Memory, write_text};
 use std::alloc::Global;
 use std::io::{Read, Write};
 use std::sync::Wait;
@@ -51,6 +53,30 @@ pub enum StreamFault {
     WriteFailed,
 }
 
+/// The answer that a verdict makes.
+fn answer_of(verdict: &Verdict) -> Answer
+    ensures { result ≡ answer_of verdict.now }
+{
+    match verdict {
+        Verdict::Accepted(_) => Answer::Accepted,
+        Verdict::Refused(_) => Answer::Refused,
+    }
+}
+
+/// The answer that a verdict on a trace makes, with its report.
+pub(crate) fn reported(
+    alloc: Global,
+    trace: &Trace,
+    verdict: &Verdict,
+) -> Result<(Answer, Vec<u8>), Memory>
+    requires { IsVerdict (sessions_of trace.now) verdict.now }
+    ensures told { IfOk result (λ told. IsTold trace.now told.0 told.1.items) }
+    ensures answer { IfOk result (λ told. told.0 ≡ answer_of verdict.now) }
+{
+    let text = report(alloc, trace.history(), verdict)?;
+    Ok((answer_of(verdict), text))
+}
+
 /// The answer for a trace, with its report, by so many workers.
 fn judged<T: Threads + Wait + Sync, G: Gate>(
     rt: &T,
@@ -66,19 +92,15 @@ fn judged<T: Threads + Wait + Sync, G: Gate>(
     ensures no_read { ¬ IsErrOf result StreamFault.ReadFailed }
     ensures no_write { ¬ IsErrOf result StreamFault.WriteFailed }
 {
-    let history = trace.history();
-    let verdict = match judge_with(rt, alloc, history, workers, gate) {
+    let verdict = match judge_with(rt, alloc, trace.history(), workers, gate) {
         Ok(verdict) => verdict,
         Err(BatchFault::Memory) => return Err(StreamFault::Memory),
         Err(BatchFault::BadWorkers) => return Err(StreamFault::BadWorkers),
         Err(BatchFault::Held) => return Err(StreamFault::Held),
     };
-    let Ok(text) = report(alloc, history, &verdict) else {
-        return Err(StreamFault::Memory);
-    };
-    match verdict {
-        Verdict::Accepted(_) => Ok((Answer::Accepted, text)),
-        Verdict::Refused(_) => Ok((Answer::Refused, text)),
+    match reported(alloc, trace, &verdict) {
+        Ok(told) => Ok(told),
+        Err(Memory) => Err(StreamFault::Memory),
     }
 }
 

@@ -7,12 +7,11 @@ ghost use Rattle.cops_audit.specs.SoFar.{IsSoFar};
 ghost use Rattle.cops_audit.specs.declared.verdict.SoFar.{SoFar as ASoFar};
 ghost use Rattle.cops_trace.specs.Text.{sessions_of};
 ghost use Rattle.cops_trace.specs.Answer.{AgreesSoFar, BeginsAs};
-ghost use Rattle.cops_stream.specs.Audit.{IsTold, answer_of};
+ghost use Rattle.cops_stream.specs.Audit.{IsTold};
 ghost use Rattle.cops_stream.specs.SoFar.{IsSoundSoFar, SaysSoFar, WritesFrontSoFar, WritesSoFar, answer_so_far, cut_text};
 
-use crate::audit::{Answer, StreamFault};
-use cops_audit::{Online, SoFar, Verdict, judge};
-use cops_report::report;
+use crate::audit::{Answer, StreamFault, reported};
+use cops_audit::{Online, SoFar, judge};
 use cops_trace::{Partial, Trace, TraceFault, fault_line, read_so_far};
 use cops_types::{Counted, History, Memory, Op, write_text};
 use std::alloc::Global;
@@ -86,24 +85,12 @@ fn cut(alloc: Global, trace: &Trace, offset: u64) -> Result<(Answer, Vec<u8>), M
     Ok((answer_so_far(so_far), text))
 }
 
-/// The answer that a verdict makes.
-fn answer_of(verdict: &Verdict) -> Answer
-    ensures { result ≡ answer_of verdict.now }
-{
-    match verdict {
-        Verdict::Accepted(_) => Answer::Accepted,
-        Verdict::Refused(_) => Answer::Refused,
-    }
-}
-
 /// The answer for a whole trace, with its report.
 fn whole(alloc: Global, trace: &Trace) -> Result<(Answer, Vec<u8>), Memory>
     ensures { IfOk result (λ told. IsTold trace.now told.0 told.1.items) }
 {
-    let history = trace.history();
-    let verdict = judge(alloc, history)?;
-    let text = report(alloc, history, &verdict)?;
-    Ok((answer_of(&verdict), text))
+    let verdict = judge(alloc, trace.history())?;
+    reported(alloc, trace, &verdict)
 }
 
 /// The answer for a trace, whole or up to a cut, with its text.
