@@ -1,7 +1,7 @@
 //! A trace's text that comes a byte at a time, and one that goes out a frame at a time.
 use crate::building::{Did, TWO, op};
 use cops_trace::{Item, TraceFault, TraceReader, TraceWriter, Unwritten, WriteFault};
-use cops_types::{Counted, FailingWriter, Memory};
+use cops_types::{Counted, FailingWriter, Memory, Op};
 use std::alloc::Global;
 use std::test::Fail;
 
@@ -79,28 +79,48 @@ fn a_fault_stays(rt: HostRuntime) -> Result<(), Fail> {
     Ok(())
 }
 
-/// Writes the text of the 66 bytes to a writer that fails after so many of them: what went out, and the fault.
-fn written(alloc: Global, bytes: usize) -> Result<(Vec<u8>, Option<WriteFault>), Fail> {
-    let device = FailingWriter::new(Vec::new(alloc), 100, bytes as u64, 5);
-    let put = op(alloc, Did::Put(b'x', b'1', 1, 0))?;
-    let got = op(alloc, Did::Got(b'x', b'1', 1, 0))?;
-    let mut writer = match TraceWriter::new(alloc, Counted::new(device), 2) {
+/// A device that fails after some bytes.
+type Device = FailingWriter<Vec<u8>>;
+
+/// What went out to a device.
+fn taken(device: Counted<Device>) -> Vec<u8> {
+    device.into_inner().into_inner()
+}
+
+/// Writes the text of a put and its get to a writer that fails after so many bytes: what went out, and the fault.
+fn written_of(alloc: Global, bytes: usize, put: &Op, got: &Op) -> (Vec<u8>, Option<WriteFault>) {
+    let device = Counted::new(FailingWriter::new(Vec::new(alloc), 100, bytes as u64, 5));
+    let mut writer = match TraceWriter::new(alloc, device, 2) {
         Ok(writer) => writer,
-        Err(Unwritten { writer, fault }) => {
-            return Ok((writer.into_inner().into_inner(), Some(fault)));
-        }
+        Err(Unwritten { writer, fault }) => return (taken(writer), Some(fault)),
     };
-    let mut ended = writer.op(0, &put);
+    let mut ended = writer.op(0, put);
     if ended.is_ok() {
-        ended = writer.op(1, &got);
+        ended = writer.op(1, got);
     }
     if let Err(fault) = ended {
-        return Ok((writer.into_writer().into_inner().into_inner(), Some(fault)));
+        return (taken(writer.into_writer()), Some(fault));
     }
     match writer.end() {
-        Ok(writer) => Ok((writer.into_inner().into_inner(), None)),
-        Err(Unwritten { writer, fault }) => { Ok((writer.into_inner().into_inner(), Some(fault))) }
+        Ok(writer) => (taken(writer), None),
+        Err(Unwritten { writer, fault }) => (taken(writer), Some(fault)),
     }
+}
+
+/// The same of those of the 66 bytes.
+fn written(alloc: Global, bytes: usize) -> Result<(Vec<u8>, Option<WriteFault>), Fail> {
+    let put = op(alloc, Did::Put(b'x', b'1', 1, 0))?;
+    let got = match op(alloc, Did::Got(b'x', b'1', 1, 0)) {
+        Ok(got) => got,
+        Err(fault) => {
+            drop(put);
+            return Err(Fail::from(fault));
+        }
+    };
+    let told = written_of(alloc, bytes, &put, &got);
+    drop(put);
+    drop(got);
+    Ok(told)
 }
 
 #[test]
