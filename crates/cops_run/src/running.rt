@@ -1,10 +1,10 @@
 ghost use Rattle.std.specs.Prelude.{◌≡◌, ◌<◌, ◌≤◌, ◌+◌, ◌*◌, ◌⊎◌, Err, IfErr, IfOk, IsErrOf, OnErr, OnOk, length, map};
 ghost use Rattle.std.specs.List.Sorted.{IsPermutation};
 ghost use Rattle.cops_types.specs.declared.limits.TheConstants.{NODES, PLACES};
-ghost use Rattle.cops_cluster.specs.Close.{AreAll, made_in, told};
 ghost use Rattle.cops_types.specs.Verdicts.{HasAcceptedVerdict};
 ghost use Rattle.cops_trace.specs.Text.{sessions_of};
 ghost use Rattle.cops_scenario.specs.Scenario.{setting_of};
+ghost use Rattle.cops_cluster.specs.Close.{AreAll, made_in, told};
 ghost use Rattle.cops_cluster.specs.Differences.{IsLeastDifference};
 ghost use Rattle.cops_outcomes.specs.NoRun.{IsNoRun, WhereNoRun};
 ghost use Rattle.cops_outcomes.specs.Runs.{IsRun};

@@ -5,6 +5,7 @@ ghost use Rattle.cops_types.specs.Failures.{Failed};
 ghost use Rattle.cops_types.specs.declared.limits.TheConstants.{MAX_WORKERS};
 ghost use Rattle.cops_types.specs.Counted.{failures, inner};
 ghost use Rattle.cops_trace.specs.Answer.{Agrees};
+ghost use Rattle.cops_trace.specs.Lines.{fault_line};
 ghost use Rattle.cops_batch.specs.Pieces.{MayHoldPiece};
 ghost use Rattle.cops_audit.specs.Verdicts.{IsVerdict};
 ghost use Rattle.cops_trace.specs.Text.{sessions_of};
@@ -104,6 +105,16 @@ fn judged<T: Threads + Wait + Sync, G: Gate>(
     }
 }
 
+/// The answer for bytes that have this fault, with its line.
+pub(crate) fn faulty(alloc: Global, fault: &TraceFault) -> Result<(Answer, Vec<u8>), StreamFault>
+    ensures told { IfOk result (λ told. (told.0 ≡ Answer.Faulty) × (told.1.items ≡ fault_line fault.now)) }
+    ensures memory { IfErr result (λ e. e ≡ StreamFault.Memory) }
+{
+    let mut text = Vec::new(alloc);
+    fault_line(alloc, fault, &mut text).or(Err(StreamFault::Memory))?;
+    Ok((Answer::Faulty, text))
+}
+
 /// The answer for what was read, with its text.
 fn told<T: Threads + Wait + Sync, G: Gate>(
     rt: &T,
@@ -124,11 +135,7 @@ fn told<T: Threads + Wait + Sync, G: Gate>(
         Ok(trace) => judged(rt, alloc, &trace, workers, gate),
         Err(TraceFault::Memory) => Err(StreamFault::Memory),
         Err(TraceFault::ReadFailed) => Err(StreamFault::ReadFailed),
-        Err(fault) => {
-            let mut text = Vec::new(alloc);
-            fault_line(alloc, &fault, &mut text).or(Err(StreamFault::Memory))?;
-            Ok((Answer::Faulty, text))
-        }
+        Err(fault) => faulty(alloc, &fault),
     }
 }
 

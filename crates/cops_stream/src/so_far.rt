@@ -1,18 +1,18 @@
 //! The audit of a trace's bytes that may be cut.
 ghost use Rattle.std.specs.Prelude.{◌≡◌, ◌⊎◌, ◌++◌, ◌<◌, [], ℕ, List, length, slice_index_or, slice_set, Err, IfErr, IfOk, IfSome, IsErrOf, OnOk};
 ghost use Rattle.std.specs.Io.KnownBytes.{Keeps};
-ghost use Rattle.cops_types.specs.Failures.{Failed};
 ghost use Rattle.cops_types.specs.Counted.{failures, inner};
-ghost use Rattle.cops_audit.specs.SoFar.{IsSoFar};
-ghost use Rattle.cops_audit.specs.declared.verdict.SoFar.{SoFar as ASoFar};
+ghost use Rattle.cops_types.specs.Failures.{Failed};
 ghost use Rattle.cops_trace.specs.Text.{sessions_of};
 ghost use Rattle.cops_trace.specs.Answer.{AgreesSoFar, BeginsAs};
+ghost use Rattle.cops_audit.specs.SoFar.{IsSoFar};
+ghost use Rattle.cops_audit.specs.declared.verdict.SoFar.{SoFar as ASoFar};
 ghost use Rattle.cops_stream.specs.Audit.{IsTold};
 ghost use Rattle.cops_stream.specs.SoFar.{IsSoundSoFar, SaysSoFar, WritesFrontSoFar, WritesSoFar, answer_so_far, cut_text};
 
-use crate::audit::{Answer, StreamFault, reported};
+use crate::audit::{Answer, StreamFault, faulty, reported};
 use cops_audit::{Online, SoFar, judge};
-use cops_trace::{Partial, Trace, TraceFault, fault_line, read_so_far};
+use cops_trace::{Partial, Trace, TraceFault, read_so_far};
 use cops_types::{Counted, History, Memory, Op, write_text};
 use std::alloc::Global;
 use std::io::{Read, Write};
@@ -114,11 +114,7 @@ fn told(alloc: Global, read: Result<Partial, TraceFault>) -> Result<(Answer, Vec
         Ok(partial) => told_of(alloc, &partial).or(Err(StreamFault::Memory)),
         Err(TraceFault::Memory) => Err(StreamFault::Memory),
         Err(TraceFault::ReadFailed) => Err(StreamFault::ReadFailed),
-        Err(fault) => {
-            let mut text = Vec::new(alloc);
-            fault_line(alloc, &fault, &mut text).or(Err(StreamFault::Memory))?;
-            Ok((Answer::Faulty, text))
-        }
+        Err(fault) => faulty(alloc, &fault),
     }
 }
 
@@ -140,18 +136,18 @@ pub fn audit_so_far<R: Read, W: Write>(
     // lasting fault.
     ensures accepted { IfOk result (λ answer. answer ≡ Answer.Accepted → IfSome (R.remaining (inner reader.old)) IsSoundSoFar) }
 
-    // A front of the text, where a write failed; else a fault writes nothing. There are no other faults than these.
-    ensures write_failed { IsErrOf result StreamFault.WriteFailed → IfSome (R.remaining (inner reader.old)) (λ bytes.
-        WritesFrontSoFar bytes (W.contents (inner writer.old)) (W.contents (inner writer.new))) }
+    // There are no other faults than these. Where a write failed, a front of the text was written, and else nothing.
+    ensures faults { IfErr result (λ e. (e ≡ StreamFault.Memory) ⊎ (e ≡ StreamFault.ReadFailed) ⊎ (e ≡ StreamFault.WriteFailed)) }
     ensures nothing { (IsErrOf result StreamFault.ReadFailed ⊎ IsErrOf result StreamFault.Memory)
         → Keeps (W.contents (inner writer.old)) (W.contents (inner writer.new)) }
-    ensures faults { IfErr result (λ e. (e ≡ StreamFault.Memory) ⊎ (e ≡ StreamFault.ReadFailed) ⊎ (e ≡ StreamFault.WriteFailed)) }
+    ensures write_failed { IsErrOf result StreamFault.WriteFailed → IfSome (R.remaining (inner reader.old)) (λ bytes.
+        WritesFrontSoFar bytes (W.contents (inner writer.old)) (W.contents (inner writer.new))) }
 
-    // The devices' faults are told exactly where they were met.
-    ensures write_count { IsErrOf result StreamFault.WriteFailed → Failed (failures writer.old) (failures writer.new) }
+    // A device's fault is told exactly where it was met, the reader's and the writer's.
     ensures read_count { IsErrOf result StreamFault.ReadFailed → Failed (failures reader.old) (failures reader.new) }
-    ensures write_heard { IsErrOf result StreamFault.WriteFailed ⊎ (failures writer.new ≡ failures writer.old) }
     ensures read_heard { IsErrOf result StreamFault.ReadFailed ⊎ (failures reader.new ≡ failures reader.old) }
+    ensures write_count { IsErrOf result StreamFault.WriteFailed → Failed (failures writer.old) (failures writer.new) }
+    ensures write_heard { IsErrOf result StreamFault.WriteFailed ⊎ (failures writer.new ≡ failures writer.old) }
 {
     let (answer, text) = told(alloc, read_so_far(alloc, reader))?;
     match write_text(writer, &text) {
