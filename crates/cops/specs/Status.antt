@@ -1,5 +1,6 @@
 -- The statuses that the program ends with, and what they say.
-use Rattle.std.specs.Prelude.{◌≢◌, ℕ, List, Ok, Err}
+use Rattle.std.specs.Prelude.{◌≢◌, ◌≤◌, ℕ, List, Ok, Err}
+use Rattle.cops_types.specs.declared.limits.TheConstants.{MAX_WORKERS}
 use Rattle.cops_line.specs.declared.job.Job.{Job}
 use Rattle.cops_line.specs.declared.job.Job.TheVariants.{Audit, SoFar, Show, Run, Serve}
 use Rattle.cops_trace.specs.declared.fault.TraceFault.{TraceFault}
@@ -8,6 +9,7 @@ use Rattle.cops_trace.specs.Text.{ATrace}
 use Rattle.cops_trace.specs.Answer.{Says}
 use Rattle.cops_scenario.specs.Scenario.{AScenario}
 use Rattle.cops_scenario.specs.File.{IsTextOf}
+use Rattle.cops_command.specs.Scenario.{TellsNone}
 use Rattle.cops_command.specs.declared.status.Status.{Status}
 use Rattle.cops_command.specs.declared.status.Status.TheVariants as status
 use Rattle.cops_stream.specs.declared.audit.Answer.{Answer}
@@ -65,3 +67,16 @@ TellsNoTrace bytes = (e : TraceFault) × Says bytes (Err e)
 -- the same by a fault that is no cut
 abbrev pub TellsOtherFault : List ℕ → Type 0
 TellsOtherFault bytes = (e : TraceFault) × ((offset : ℕ) → e ≢ Cut offset) × Says bytes (Err e)
+
+-- what is so of them where it ends as faulty: they are no trace's text, or no scenario's; a cut is no fault of what is asked so far
+abbrev pub EndsFaulty : Job → List ℕ → Type 0
+EndsFaulty (Audit trace workers) bytes = TellsNoTrace bytes
+EndsFaulty (SoFar trace) bytes = TellsOtherFault bytes
+EndsFaulty (Show trace) bytes = TellsNoTrace bytes
+EndsFaulty (Run scenario trace) bytes = TellsNone bytes
+EndsFaulty (Serve port scenario sessions idle) bytes = TellsNone bytes
+
+-- the workers of an audit are as many as there may be
+abbrev pub MayWork : Job → Type 0
+MayWork (Audit trace workers) = (1 ≤ workers) × (workers ≤ MAX_WORKERS)
+MayWork job = Unit {0}

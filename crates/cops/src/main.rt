@@ -9,7 +9,7 @@ ghost use Rattle.cops_stream.specs.SoFar.{IsSoundSoFar};
 ghost use Rattle.cops_command.specs.Scenario.{TellsNone};
 ghost use Rattle.cops_command.specs.Status.{number};
 ghost use Rattle.cops_command.specs.declared.status.Status.TheVariants.{Accepted, Faulty, Refused};
-ghost use Rattle.cops.specs.Status.{EndsRefused, EndsWell, TellsNoTrace, TellsOtherFault, TellsRefused, TellsRefusedSoFar, TellsRun, TellsServed, TellsTrace, status_of};
+ghost use Rattle.cops.specs.Status.{EndsFaulty, EndsRefused, EndsWell, MayWork, TellsNoTrace, TellsOtherFault, TellsRefused, TellsRefusedSoFar, TellsRun, TellsServed, TellsTrace, status_of};
 
 use cops_command::Status;
 use cops_line::{Job, LineFault, line};
@@ -184,6 +184,7 @@ where
     E: Write + Drop,
     ensures well { result ≡ number Accepted → IfSome (I.remaining input) (EndsWell job.entry) }
     ensures refused { result ≡ number Refused → IfSome (I.remaining input) (EndsRefused job.entry) }
+    ensures faulty { result ≡ number Faulty → MayWork job.entry → IfSome (I.remaining input) (EndsFaulty job.entry) }
 {
     match job {
         Job::Audit { workers, .. } => audit(rt, input, workers),

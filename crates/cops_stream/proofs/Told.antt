@@ -1,5 +1,5 @@
 -- What is written, from what was read and told.
-use Rattle.std.proofs.Common.{◌≡◌, ℕ, List, take, drop, Option, Some, None, Result, Ok, Err, sym, ap, subst, inl, inr}
+use Rattle.std.proofs.Common.{◌≡◌, ℕ, List, ◌++◌, take, drop, Option, Some, None, Result, Ok, Err, sym, ap, subst, inl, inr}
 use Rattle.std.specs.Prelude.{IfSome, IfOk, IsErrOf}
 use Rattle.std.specs.Io.KnownBytes.{Appends}
 use Rattle.std.proofs.lemmas.List.{take-append-drop}
@@ -12,7 +12,7 @@ use Rattle.cops_trace.specs.Text.{ATrace}
 use Rattle.cops_trace.specs.Answer.{HasFault, Says, Agrees}
 use Rattle.cops_stream.specs.declared.audit.Answer.{Answer}
 use Rattle.cops_stream.specs.declared.audit.Answer.TheVariants.{Accepted}
-use Rattle.cops_stream.specs.Audit.{AuditSays, Writes, WritesFront, Converges, answer_of}
+use Rattle.cops_stream.specs.Audit.{Converges, answer_of}
 use Rattle.cops_stream.specs.Convergent.{SpellsConvergent}
 
 -- a verdict whose answer is accepted
@@ -20,16 +20,18 @@ pub accepts : (v : Verdict) → answer_of v ≡ Accepted → Accepts v
 accepts (verdict.Accepted puts) is = tt
 accepts (verdict.Refused faults) is = absurd cc
 
-pub told_writes : (a : Option (List ℕ)) (read : Result ATrace TraceFault) (answer : Answer) (told : List ℕ) (old new : Option (List ℕ)) → IfSome a (λ bytes. Agrees bytes read)
-    → ((bytes : List ℕ) → Agrees bytes read → AuditSays bytes answer told) → Appends old new told → IfSome a (λ bytes. Writes bytes answer old new)
-told_writes None read answer told old new agrees says w = tt
-told_writes (Some u) read answer told old new agrees says w = (told, says u agrees, w)
+-- what is said of the bytes is written, whole or a front of it
+module _ (Agreeing : List ℕ → Type 0) (Saying : List ℕ → Answer → List ℕ → Type 0) where
+  pub told_writes : (a : Option (List ℕ)) (answer : Answer) (told : List ℕ) (old new : Option (List ℕ)) → IfSome a Agreeing → ((bytes : List ℕ) → Agreeing bytes → Saying bytes answer told)
+      → Appends old new told → IfSome a (λ bytes. (text : List ℕ) × Saying bytes answer text × Appends old new text)
+  told_writes None answer told old new agrees says w = tt
+  told_writes (Some u) answer told old new agrees says w = (told, says u agrees, w)
 
-pub told_front : (a : Option (List ℕ)) (read : Result ATrace TraceFault) (answer : Answer) (told : List ℕ) (n : ℕ) (old new : Option (List ℕ)) → IfSome a (λ bytes. Agrees bytes read)
-    → ((bytes : List ℕ) → Agrees bytes read → AuditSays bytes answer told) → Appends old new (take n told) → IfSome a (λ bytes. WritesFront bytes old new)
-told_front None read answer told n old new agrees says w = tt
-told_front (Some u) read answer told n old new agrees says w =
-    (answer, take n told, drop n told, subst (AuditSays u answer) (sym (take-append-drop n told)) (says u agrees), w)
+  pub told_front : (a : Option (List ℕ)) (answer : Answer) (told : List ℕ) (n : ℕ) (old new : Option (List ℕ)) → IfSome a Agreeing → ((bytes : List ℕ) → Agreeing bytes → Saying bytes answer told)
+      → Appends old new (take n told) → IfSome a (λ bytes. (x : Answer) × (front : List ℕ) × (rest : List ℕ) × Saying bytes x (front ++ rest) × Appends old new front)
+  told_front None answer told n old new agrees says w = tt
+  told_front (Some u) answer told n old new agrees says w =
+      (answer, take n told, drop n told, subst (Saying u answer) (sym (take-append-drop n told)) (says u agrees), w)
 
 pub accepted_spells : (a : Option (List ℕ)) (read : Result ATrace TraceFault) (answer : Answer) → IfSome a (λ bytes. Agrees bytes read)
     → IfOk read (λ t. IfSome a (λ bytes. (x : Result ATrace TraceFault) → Says bytes x → x ≡ Ok t)) → (answer ≡ Accepted → Converges read) → answer ≡ Accepted → IfSome a SpellsConvergent

@@ -1,15 +1,12 @@
--- What is written of bytes that may be cut, from what was read and told.
-use Rattle.std.proofs.Common.{◌≡◌, ℕ, List, take, drop, Option, Some, None, Result, Ok, Err, sym, subst, ◌∙◌, inl, inr}
+-- What answers mean of bytes that may be cut.
+use Rattle.std.proofs.Common.{◌≡◌, ℕ, List, Option, Some, None, Result, Ok, Err, sym, subst, ◌∙◌, inl, inr}
 use Rattle.std.specs.Prelude.{IfOk, IfSome}
 use Rattle.std.specs.Result.{result_or}
-use Rattle.std.specs.Io.KnownBytes.{Appends}
-use Rattle.std.proofs.lemmas.List.{take-append-drop}
 use Rattle.cops_types.specs.Histories.{Sessions}
 use Rattle.cops_types.specs.Convergence.{IsCausallyConvergent}
 use Rattle.cops_audit.specs.declared.verdict.SoFar.{SoFar}
 use Rattle.cops_audit.specs.declared.verdict.SoFar.TheVariants.{Clean, Waiting, Refused}
 use Rattle.cops_audit.specs.declared.verdict.Verdict.{Verdict}
-use Rattle.cops_audit.specs.declared.verdict.Verdict.TheVariants as verdict
 use Rattle.cops_audit.specs.SoFar.{IsSoFar, HasLastingFault}
 use Rattle.cops_audit.specs.Verdicts.{IsVerdict}
 use Rattle.cops_audit.proofs.Consequences.{convergent}
@@ -20,28 +17,14 @@ use Rattle.cops_trace.specs.Answer.{AgreesSoFar}
 use Rattle.cops_stream.specs.declared.audit.Answer.{Answer}
 use Rattle.cops_stream.specs.declared.audit.Answer.TheVariants.{Accepted}
 use Rattle.cops_stream.specs.Audit.{answer_of}
-use Rattle.cops_stream.specs.SoFar.{IsSoundSoFar, SaysSoFar, WritesFrontSoFar, WritesSoFar, answer_so_far}
+use Rattle.cops_stream.specs.SoFar.{IsSoundSoFar, SaysSoFar, answer_so_far}
 use Rattle.cops_stream.proofs.OneText.{one_text}
+use Rattle.cops_stream.proofs.Told.{accepts}
 
 -- what holds of an answer holds of it also where want of memory is told as another fault
 pub or_fault : {T D E : Type 0} (r : Result T D) (e : E) (P : T → Type 0) → IfOk r P → IfOk (result_or r (Err e)) P
 or_fault (Ok x) e P h = h
 or_fault (Err d) e P h = tt
-
--- ---- what is written
-
-pub so_far_writes : (a : Option (List ℕ)) (read : Result Partial TraceFault) (answer : Answer) (told : List ℕ) (old new : Option (List ℕ)) → IfSome a (λ bytes. AgreesSoFar bytes read)
-    → ((bytes : List ℕ) → AgreesSoFar bytes read → SaysSoFar bytes answer told) → Appends old new told → IfSome a (λ bytes. WritesSoFar bytes answer old new)
-so_far_writes None read answer told old new agrees says w = tt
-so_far_writes (Some u) read answer told old new agrees says w = (told, says u agrees, w)
-
-pub so_far_front : (a : Option (List ℕ)) (read : Result Partial TraceFault) (answer : Answer) (told : List ℕ) (n : ℕ) (old new : Option (List ℕ)) → IfSome a (λ bytes. AgreesSoFar bytes read)
-    → ((bytes : List ℕ) → AgreesSoFar bytes read → SaysSoFar bytes answer told) → Appends old new (take n told) → IfSome a (λ bytes. WritesFrontSoFar bytes old new)
-so_far_front None read answer told n old new agrees says w = tt
-so_far_front (Some u) read answer told n old new agrees says w =
-    (answer, take n told, drop n told, subst (SaysSoFar u answer) (sym (take-append-drop n told)) (says u agrees), w)
-
--- ---- what the answers mean
 
 no_lasting_fault : (h : Sessions) (so_far : SoFar) → Accepted ≡ answer_so_far so_far → IsSoFar h so_far → ¬ HasLastingFault h
 no_lasting_fault h Clean is s = s.0
@@ -49,8 +32,7 @@ no_lasting_fault h (Waiting n) is s = s.0
 no_lasting_fault h Refused is s = absurd cc
 
 converges : (h : Sessions) (v : Verdict) → Accepted ≡ answer_of v → IsVerdict h v → IsCausallyConvergent h
-converges h (verdict.Accepted puts) is w = convergent h (verdict.Accepted puts) w tt
-converges h (verdict.Refused faults) is w = absurd cc
+converges h v is w = convergent h v w (accepts v (sym is))
 
 pub accepted_is_sound : (bytes told : List ℕ) → SaysSoFar bytes Accepted told → IsSoundSoFar bytes
 accepted_is_sound bytes told (inl (offset, so_far, cut, is, _)) = inr (cut.trace, offset, cut.is_cut, no_lasting_fault (sessions_of cut.trace) so_far is cut.is_so_far)
