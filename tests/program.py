@@ -21,6 +21,7 @@ from traces import ROOT, check, cops, ended, example, ran, skip, trace  # noqa: 
 from client import message, talk  # noqa: E402
 from events import scenario  # noqa: E402
 from named import definition_files, wrong_edits  # noqa: E402
+from terminal import on_a_terminal  # noqa: E402
 
 
 # As the system's tables of sockets write them: 127.0.0.1, and a socket that listens.
@@ -766,7 +767,7 @@ def no_thread():
 for tests in (
     examples, long_chain, many_rounds, faults, cut_traces, shown, scenarios, refusals, faulty_scenarios, scripts, mixed_scripts, working_clusters,
     plain_cluster.random_worlds, many_workers, served, replies, strange_peers, sent_behind, idle_clients, listens_here_alone, words, devices,
-    generated, little_memory, no_thread, definition_files, wrong_edits, plain.rows, plain.random_histories,
+    on_a_terminal, generated, little_memory, no_thread, definition_files, wrong_edits, plain.rows, plain.random_histories,
 ):
     tests()
 sys.exit(ended())

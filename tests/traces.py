@@ -4,6 +4,8 @@ import resource
 import subprocess
 import sys
 import tempfile
+import threading
+import time
 
 ROOT = os.path.dirname(os.path.dirname(os.path.abspath(__file__)))
 sys.dont_write_bytecode = True
@@ -12,17 +14,51 @@ from write_trace import trace  # noqa: E402, F401
 
 counts = {"passed": 0, "failed": 0, "skipped": 0}
 
+# For how many seconds a pipe stalls.
+STALL = 0.001
+
 
 def cops(*words, stdin=b"", stdout=subprocess.PIPE, limit=None):
-    """Status, output and errors of a run, within so many bytes of memory where a limit is given."""
+    """Status, output and errors of a run, within so many bytes of memory where a limit is given. A trace that comes by standard input is given once
+    more by a pipe that stalls: where that is answered in another way, both answers stand here, which no test wants."""
 
     def limited():
         resource.setrlimit(resource.RLIMIT_AS, (limit, limit))
 
-    command = os.path.join(ROOT, "crates", "cops", "out", "cops") if limit else os.path.join(ROOT, "cops")
+    built = os.path.join(ROOT, "crates", "cops", "out", "cops")
+    command = built if limit else os.path.join(ROOT, "cops")
     before = limited if limit else None
     ran = subprocess.run([command, *words], input=stdin, stdout=stdout, stderr=subprocess.PIPE, preexec_fn=before)
-    return ran.returncode, ran.stdout, ran.stderr
+    answer = ran.returncode, ran.stdout, ran.stderr
+    if limit or stdout != subprocess.PIPE or not stdin or words[:1] not in ((), ("audit",), ("show",)):
+        return answer
+    stalled = by_stalling_pipe([built, *words], stdin)
+    return answer if stalled == answer else (answer, "by a pipe that stalls", stalled)
+
+
+def by_stalling_pipe(command, data):
+    """Status, output and errors of a command to which its input comes in four pieces, with a pause before each: the first of one byte, and most of them
+    ended within a record."""
+    pieces = data[:1], data[1:8], data[8 : len(data) // 2], data[max(8, len(data) // 2) :]
+    process = subprocess.Popen(command, stdin=subprocess.PIPE, stdout=subprocess.PIPE, stderr=subprocess.PIPE)
+
+    def feed():
+        try:
+            with process.stdin as pipe:
+                for piece in pieces:
+                    time.sleep(STALL)
+                    pipe.write(piece)
+                    pipe.flush()
+        except BrokenPipeError:
+            # (it has answered what came before)
+            pass
+
+    feeding = threading.Thread(target=feed)
+    feeding.start()
+    out = process.stdout.read()
+    errors = process.stderr.read()
+    feeding.join()
+    return process.wait(), out, errors
 
 
 def ran(text):

@@ -11,6 +11,9 @@ ghost use Rattle.cops_command.specs.Status.{number};
 ghost use Rattle.cops_command.specs.declared.status.Status.TheVariants.{Accepted, Faulty, Refused};
 ghost use Rattle.cops.specs.Status.{EndsFaulty, EndsRefused, EndsWell, MayWork, TellsNoTrace, TellsOtherFault, TellsRefused, TellsRefusedSoFar, TellsRun, TellsServed, TellsTrace, status_of};
 
+mod progress;
+
+use crate::progress::{Cleared, Watched, begun, remove};
 use cops_command::Status;
 use cops_line::{Job, LineFault, line};
 use cops_run_stream::run_stream;
@@ -19,12 +22,13 @@ use cops_stream::{Answer, StreamFault, audit_so_far, audit_stream, show_stream};
 use cops_types::{Counted, Memory, OpenGate};
 use std::alloc::AllocError;
 use std::fs::File;
-use std::io::{ErrorKind, Read, Write};
+use std::io::{ErrorKind, IsTerminal, Read, Write};
 use std::net::{Net, TcpListener, TcpStream};
 use std::process::ExitCode;
 use std::rt::{Env, Files};
 use std::sync::Wait;
 use std::thread::Threads;
+use std::time::{Clock, Instant};
 use std::{env, io};
 
 /// Prints why the program failed, and gives the status.
@@ -47,11 +51,18 @@ fn status_of(answer: Answer) -> Status
 }
 
 /// The status that an audit ends with; a line tells why there is no answer.
-fn ended<R: Eprint>(rt: &R, audited: Result<Answer, StreamFault>) -> u8
+fn ended<R: Eprint + Clock>(
+    rt: &R,
+    audited: Result<Answer, StreamFault>,
+    begun: Option<Instant>,
+) -> u8
     ensures accepted { result ≡ number Accepted → audited ≡ Ok Answer.Accepted }
     ensures refused { result ≡ number Refused → audited ≡ Ok Answer.Refused }
     ensures faulty { result ≡ number Faulty → (audited ≡ Ok Answer.Faulty) ⊎ (audited ≡ Err StreamFault.BadWorkers) }
 {
+    if audited.is_err() {
+        remove(rt, begun);
+    }
     match audited {
         Ok(answer) => status_of(answer).number(),
         Err(StreamFault::Memory) => failed(rt, "memory", Status::NoMemory),
@@ -64,34 +75,36 @@ fn ended<R: Eprint>(rt: &R, audited: Result<Answer, StreamFault>) -> u8
 
 /// Audits the input by so many workers, and gives the status: accepted only where the bytes spell one history, and it is
 /// causally convergent.
-fn audit<R, I>(rt: &R, input: I, workers: u8) -> u8
+fn audit<R, I>(rt: &R, input: I, workers: u8, is_told: bool) -> u8
 where
-    R: Print + Eprint + AllocGlobal + Threads + Wait + Sync,
+    R: Print + Eprint + AllocGlobal + Threads + Wait + Sync + Clock,
     I: Read + Drop,
     ensures accepted { result ≡ number Accepted → IfSome (I.remaining input) SpellsConvergent }
     ensures refused { result ≡ number Refused → IfSome (I.remaining input) TellsRefused }
     ensures faulty { result ≡ number Faulty → (1 ≤ workers) → (workers ≤ MAX_WORKERS) → IfSome (I.remaining input) TellsNoTrace }
 {
-    let mut reader = Counted::new(input);
-    let mut writer = Counted::new(io::writer(rt));
+    let begun = begun(rt, is_told);
+    let mut reader = Counted::new(Watched::new(rt, input, begun));
+    let mut writer = Counted::new(Cleared::new(rt, io::writer(rt), begun));
     let audited = audit_stream(rt, rt.alloc(), &mut reader, &mut writer, workers, &OpenGate);
-    ended(rt, audited)
+    ended(rt, audited, begun)
 }
 
 /// Audits the input, which may be cut, and gives the status: accepted only where the bytes spell one history, and it is
 /// causally convergent, or where they are cut after records without a lasting fault.
-fn so_far<R, I>(rt: &R, input: I) -> u8
+fn so_far<R, I>(rt: &R, input: I, is_told: bool) -> u8
 where
-    R: Print + Eprint + AllocGlobal,
+    R: Print + Eprint + AllocGlobal + Clock,
     I: Read + Drop,
     ensures accepted { result ≡ number Accepted → IfSome (I.remaining input) IsSoundSoFar }
     ensures refused { result ≡ number Refused → IfSome (I.remaining input) TellsRefusedSoFar }
     ensures faulty { result ≡ number Faulty → IfSome (I.remaining input) TellsOtherFault }
 {
-    let mut reader = Counted::new(input);
-    let mut writer = Counted::new(io::writer(rt));
+    let begun = begun(rt, is_told);
+    let mut reader = Counted::new(Watched::new(rt, input, begun));
+    let mut writer = Counted::new(Cleared::new(rt, io::writer(rt), begun));
     let audited = audit_so_far(rt.alloc(), &mut reader, &mut writer);
-    ended(rt, audited)
+    ended(rt, audited, begun)
 }
 
 /// Shows the input, and gives the status: accepted only of a trace's text.
@@ -178,17 +191,17 @@ where
 /// Does a job over its input, and gives the status.
 fn command<R, I, E>(rt: &R, job: Job<'_>, input: I, errors: E) -> u8
 where
-    R: Files + Print + Eprint + AllocGlobal + Threads + Wait + Sync,
+    R: Files + Print + Eprint + AllocGlobal + Threads + Wait + Sync + Clock,
     R: Net<Listener = TcpListener, Stream = TcpStream>,
     I: Read + Drop,
-    E: Write + Drop,
+    E: Write + IsTerminal + Drop,
     ensures well { result ≡ number Accepted → IfSome (I.remaining input) (EndsWell job.entry) }
     ensures refused { result ≡ number Refused → IfSome (I.remaining input) (EndsRefused job.entry) }
     ensures faulty { result ≡ number Faulty → MayWork job.entry → IfSome (I.remaining input) (EndsFaulty job.entry) }
 {
     match job {
-        Job::Audit { workers, .. } => audit(rt, input, workers),
-        Job::SoFar { .. } => so_far(rt, input),
+        Job::Audit { workers, .. } => audit(rt, input, workers, errors.is_terminal()),
+        Job::SoFar { .. } => so_far(rt, input, errors.is_terminal()),
         Job::Show { .. } => show(rt, input, errors),
         Job::Run { trace, .. } => run_scenario(rt, input, trace, errors),
         Job::Serve {
@@ -214,9 +227,9 @@ fn input_of<'a>(job: Job<'a>) -> &'a str {
 /// Runs the job over the file that it names, or over standard input where that is `-`.
 fn perform<R, E>(rt: &R, job: Job<'_>, errors: E) -> u8
 where
-    R: Files + Input + Print + Eprint + AllocGlobal + Threads + Wait + Sync,
+    R: Files + Input + Print + Eprint + AllocGlobal + Threads + Wait + Sync + Clock,
     R: Net<Listener = TcpListener, Stream = TcpStream>,
-    E: Write + Drop,
+    E: Write + IsTerminal + Drop,
 {
     let input = input_of(job);
     if input == "-" {
@@ -246,9 +259,9 @@ fn no_job<R: Print + Eprint>(rt: &R, fault: LineFault) -> u8 {
 /// Does what the words after the program's name ask for.
 fn run<R, E>(rt: &R, arguments: &[String], errors: E) -> Result<u8, AllocError>
 where
-    R: Files + Input + Print + Eprint + AllocGlobal + Threads + Wait + Sync,
+    R: Files + Input + Print + Eprint + AllocGlobal + Threads + Wait + Sync + Clock,
     R: Net<Listener = TcpListener, Stream = TcpStream>,
-    E: Write + Drop,
+    E: Write + IsTerminal + Drop,
 {
     let words: Vec<&str> = arguments
         .iter()
