@@ -17,7 +17,7 @@ sys.dont_write_bytecode = True
 import plain  # noqa: E402
 import plain_cluster  # noqa: E402
 from cut_traces import cut_traces  # noqa: E402
-from traces import ROOT, check, cops, ended, example, ran, skip, trace  # noqa: E402
+from traces import ROOT, by_stalling_pipe, check, cops, ended, example, ran, skip, trace  # noqa: E402
 from client import message, talk  # noqa: E402
 from events import scenario  # noqa: E402
 from named import definition_files, wrong_edits  # noqa: E402
@@ -78,6 +78,7 @@ def examples():
         lines = example(f"{name}.ops").decode().split("\n")
         check(f"{name}.trace is what the writer makes of {name}.ops", trace(lines), data)
         audited(name, data, text, status)
+        check(f"{name}, a byte at a time", by_stalling_pipe(["audit", "-"], [bytes([byte]) for byte in data]), (status, text.encode(), b""))
 
 
 def long_chain():
@@ -90,6 +91,7 @@ def long_chain():
     text = "refused: 203 operations, 102 puts, 1 faults\n"
     text += f"stale (100,1) returned 1.0, newer (0,1) at 2.0, chain {' '.join(names)}\n"
     audited("long chain", trace(lines), text, 1)
+    check("long chain by 64 workers", cops("audit", "-", "--workers", "64", stdin=trace(lines)), (1, text.encode(), b""))
 
 
 def many_rounds():

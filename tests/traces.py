@@ -14,6 +14,9 @@ from write_trace import trace  # noqa: E402, F401
 
 counts = {"passed": 0, "failed": 0, "skipped": 0}
 
+# The program, without what looks whether it is that of these sources.
+BUILT = os.path.join(ROOT, "crates", "cops", "out", "cops")
+
 # For how many seconds a pipe stalls.
 STALL = 0.001
 
@@ -25,22 +28,24 @@ def cops(*words, stdin=b"", stdout=subprocess.PIPE, limit=None):
     def limited():
         resource.setrlimit(resource.RLIMIT_AS, (limit, limit))
 
-    built = os.path.join(ROOT, "crates", "cops", "out", "cops")
-    command = built if limit else os.path.join(ROOT, "cops")
+    command = BUILT if limit else os.path.join(ROOT, "cops")
     before = limited if limit else None
     ran = subprocess.run([command, *words], input=stdin, stdout=stdout, stderr=subprocess.PIPE, preexec_fn=before)
     answer = ran.returncode, ran.stdout, ran.stderr
     if limit or stdout != subprocess.PIPE or not stdin or words[:1] not in ((), ("audit",), ("show",)):
         return answer
-    stalled = by_stalling_pipe([built, *words], stdin)
+    stalled = by_stalling_pipe(words, four_pieces(stdin))
     return answer if stalled == answer else (answer, "by a pipe that stalls", stalled)
 
 
-def by_stalling_pipe(command, data):
-    """Status, output and errors of a command to which its input comes in four pieces, with a pause before each: the first of one byte, and most of them
-    ended within a record."""
-    pieces = data[:1], data[1:8], data[8 : len(data) // 2], data[max(8, len(data) // 2) :]
-    process = subprocess.Popen(command, stdin=subprocess.PIPE, stdout=subprocess.PIPE, stderr=subprocess.PIPE)
+def four_pieces(data):
+    """The data in pieces, of which the first is one byte and most end within a record."""
+    return data[:1], data[1:8], data[8 : len(data) // 2], data[max(8, len(data) // 2) :]
+
+
+def by_stalling_pipe(words, pieces):
+    """Status, output and errors of a run to which its input comes in pieces, with a pause before each."""
+    process = subprocess.Popen([BUILT, *words], stdin=subprocess.PIPE, stdout=subprocess.PIPE, stderr=subprocess.PIPE)
 
     def feed():
         try:

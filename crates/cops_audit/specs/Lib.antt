@@ -15,3 +15,4 @@ pub mod Tallies
 pub mod Floors
 pub mod Verdicts
 pub mod Windows
+pub mod Judged

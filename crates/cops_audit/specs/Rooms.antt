@@ -1,12 +1,16 @@
 -- What a look for faults fills, with room for a history.
-use Rattle.std.specs.Prelude.{◌≡◌, ◌≤◌, ℕ, [], length, vec_capacity}
+use Rattle.std.specs.Prelude.{◌≡◌, ◌≤◌, ℕ, [], length, map, vec_capacity}
 use Rattle.cops_types.specs.Histories.{Sessions, IsNamed}
 use Rattle.cops_types.specs.Faults.{Lists}
 use Rattle.cops_types.specs.Counts.{count_of}
 use Rattle.cops_audit.specs.declared.room.Room.{Room}
+use Rattle.cops_audit.specs.Floors.{AreFloors}
+use Rattle.cops_audit.specs.Keys.{AreFirsts}
 use Rattle.cops_audit.specs.Notes.{AreAsLong}
 use Rattle.cops_audit.specs.Numbers.{AreNumbers, KnowsKeys}
+use Rattle.cops_audit.specs.Sweeps.{HasRoom, IsIdle}
 use Rattle.cops_audit.specs.Tables.{IsVersionTable}
+use Rattle.cops_audit.specs.Windows.{AreSuspects}
 
 -- space for so many operations
 pub record HasSpace (count : ℕ) (room : Room) : Type 0 where
@@ -42,3 +46,11 @@ pub record Fits (h : Sessions) (room : Room) : Type 0 where
   pub empty : room.sweep.pending.items ≡ []
   pub numbers : AreNumbers room.numbers
   pub keys : KnowsKeys h room.numbers
+
+-- the gets that may be stale are found, with what tells whether they are, and the sweep begins anew
+pub record IsSuspected (h : Sessions) (room : Room) : Type 0 where
+  pub suspects : AreSuspects h room.table.items room.names.items room.suspects.items
+  pub firsts : AreFirsts h room.table.items room.firsts.items
+  pub floors : AreFloors room.suspects.items room.floors.items
+  pub idle : IsIdle (length h) (length room.table.items) room.sweep
+  pub space : HasRoom (map length room.notes) room.sweep

@@ -4,7 +4,7 @@ ghost use Rattle.cops_types.specs.Faults.{HasNoSource, IsStale};
 ghost use Rattle.cops_types.specs.Recorded.{IsWithinLimits};
 ghost use Rattle.cops_types.specs.Verdicts.{AllAbove, NoneStale};
 ghost use Rattle.cops_audit.specs.Notes.{IsNoted};
-ghost use Rattle.cops_audit.specs.Rooms.{Fits, IsFilled};
+ghost use Rattle.cops_audit.specs.Rooms.{Fits, IsFilled, IsSuspected};
 ghost use Rattle.cops_audit.specs.SoFar.{HaveSourcesOrWait, IsMismatched, IsSoFar, IsWaiting};
 ghost use Rattle.cops_audit.specs.Tables.{IsVersionTable};
 
@@ -62,8 +62,44 @@ fn has_mismatched(
 }
 
 impl Room {
-    /// Whether a get is stale in a history where each get has its source or waits for it, and each put is above what its
-    /// session saw.
+    /// Finds the gets that may be stale, in a history where each get has its source or waits for it, and each put is above what its
+    /// session saw. It takes no memory.
+    pub fn suspect(&mut self, history: &History) -> Result<(), AllocError>
+        requires fits { Fits history.now.sessions self.old }
+        requires limits { IsWithinLimits history.now.sessions }
+        requires filled { IsFilled history.now.sessions self.old }
+        requires notes { IsNoted history.now.sessions self.old.table.items self.old.notes }
+        requires sources { HaveSourcesOrWait history.now.sessions }
+        requires above { AllAbove history.now.sessions }
+        ensures ok { IsOk result }
+        ensures suspected { OnOk result (IsSuspected history.now.sessions self.new) }
+        ensures fits { OnOk result (Fits history.now.sessions self.new) }
+        ensures names { OnOk result (self.new.names ≡ self.old.names) }
+        ensures table { OnOk result (self.new.table ≡ self.old.table) }
+        ensures notes { OnOk result (self.new.notes ≡ self.old.notes) }
+    {
+        let table = self.table.as_slice();
+        let names = self.names.as_slice();
+        self.numbers.link(&mut self.nexts, history, table)?;
+        let nexts = self.nexts.as_slice();
+        set_firsts(&mut self.firsts, table, nexts)?;
+        let known = Firsts::Numbered(&self.numbers);
+        self.suspects.clear();
+        push_suspects(
+            &mut self.suspects,
+            history,
+            table,
+            &self.notes,
+            nexts,
+            &known,
+            names,
+        )?;
+        set_floors(&mut self.floors, self.suspects.as_slice())?;
+        self.sweep.restart();
+        Ok(())
+    }
+
+    /// Whether a get is stale in such a history.
     fn has_stale(&mut self, history: &History) -> Result<bool, AllocError>
         requires fits { Fits history.now.sessions self.old }
         requires limits { IsWithinLimits history.now.sessions }
@@ -78,27 +114,11 @@ impl Room {
         ensures names { OnOk result (self.new.names ≡ self.old.names) }
         ensures notes { OnOk result (self.new.notes ≡ self.old.notes) }
     {
+        self.suspect(history)?;
         let table = self.table.as_slice();
-        let names = self.names.as_slice();
-        self.numbers.link(&mut self.nexts, history, table)?;
-        let nexts = self.nexts.as_slice();
-        set_firsts(&mut self.firsts, table, nexts)?;
         let firsts = self.firsts.as_slice();
-        let known = Firsts::Numbered(&self.numbers);
-        self.suspects.clear();
-        push_suspects(
-            &mut self.suspects,
-            history,
-            table,
-            &self.notes,
-            nexts,
-            &known,
-            names,
-        )?;
         let suspects = self.suspects.as_slice();
-        set_floors(&mut self.floors, suspects)?;
         let floors = self.floors.as_slice();
-        self.sweep.restart();
         let notes = &self.notes;
         let found = has_stale(
             &mut self.sweep,

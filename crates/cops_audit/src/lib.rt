@@ -9,9 +9,11 @@
 
 mod assessing;
 mod beside;
+mod concluding;
 mod feed_fault;
 mod floors;
 mod hints;
+mod judged;
 mod judging;
 mod keys;
 mod known;
@@ -35,6 +37,7 @@ mod verdict;
 mod window;
 
 pub use feed_fault::FeedFault;
+pub use judged::Judged;
 pub use judging::judge;
 pub use laws::{
     accepted_exactly_where_convergent, clean_exactly_where_accepted, one_verdict,

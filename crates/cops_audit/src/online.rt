@@ -1,5 +1,5 @@
 use crate::feed_fault::FeedFault;
-use crate::judging::judge;
+use crate::judged::Judged;
 use crate::room::Room;
 use crate::verdict::{SoFar, Verdict};
 use cops_types::{History, Memory, Op};
@@ -30,6 +30,7 @@ impl Online {
     ghost use Rattle.std.specs.Prelude.{◌≡◌, ◌≤◌, ◌<◌, ◌↔◌, length, [], replicate, IfOk, IsErrOf, OnOk, OnErr};
     ghost use Rattle.cops_types.specs.Recorded.{IsFull};
     ghost use Rattle.cops_types.specs.Histories.{with_op};
+    ghost use Rattle.cops_audit.specs.Judged.{IsJudged};
     ghost use Rattle.cops_audit.specs.SoFar.{IsSoFar};
     ghost use Rattle.cops_audit.specs.Verdicts.{IsVerdict};
 
@@ -83,8 +84,21 @@ impl Online {
     pub fn finish(self) -> Result<Verdict, Memory>
         ensures { IfOk result (IsVerdict self) }
     {
-        let Online { alloc, history, .. } = self;
-        let verdict = judge(alloc, &history)?;
-        Ok(verdict)
+        let judged = self.close()?;
+        Ok(judged.into_verdict())
+    }
+
+    /// The verdict on what was fed, with the sessions that were fed, whose values are left out. It judges in the room that is kept,
+    /// and copies nothing.
+    pub fn close(self) -> Result<Judged, Memory>
+        ensures { IfOk result (IsJudged self) }
+    {
+        let Online {
+            alloc,
+            history,
+            mut room,
+        } = self;
+        let verdict = room.judge(alloc, &history)?;
+        Ok(Judged::new(history, verdict))
     }
 }

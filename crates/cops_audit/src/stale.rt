@@ -26,7 +26,46 @@ use crate::window::{Suspect, push_suspects};
 use cops_types::{History, OpName};
 use std::alloc::{AllocError, Global};
 
-/// The stale gets among the suspects, each with the newest put on its key in its past.
+/// The stale gets among the suspects, each with the newest put on its key in its past, by a sweep that has looked at nothing or
+/// that is through with what it looked at.
+pub fn stale_suspects(
+    alloc: Global,
+    sweep: &mut Sweep,
+    history: &History,
+    table: &[VersionedPut],
+    notes: &Notes,
+    firsts: &[u32],
+    suspects: &[Suspect],
+    floors: &[u32],
+) -> Result<Vec<Stale>, AllocError>
+    requires table { IsVersionTable history.now.sessions table.now }
+    requires notes { IsNoted history.now.sessions table.now notes.now }
+    requires sources { HaveSourcesOrWait history.now.sessions }
+    requires above { AllAbove history.now.sessions }
+    requires firsts { AreFirsts history.now.sessions table.now firsts.now }
+    requires suspects { (k : ℕ) (d : Suspect) → k < length suspects.now → IsSuspect history.now.sessions table.now (slice_index_or suspects.now k d) }
+    requires in_order { AllPairs (λ s t. IsBefore s.op t.op) suspects.now }
+    requires floors { AreFloors suspects.now floors.now }
+    requires limits { IsWithinLimits history.now.sessions }
+    requires idle { IsIdle (length history.now.sessions) (length table.now) sweep.old }
+    ensures { IfOk result (λ v. ListsAmong (λ f. f.op) (λ f. IsStale history.now.sessions f.op f.newer) (map (λ s. s.op) suspects.now) v.items) }
+{
+    let mut faults = Vec::new(alloc);
+    for k in 0..suspects.len() {
+        let op = suspects[k].op;
+        let found = judge_next(sweep, table, notes, firsts, suspects, floors, k)?;
+        if let Some(place) = found {
+            let put = &table[place as usize];
+            faults.push(Stale {
+                op,
+                newer: put.name,
+            })?;
+        }
+    }
+    Ok(faults)
+}
+
+/// The same, by a sweep of its own.
 fn judge_suspects(
     alloc: Global,
     history: &History,
@@ -44,22 +83,19 @@ fn judge_suspects(
     requires in_order { AllPairs (λ s t. IsBefore s.op t.op) suspects.now }
     ensures { IfOk result (λ v. ListsAmong (λ f. f.op) (λ f. IsStale history.now.sessions f.op f.newer) (map (λ s. s.op) suspects.now) v.items) }
 {
-    let mut list = Vec::new(alloc);
-    set_floors(&mut list, suspects)?;
-    let floors = list.as_slice();
+    let mut floors = Vec::new(alloc);
+    set_floors(&mut floors, suspects)?;
     let mut sweep = Sweep::new(alloc, history.clients(), table.len())?;
-    let mut faults = Vec::new(alloc);
-    for k in 0..suspects.len() {
-        let op = suspects[k].op;
-        let found = judge_next(&mut sweep, table, notes, firsts, suspects, floors, k)?;
-        if let Some(place) = found {
-            let put = &table[place as usize];
-            faults.push(Stale {
-                op,
-                newer: put.name,
-            })?;
-        }
-    }
+    let faults = stale_suspects(
+        alloc,
+        &mut sweep,
+        history,
+        table,
+        notes,
+        firsts,
+        suspects,
+        floors.as_slice(),
+    )?;
     Ok(faults)
 }
 

@@ -11,3 +11,4 @@ pub mod LineLemmas
 pub mod StaleLemmas
 pub mod VerdictLemmas
 pub mod ChainLaws
+pub mod SameReports

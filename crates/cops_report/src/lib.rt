@@ -4,6 +4,7 @@
 #![tactic(auto)]
 
 mod chains;
+mod judged;
 mod laws;
 mod lines;
 mod marks;
@@ -12,5 +13,6 @@ mod reports;
 mod search;
 
 pub use chains::chain;
+pub use judged::report_judged;
 pub use laws::{chain_is_evidence, one_chain, past_has_a_chain};
 pub use reports::report;

@@ -1,15 +1,25 @@
 use crate::building::*;
-use cops_audit::judge;
+use cops_audit::{Judged, Online, judge};
 use cops_report::*;
 use cops_types::OpName;
 use std::alloc::Global;
 use std::test::Fail;
 
-/// Whether the report of the verdict on a history is this text.
+/// What an auditor of two clients says at its end that was fed these operations.
+fn fed(alloc: Global, entries: &[(u16, Did)]) -> Result<Judged, Fail> {
+    let mut online = Online::new(alloc, 2)?;
+    for (client, did) in entries {
+        online.feed(*client, op(alloc, *did)?)?;
+    }
+    Ok(online.close()?)
+}
+
+/// Whether the report of the verdict on a history is this text, also where it was fed operation by operation.
 fn tells(alloc: Global, entries: &[(u16, Did)], text: &str) -> Result<bool, Fail> {
     let history = history(alloc, 2, entries)?;
     let verdict = judge(alloc, &history)?;
-    Ok(report(alloc, &history, &verdict)?.as_slice() == text.as_bytes())
+    let is_told = report(alloc, &history, &verdict)?.as_slice() == text.as_bytes();
+    Ok(is_told && report_judged(alloc, &fed(alloc, entries)?)?.as_slice() == text.as_bytes())
 }
 
 #[test]
@@ -19,6 +29,9 @@ fn reports(rt: HostRuntime) -> Result<(), Fail> {
     let refused =
         "refused: 5 operations, 3 puts, 1 faults\nstale (1,1) returned 1.0, newer (0,1) at 2.0, chain (0,1) (0,2) (1,0) (1,1)\n";
     assert!(rt; tells(rt.alloc(), &STALE, refused)?);
+    let other_value = [(0, Did::Put(b'x', 1, 1, 0)), (1, Did::Got(b'x', 2, 1, 0))];
+    let no_source = "refused: 2 operations, 1 puts, 1 faults\nno source (1,0) at 1.0\n";
+    assert!(rt; tells(rt.alloc(), &other_value, no_source)?);
     Ok(())
 }
 

@@ -1,50 +1,12 @@
-use Rattle.std.proofs.Common.{map, refl, arith}
-use Rattle.std.proofs.lemmas.List.{length-map}
-use Rattle.cops_types.specs.Faults.{IsStale}
-use Rattle.cops_audit.specs.declared.window.Suspect.{Suspect}
-use Rattle.cops_audit.proofs.Bridging.{are_places, are_rising, noted_suspect}
-use Rattle.cops_audit.proofs.Collect.{among_here}
-use Rattle.cops_audit.proofs.Places.{inside_table}
-use Rattle.cops_audit.proofs.Telling.{tell_none, tell_stale}
-use Rattle.cops_audit.proofs.Flooring.{none_at, some_at}
+use Rattle.std.proofs.Common.{ℕ, length, ap, sym, ◌∙◌, arith}
+use Rattle.std.proofs.lemmas.List.{length-replicate}
 use Rattle.cops_audit.proofs.stale.judge_suspects.Goals as goal
-use Rattle.cops_audit.proofs.stale.judge_suspects.Goals.{in-Some+in_ok-push, in_default}
 
-pub judge_next-requires-clause-rising : goal.judge_next-requires-clause-rising
-judge_next-requires-clause-rising c = are_rising c.args.history.now.sessions c.args.table.now c.requires.table c.args.notes.now c.requires.notes c.requires.sources c.requires.above c.clients.ensures.limits
-
-pub judge_next-requires-clause-firsts : goal.judge_next-requires-clause-firsts
-judge_next-requires-clause-firsts c = are_places c.args.history.now.sessions c.args.table.now c.requires.table c.args.firsts.now c.requires.firsts
-
-pub judge_next-requires-clause-noted : goal.judge_next-requires-clause-noted
-judge_next-requires-clause-noted c = λ d. noted_suspect c.args.history.now.sessions c.args.table.now c.requires.table c.args.notes.now c.requires.notes c.requires.sources _ (c.requires.suspects c.loop-k.k d (omega arith))
-
-pub bounds-table-place : goal.bounds-table-place
-bounds-table-place c =
-    let none : Suspect = record { op = record { client = 0; index = 0 }; first = 0; from = 0 } in
-    let w = some_at _ c.in_ok-found.found c.in-Some.place c.in-Some.is c.in_ok-found.ensures.found none in
-    inside_table c.args.table.now c.in-Some.place w.1.put w.1.version w.1.stands
-
-pub loop-k-preserved : goal.loop-k-preserved
-loop-k-preserved c =
-    let h = c.args.history.now.sessions in
-    let none : Suspect = record { op = record { client = 0; index = 0 }; first = 0; from = 0 } in
-    elim c.match-found.branch [
-      | in-Some+in_ok-push w ↦ rw (w.faults-is, w.in_ok-push.ensures.items)
-          (let found = some_at _ c.in_ok-found.found w.in-Some.place w.in-Some.is c.in_ok-found.ensures.found none in
-          record {
-            faults = tell_stale h c.args.table.now c.requires.table c.args.notes.now c.requires.notes c.requires.sources c.args.firsts.now c.requires.firsts c.args.suspects.now c.requires.in_order c.loop-k.k (omega arith) none
-                (c.requires.suspects c.loop-k.k none (omega arith)) c.loop-k.faults.items c.loop-k.invariant.faults w.in-Some.place _ w.index-table-place.result refl w.index-table-place.is found.0 found.1;
-            after = c.in_ok-found.ensures.after;
-          })
-      | in_default w ↦ rw w.faults-is
-          record {
-            faults = tell_none h c.args.table.now c.requires.table c.args.notes.now c.requires.notes c.requires.sources c.args.firsts.now c.requires.firsts c.args.suspects.now c.requires.in_order c.loop-k.k (omega arith) none
-                (c.requires.suspects c.loop-k.k none (omega arith)) c.loop-k.faults.items c.loop-k.invariant.faults (none_at _ c.in_ok-found.found w.in_default.is c.in_ok-found.ensures.none none);
-            after = c.in_ok-found.ensures.after;
-          }
-    ]
-
-pub returns : goal.returns
-returns c = among_here (λ f. f.op) (λ f. IsStale c.args.history.now.sessions f.op f.newer) (map (λ (s : Suspect). s.op) c.args.suspects.now) c.loop-k.k c.loop-k.faults.items
-    (omega (arith, length-map c.args.suspects.now (λ (s : Suspect). s.op))) c.loop-k.invariant.faults
+pub stale_suspects-requires-clause-idle : goal.stale_suspects-requires-clause-idle
+stale_suspects-requires-clause-idle c =
+    let fresh = c.in_ok-sweep.ensures in
+    record {
+      empty = fresh.pending;
+      clients = ap length fresh.counts ∙ length-replicate {A = ℕ} c.clients.result 0 ∙ c.clients.ensures.count;
+      places = omega (arith, ap length fresh.newest, length-replicate {A = ℕ} (length c.args.table.now) 0);
+    }

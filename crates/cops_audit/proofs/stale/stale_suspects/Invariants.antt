@@ -2,7 +2,7 @@ use Rattle.std.proofs.Common.{map, take}
 use Rattle.cops_types.specs.Faults.{IsStale}
 use Rattle.cops_audit.specs.Names.{ListsAmong}
 use Rattle.cops_audit.specs.Floors.{IsAfter}
-use Rattle.cops_audit.proofs.stale.judge_suspects.Given as goal
+use Rattle.cops_audit.proofs.stale.stale_suspects.Given as goal
 
 abbrev pub invariant-loop-k : goal.invariant-loop-k
 invariant-loop-k l = record {

@@ -1,0 +1,26 @@
+use Rattle.std.proofs.Common.{List, Vec, Global, sym, subst}
+use Rattle.cops_types.specs.declared.op.OpName.{OpName}
+use Rattle.cops_types.specs.Histories.{IsNamed}
+use Rattle.cops_types.specs.Faults.{Lists}
+use Rattle.cops_audit.specs.declared.table.VersionedPut.{VersionedPut}
+use Rattle.cops_audit.specs.Windows.{AreSuspects}
+use Rattle.cops_audit.proofs.Classes.{each_suspect, of_suspects, seen_suspects, sourced_wait, stale_listed}
+use Rattle.cops_audit.proofs.room.Room.stale.Goals as goal
+
+pub suspect-requires-clause-sources : goal.suspect-requires-clause-sources
+suspect-requires-clause-sources c = sourced_wait c.args.history.now.sessions c.requires.sources
+
+pub stale_suspects-requires-clause-sources : goal.stale_suspects-requires-clause-sources
+stale_suspects-requires-clause-sources c = sourced_wait c.args.history.now.sessions c.requires.sources
+
+pub stale_suspects-requires-clause-suspects : goal.stale_suspects-requires-clause-suspects
+stale_suspects-requires-clause-suspects c =
+    each_suspect (subst (λ (t : List VersionedPut). AreSuspects c.args.history.now.sessions t c.suspect.new.self.names.items c.as_slice-suspects.result.now) (sym c.as_slice-table.ensures.value)
+    (seen_suspects c.as_slice-suspects.ensures.value c.in_ok-suspect.ensures.suspected.suspects))
+
+pub returns-clause-stale : goal.returns-clause-stale
+returns-clause-stale c =
+    let h = c.args.history.now.sessions in
+    let names = subst (λ (v : Vec OpName Global). Lists (λ n. n) (IsNamed h) v.items) (sym c.in_ok-suspect.ensures.names) c.requires.filled.names in
+    stale_listed h c.suspect.new.self.names.items names c.in_ok-faults.faults.items
+    (of_suspects (seen_suspects c.as_slice-suspects.ensures.value c.in_ok-suspect.ensures.suspected.suspects) c.in_ok-faults.ensures)

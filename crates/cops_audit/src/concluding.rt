@@ -1,0 +1,105 @@
+ghost use Rattle.std.specs.Prelude.{◌≡◌, IfOk, IfNone, IfSome, OnOk};
+ghost use Rattle.cops_types.specs.Recorded.{IsWithinLimits};
+ghost use Rattle.cops_types.specs.Verdicts.{AllAbove, AllHaveSources};
+ghost use Rattle.cops_types.specs.Faults.{IsStale, Lists};
+ghost use Rattle.cops_audit.specs.Notes.{IsNoted};
+ghost use Rattle.cops_audit.specs.Rooms.{Fits, IsFilled};
+ghost use Rattle.cops_audit.specs.Verdicts.{IsVerdict};
+
+use crate::names::set_names;
+use crate::notes::without_source;
+use crate::rising::not_above;
+use crate::room::Room;
+use crate::stale::stale_suspects;
+use crate::table::{doubled, is_rising, put_names, set_puts};
+use crate::verdict::{Faults, Stale, Verdict};
+use cops_types::History;
+use std::alloc::{AllocError, Global};
+
+impl Room {
+    /// The stale gets of a history where each get has its source, and each put is above what its session saw, each with the newest
+    /// put on its key in its past.
+    fn stale(&mut self, alloc: Global, history: &History) -> Result<Vec<Stale>, AllocError>
+        requires fits { Fits history.now.sessions self.old }
+        requires limits { IsWithinLimits history.now.sessions }
+        requires filled { IsFilled history.now.sessions self.old }
+        requires notes { IsNoted history.now.sessions self.old.table.items self.old.notes }
+        requires sources { AllHaveSources history.now.sessions }
+        requires above { AllAbove history.now.sessions }
+        ensures stale { IfOk result (λ v. Lists (λ f. f.op) (λ f. IsStale history.now.sessions f.op f.newer) v.items) }
+        ensures table { OnOk result (self.new.table ≡ self.old.table) }
+    {
+        self.suspect(history)?;
+        let table = self.table.as_slice();
+        let firsts = self.firsts.as_slice();
+        let suspects = self.suspects.as_slice();
+        let floors = self.floors.as_slice();
+        let notes = &self.notes;
+        let faults = stale_suspects(
+            alloc,
+            &mut self.sweep,
+            history,
+            table,
+            notes,
+            firsts,
+            suspects,
+            floors,
+        )?;
+        Ok(faults)
+    }
+
+    /// The verdict on a history by the classes before the stale gets: none where they are empty.
+    fn judge_notes(&self, alloc: Global, history: &History) -> Result<Option<Verdict>, AllocError>
+        requires filled { IsFilled history.now.sessions self.now }
+        requires notes { IsNoted history.now.sessions self.now.table.items self.now.notes }
+        ensures refused { IfOk result (λ found. IfSome found (IsVerdict history.now.sessions)) }
+        ensures sources { IfOk result (λ found. IfNone found (AllHaveSources history.now.sessions)) }
+        ensures above { IfOk result (λ found. IfNone found (AllAbove history.now.sessions)) }
+    {
+        let names = self.names.as_slice();
+        let sourceless = without_source(alloc, &self.notes, names)?;
+        if !sourceless.is_empty() {
+            return Ok(Some(Verdict::Refused(Faults::NoSource(sourceless))));
+        }
+        let not_above = not_above(alloc, &self.notes, names)?;
+        if !not_above.is_empty() {
+            return Ok(Some(Verdict::Refused(Faults::NotAbove(not_above))));
+        }
+        Ok(None)
+    }
+
+    /// The verdict on a history in which no version is borne by two puts.
+    fn judge_gets(&mut self, alloc: Global, history: &History) -> Result<Verdict, AllocError>
+        requires fits { Fits history.now.sessions self.old }
+        requires limits { IsWithinLimits history.now.sessions }
+        requires filled { IsFilled history.now.sessions self.old }
+        ensures { IfOk result (IsVerdict history.now.sessions) }
+    {
+        self.notes.renew(history, self.table.as_slice());
+        if let Some(verdict) = self.judge_notes(alloc, history)? {
+            return Ok(verdict);
+        }
+        let stale = self.stale(alloc, history)?;
+        if !stale.is_empty() {
+            return Ok(Verdict::Refused(Faults::Stale(stale)));
+        }
+        let puts = put_names(alloc, self.table.as_slice())?;
+        Ok(Verdict::Accepted(puts))
+    }
+
+    /// The verdict on a history. Beside the room it takes memory for the faults alone, or for the names of the puts.
+    pub fn judge(&mut self, alloc: Global, history: &History) -> Result<Verdict, AllocError>
+        requires { Fits history.now.sessions self.old }
+        ensures { IfOk result (IsVerdict history.now.sessions) }
+    {
+        set_names(&mut self.names, history);
+        let names = self.names.as_slice();
+        set_puts(&mut self.table, history, names)?;
+        let table = self.table.as_slice();
+        if !is_rising(table) {
+            let faults = doubled(alloc, history, names, table)?;
+            return Ok(Verdict::Refused(Faults::Doubled(faults)));
+        }
+        self.judge_gets(alloc, history)
+    }
+}

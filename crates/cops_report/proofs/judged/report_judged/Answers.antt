@@ -1,0 +1,16 @@
+use Rattle.std.proofs.Common.{Vec, Global, sym, subst}
+use Rattle.cops_audit.specs.Verdicts.{IsVerdict}
+use Rattle.cops_audit.specs.declared.verdict.Verdict.{Verdict}
+use Rattle.cops_report.specs.Reports.{IsReport}
+use Rattle.cops_report.proofs.SameReports.{ok_too, one_report}
+use Rattle.cops_report.proofs.judged.report_judged.Goals as goal
+
+pub report-requires : goal.report-requires
+report-requires c = subst (IsVerdict c.history.result.now.sessions) (sym c.verdict.ensures) c.history.ensures.verdict
+
+pub returns : goal.returns
+returns c = λ h is.
+    let own = c.history.result.now.sessions in
+    let judged = c.args.judged.now in
+    ok_too (λ (text : Vec _ Global). IsReport own c.verdict.result.now text.items) (λ text. IsReport h judged.verdict text.items)
+    (λ text told. one_report own h judged c.history.ensures is text.items (subst (λ (v : Verdict). IsReport own v text.items) c.verdict.ensures told)) c.report.result c.report.ensures
