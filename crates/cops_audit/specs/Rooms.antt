@@ -3,10 +3,11 @@ use Rattle.std.specs.Prelude.{◌≡◌, ◌≤◌, ℕ, [], length, map, vec_ca
 use Rattle.cops_types.specs.Histories.{Sessions, IsNamed}
 use Rattle.cops_types.specs.Faults.{Lists}
 use Rattle.cops_types.specs.Counts.{count_of}
+use Rattle.cops_types.specs.Recorded.{IsWithinLimits}
 use Rattle.cops_audit.specs.declared.room.Room.{Room}
 use Rattle.cops_audit.specs.Floors.{AreFloors}
 use Rattle.cops_audit.specs.Keys.{AreFirsts}
-use Rattle.cops_audit.specs.Notes.{AreAsLong}
+use Rattle.cops_audit.specs.Notes.{AreAsLong, IsNoted}
 use Rattle.cops_audit.specs.Numbers.{AreNumbers, KnowsKeys}
 use Rattle.cops_audit.specs.Sweeps.{HasRoom, IsIdle}
 use Rattle.cops_audit.specs.Tables.{IsVersionTable}
@@ -46,6 +47,13 @@ pub record Fits (h : Sessions) (room : Room) : Type 0 where
   pub empty : room.sweep.pending.items ≡ []
   pub numbers : AreNumbers room.numbers
   pub keys : KnowsKeys h room.numbers
+
+-- room for a history, with its names, its puts and the notes on its operations
+pub record IsNotedIn (h : Sessions) (room : Room) : Type 0 where
+  pub fits : Fits h room
+  pub limits : IsWithinLimits h
+  pub filled : IsFilled h room
+  pub notes : IsNoted h room.table.items room.notes
 
 -- the gets that may be stale are found, with what tells whether they are, and the sweep begins anew
 pub record IsSuspected (h : Sessions) (room : Room) : Type 0 where

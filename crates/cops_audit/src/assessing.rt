@@ -4,7 +4,7 @@ ghost use Rattle.cops_types.specs.Faults.{HasNoSource, IsStale};
 ghost use Rattle.cops_types.specs.Recorded.{IsWithinLimits};
 ghost use Rattle.cops_types.specs.Verdicts.{AllAbove, NoneStale};
 ghost use Rattle.cops_audit.specs.Notes.{IsNoted};
-ghost use Rattle.cops_audit.specs.Rooms.{Fits, IsFilled, IsSuspected};
+ghost use Rattle.cops_audit.specs.Rooms.{Fits, IsFilled, IsNotedIn, IsSuspected};
 ghost use Rattle.cops_audit.specs.SoFar.{HaveSourcesOrWait, IsMismatched, IsSoFar, IsWaiting};
 ghost use Rattle.cops_audit.specs.Tables.{IsVersionTable};
 
@@ -65,10 +65,7 @@ impl Room {
     /// Finds the gets that may be stale, in a history where each get has its source or waits for it, and each put is above what its
     /// session saw. It takes no memory.
     pub fn suspect(&mut self, history: &History) -> Result<(), AllocError>
-        requires fits { Fits history.now.sessions self.old }
-        requires limits { IsWithinLimits history.now.sessions }
-        requires filled { IsFilled history.now.sessions self.old }
-        requires notes { IsNoted history.now.sessions self.old.table.items self.old.notes }
+        requires noted { IsNotedIn history.now.sessions self.old }
         requires sources { HaveSourcesOrWait history.now.sessions }
         requires above { AllAbove history.now.sessions }
         ensures ok { IsOk result }
@@ -101,10 +98,7 @@ impl Room {
 
     /// Whether a get is stale in such a history.
     fn has_stale(&mut self, history: &History) -> Result<bool, AllocError>
-        requires fits { Fits history.now.sessions self.old }
-        requires limits { IsWithinLimits history.now.sessions }
-        requires filled { IsFilled history.now.sessions self.old }
-        requires notes { IsNoted history.now.sessions self.old.table.items self.old.notes }
+        requires noted { IsNotedIn history.now.sessions self.old }
         requires sources { HaveSourcesOrWait history.now.sessions }
         requires above { AllAbove history.now.sessions }
         ensures ok { IsOk result }

@@ -3,7 +3,7 @@ ghost use Rattle.cops_types.specs.Recorded.{IsWithinLimits};
 ghost use Rattle.cops_types.specs.Verdicts.{AllAbove, AllHaveSources};
 ghost use Rattle.cops_types.specs.Faults.{IsStale, Lists};
 ghost use Rattle.cops_audit.specs.Notes.{IsNoted};
-ghost use Rattle.cops_audit.specs.Rooms.{Fits, IsFilled};
+ghost use Rattle.cops_audit.specs.Rooms.{Fits, IsFilled, IsNotedIn};
 ghost use Rattle.cops_audit.specs.Verdicts.{IsVerdict};
 
 use crate::names::set_names;
@@ -20,10 +20,7 @@ impl Room {
     /// The stale gets of a history where each get has its source, and each put is above what its session saw, each with the newest
     /// put on its key in its past.
     fn stale(&mut self, alloc: Global, history: &History) -> Result<Vec<Stale>, AllocError>
-        requires fits { Fits history.now.sessions self.old }
-        requires limits { IsWithinLimits history.now.sessions }
-        requires filled { IsFilled history.now.sessions self.old }
-        requires notes { IsNoted history.now.sessions self.old.table.items self.old.notes }
+        requires noted { IsNotedIn history.now.sessions self.old }
         requires sources { AllHaveSources history.now.sessions }
         requires above { AllAbove history.now.sessions }
         ensures stale { IfOk result (λ v. Lists (λ f. f.op) (λ f. IsStale history.now.sessions f.op f.newer) v.items) }

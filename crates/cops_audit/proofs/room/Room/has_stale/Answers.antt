@@ -16,7 +16,7 @@ has_stale-requires-clause-suspects c =
 pub returns-clause-none : goal.returns-clause-none
 returns-clause-none c = λ found.
     let h = c.args.history.now.sessions in
-    let names = subst (λ (v : Vec OpName Global). Lists (λ n. n) (IsNamed h) v.items) (sym c.in_ok-suspect.ensures.names) c.requires.filled.names in
+    let names = subst (λ (v : Vec OpName Global). Lists (λ n. n) (IsNamed h) v.items) (sym c.in_ok-suspect.ensures.names) c.requires.noted.filled.names in
     none_stale h c.suspect.new.self.table.items c.suspect.new.self.names.items c.as_slice-suspects.result.now names
     (seen_suspects c.as_slice-suspects.ensures.value c.in_ok-suspect.ensures.suspected.suspects) (c.in_ok-found.ensures.none found)
 

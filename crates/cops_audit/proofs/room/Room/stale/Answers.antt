@@ -21,6 +21,6 @@ stale_suspects-requires-clause-suspects c =
 pub returns-clause-stale : goal.returns-clause-stale
 returns-clause-stale c =
     let h = c.args.history.now.sessions in
-    let names = subst (λ (v : Vec OpName Global). Lists (λ n. n) (IsNamed h) v.items) (sym c.in_ok-suspect.ensures.names) c.requires.filled.names in
+    let names = subst (λ (v : Vec OpName Global). Lists (λ n. n) (IsNamed h) v.items) (sym c.in_ok-suspect.ensures.names) c.requires.noted.filled.names in
     stale_listed h c.suspect.new.self.names.items names c.in_ok-faults.faults.items
     (of_suspects (seen_suspects c.as_slice-suspects.ensures.value c.in_ok-suspect.ensures.suspected.suspects) c.in_ok-faults.ensures)

@@ -12,19 +12,19 @@ use Rattle.cops_audit.proofs.Numbering.{keys_same, still_numbers}
 use Rattle.cops_audit.proofs.room.Room.suspect.Goals as goal
 
 pub returns-in_err-link-clause-ok : goal.returns-in_err-link-clause-ok
-returns-in_err-link-clause-ok c = no_ok (c.in_err-link.ensures.succeeds (omega (arith, c.requires.filled.few, c.requires.fits.space.nexts, ap length c.as_slice-table.ensures.value)))
+returns-in_err-link-clause-ok c = no_ok (c.in_err-link.ensures.succeeds (omega (arith, c.requires.noted.filled.few, c.requires.noted.fits.space.nexts, ap length c.as_slice-table.ensures.value)))
 
 pub returns-in_err-set_firsts-clause-ok : goal.returns-in_err-set_firsts-clause-ok
-returns-in_err-set_firsts-clause-ok c = no_ok (c.in_err-set_firsts.ensures.succeeds (omega (arith, c.requires.filled.few, c.requires.fits.space.firsts, ap length c.as_slice-table.ensures.value)))
+returns-in_err-set_firsts-clause-ok c = no_ok (c.in_err-set_firsts.ensures.succeeds (omega (arith, c.requires.noted.filled.few, c.requires.noted.fits.space.firsts, ap length c.as_slice-table.ensures.value)))
 
 pub returns-in_err-push_suspects-clause-ok : goal.returns-in_err-push_suspects-clause-ok
-returns-in_err-push_suspects-clause-ok c = no_ok (c.in_err-push_suspects.ensures.succeeds (omega (arith, c.requires.filled.count, c.requires.fits.space.suspects, c.clear.ensures.capacity, ap length c.as_slice-names.ensures.value)))
+returns-in_err-push_suspects-clause-ok c = no_ok (c.in_err-push_suspects.ensures.succeeds (omega (arith, c.requires.noted.filled.count, c.requires.noted.fits.space.suspects, c.clear.ensures.capacity, ap length c.as_slice-names.ensures.value)))
 
 pub returns-in_err-set_floors-clause-ok : goal.returns-in_err-set_floors-clause-ok
 returns-in_err-set_floors-clause-ok c = no_ok (c.in_err-set_floors.ensures.succeeds (omega (
   arith,
-  c.requires.filled.count,
-  c.requires.fits.space.floors,
+  c.requires.noted.filled.count,
+  c.requires.noted.fits.space.floors,
   c.in_ok-push_suspects.ensures.count,
   c.push_suspects.new.suspects.ok.0,
   ap length c.as_slice.ensures.value,
@@ -35,21 +35,21 @@ pub returns-clause-suspected : goal.returns-clause-suspected
 returns-clause-suspected c =
     let h = c.args.history.now.sessions in
     let seen = c.as_slice-table.ensures.value in
-    let table = subst (IsVersionTable h) (sym seen) c.requires.filled.table in
+    let table = subst (IsVersionTable h) (sym seen) c.requires.noted.filled.table in
     let nexts = subst (AreNexts h c.as_slice-table.result.now) (sym c.as_slice-nexts.ensures.value) c.in_ok-link.ensures.nexts in
     record {
       suspects = subst (λ (t : List VersionedPut). AreSuspects h t c.args.self.now.names.items c.push_suspects.new.suspects.items) seen
           (subst (λ (n : List OpName). AreSuspects h c.as_slice-table.result.now n c.push_suspects.new.suspects.items) c.as_slice-names.ensures.value c.in_ok-push_suspects.ensures.suspects);
       firsts = subst (λ (t : List VersionedPut). AreFirsts h t c.set_firsts.new.places.items) seen (c.in_ok-set_firsts.ensures.firsts h table nexts);
       floors = subst (λ (s : List Suspect). AreFloors s c.set_floors.new.floors.items) c.as_slice.ensures.value c.in_ok-set_floors.ensures.floors;
-      idle = fresh_idle h c.args.self.now c.requires.fits c.restart.new.self (c.restart.ensures.fresh c.requires.fits.empty) c.restart.ensures.pending (length c.args.self.now.table.items) c.requires.filled.few;
-      space = fresh_room h c.args.self.now c.requires.fits c.restart.new.self (c.restart.ensures.fresh c.requires.fits.empty) c.restart.ensures.pending;
+      idle = fresh_idle h c.args.self.now c.requires.noted.fits c.restart.new.self (c.restart.ensures.fresh c.requires.noted.fits.empty) c.restart.ensures.pending (length c.args.self.now.table.items) c.requires.noted.filled.few;
+      space = fresh_room h c.args.self.now c.requires.noted.fits c.restart.new.self (c.restart.ensures.fresh c.requires.noted.fits.empty) c.restart.ensures.pending;
     }
 
 pub returns-clause-fits : goal.returns-clause-fits
 returns-clause-fits c =
     let h = c.args.history.now.sessions in
-    let fits = c.requires.fits in
+    let fits = c.requires.noted.fits in
     let fresh = c.restart.ensures.fresh fits.empty in
     let room = fresh_room h c.args.self.now fits c.restart.new.self fresh c.restart.ensures.pending in
     let idle = fresh_idle h c.args.self.now fits c.restart.new.self fresh c.restart.ensures.pending 0 (omega arith) in
