@@ -6,10 +6,10 @@ import sys
 import time
 
 sys.dont_write_bytecode = True
-from traces import ROOT, check, example  # noqa: E402
+from traces import BUILT, check, example  # noqa: E402
 
-# For how many seconds an audit reads before it tells how far it is.
-PATIENCE = 1
+# An audit reads for a second before it tells how far it is; these are seconds after which it has begun, and a second more has gone by, on any machine.
+SURELY = 3
 
 
 def all_of(terminal):
@@ -28,18 +28,18 @@ def all_of(terminal):
 
 
 def slowly_audited(words, data):
-    """The status, the output and what is told on a terminal of an audit that waits for the second half of its input."""
+    """The status, the output and what is told last on a terminal of an audit that waits for the second half of its input."""
     terminal, errors = pty.openpty()
-    command = [os.path.join(ROOT, "cops"), "audit", "-", *words]
-    process = subprocess.Popen(command, stdin=subprocess.PIPE, stdout=subprocess.PIPE, stderr=errors)
+    process = subprocess.Popen([BUILT, "audit", "-", *words], stdin=subprocess.PIPE, stdout=subprocess.PIPE, stderr=errors)
     os.close(errors)
     with process.stdin as pipe:
         pipe.write(data[: len(data) // 2])
         pipe.flush()
-        time.sleep(PATIENCE + 0.2)
+        time.sleep(SURELY)
         pipe.write(data[len(data) // 2 :])
     out = process.stdout.read()
-    return process.wait(), out, all_of(terminal)
+    told = all_of(terminal)
+    return process.wait(), out, told[told.rfind(b"\r", 0, told.rfind(b"\r")) :]
 
 
 def on_a_terminal():
