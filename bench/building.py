@@ -7,10 +7,10 @@ ROOT = os.path.dirname(os.path.dirname(os.path.abspath(__file__)))
 
 
 def build():
-    """The program of `crates/cops_bench`, proved and built where a source is newer."""
-    crate = os.path.join(ROOT, "crates", "cops_bench")
+    """The program of `crates/cops_works`, proved and built where a source is newer."""
+    crate = os.path.join(ROOT, "crates", "cops_works")
     subprocess.run(["rt", "run"], cwd=crate, check=True, stdout=subprocess.DEVNULL, stdin=subprocess.DEVNULL)
-    return os.path.join(crate, "out", "cops_bench")
+    return os.path.join(crate, "out", "cops_works")
 
 
 def seconds(*command, runs=5):

@@ -183,6 +183,7 @@ fn line(alloc: Global, number: &str, words: &[&str]) -> Result<String, Error> {
 /// The answer to a call of the scenario that there is.
 fn ask(alloc: Global, scenario: &Scenario, words: &[&str]) -> Result<String, Error> {
     match words {
+        ["retries"] => text(alloc, &[Number(u64::from(scenario.retries()))]),
         ["client", number] => client(alloc, scenario, number),
         ["script", number, index] => script(alloc, scenario, number, index),
         ["events"] => events(alloc, scenario),

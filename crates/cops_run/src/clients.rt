@@ -19,7 +19,7 @@ pub(crate) struct Job<'a> {
     pub(crate) script: &'a [ScriptOp],
 }
 
-/// The client's thread: its operations one after the other, up to the first that is refused.
+/// The client's thread: its operations one after the other, up to the first that is refused in the end.
 pub(crate) fn work<R: Wait, G: Gate>(
     rt: &R,
     stage: &Stage,
@@ -66,7 +66,8 @@ fn follow<R: Wait, G: Gate>(
     Ok(End::Client(ClientOutcome::Done))
 }
 
-/// One operation of a script: why it is refused, where it is.
+/// One operation of a script: why it is refused, where it is. It is tried again while memory is refused to it, so often as the
+/// scenario says.
 fn perform<R: Wait, G: Gate>(
     rt: &R,
     stage: &Stage,
@@ -77,6 +78,13 @@ fn perform<R: Wait, G: Gate>(
     ensures same { IsSameClient client.old client.new }
     ensures held { OnErr result (MayHoldIn (G.may_hold gate.now) (length stage.now.cluster.place.splits + 1) client.old.dc client.old.number) }
 {
+    for _ in 0..stage.retries() {
+        let outcome = outcome_of(rt, stage, gate, client, op)?;
+        let refused = refusal(&outcome);
+        if refused != Some(Refusal::Memory) {
+            return Ok(refused);
+        }
+    }
     let outcome = outcome_of(rt, stage, gate, client, op)?;
     Ok(refusal(&outcome))
 }

@@ -22,7 +22,8 @@ pub(crate) struct Opening<'a> {
     pub(crate) replicas: Replicas,
 }
 
-/// What a run of a scenario begins with, in its setting: the links are those of the scenario, and a loop may make so many turns.
+/// What a run of a scenario begins with, in its setting: the links are those of the scenario, a loop may make so many turns, and an
+/// operation is tried again so often.
 pub(crate) fn opened<'a>(
     alloc: Global,
     setting: &Setting,
@@ -31,6 +32,7 @@ pub(crate) fn opened<'a>(
     requires { setting.now ≡ setting_of scenario.now }
     ensures place { IfOk result (λ o. o.stage.cluster.place ≡ setting.now.place) }
     ensures turns { IfOk result (λ o. o.stage.turns ≡ scenario.now.turns) }
+    ensures retries { IfOk result (λ o. o.stage.retries ≡ scenario.now.retries) }
     ensures clients { IfOk result (λ o. o.stage.cluster.clients ≡ length setting.now.homes) }
     ensures jobs { IfOk result (λ o. AreJobsOf setting.now o.jobs.items) }
     ensures scripts { IfOk result (λ o. All (HasItsScript scenario.now.clients) o.jobs.items) }
@@ -59,7 +61,7 @@ pub(crate) fn opened<'a>(
         }
     };
     Ok(Opening {
-        stage: Stage::new(cluster, scenario.turns()),
+        stage: Stage::new(cluster, scenario.turns(), scenario.retries()),
         jobs,
         replicas,
     })

@@ -31,7 +31,8 @@ use std::thread::Threads;
 /// Runs the scripts of the scenario's clients, each on a thread of its own, in a cluster with a sender and a receiver for each
 /// data centre, each on a thread of its own too, and a link for each ordered pair of data centres. What it hands out is one run
 /// of the world in which each client ended so and each data centre has settled each put (COPS, section 3: replicas converge),
-/// and what its clients saw is accepted. A client stops at its first operation that is refused. Turns of senders and receivers
+/// and what its clients saw is accepted. A client stops at its first operation that is refused; one that memory is refused to is
+/// tried again as often as the scenario says, and leaves no record of the tries that were refused. Turns of senders and receivers
 /// before the clients are joined are not counted against the scenario's number of turns, and want of memory in a turn is tried
 /// again in the next. A scenario with events has clients without scripts, for whom nothing happens.
 pub fn run<R: Threads + Wait + Sync, G: Gate>(

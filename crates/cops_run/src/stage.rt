@@ -6,11 +6,13 @@ use std::time::Duration;
 /// How long an idle loop rests before its next turn, in microseconds.
 const REST: u64 = 50;
 
-/// What the threads of a run share: the cluster, how many turns a loop may make, and what they tell each other.
+/// What the threads of a run share: the cluster, how many turns a loop may make, how often an operation is tried again, and what
+/// they tell each other.
 #[derive(Drop)]
 pub(crate) struct Stage {
     cluster: Cluster,
     turns: u32,
+    retries: u8,
     /// What idle loops rest on. It stays 0, and nobody wakes them: they rest for their time.
     resting: AtomicU64,
     broken: AtomicBool,
@@ -21,14 +23,16 @@ pub(crate) struct Stage {
 impl Stage {
     ghost use Rattle.std.specs.Prelude.{◌≡◌};
 
-    /// A stage of this cluster and this number of turns, on which all is to come.
-    pub(crate) fn new(cluster: Cluster, turns: u32) -> Stage
+    /// A stage of this cluster and these numbers of turns and of further tries, on which all is to come.
+    pub(crate) fn new(cluster: Cluster, turns: u32, retries: u8) -> Stage
         ensures cluster { result.cluster ≡ cluster }
         ensures turns { result.turns ≡ turns }
+        ensures retries { result.retries ≡ retries }
     {
         Stage {
             cluster,
             turns,
+            retries,
             resting: AtomicU64::new(0),
             broken: AtomicBool::new(false),
             clients_joined: AtomicBool::new(false),
@@ -54,6 +58,13 @@ impl Stage {
         ensures { result ≡ self.now.turns }
     {
         self.turns
+    }
+
+    /// How often an operation is tried again which memory was refused to.
+    pub(crate) fn retries(&self) -> u8
+        ensures { result ≡ self.now.retries }
+    {
+        self.retries
     }
 
     /// An idle loop leaves the processor and the locks to others for a while.

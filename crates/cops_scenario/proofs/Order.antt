@@ -3,13 +3,14 @@ use Rattle.std.proofs.Common.{◌≡◌, [], subst}
 use Rattle.std.proofs.lemmas.List.Elements.{All-cons, All-nil}
 use Rattle.serde_json.specs.Data.{Data}
 use Rattle.cops_scenario.specs.declared.fault.Field.{Field}
-use Rattle.cops_scenario.specs.declared.fault.Field.TheVariants.{Root, DataCentres, Splits, Link, Turns, Clients, Events}
+use Rattle.cops_scenario.specs.declared.fault.Field.TheVariants.{Root, DataCentres, Splits, Link, Turns, Retries, Clients, Events}
 use Rattle.cops_scenario.specs.File.{AreRightBefore, IsRight, before}
 
-pub before_clients : (root : Data) → IsRight root Root → IsRight root DataCentres → IsRight root Splits → IsRight root Link → IsRight root Turns → AreRightBefore root Clients
-before_clients root whole dcs splits link turns =
+pub before_clients : (root : Data) → IsRight root Root → IsRight root DataCentres → IsRight root Splits → IsRight root Link → IsRight root Turns → IsRight root Retries → AreRightBefore root Clients
+before_clients root whole dcs splits link turns retries =
     let R = IsRight root in
-    All-cons R Turns (before Turns) turns (All-cons R Link (before Link) link (All-cons R Splits (before Splits) splits (All-cons R DataCentres (before DataCentres) dcs (All-cons R Root [] whole (All-nil R)))))
+    let before_link = All-cons R Splits (before Splits) splits (All-cons R DataCentres (before DataCentres) dcs (All-cons R Root [] whole (All-nil R))) in
+    All-cons R Retries (before Retries) retries (All-cons R Turns (before Turns) turns (All-cons R Link (before Link) link before_link))
 
 pub before_events : (root : Data) (field : Field) → Events ≡ field → AreRightBefore root Clients → IsRight root Clients → AreRightBefore root field
 before_events root field e h right = subst (AreRightBefore root) e (All-cons (IsRight root) Clients (before Clients) right h)

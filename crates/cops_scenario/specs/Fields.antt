@@ -1,11 +1,13 @@
 -- The fields of a scenario's file.
 use Rattle.std.specs.Prelude.{◌≡◌, ℕ, List, Option, None, Some, codes, unwrap_or, option_and_then}
+use Rattle.std.specs.Option.{option_map_or}
 use Rattle.serde_json.specs.Data.{Data}
 use Rattle.serde_json.specs.Find.{get, as_number, as_u64}
 use Rattle.cops_scenario.specs.declared.fault.Field.{Field}
-use Rattle.cops_scenario.specs.declared.fault.Field.TheVariants.{Root, DataCentres, Splits, Link, Turns, Clients, Events}
-use Rattle.cops_scenario.specs.declared.scenario.TheConstants.{DEFAULT_LINK, DEFAULT_TURNS}
-use Rattle.cops_scenario.specs.Scenario.{AScenario}
+use Rattle.cops_scenario.specs.declared.fault.Range.{Range}
+use Rattle.cops_scenario.specs.declared.fault.Field.TheVariants.{Root, DataCentres, Splits, Link, Turns, Retries, Clients, Events}
+use Rattle.cops_types.specs.declared.limits.TheConstants.{MAX_DCS}
+use Rattle.cops_scenario.specs.declared.scenario.TheConstants.{DEFAULT_LINK, DEFAULT_RETRIES, DEFAULT_TURNS, MAX_LINK, MAX_RETRIES, MAX_TURNS}
 
 -- the names of the fields in a file
 abbrev pub name_of : Field → List ℕ
@@ -14,18 +16,27 @@ name_of DataCentres = codes "data_centres"
 name_of Splits = codes "splits"
 name_of Link = codes "link"
 name_of Turns = codes "turns"
+name_of Retries = codes "retries"
 name_of Clients = codes "clients"
 name_of Events = codes "events"
+
+-- the fields that are whole numbers, each with its range
+abbrev pub range_of : Field → Option Range
+range_of DataCentres = Some (record { least = 1; most = MAX_DCS; missing = None })
+range_of Link = Some (record { least = 1; most = MAX_LINK; missing = Some DEFAULT_LINK })
+range_of Turns = Some (record { least = 1; most = MAX_TURNS; missing = Some DEFAULT_TURNS })
+range_of Retries = Some (record { least = 0; most = MAX_RETRIES; missing = Some DEFAULT_RETRIES })
+range_of _ = None
 
 -- the whole number of a member, or what stands for it where there is no member
 abbrev pub number_or : ℕ → Option Data → ℕ
 number_or missing None = missing
 number_or missing (Some d) = unwrap_or (option_and_then as_u64 (as_number d)) 0
 
--- the whole number of a field of a file
-abbrev pub number_at : Data → Field → ℕ → ℕ
-number_at root field missing = number_or missing (get (name_of field) root)
+-- what stands for a field where it is missing, 0 where nothing does
+abbrev pub missing_of : Field → ℕ
+missing_of field = option_map_or (λ range. unwrap_or range.missing 0) (range_of field) 0
 
--- the scenario has the file's whole numbers
-abbrev pub HasNumbersOf : Data → AScenario → Type 0
-HasNumbersOf root s = (s.place.dcs ≡ number_at root DataCentres 0) × (s.link ≡ number_at root Link DEFAULT_LINK) × (s.turns ≡ number_at root Turns DEFAULT_TURNS)
+-- the whole number of a field of a file
+abbrev pub number_at : Data → Field → ℕ
+number_at root field = number_or (missing_of field) (get (name_of field) root)

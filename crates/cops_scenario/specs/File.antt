@@ -1,21 +1,20 @@
 -- The JSON that stands in a file for each part of a scenario.
-use Rattle.std.specs.Prelude.{◌≡◌, ◌≢◌, ◌≤◌, ◌⊎◌, ℕ, List, [], ◌∷◌, length, map, codes, All, Option, None, Some, IsUtf8}
+use Rattle.std.specs.Prelude.{◌≡◌, ◌≢◌, ◌≤◌, ◌⊎◌, ℕ, List, [], ◌∷◌, length, map, codes, All, Option, None, Some, IfSome, IsUtf8}
 use Rattle.serde_json.specs.Data.{Data, unsigned, number, string, array, object, member, no_members}
 use Rattle.serde_json.specs.Read.{read}
 use Rattle.serde_json.specs.View.{items_of}
 use Rattle.serde_json.specs.Find.{get, as_object}
-use Rattle.cops_types.specs.declared.limits.TheConstants.{MAX_DCS}
 use Rattle.cops_types.specs.Texts.{version_text}
 use Rattle.cops_core.specs.declared.event.Event.{Event}
 use Rattle.cops_core.specs.declared.event.Event.TheVariants.{Put, Get, Deliver, Ask, Mark, Settle}
 use Rattle.cops_scenario.specs.declared.fault.Field.{Field}
-use Rattle.cops_scenario.specs.declared.fault.Field.TheVariants.{Root, DataCentres, Splits, Link, Turns, Clients, Events}
+use Rattle.cops_scenario.specs.declared.fault.Field.TheVariants.{Root, DataCentres, Splits, Link, Turns, Retries, Clients, Events}
 use Rattle.cops_core.specs.declared.script.ScriptOp.{ScriptOp}
 use Rattle.cops_core.specs.declared.script.ScriptOp.TheVariants as script
 use Rattle.cops_core.specs.declared.script.ScriptedClient.{ScriptedClient}
-use Rattle.cops_scenario.specs.declared.scenario.TheConstants.{MAX_CLIENTS, MAX_LINK, MAX_TURNS}
+use Rattle.cops_scenario.specs.declared.scenario.TheConstants.{MAX_CLIENTS}
 use Rattle.cops_scenario.specs.Scenario.{AScenario}
-use Rattle.cops_scenario.specs.Fields.{HasNumbersOf, name_of, number_at}
+use Rattle.cops_scenario.specs.Fields.{name_of, number_at, range_of}
 use Rattle.cops_scenario.specs.Limits.{AreSplits, IsLegalClient, IsLegalScenario, AreLegalEvents}
 
 abbrev pub number_json : ℕ → Data
@@ -61,6 +60,20 @@ abbrev pub IsListOrMissing : List Data → Option Data → Type 0
 IsListOrMissing items None = items ≡ []
 IsListOrMissing items (Some d) = d ≡ list_json items
 
+-- the whole number that a member is, or what stands for it where there is none
+abbrev pub TellsNumber : Option ℕ → Option Data → ℕ → Type 0
+TellsNumber None d n = d ≡ Some (number_json n)
+TellsNumber (Some missing) None n = n ≡ missing
+TellsNumber (Some missing) (Some d) n = d ≡ number_json n
+
+-- the whole number of a field
+abbrev pub TellsNumberAt : Data → Field → ℕ → Type 0
+TellsNumberAt root field n = IfSome (range_of field) (λ range. TellsNumber range.missing (get (name_of field) root) n)
+
+-- the whole numbers of a scenario
+abbrev pub TellsNumbers : Data → AScenario → Type 0
+TellsNumbers root s = TellsNumberAt root DataCentres s.place.dcs × TellsNumberAt root Link s.link × TellsNumberAt root Turns s.turns × TellsNumberAt root Retries s.retries
+
 -- an object that tells the client's data centre and its script
 pub record TellsClient (d : Data) (c : ScriptedClient) : Type 0 where
   pub at : get (codes "at") d ≡ Some (number_json c.at)
@@ -86,7 +99,7 @@ AreUnscripted ds (Some events) = All (λ d. get (codes "script") d ≡ None) ds
 
 -- the file's root tells the whole scenario
 pub record TellsScenario (root : Data) (s : AScenario) : Type 0 where
-  pub numbers : HasNumbersOf root s
+  pub numbers : TellsNumbers root s
   pub splits : IsListOrMissing (map text_json s.place.splits) (get (name_of Splits) root)
   pub clients : (ds : List Data) × (get (name_of Clients) root ≡ Some (list_json ds)) × TellClients ds s.clients × AreUnscripted ds s.events
   pub events : TellsEvents (get (name_of Events) root) s.events
@@ -95,6 +108,15 @@ pub record TellsScenario (root : Data) (s : AScenario) : Type 0 where
 abbrev pub IsNoNumber : ℕ → ℕ → Option Data → Type 0
 IsNoNumber least most d = (n : ℕ) → least ≤ n → n ≤ most → d ≢ Some (number_json n)
 
+-- no whole number of a range; where it may be missing, it is there
+abbrev pub IsNoNumberOf : Option ℕ → ℕ → ℕ → Option Data → Type 0
+IsNoNumberOf None least most d = IsNoNumber least most d
+IsNoNumberOf (Some missing) least most d = (d ≢ None) × IsNoNumber least most d
+
+-- the field is no whole number of its range
+abbrev pub IsWrongNumber : Data → Field → Type 0
+IsWrongNumber root field = IfSome (range_of field) (λ range. IsNoNumberOf range.missing range.least range.most (get (name_of field) root))
+
 -- the field tells no split keys within their limits
 abbrev pub TellsNoSplits : Data → Type 0
 TellsNoSplits root = (splits : List (List ℕ)) → AreSplits splits → IsListOrMissing (map text_json splits) (get (name_of Splits) root) → ⊥
@@ -102,7 +124,7 @@ TellsNoSplits root = (splits : List (List ℕ)) → AreSplits splits → IsListO
 -- it tells no clients within their limits, at most 64
 abbrev pub TellsNoClients : Data → Type 0
 TellsNoClients root = (ds : List Data) (clients : List ScriptedClient) → get (name_of Clients) root ≡ Some (list_json ds) → TellClients ds clients
-    → length clients ≤ MAX_CLIENTS → All (IsLegalClient (number_at root DataCentres 0)) clients → ⊥
+    → length clients ≤ MAX_CLIENTS → All (IsLegalClient (number_at root DataCentres)) clients → ⊥
 
 -- it tells no events within their limits, beside clients without a script
 abbrev pub TellsNoEvents : Data → Type 0
@@ -112,10 +134,11 @@ TellsNoEvents root = (ds : List Data) (events : Option (List Event)) → get (na
 -- what is wrong with a file's field where it is named: it is missing and has no default, or tells nothing that is legal there
 abbrev pub IsWrong : Data → Field → Type 0
 IsWrong root Root = as_object root ≡ None
-IsWrong root DataCentres = IsNoNumber 1 MAX_DCS (get (name_of DataCentres) root)
+IsWrong root DataCentres = IsWrongNumber root DataCentres
 IsWrong root Splits = TellsNoSplits root
-IsWrong root Link = (get (name_of Link) root ≢ None) × IsNoNumber 1 MAX_LINK (get (name_of Link) root)
-IsWrong root Turns = (get (name_of Turns) root ≢ None) × IsNoNumber 1 MAX_TURNS (get (name_of Turns) root)
+IsWrong root Link = IsWrongNumber root Link
+IsWrong root Turns = IsWrongNumber root Turns
+IsWrong root Retries = IsWrongNumber root Retries
 IsWrong root Clients = TellsNoClients root
 IsWrong root Events = TellsNoEvents root
 
@@ -123,16 +146,26 @@ IsWrong root Events = TellsNoEvents root
 abbrev pub IsNumber : ℕ → ℕ → Option Data → Type 0
 IsNumber least most d = (n : ℕ) × (least ≤ n) × (n ≤ most) × (d ≡ Some (number_json n))
 
+-- a whole number of a range, or missing where it may be
+abbrev pub IsNumberOf : Option ℕ → ℕ → ℕ → Option Data → Type 0
+IsNumberOf None least most d = IsNumber least most d
+IsNumberOf (Some missing) least most d = (d ≡ None) ⊎ IsNumber least most d
+
+-- the field is a whole number of its range
+abbrev pub IsRightNumber : Data → Field → Type 0
+IsRightNumber root field = IfSome (range_of field) (λ range. IsNumberOf range.missing range.least range.most (get (name_of field) root))
+
 -- a file's field is of its form and within its limits
 abbrev pub IsRight : Data → Field → Type 0
 IsRight root Root = as_object root ≢ None
-IsRight root DataCentres = IsNumber 1 MAX_DCS (get (name_of DataCentres) root)
+IsRight root DataCentres = IsRightNumber root DataCentres
 IsRight root Splits = (splits : List (List ℕ)) × AreSplits splits × IsListOrMissing (map text_json splits) (get (name_of Splits) root)
-IsRight root Link = (get (name_of Link) root ≡ None) ⊎ IsNumber 1 MAX_LINK (get (name_of Link) root)
-IsRight root Turns = (get (name_of Turns) root ≡ None) ⊎ IsNumber 1 MAX_TURNS (get (name_of Turns) root)
+IsRight root Link = IsRightNumber root Link
+IsRight root Turns = IsRightNumber root Turns
+IsRight root Retries = IsRightNumber root Retries
 IsRight root Clients =
     (ds : List Data) × (clients : List ScriptedClient) × (get (name_of Clients) root ≡ Some (list_json ds)) × TellClients ds clients
-    × (length clients ≤ MAX_CLIENTS) × All (IsLegalClient (number_at root DataCentres 0)) clients
+    × (length clients ≤ MAX_CLIENTS) × All (IsLegalClient (number_at root DataCentres)) clients
 IsRight root Events = (events : Option (List Event)) × TellsEvents (get (name_of Events) root) events × AreLegalEvents events
 
 -- the fields that are looked at before it
@@ -142,8 +175,9 @@ before DataCentres = Root ∷ []
 before Splits = DataCentres ∷ Root ∷ []
 before Link = Splits ∷ DataCentres ∷ Root ∷ []
 before Turns = Link ∷ Splits ∷ DataCentres ∷ Root ∷ []
-before Clients = Turns ∷ Link ∷ Splits ∷ DataCentres ∷ Root ∷ []
-before Events = Clients ∷ Turns ∷ Link ∷ Splits ∷ DataCentres ∷ Root ∷ []
+before Retries = Turns ∷ Link ∷ Splits ∷ DataCentres ∷ Root ∷ []
+before Clients = Retries ∷ Turns ∷ Link ∷ Splits ∷ DataCentres ∷ Root ∷ []
+before Events = Clients ∷ Retries ∷ Turns ∷ Link ∷ Splits ∷ DataCentres ∷ Root ∷ []
 
 -- those are of their form
 abbrev pub AreRightBefore : Data → Field → Type 0

@@ -1,6 +1,18 @@
 //! Why bytes are no scenario.
+use crate::scenario::{
+    DEFAULT_LINK, DEFAULT_RETRIES, DEFAULT_TURNS, MAX_LINK, MAX_RETRIES, MAX_TURNS,
+};
+use cops_types::MAX_DCS;
 use std::fmt;
 use thiserror::Error;
+
+/// The range of a field that is a whole number, and what stands for it where the field is missing.
+#[derive(Clone, Copy)]
+pub(crate) struct Range {
+    pub(crate) least: u64,
+    pub(crate) most: u64,
+    pub(crate) missing: Option<u64>,
+}
 
 /// What a scenario file has, in the order in which it is looked at. `Root` is the whole of it.
 #[derive(Clone, Copy, Debug, PartialEq, Eq)]
@@ -10,13 +22,32 @@ pub enum Field {
     Splits,
     Link,
     Turns,
+    Retries,
     Clients,
     Events,
 }
 
 impl Field {
     ghost use Rattle.std.specs.Prelude.{◌≡◌};
-    ghost use Rattle.cops_scenario.specs.Fields.{name_of};
+    ghost use Rattle.cops_scenario.specs.Fields.{name_of, range_of};
+
+    /// The field's range, where it is a whole number.
+    pub(crate) fn range(self) -> Option<Range>
+        ensures { result ≡ range_of self }
+    {
+        let (least, most, missing) = match self {
+            Field::DataCentres => (1, u64::from(MAX_DCS), None),
+            Field::Link => (1, u64::from(MAX_LINK), Some(u64::from(DEFAULT_LINK))),
+            Field::Turns => (1, u64::from(MAX_TURNS), Some(u64::from(DEFAULT_TURNS))),
+            Field::Retries => (0, u64::from(MAX_RETRIES), Some(u64::from(DEFAULT_RETRIES))),
+            _ => return None,
+        };
+        Some(Range {
+            least,
+            most,
+            missing,
+        })
+    }
 
     /// The field's name in the file.
     pub fn name(self) -> &'static str
@@ -28,6 +59,7 @@ impl Field {
             Field::Splits => "splits",
             Field::Link => "link",
             Field::Turns => "turns",
+            Field::Retries => "retries",
             Field::Clients => "clients",
             Field::Events => "events",
         }

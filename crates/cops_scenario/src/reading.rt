@@ -3,12 +3,12 @@ ghost use Rattle.std.specs.Prelude.{◌≡◌, ◌≢◌, ◌≤◌, ◌<◌, �
 ghost use Rattle.std.specs.Bool.{OnFalse, OnTrue};
 ghost use Rattle.serde_json.specs.Data.{Data};
 ghost use Rattle.serde_json.specs.View.{view};
-ghost use Rattle.cops_scenario.specs.File.{text_json, list_json, AreRightBefore, AreUnscripted, IsListOrMissing, TellsClient, TellClients, TellsEvents, TellsScenario, IsNoNumber, IsNumber, IsWrong};
+ghost use Rattle.cops_scenario.specs.File.{text_json, list_json, AreRightBefore, AreUnscripted, IsListOrMissing, TellsClient, TellClients, TellsEvents, TellsNumberAt, TellsScenario, IsRightNumber, IsWrongNumber, IsWrong};
 ghost use Rattle.cops_scenario.specs.declared.fault.Field.{Field as AField};
 ghost use Rattle.serde_json.specs.Find.{get};
 ghost use Rattle.cops_types.specs.declared.limits.TheConstants.{MAX_DCS};
 ghost use Rattle.cops_scenario.specs.declared.scenario.TheConstants.{MAX_CLIENTS, MAX_EVENTS};
-ghost use Rattle.cops_scenario.specs.Fields.{name_of, number_at};
+ghost use Rattle.cops_scenario.specs.Fields.{name_of, number_at, range_of};
 ghost use Rattle.cops_scenario.specs.Limits.{AreLegalEvents, AreSplits, IsClientOf, IsLegalClient, IsLegalScenario};
 ghost use Rattle.cops_core.specs.declared.event.Event.{Event as AnEvent};
 ghost use Rattle.cops_core.specs.declared.script.ScriptedClient.{ScriptedClient as AClient};
@@ -16,9 +16,7 @@ ghost use Rattle.cops_core.specs.declared.script.ScriptedClient.{ScriptedClient 
 use crate::event::{events, script};
 use crate::fault::{Field, ScenarioFault};
 use crate::field::{Unread, dc, key, list, number};
-use crate::scenario::{
-    DEFAULT_LINK, DEFAULT_TURNS, MAX_CLIENTS, MAX_EVENTS, MAX_LINK, MAX_SCRIPT, MAX_TURNS, Scenario,
-};
+use crate::scenario::{MAX_CLIENTS, MAX_EVENTS, MAX_SCRIPT, Scenario};
 use cops_core::{Event, ScriptedClient};
 use cops_place::{MAX_SPLITS, Place, PlaceFault};
 use cops_types::MAX_DCS;
@@ -56,24 +54,13 @@ fn scenario(alloc: Global, root: &Json) -> Result<Scenario, ScenarioFault>
     if !root.is_object() {
         return Err(ScenarioFault::BadField(Field::Root));
     }
-    let dcs = number_of(root, Field::DataCentres, 1, u64::from(MAX_DCS), None)? as u8;
+    let dcs = number_of(root, Field::DataCentres)? as u8;
     let place = place(alloc, dcs, root.get(Field::Splits.name())).map_err(|unread| unread.of(
         Field::Splits,
     ))?;
-    let link = number_of(
-        root,
-        Field::Link,
-        1,
-        u64::from(MAX_LINK),
-        Some(u64::from(DEFAULT_LINK)),
-    )? as u16;
-    let turns = number_of(
-        root,
-        Field::Turns,
-        1,
-        u64::from(MAX_TURNS),
-        Some(u64::from(DEFAULT_TURNS)),
-    )? as u32;
+    let link = number_of(root, Field::Link)? as u16;
+    let turns = number_of(root, Field::Turns)? as u32;
+    let retries = number_of(root, Field::Retries)? as u8;
     let Some(listed) = root.get(Field::Clients.name()) else {
         return Err(ScenarioFault::BadField(Field::Clients));
     };
@@ -81,27 +68,27 @@ fn scenario(alloc: Global, root: &Json) -> Result<Scenario, ScenarioFault>
     let events = events_beside(alloc, listed, root.get(Field::Events.name())).map_err(
         |unread| unread.of(Field::Events),
     )?;
-    Ok(Scenario::new(place, link, turns, clients, events))
+    Ok(Scenario::new(place, link, turns, retries, clients, events))
 }
 
-/// The whole number of a field, within a range, or what stands for it where the field is missing.
-fn number_of(
-    root: &Json,
-    field: Field,
-    least: u64,
-    most: u64,
-    missing: Option<u64>,
-) -> Result<u64, ScenarioFault>
-    ensures value { IfOk result (λ n. n ≡ number_at (view root.now) field (unwrap_or missing 0)) }
-    ensures range { IfOk result (λ n. (least ≤ n) × (n ≤ most)) }
-    ensures right { OnOk result (((get (name_of field) (view root.now) ≡ None) × IsSome missing) ⊎ IsNumber least most (get (name_of field) (view root.now))) }
+/// The whole number of a field that is one, or what stands for it where the field is missing.
+fn number_of(root: &Json, field: Field) -> Result<u64, ScenarioFault>
+    requires { IsSome (range_of field) }
+    ensures told { IfOk result (TellsNumberAt (view root.now) field) }
+    ensures value { IfOk result (λ n. n ≡ number_at (view root.now) field) }
+    ensures range { IfOk result (λ n. IfSome (range_of field) (λ range. (range.least ≤ n) × (n ≤ range.most))) }
+    ensures right { OnOk result (IsRightNumber (view root.now) field) }
     ensures wrong { OnErr result (result ≡ Err (ScenarioFault.BadField field)) }
-    ensures none { OnErr result (IsNoNumber least most (get (name_of field) (view root.now))) }
-    ensures there { OnErr result ((n : ℕ) → missing ≡ Some n → least ≤ n → n ≤ most → get (name_of field) (view root.now) ≢ None) }
+    ensures none { OnErr result (IsWrongNumber (view root.now) field) }
 {
-    match (root.get(field.name()), missing) {
-        (Some(json), _) => number(json, least, most).map_err(|unread| unread.of(field)),
-        (None, Some(n)) if least <= n && n <= most => Ok(n),
+    let Some(range) = field.range() else {
+        unreachable!();
+    };
+    match (root.get(field.name()), range.missing) {
+        (Some(json), _) => {
+            number(json, range.least, range.most).map_err(|unread| unread.of(field))
+        }
+        (None, Some(n)) => Ok(n),
         _ => Err(ScenarioFault::BadField(field)),
     }
 }

@@ -35,14 +35,21 @@ pub const MAX_TURNS: u32 = 1_000_000_000;
 /// The turns of a loop where a file names none.
 pub const DEFAULT_TURNS: u32 = 1_000_000;
 
+/// The most times that an operation of a client is tried again which memory was refused to.
+pub const MAX_RETRIES: u8 = 3;
+
+/// How often it is where a file says nothing.
+pub const DEFAULT_RETRIES: u8 = 0;
+
 /// What a cluster is made of, and what happens in it: where keys live; how many frames a link holds, 1 to 1,024; how many
-/// turns a loop may make, 1 to 1,000,000,000; at most 64 clients; and, where no client has a script, at most 100,000
-/// events.
+/// turns a loop may make, 1 to 1,000,000,000; how often a client's operation is tried again which memory was refused to, 0
+/// to 3; at most 64 clients; and, where no client has a script, at most 100,000 events.
 #[derive(Debug, Drop)]
 pub struct Scenario {
     place: Place,
     link: u16,
     turns: u32,
+    retries: u8,
     clients: Vec<ScriptedClient>,
     events: Option<Vec<Event>>,
 }
@@ -54,15 +61,15 @@ impl Model for Scenario {
 
     ghost Value = { AScenario };
 
-    ghost view = { λ s. record { place = s.place; link = s.link; turns = s.turns; clients = s.clients.items; events = option_map (λ e. e.items) s.events } };
+    ghost view = { λ s. record { place = s.place; link = s.link; turns = s.turns; retries = s.retries; clients = s.clients.items; events = option_map (λ e. e.items) s.events } };
 
-    ghost invariant = { λ s. IsScenario (record { place = s.place; link = s.link; turns = s.turns; clients = s.clients.items; events = option_map (λ e. e.items) s.events }) };
+    ghost invariant = { λ s. IsScenario (record { place = s.place; link = s.link; turns = s.turns; retries = s.retries; clients = s.clients.items; events = option_map (λ e. e.items) s.events }) };
 }
 
 impl Scenario {
     ghost use Rattle.std.specs.Prelude.{◌≡◌, ◌≤◌, length, All, IfOk, option_map};
     ghost use Rattle.cops_place.specs.Clients.{AreClients};
-    ghost use Rattle.cops_scenario.specs.declared.scenario.TheConstants.{MAX_CLIENTS, MAX_LINK, MAX_TURNS};
+    ghost use Rattle.cops_scenario.specs.declared.scenario.TheConstants.{MAX_CLIENTS, MAX_LINK, MAX_RETRIES, MAX_TURNS};
     ghost use Rattle.cops_scenario.specs.Scenario.{homes_of, setting_of};
     ghost use Rattle.cops_scenario.specs.Limits.{IsScenario, IsClientOf, AreEventsOf};
 
@@ -71,21 +78,24 @@ impl Scenario {
         place: Place,
         link: u16,
         turns: u32,
+        retries: u8,
         clients: Vec<ScriptedClient>,
         events: Option<Vec<Event>>,
     ) -> Scenario
         requires link { (1 ≤ link) × (link ≤ MAX_LINK) }
         requires turns { (1 ≤ turns) × (turns ≤ MAX_TURNS) }
+        requires retries { retries ≤ MAX_RETRIES }
         requires clients { (length clients.items ≤ MAX_CLIENTS) × All (IsClientOf place.dcs) clients.items }
         requires events { AreEventsOf clients.items (option_map (λ e. e.items) events) }
         ensures scenario { IsScenario result }
-        ensures parts { result ≡ record { place = place; link = link; turns = turns; clients = clients.items; events = option_map (λ e. e.items) events } }
+        ensures parts { result ≡ record { place = place; link = link; turns = turns; retries = retries; clients = clients.items; events = option_map (λ e. e.items) events } }
     {
         let _dcs = place.dcs();
         Scenario {
             place,
             link,
             turns,
+            retries,
             clients,
             events,
         }
@@ -113,6 +123,14 @@ impl Scenario {
         ensures scenario { IsScenario self.now }
     {
         self.turns
+    }
+
+    /// How often an operation of a client is tried again which memory was refused to, 0 to 3.
+    pub fn retries(&self) -> u8
+        ensures value { result ≡ self.now.retries }
+        ensures scenario { IsScenario self.now }
+    {
+        self.retries
     }
 
     /// The clients, at most 64.

@@ -1,4 +1,3 @@
-pub mod Fed
 pub mod Frames
 pub mod OneText
 pub mod Shown

@@ -1,5 +1,5 @@
 -- What answers mean of bytes that may be cut.
-use Rattle.std.proofs.Common.{◌≡◌, ℕ, List, Option, Some, None, Result, Ok, Err, sym, subst, ◌∙◌, inl, inr}
+use Rattle.std.proofs.Common.{◌≡◌, ℕ, List, Vec, Global, Option, Some, None, Result, Ok, Err, sym, subst, ◌∙◌, inl, inr}
 use Rattle.std.specs.Prelude.{IfOk, IfSome}
 use Rattle.std.specs.Result.{result_or}
 use Rattle.cops_types.specs.Histories.{Sessions}
@@ -11,13 +11,15 @@ use Rattle.cops_audit.specs.SoFar.{IsSoFar, HasLastingFault}
 use Rattle.cops_audit.specs.Verdicts.{IsVerdict}
 use Rattle.cops_audit.proofs.Consequences.{convergent}
 use Rattle.cops_trace.specs.declared.fault.TraceFault.{TraceFault}
-use Rattle.cops_trace.specs.declared.trace.Partial.{Partial}
+use Rattle.cops_trace.specs.declared.sink.Taken.{Taken}
 use Rattle.cops_trace.specs.Text.{sessions_of}
-use Rattle.cops_trace.specs.Answer.{AgreesSoFar}
+use Rattle.cops_trace.specs.Answer.{AgreesInto, BeginsAs, TakesFrom}
+use Rattle.cops_stream.specs.declared.fed.Fed.{Fed}
+use Rattle.cops_stream.specs.Fed.{WasFed}
 use Rattle.cops_stream.specs.declared.audit.Answer.{Answer}
 use Rattle.cops_stream.specs.declared.audit.Answer.TheVariants.{Accepted}
-use Rattle.cops_stream.specs.Audit.{answer_of}
-use Rattle.cops_stream.specs.SoFar.{IsSoundSoFar, SaysSoFar, answer_so_far}
+use Rattle.cops_stream.specs.Audit.{IsTold, answer_of}
+use Rattle.cops_stream.specs.SoFar.{IsSoundSoFar, SaysSoFar, answer_so_far, cut_text}
 use Rattle.cops_stream.proofs.OneText.{one_text}
 use Rattle.cops_stream.proofs.Told.{accepts}
 
@@ -45,7 +47,24 @@ accepted_is_sound bytes told (inr (inl (t, says, w))) = inl (record {
 })
 accepted_is_sound bytes told (inr (inr (e, _, _, is, _))) = absurd cc
 
-pub accepted_sound : (a : Option (List ℕ)) (read : Result Partial TraceFault) (answer : Answer) (told : List ℕ) → IfSome a (λ bytes. AgreesSoFar bytes read)
-    → ((bytes : List ℕ) → AgreesSoFar bytes read → SaysSoFar bytes answer told) → answer ≡ Accepted → IfSome a IsSoundSoFar
+pub accepted_sound : (a : Option (List ℕ)) (read : Result (Taken Fed) TraceFault) (answer : Answer) (told : List ℕ) → IfSome a (λ bytes. AgreesInto WasFed bytes read)
+    → ((bytes : List ℕ) → AgreesInto WasFed bytes read → SaysSoFar bytes answer told) → answer ≡ Accepted → IfSome a IsSoundSoFar
 accepted_sound None read answer told agrees says is = tt
 accepted_sound (Some u) read answer told agrees says is = accepted_is_sound u told (subst (λ (x : Answer). SaysSoFar u x told) is (says u agrees))
+
+-- ---- what an auditor says that was fed what was read
+
+-- the records before a cut
+pub told_cut : {E : Type 0} (bytes : List ℕ) (taken : Taken Fed) (offset : ℕ) (result : Result (Answer × Vec ℕ Global) E) → TakesFrom WasFed bytes taken → taken.cut ≡ Some offset
+    → IfOk result (λ told. (so_far : SoFar) × IsSoFar taken.sink.online so_far × (told.0 ≡ answer_so_far so_far) × (told.1.items ≡ cut_text offset so_far))
+    → IfOk result (λ told. SaysSoFar bytes told.0 told.1.items)
+told_cut bytes taken offset (Err e) takes place says = tt
+told_cut bytes taken offset (Ok told) takes place (so_far, is, answer, text) =
+    let cut = subst (BeginsAs bytes takes.trace) place takes.begins in
+    inl (offset, so_far, record { trace = takes.trace; is_cut = cut; is_so_far = subst (λ (h : Sessions). IsSoFar h so_far) takes.took_it is }, answer, text)
+
+-- a whole trace
+pub told_whole : {E : Type 0} (bytes : List ℕ) (taken : Taken Fed) (result : Result (Answer × Vec ℕ Global) E) → (takes : TakesFrom WasFed bytes taken) → taken.cut ≡ None
+    → IfOk result (λ told. IsTold takes.trace told.0 told.1.items) → IfOk result (λ told. SaysSoFar bytes told.0 told.1.items)
+told_whole bytes taken (Err e) takes place is = tt
+told_whole bytes taken (Ok told) takes place is = inr (inl (takes.trace, subst (BeginsAs bytes takes.trace) place takes.begins, is))

@@ -55,7 +55,7 @@ pub enum StreamFault {
 }
 
 /// The answer that a verdict makes.
-fn answer_of(verdict: &Verdict) -> Answer
+pub(crate) fn answer_of(verdict: &Verdict) -> Answer
     ensures { result ≡ answer_of verdict.now }
 {
     match verdict {
@@ -65,11 +65,7 @@ fn answer_of(verdict: &Verdict) -> Answer
 }
 
 /// The answer that a verdict on a trace makes, with its report.
-pub(crate) fn reported(
-    alloc: Global,
-    trace: &Trace,
-    verdict: &Verdict,
-) -> Result<(Answer, Vec<u8>), Memory>
+fn reported(alloc: Global, trace: &Trace, verdict: &Verdict) -> Result<(Answer, Vec<u8>), Memory>
     requires { IsVerdict (sessions_of trace.now) verdict.now }
     ensures told { IfOk result (λ told. IsTold trace.now told.0 told.1.items) }
     ensures answer { IfOk result (λ told. told.0 ≡ answer_of verdict.now) }

@@ -4,6 +4,7 @@
 #![tactic(auto)]
 
 mod audit;
+mod fed;
 mod laws;
 mod show;
 mod so_far;

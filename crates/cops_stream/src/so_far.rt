@@ -1,57 +1,24 @@
 //! The audit of a trace's bytes that may be cut.
-ghost use Rattle.std.specs.Prelude.{◌≡◌, ◌⊎◌, ◌++◌, ◌<◌, [], ℕ, List, length, slice_index_or, slice_set, Err, IfErr, IfOk, IfSome, IsErrOf, OnOk};
+ghost use Rattle.std.specs.Prelude.{◌≡◌, ◌⊎◌, ℕ, List, Err, IfErr, IfOk, IfSome, IsErrOf};
 ghost use Rattle.std.specs.Io.KnownBytes.{Keeps};
 ghost use Rattle.cops_types.specs.Counted.{failures, inner};
 ghost use Rattle.cops_types.specs.Failures.{Failed};
-ghost use Rattle.cops_trace.specs.Text.{sessions_of};
-ghost use Rattle.cops_trace.specs.Answer.{AgreesSoFar, BeginsAs};
+ghost use Rattle.cops_trace.specs.Text.{ATrace, sessions_of};
+ghost use Rattle.cops_trace.specs.Answer.{AgreesInto, TakesFrom};
 ghost use Rattle.cops_audit.specs.SoFar.{IsSoFar};
 ghost use Rattle.cops_audit.specs.declared.verdict.SoFar.{SoFar as ASoFar};
 ghost use Rattle.cops_stream.specs.Audit.{IsTold};
+ghost use Rattle.cops_stream.specs.Fed.{WasFed};
 ghost use Rattle.cops_stream.specs.SoFar.{IsSoundSoFar, SaysSoFar, WritesFrontSoFar, WritesSoFar, answer_so_far, cut_text};
 
-use crate::audit::{Answer, StreamFault, faulty, reported};
-use cops_audit::{Online, SoFar, judge};
-use cops_trace::{Partial, Trace, TraceFault, read_so_far};
-use cops_types::{Counted, History, Memory, Op, write_text};
+use crate::audit::{Answer, StreamFault, answer_of, faulty};
+use crate::fed::Fed;
+use cops_audit::{Online, SoFar};
+use cops_report::report_judged;
+use cops_trace::{Taken, TraceFault, read_into};
+use cops_types::{Counted, Memory, write_text};
 use std::alloc::Global;
 use std::io::{Read, Write};
-
-/// Feeds a client's operations.
-fn feed_session(online: &mut Online, client: u16, session: &[Op]) -> Result<(), Memory>
-    requires { client < length online.old }
-    ensures { OnOk result (online.new ≡ slice_set online.old client (slice_index_or online.old client [] ++ session.now)) }
-{
-    for op in session {
-        let op = op.clone()?;
-        match online.feed(client, op) {
-            Ok(()) => {}
-            // An auditor takes as many operations as a history, so that memory alone is refused, though not proved so.
-            Err(_) => return Err(Memory),
-        }
-    }
-    Ok(())
-}
-
-/// An auditor that was fed a history.
-fn fed(alloc: Global, history: &History) -> Result<Online, Memory>
-    ensures { IfOk result (λ online. online ≡ history.now.sessions) }
-{
-    let mut online = Online::new(alloc, history.clients() as u16)?;
-    for client in 0..history.clients() {
-        let session = history.session(client as u16);
-        feed_session(&mut online, client as u16, session)?;
-    }
-    Ok(online)
-}
-
-/// What is said so far of a history.
-fn said_of(alloc: Global, history: &History) -> Result<SoFar, Memory>
-    ensures { IfOk result (IsSoFar history.now.sessions) }
-{
-    let mut online = fed(alloc, history)?;
-    Ok(online.so_far())
-}
 
 /// The answer that is made of what is said so far.
 fn answer_so_far(so_far: SoFar) -> Answer
@@ -75,43 +42,49 @@ fn cut_text(alloc: Global, offset: u64, so_far: SoFar) -> Result<Vec<u8>, Memory
     Ok(text.into_bytes())
 }
 
-/// The answer for the whole records before a cut, with its text.
-fn cut(alloc: Global, trace: &Trace, offset: u64) -> Result<(Answer, Vec<u8>), Memory>
-    ensures { IfOk result (λ told. (so_far : ASoFar) × IsSoFar (sessions_of trace.now) so_far
+/// The answer for the whole records before a cut, with its text, by an auditor that was fed them.
+fn cut(alloc: Global, online: &mut Online, offset: u64) -> Result<(Answer, Vec<u8>), Memory>
+    ensures { IfOk result (λ told. (so_far : ASoFar) × IsSoFar online.old so_far
         × (told.0 ≡ answer_so_far so_far) × (told.1.items ≡ cut_text offset so_far)) }
 {
-    let so_far = said_of(alloc, trace.history())?;
+    let so_far = online.so_far();
     let text = cut_text(alloc, offset, so_far)?;
     Ok((answer_so_far(so_far), text))
 }
 
-/// The answer for a whole trace, with its report.
-fn whole(alloc: Global, trace: &Trace) -> Result<(Answer, Vec<u8>), Memory>
-    ensures { IfOk result (λ told. IsTold trace.now told.0 told.1.items) }
+/// The answer for a whole trace, with its report, by an auditor that was fed it.
+fn whole(alloc: Global, online: Online) -> Result<(Answer, Vec<u8>), Memory>
+    ensures { (t : ATrace) → online ≡ sessions_of t → IfOk result (λ told. IsTold t told.0 told.1.items) }
 {
-    let verdict = judge(alloc, trace.history())?;
-    reported(alloc, trace, &verdict)
+    let judged = online.close()?;
+    let text = report_judged(alloc, &judged)?;
+    Ok((answer_of(judged.verdict()), text))
 }
 
 /// The answer for a trace, whole or up to a cut, with its text.
-fn told_of(alloc: Global, partial: &Partial) -> Result<(Answer, Vec<u8>), Memory>
-    ensures { (bytes : List ℕ) → BeginsAs bytes partial.now.trace partial.now.cut → IfOk result (λ told. SaysSoFar bytes told.0 told.1.items) }
+fn told_of(alloc: Global, taken: Taken<Fed>) -> Result<(Answer, Vec<u8>), Memory>
+    ensures { (bytes : List ℕ) → TakesFrom WasFed bytes taken → IfOk result (λ told. SaysSoFar bytes told.0 told.1.items) }
 {
-    match partial.cut {
-        Some(offset) => cut(alloc, &partial.trace, offset),
-        None => whole(alloc, &partial.trace),
+    let Taken { sink, cut: place } = taken;
+    let Fed { mut online } = sink;
+    match place {
+        Some(offset) => cut(alloc, &mut online, offset),
+        None => whole(alloc, online),
     }
 }
 
 /// The answer for what was read, with its text.
-fn told(alloc: Global, read: Result<Partial, TraceFault>) -> Result<(Answer, Vec<u8>), StreamFault>
-    ensures says { (bytes : List ℕ) → AgreesSoFar bytes read → IfOk result (λ told. SaysSoFar bytes told.0 told.1.items) }
+fn told(
+    alloc: Global,
+    read: Result<Taken<Fed>, TraceFault>,
+) -> Result<(Answer, Vec<u8>), StreamFault>
+    ensures says { (bytes : List ℕ) → AgreesInto WasFed bytes read → IfOk result (λ told. SaysSoFar bytes told.0 told.1.items) }
     ensures faults { IfErr result (λ e. (e ≡ StreamFault.Memory) ⊎ (e ≡ StreamFault.ReadFailed)) }
     ensures read_failed { IsErrOf result StreamFault.ReadFailed → read ≡ Err TraceFault.ReadFailed }
     ensures read_told { IsErrOf read TraceFault.ReadFailed → IsErrOf result StreamFault.ReadFailed }
 {
     match read {
-        Ok(partial) => told_of(alloc, &partial).or(Err(StreamFault::Memory)),
+        Ok(taken) => told_of(alloc, taken).or(Err(StreamFault::Memory)),
         Err(TraceFault::Memory) => Err(StreamFault::Memory),
         Err(TraceFault::ReadFailed) => Err(StreamFault::ReadFailed),
         Err(fault) => faulty(alloc, &fault),
@@ -149,7 +122,7 @@ pub fn audit_so_far<R: Read, W: Write>(
     ensures write_count { IsErrOf result StreamFault.WriteFailed → Failed (failures writer.old) (failures writer.new) }
     ensures write_heard { IsErrOf result StreamFault.WriteFailed ⊎ (failures writer.new ≡ failures writer.old) }
 {
-    let (answer, text) = told(alloc, read_so_far(alloc, reader))?;
+    let (answer, text) = told(alloc, read_into::<Fed, R>(alloc, reader))?;
     match write_text(writer, &text) {
         Ok(()) => Ok(answer),
         Err(_) => Err(StreamFault::WriteFailed),

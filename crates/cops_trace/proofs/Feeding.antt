@@ -1,13 +1,13 @@
 -- A text that comes in pieces: what holds of the bytes so far.
 use Rattle.std.proofs.Common.{◌≡◌, ◌≢◌, ℕ, zero, suc, ◌+◌, ◌<◌, Bool, true, false, List, [], ◌∷◌, ◌++◌, length, drop, Option, Some, None, Result, Ok, Err, refl, sym, ap, subst, ◌∙◌, append_assoc, arith, inl, inr}
-use Rattle.std.specs.Prelude.{◌⊎◌, IfSome, IfOk, unwrap_or}
+use Rattle.std.specs.Prelude.{◌⊎◌, IfSome, unwrap_or}
 use Rattle.std.specs.Io.KnownBytes.{Consumes, IsAtEnd}
 use Rattle.std.proofs.lemmas.List.{length-append, length-drop, append-nil}
 use Rattle.cops_wire.specs.Answer.{IsBytes}
 use Rattle.cops_wire.specs.Message.{parts, spelled}
 use Rattle.cops_trace.specs.declared.fault.TraceFault.{TraceFault}
 use Rattle.cops_trace.specs.declared.fault.TraceFault.TheVariants.{Memory, ReadFailed, Cut, BytesAfterEnd}
-use Rattle.cops_trace.specs.declared.trace.Partial.{Partial}
+use Rattle.cops_trace.specs.declared.sink.Taken.{Taken}
 use Rattle.cops_trace.specs.declared.found.Item.{Item}
 use Rattle.cops_trace.specs.declared.found.Item.TheVariants.{Head, Op as Entry, End}
 use Rattle.cops_trace.specs.declared.found.Found.{Found}
@@ -15,9 +15,9 @@ use Rattle.cops_trace.specs.declared.found.Found.TheVariants.{Gives, Waits, Fail
 use Rattle.cops_trace.specs.Text.{ATrace, IsTrace, beginning, text}
 use Rattle.cops_trace.proofs.Ends.{end_text}
 use Rattle.cops_trace.specs.Next.{Progress, Stands}
-use Rattle.cops_trace.specs.Answer.{progress_of, progress_at, front, Begins, HasFault, Says, IsCutAfter, BeginsAs, Agrees}
+use Rattle.cops_trace.specs.Answer.{progress_of, progress_at, front, Begins, HasFault, Says, IsCutAfter, BeginsAs, Agrees, TakesFrom}
 use Rattle.cops_trace.specs.Answer as answer
-use Rattle.cops_trace.specs.Parsing.{Stage, progress_with, progress_in, with_item, is_end, after, FailsAt, StepGives, FedTo, Fed, IsSettledAt, IsSettled, HasFailed, Advances}
+use Rattle.cops_trace.specs.Parsing.{Stage, progress_with, progress_in, with_item, is_end, after, FailsAt, StepGives, FedTo, Fed, IsSettledAt, IsSettled, HasFailed, Stops}
 use Rattle.cops_trace.proofs.Lists.{nothing_before}
 use Rattle.cops_trace.proofs.Items.{item_message, Stood, stood, stands_still, front_with, trace_with, stands_used, waits_len, nothing_waits, is_of_frame, frame_fails}
 use Rattle.cops_trace.proofs.Readings.{front_len, text_len, one_answer, only_answer}
@@ -122,12 +122,6 @@ fed_after_end fed s more h ended some =
 pub more_fails : (fed : List ℕ) (s : Stage) → Fed fed s → s.ended ≡ true → s.rest ≢ [] → HasFailed fed (BytesAfterEnd s.at)
 more_fails fed s h ended some = record { no_cut = λ offset q. cc; device = λ q. cc; stays = λ more. fed_after_end fed s more h ended some }
 
-pub fed_cut : (fed : List ℕ) (s : Stage) → Fed fed s → s.ended ≡ false → IsSettled s → Says fed (Err (Cut s.at))
-fed_cut fed s h going settled =
-    let o = open_of fed s h going in
-    let st : Stands (progress_in s) s.rest Waits = subst (λ (b : Bool). IsSettledAt b s) going settled in
-    inr (inl (record { begun = s.begun; rest = s.rest; begins = o.begins; stands = stands_at fed s Waits o st; fault_is = ap (λ (n : ℕ). Cut n) o.place }))
-
 -- the head and the records before a cut
 pub fed_so_far : (fed : List ℕ) (s : Stage) → Fed fed s → s.ended ≡ false → IsSettled s → IsCutAfter fed (unwrap_or s.begun (record { clients = 0; records = [] })) s.at
 fed_so_far fed s h going settled =
@@ -144,15 +138,19 @@ fed_whole fed s t h ended begun settled =
     let whole : fed ≡ text o.0 = o.3 ∙ ap (λ (x : List ℕ). text o.0 ++ x) none ∙ append-nil (text o.0) in
     (subst IsTrace same o.2, whole ∙ ap text same)
 
--- after the end there is a trace
-pub fed_ended : (fed : List ℕ) (s : Stage) → Fed fed s → s.ended ≡ true → s.begun ≢ None
-fed_ended fed s h ended none = let o = subst (FedTo fed s) ended h.stage in let bad : Some o.0 ≡ None = sym o.1 ∙ none in cc
+-- where there is no trace, no end came
+pub not_ended : (fed : List ℕ) (s : Stage) → Fed fed s → s.begun ≡ None → s.ended ≡ false
+not_ended fed s h none = go s.ended h.stage
+  where
+    go : (b : Bool) → FedTo fed s b → b ≡ false
+    go false o = refl
+    go true o = let bad : Some o.0 ≡ None = sym o.1 ∙ none in absurd cc
 
 -- ---- a step, and all of them
 
-pub step_fails : (fed : List ℕ) (s new : Stage) (e : TraceFault) → Fed fed s → (e ≡ Memory) ⊎ FailsAt s.ended s e → Advances fed (Err e) new
-step_fails fed s new e h (inl m) = inl m
-step_fails fed s new e h (inr f) = inr (go s.ended refl f)
+pub step_fails : (fed : List ℕ) (s : Stage) (e : TraceFault) → Fed fed s → (e ≡ Memory) ⊎ FailsAt s.ended s e → Stops fed e
+step_fails fed s e h (inl m) = inl m
+step_fails fed s e h (inr f) = inr (go s.ended refl f)
   where
     go : (b : Bool) → s.ended ≡ b → FailsAt b s e → HasFailed fed e
     go false going st =
@@ -199,67 +197,69 @@ none_settled = nothing_waits
 
 -- ---- the device is not at fault
 
-pub advance_device : (fed : List ℕ) (e : TraceFault) (new : Stage) → Advances fed (Err e) new → e ≢ ReadFailed
-advance_device fed e new (inl m) r = let both : Memory ≡ ReadFailed = sym m ∙ r in cc
-advance_device fed e new (inr h) r = h.device r
+pub stops_device : (fed : List ℕ) (e : TraceFault) → Stops fed e → e ≢ ReadFailed
+stops_device fed e (inl m) r = let both : Memory ≡ ReadFailed = sym m ∙ r in cc
+stops_device fed e (inr h) r = h.device r
 
-pub advance_no_cut : (fed : List ℕ) (e : TraceFault) (new : Stage) (offset : ℕ) → Advances fed (Err e) new → e ≢ Cut offset
-advance_no_cut fed e new offset (inl m) r = let both : Memory ≡ Cut offset = sym m ∙ r in cc
-advance_no_cut fed e new offset (inr h) r = h.no_cut offset r
+pub stops_no_cut : (fed : List ℕ) (e : TraceFault) (offset : ℕ) → Stops fed e → e ≢ Cut offset
+stops_no_cut fed e offset (inl m) r = let both : Memory ≡ Cut offset = sym m ∙ r in cc
+stops_no_cut fed e offset (inr h) r = h.no_cut offset r
 
 -- ---- what a reader has left
 
--- bytes that were taken, and then more
--- what was read before the end is all there was
-pub all_read : (a b c : Option (List ℕ)) (fed : List ℕ) (s : Stage) → Consumes a b fed → Consumes b c [] → IsAtEnd c → Fed fed s → IsSettled s → IfSome a (λ bytes. Fed bytes s × IsSettled s)
-all_read None b c fed s p q r h settled = tt
-all_read (Some u) None c fed s p q r h settled = absurd p
-all_read (Some u) (Some v) None fed s p q r h settled = absurd q
-all_read (Some u) (Some v) (Some w) fed s p q r h settled =
+-- what holds of all that was read before the end holds of all there was
+pub all_read : (P : List ℕ → Type 0) (a b c : Option (List ℕ)) (fed : List ℕ) → Consumes a b fed → Consumes b c [] → IsAtEnd c → P fed → IfSome a P
+all_read P None b c fed p q r h = tt
+all_read P (Some u) None c fed p q r h = absurd p
+all_read P (Some u) (Some v) None fed p q r h = absurd q
+all_read P (Some u) (Some v) (Some w) fed p q r h =
     let whole : fed ≡ u = sym (p ∙ ap (λ (t : List ℕ). fed ++ t) (q ∙ r) ∙ append-nil fed) in
-    (subst (λ (x : List ℕ). Fed x s) whole h, settled)
+    subst P whole h
 
 -- a fault of what was read is a fault of all there is
-pub fault_read : (a b : Option (List ℕ)) (fed : List ℕ) (e : TraceFault) (new : Stage) → Consumes a b fed → Advances fed (Err e) new → (e ≡ Memory) ⊎ (e ≡ ReadFailed) ⊎ IfSome a (λ bytes. HasFault bytes e)
-fault_read a b fed e new p (inl m) = inl m
-fault_read None b fed e new p (inr h) = inr (inr tt)
-fault_read (Some u) None fed e new p (inr h) = absurd p
-fault_read (Some u) (Some v) fed e new p (inr h) = inr (inr (subst (λ (x : List ℕ). HasFault x e) (sym p) (h.stays v)))
+pub fault_read : (a b : Option (List ℕ)) (fed : List ℕ) (e : TraceFault) → Consumes a b fed → Stops fed e → (e ≡ Memory) ⊎ (e ≡ ReadFailed) ⊎ IfSome a (λ bytes. HasFault bytes e)
+fault_read a b fed e p (inl m) = inl m
+fault_read None b fed e p (inr h) = inr (inr tt)
+fault_read (Some u) None fed e p (inr h) = absurd p
+fault_read (Some u) (Some v) fed e p (inr h) = inr (inr (subst (λ (x : List ℕ). HasFault x e) (sym p) (h.stays v)))
 
 -- ---- the answer
 
-says_agrees : (bytes : List ℕ) (r : Result ATrace TraceFault) → Says bytes r → Agrees bytes r
-says_agrees bytes (Ok t) h = h
-says_agrees bytes (Err e) h = inr (inr h)
+-- what holds of bytes holds of the bytes that there were
+pub of_bytes : (P Q : List ℕ → Type 0) (a : Option (List ℕ)) → IfSome a P → ((bytes : List ℕ) → P bytes → Q bytes) → IfSome a Q
+of_bytes P Q None h q = tt
+of_bytes P Q (Some u) h q = q u h
 
-pub read_says : (a : Option (List ℕ)) (s : Stage) (r : Result ATrace TraceFault) → IfSome a (λ bytes. Fed bytes s × IsSettled s) → ((fed : List ℕ) → Fed fed s → IsSettled s → Says fed r)
-    → IfSome a (λ bytes. Agrees bytes r)
-read_says None s r h says = tt
-read_says (Some u) s r h says = says_agrees u r (says u h.0 h.1)
+-- a fault that is no cut
+pub into_fault : (a : Option (List ℕ)) (e : TraceFault) → (e ≡ Memory) ⊎ (e ≡ ReadFailed) ⊎ IfSome a (λ bytes. HasFault bytes e) → ((offset : ℕ) → e ≢ Cut offset)
+    → IfSome a (λ bytes. (e ≡ Memory) ⊎ (e ≡ ReadFailed) ⊎ (HasFault bytes e × ((offset : ℕ) → e ≢ Cut offset)))
+into_fault None e h k = tt
+into_fault (Some u) e (inl m) k = inl m
+into_fault (Some u) e (inr (inl f)) k = inr (inl f)
+into_fault (Some u) e (inr (inr w)) k = inr (inr (w, k))
 
-pub read_only : (a : Option (List ℕ)) (r : Result ATrace TraceFault) → IfSome a (λ bytes. Agrees bytes r)
-    → IfSome a (λ bytes. IsBytes bytes → (x : Result ATrace TraceFault) → Says bytes x → answer.Gives x r)
-read_only None r h = tt
-read_only (Some u) r h = λ fits. only_answer u r fits h
+-- a cut is a fault of a text that has to be whole
+cut_fault : (bytes : List ℕ) (t : ATrace) (offset : ℕ) → IsCutAfter bytes t offset → HasFault bytes (Cut offset)
+cut_fault bytes t offset h = inr (inl (record { begun = h.begun; rest = h.rest; begins = h.begins; stands = h.stands; fault_is = ap (λ (n : ℕ). Cut n) h.place }))
 
-pub read_one : (a : Option (List ℕ)) (s : Stage) (r : Result ATrace TraceFault) → IfSome a (λ bytes. Fed bytes s × IsSettled s) → ((fed : List ℕ) → Fed fed s → IsSettled s → Says fed r)
-    → IfOk r (λ t. IfSome a (λ bytes. (x : Result ATrace TraceFault) → Says bytes x → x ≡ Ok t))
-read_one a s (Err e) h says = tt
-read_one None s (Ok t) h says = tt
-read_one (Some u) s (Ok t) h says = λ x k. one_answer u x (Ok t) h.0.fits k (says u h.0 h.1)
+-- what a trace was taken from is its text, or is cut
+pub whole_says : (bytes : List ℕ) (taken : Taken ATrace) → TakesFrom (λ trace t. trace ≡ t) bytes taken → taken.cut ≡ None → IsBytes bytes × Says bytes (Ok taken.sink)
+whole_says bytes taken h none = (h.bytes_fit, subst (λ (t : ATrace). Says bytes (Ok t)) (sym h.took_it) (subst (BeginsAs bytes h.trace) none h.begins))
 
-pub read_fault : (a : Option (List ℕ)) (e : TraceFault) → (e ≡ Memory) ⊎ (e ≡ ReadFailed) ⊎ IfSome a (λ bytes. HasFault bytes e) → IfSome a (λ bytes. Agrees bytes (Err e))
-read_fault None e h = tt
-read_fault (Some u) e h = h
+pub cut_says : (bytes : List ℕ) (taken : Taken ATrace) (offset : ℕ) → TakesFrom (λ trace t. trace ≡ t) bytes taken → taken.cut ≡ Some offset → IsBytes bytes × HasFault bytes (Cut offset)
+cut_says bytes taken offset h cut = (h.bytes_fit, cut_fault bytes h.trace offset (subst (BeginsAs bytes h.trace) cut h.begins))
 
-pub so_far_says : (a : Option (List ℕ)) (s : Stage) (p : Partial) → IfSome a (λ bytes. Fed bytes s × IsSettled s) → ((fed : List ℕ) → Fed fed s → IsSettled s → BeginsAs fed p.trace p.cut)
-    → IfSome a (λ bytes. BeginsAs bytes p.trace p.cut)
-so_far_says None s p h says = tt
-so_far_says (Some u) s p h says = says u h.0 h.1
+pub begins_as : (bytes : List ℕ) (taken : Taken ATrace) → TakesFrom (λ trace t. trace ≡ t) bytes taken → BeginsAs bytes taken.sink taken.cut
+begins_as bytes taken h = subst (λ (t : ATrace). BeginsAs bytes t taken.cut) (sym h.took_it) h.begins
 
-pub so_far_fault : (a : Option (List ℕ)) (e : TraceFault) → (e ≡ Memory) ⊎ (e ≡ ReadFailed) ⊎ IfSome a (λ bytes. HasFault bytes e) → ((offset : ℕ) → e ≢ Cut offset)
-    → IfSome a (λ bytes. answer.AgreesSoFar bytes (Err e))
-so_far_fault None e h k = tt
-so_far_fault (Some u) e (inl m) k = inl m
-so_far_fault (Some u) e (inr (inl f)) k = inr (inl f)
-so_far_fault (Some u) e (inr (inr w)) k = inr (inr (w, k))
+-- each fault that is told of what was taken is one of a text that has to be whole
+pub fault_agrees : (bytes : List ℕ) (e : TraceFault) → (e ≡ Memory) ⊎ (e ≡ ReadFailed) ⊎ (HasFault bytes e × ((offset : ℕ) → e ≢ Cut offset)) → Agrees bytes (Err e)
+fault_agrees bytes e (inl m) = inl m
+fault_agrees bytes e (inr (inl f)) = inr (inl f)
+fault_agrees bytes e (inr (inr w)) = inr (inr w.0)
+
+pub agrees_only : (bytes : List ℕ) (r : Result ATrace TraceFault) → Agrees bytes r → IsBytes bytes → (x : Result ATrace TraceFault) → Says bytes x → answer.Gives x r
+agrees_only bytes r h fits = only_answer bytes r fits h
+
+pub says_one : (bytes : List ℕ) (t : ATrace) → IsBytes bytes × Says bytes (Ok t) → (x : Result ATrace TraceFault) → Says bytes x → x ≡ Ok t
+says_one bytes t h x says = one_answer bytes x (Ok t) h.0 says h.1

@@ -13,7 +13,7 @@ use Rattle.cops_wire.specs.declared.message.Message.TheVariants.{TracePut, Trace
 use Rattle.cops_trace.specs.declared.found.Item.{Item}
 use Rattle.cops_trace.specs.declared.found.Item.TheVariants.{Head, Op as Entry, End}
 use Rattle.cops_trace.specs.declared.found.Found.{Found}
-use Rattle.cops_trace.specs.declared.found.Found.TheVariants.{Gives, Waits, Fails}
+use Rattle.cops_trace.specs.declared.found.Found.TheVariants.{Gives}
 use Rattle.cops_trace.specs.Text.{ATrace}
 use Rattle.cops_trace.specs.Counts.{ACounts, AreCountsOf, progress_from}
 use Rattle.cops_trace.specs.Next.{Progress, Stands, found_in, later_message, record_found, unread}

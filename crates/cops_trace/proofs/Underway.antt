@@ -1,18 +1,22 @@
 -- What a reader of a trace's text keeps.
-use Rattle.std.proofs.Common.{◌≡◌, ◌≢◌, ℕ, zero, suc, ◌+◌, ◌<◌, ◌≤◌, Bool, true, false, List, [], ◌∷◌, ◌++◌, length, Option, Some, None, Result, Ok, Err, refl, sym, ap, subst, ◌∙◌, arith, inl, inr, eq-eqb, get_or-set_same, get_or-set_other}
-use Rattle.std.specs.Prelude.{option_map}
+use Rattle.std.proofs.Common.{◌≡◌, ℕ, zero, suc, ◌+◌, ◌<◌, ◌≤◌, Bool, true, false, List, [], ◌∷◌, ◌++◌, length, Option, Some, None, Ok, Err, refl, sym, ap, subst, ◌∙◌, arith, inl, inr, eq-eqb, get_or-set_same, get_or-set_other}
+use Rattle.std.specs.Prelude.{◌⊎◌, option_map, unwrap_or}
 use Rattle.std.proofs.lemmas.List.{length-append, length-replicate, length-set}
+use Rattle.cops_wire.specs.Answer.{IsBytes}
 use Rattle.cops_trace.specs.declared.fault.TraceFault.{TraceFault}
+use Rattle.cops_trace.specs.declared.fault.TraceFault.TheVariants.{Memory}
 use Rattle.cops_trace.specs.declared.found.Found.TheVariants.{Fails, Gives, Waits}
 use Rattle.cops_trace.specs.declared.found.Item.{Item}
 use Rattle.cops_trace.specs.declared.found.Item.TheVariants.{Head, Op as Entry, End}
 use Rattle.cops_trace.specs.declared.record.Record.{Record}
+use Rattle.cops_trace.specs.Answer.{IsCutAfter, TakesFrom}
 use Rattle.cops_trace.specs.Counts.{ACounts, AreCountsOf, counted, next_of, nothing, progress_from}
 use Rattle.cops_trace.specs.Kept.{grown}
 use Rattle.cops_trace.specs.Next.{Stands}
-use Rattle.cops_trace.specs.Parsing.{FailsAt, IsBegunAs, IsSettled, IsSettledAt, ItemHasRoom, Stage, StepGives, with_item}
+use Rattle.cops_trace.specs.Parsing.{FailsAt, FedInto, IsBegunAs, IsSettled, IsSettledAt, IsTakenAs, IsUnderway, ItemHasRoom, SettledInto, StepGives, StepsInto, Stops, stage_of, with_item}
 use Rattle.cops_trace.specs.Reading.{FailsIn, GivesNext, IsStoppedBy, IsWithinReach, ItemHasTurn, Reading, WaitsIn, counts_with, is_end, progress_so_far}
 use Rattle.cops_trace.specs.Text.{ATrace, turn}
+use Rattle.cops_trace.proofs.Feeding.{fed_more, fed_none, fed_so_far, fed_whole, none_settled, not_ended, step_fails, step_less, step_takes, step_waits}
 use Rattle.cops_trace.proofs.Founds.{item_room, item_turn, stands_after}
 use Rattle.cops_trace.proofs.Growth.{with_records}
 use Rattle.cops_trace.proofs.Items.{Allows, stands_still}
@@ -82,9 +86,6 @@ begun_after b c End h turn = h
 
 -- ---- a reading and the stage with the trace
 
-abbrev pub stage_of : Option ATrace → Reading → Stage
-stage_of b r = record { begun = b; at = r.at; ended = r.ended; rest = r.rest }
-
 fails_too : (b : Option ATrace) (r : Reading) (e : TraceFault) → IsBegunAs b r.counts → FailsIn r.ended r e → FailsAt r.ended (stage_of b r) e
 fails_too b r e h f = go r.ended f
   where
@@ -92,10 +93,119 @@ fails_too b r e h f = go r.ended f
     go false s = stands_after r.at b r.counts r.rest (Fails e) h s
     go true f = f
 
-pub step_err : (b : Option ATrace) (old new : Reading) (e : TraceFault) (s : Stage) → IsBegunAs b old.counts → GivesNext old (Err e) new → StepGives (stage_of b old) (Err e) s
-step_err b old new e s h (inl m) = inl m.0
-step_err b old new e s h (inr f) = inr (fails_too b old e h f.0)
+waits_too : (b : Option ATrace) (r : Reading) → IsBegunAs b r.counts → WaitsIn r.ended r → IsSettled (stage_of b r)
+waits_too b r h w = go r.ended w
+  where
+    go : (ended : Bool) → WaitsIn ended r → IsSettledAt ended (stage_of b r)
+    go false s = stands_after r.at b r.counts r.rest Waits h s
+    go true none = none
+
+-- a step, by what the reader gives: a fault
+pub step_err : (b : Option ATrace) (old new : Reading) (e : TraceFault) → IsBegunAs b old.counts → GivesNext old (Err e) new → (e ≡ Memory) ⊎ FailsAt old.ended (stage_of b old) e
+step_err b old new e h (inl m) = inl m.0
+step_err b old new e h (inr f) = inr (fails_too b old e h f.0)
+
+-- no whole item
+pub step_waited : (b : Option ATrace) (old new : Reading) → IsBegunAs b old.counts → GivesNext old (Ok None) new → IsBegunAs b new.counts × StepGives (stage_of b old) (Ok false) (stage_of b new)
+step_waited b old new h (fine, waits, same) = (subst (λ (r : Reading). IsBegunAs b r.counts) (sym same) h, (waits_too b old h waits, ap (stage_of b) same))
+
+-- an item
+pub step_room : (b : Option ATrace) (old new : Reading) (i : Item) → IsBegunAs b old.counts → GivesNext old (Ok (Some i)) new → ItemHasRoom i b
+step_room b old new i h (fine, going, (used, stands, same)) = item_room old.at b old.rest i used (stands_after old.at b old.counts old.rest (Gives i used) h stands)
 
 pub step_begun : (b : Option ATrace) (old new : Reading) (i : Item) → IsBegunAs b old.counts → GivesNext old (Ok (Some i)) new → IsBegunAs (with_item i b) new.counts
 step_begun b old new i h (fine, going, (used, stands, same)) =
     subst (λ (r : Reading). IsBegunAs (with_item i b) r.counts) (sym same) (begun_after b old.counts i h (item_turn old.at old.counts old.rest i used stands))
+
+pub step_took : (b : Option ATrace) (old new : Reading) (i : Item) → IsBegunAs b old.counts → GivesNext old (Ok (Some i)) new → StepGives (stage_of b old) (Ok true) (stage_of (with_item i b) new)
+step_took b old new i h (fine, going, (used, stands, same)) = (going, (i, used, stands_after old.at b old.counts old.rest (Gives i used) h stands, ap (stage_of (with_item i b)) same))
+
+-- ---- a sink
+
+module _ {S : Type 0} (took : S → ATrace → Type 0) where
+  -- what a sink took that stands for the one that was begun
+  pub taken_as : (begun : Option S) (sink : S) (b : Option ATrace) → begun ≡ Some sink → IsTakenAs took begun b → (t : ATrace) × (b ≡ Some t) × took sink t
+  taken_as begun sink b same h = go b (subst (λ (o : Option S). IsTakenAs took o b) same h)
+    where
+      go : (b : Option ATrace) → IsTakenAs took (Some sink) b → (t : ATrace) × (b ≡ Some t) × took sink t
+      go None h = absurd h
+      go (Some t) h = (t, refl, h)
+
+  pub none_taken : (begun : Option S) (b : Option ATrace) → begun ≡ None → IsTakenAs took begun b → b ≡ None
+  none_taken begun b none h = go b (subst (λ (o : Option S). IsTakenAs took o b) none h)
+    where
+      go : (b : Option ATrace) → IsTakenAs took None b → b ≡ None
+      go None h = refl
+      go (Some t) h = absurd h
+
+  -- a reader and a sink at the beginning
+  pub into_none : (begun : Option S) (r : Reading) → r ≡ record { counts = None; at = 0; ended = false; rest = []; fault = None } → begun ≡ None → SettledInto took [] begun r
+  into_none begun r fresh none =
+      subst (λ (o : Option S). SettledInto took [] o r) (sym none)
+      (subst (λ (x : Reading). SettledInto took [] None x) (sym fresh)
+      (record { into = record { underway = record { trace = None; taken = tt; counts = tt }; stage = fed_none }; settled = none_settled }))
+
+  -- with a piece more
+  pub underway_more : (begun : Option S) (old new : Reading) (piece : List ℕ) → new ≡ record old { rest = old.rest ++ piece } → IsUnderway took begun old → IsUnderway took begun new
+  underway_more begun old new piece same h =
+      subst (IsUnderway took begun) (sym same) (record { trace = h.trace; taken = h.taken; counts = h.counts })
+
+  pub into_more : (fed piece : List ℕ) (begun : Option S) (old new : Reading) → IsBytes piece → new ≡ record old { rest = old.rest ++ piece } → FedInto took fed begun old → FedInto took (fed ++ piece) begun new
+  into_more fed piece begun old new fits same h =
+      subst (FedInto took (fed ++ piece) begun) (sym same) (record {
+        underway = record { trace = h.underway.trace; taken = h.underway.taken; counts = h.underway.counts };
+        stage = fed_more fed piece (stage_of h.underway.trace old) fits h.stage;
+      })
+
+  -- a step
+  pub into_less : (old new : Reading) (from to : Option S) → IsUnderway took from old → ((t : Option ATrace) → IsTakenAs took from t → IsBegunAs t old.counts → StepsInto took (stage_of t old) (Ok true) to new)
+      → length new.rest < length old.rest
+  into_less old new from to h steps = let next = steps h.trace h.taken h.counts in step_less (stage_of h.trace old) (stage_of next.0.trace new) next.1
+
+  pub into_next : (old new : Reading) (from to : Option S) → IsUnderway took from old → ((t : Option ATrace) → IsTakenAs took from t → IsBegunAs t old.counts → StepsInto took (stage_of t old) (Ok true) to new)
+      → IsUnderway took to new
+  into_next old new from to h steps = (steps h.trace h.taken h.counts).0
+
+  pub into_takes : (fed : List ℕ) (old new : Reading) (from to : Option S) → FedInto took fed from old → ((t : Option ATrace) → IsTakenAs took from t → IsBegunAs t old.counts → StepsInto took (stage_of t old) (Ok true) to new)
+      → FedInto took fed to new
+  into_takes fed old new from to h steps =
+      let u = h.underway in
+      let next = steps u.trace u.taken u.counts in
+      record { underway = next.0; stage = step_takes fed (stage_of u.trace old) (stage_of next.0.trace new) h.stage next.1 }
+
+  pub into_waits : (fed : List ℕ) (old new : Reading) (from to : Option S) → FedInto took fed from old → ((t : Option ATrace) → IsTakenAs took from t → IsBegunAs t old.counts → StepsInto took (stage_of t old) (Ok false) to new)
+      → SettledInto took fed to new
+  into_waits fed old new from to h steps =
+      let u = h.underway in
+      let next = steps u.trace u.taken u.counts in
+      let both = step_waits fed (stage_of u.trace old) (stage_of next.0.trace new) h.stage next.1 in
+      record { into = record { underway = next.0; stage = both.0 }; settled = both.1 }
+
+  pub into_fails : (fed : List ℕ) (old new : Reading) (from to : Option S) (e : TraceFault) → FedInto took fed from old → ((t : Option ATrace) → IsTakenAs took from t → IsBegunAs t old.counts → StepsInto took (stage_of t old) (Err e) to new)
+      → Stops fed e
+  into_fails fed old new from to e h steps = let u = h.underway in step_fails fed (stage_of u.trace old) e h.stage (steps u.trace u.taken u.counts)
+
+  -- ---- where nothing more comes
+
+  -- the sink took a whole trace
+  pub closed_whole : (fed : List ℕ) (begun : Option S) (r : Reading) (sink : S) → begun ≡ Some sink → r.ended ≡ true → SettledInto took fed begun r → TakesFrom took fed (record { sink = sink; cut = None })
+  closed_whole fed begun r sink same ended h =
+      let u = h.into.underway in
+      let t = taken_as begun sink u.trace same u.taken in
+      record { bytes_fit = h.into.stage.fits; trace = t.0; took_it = t.2; begins = fed_whole fed (stage_of u.trace r) t.0 h.into.stage ended t.1 h.settled }
+
+  -- or the records before a cut
+  pub closed_cut : (fed : List ℕ) (begun : Option S) (r : Reading) (sink : S) → begun ≡ Some sink → r.ended ≡ false → SettledInto took fed begun r → TakesFrom took fed (record { sink = sink; cut = Some r.at })
+  closed_cut fed begun r sink same going h =
+      let u = h.into.underway in
+      let t = taken_as begun sink u.trace same u.taken in
+      let cut = fed_so_far fed (stage_of u.trace r) h.into.stage going h.settled in
+      record { bytes_fit = h.into.stage.fits; trace = t.0; took_it = t.2; begins = subst (λ (b : Option ATrace). IsCutAfter fed (unwrap_or b (record { clients = 0; records = [] })) r.at) t.1 cut }
+
+  -- or nothing, where the head was cut
+  pub closed_none : (fed : List ℕ) (begun : Option S) (r : Reading) (sink : S) → begun ≡ None → took sink (record { clients = 0; records = [] }) → SettledInto took fed begun r → TakesFrom took fed (record { sink = sink; cut = Some r.at })
+  closed_none fed begun r sink none fresh h =
+      let u = h.into.underway in
+      let nothing = none_taken begun u.trace none u.taken in
+      let cut = fed_so_far fed (stage_of u.trace r) h.into.stage (not_ended fed (stage_of u.trace r) h.into.stage nothing) h.settled in
+      record { bytes_fit = h.into.stage.fits; trace = record { clients = 0; records = [] }; took_it = fresh; begins = subst (λ (b : Option ATrace). IsCutAfter fed (unwrap_or b (record { clients = 0; records = [] })) r.at) nothing cut }

@@ -4,6 +4,8 @@ use Rattle.cops_trace.specs.declared.fault.TraceFault.{TraceFault}
 use Rattle.cops_trace.specs.declared.fault.TraceFault.TheVariants.{Memory, ReadFailed, Cut, BytesAfterEnd}
 use Rattle.cops_trace.specs.declared.found.Found.TheVariants.{Waits, Fails}
 use Rattle.cops_trace.specs.declared.trace.Partial.{Partial}
+use Rattle.cops_trace.specs.declared.sink.Taken.{Taken}
+use Rattle.cops_wire.specs.Answer.{IsBytes}
 use Rattle.cops_trace.specs.Text.{ATrace, IsTrace, turn, beginning, text}
 use Rattle.cops_trace.specs.Next.{Progress, Stands}
 
@@ -91,3 +93,15 @@ BeginsAs bytes t (Some offset) = IsCutAfter bytes t offset
 abbrev pub AgreesSoFar : List ℕ → Result Partial TraceFault → Type 0
 AgreesSoFar bytes (Ok p) = BeginsAs bytes p.trace p.cut
 AgreesSoFar bytes (Err e) = (e ≡ Memory) ⊎ (e ≡ ReadFailed) ⊎ (HasFault bytes e × ((offset : ℕ) → e ≢ Cut offset))
+
+-- What took the records of these bytes, by whether it took a trace: all of them, or the whole ones before a cut.
+pub record TakesFrom {S : Type 0} (took : S → ATrace → Type 0) (bytes : List ℕ) (taken : Taken S) : Type 0 where
+  pub bytes_fit : IsBytes bytes
+  pub trace : ATrace
+  pub took_it : took taken.sink trace
+  pub begins : BeginsAs bytes trace taken.cut
+
+-- what was taken holds of the bytes: a cut is no fault
+abbrev pub AgreesInto : {S : Type 0} → (S → ATrace → Type 0) → List ℕ → Result (Taken S) TraceFault → Type 0
+AgreesInto took bytes (Ok taken) = TakesFrom took bytes taken
+AgreesInto took bytes (Err e) = (e ≡ Memory) ⊎ (e ≡ ReadFailed) ⊎ (HasFault bytes e × ((offset : ℕ) → e ≢ Cut offset))

@@ -32,3 +32,7 @@ grown t r = record { clients = t.clients; records = t.records ++ r ∷ [] }
 -- the client, or the trace, has the most operations that it may have
 abbrev pub IsFull : ATrace → ℕ → Type 0
 IsFull t client = (turn client t.records < MAX_CLIENT_OPS × length t.records < MAX_OPS) → ⊥
+
+-- the client may have one more record
+abbrev pub MayGrow : ATrace → ℕ → Type 0
+MayGrow t client = (client < t.clients) × (turn client t.records < MAX_CLIENT_OPS) × (length t.records < MAX_OPS)

@@ -1,18 +1,17 @@
 -- What is kept while a trace's text comes in pieces.
-use Rattle.std.specs.Prelude.{◌≡◌, ◌≢◌, ℕ, ◌+◌, ◌<◌, ◌≤◌, ◌⊎◌, Bool, true, false, List, [], ◌++◌, length, drop, Option, Some, None, Result, Ok, Err, option_map}
-use Rattle.cops_types.specs.declared.limits.TheConstants.{MAX_CLIENT_OPS, MAX_OPS}
+use Rattle.std.specs.Prelude.{◌≡◌, ◌≢◌, ℕ, ◌+◌, ◌⊎◌, Bool, true, false, List, [], ◌++◌, length, drop, Option, Some, None, Result, Ok, Err, option_map}
 use Rattle.cops_wire.specs.Answer.{IsBytes}
 use Rattle.cops_trace.specs.declared.fault.TraceFault.{TraceFault}
 use Rattle.cops_trace.specs.declared.fault.TraceFault.TheVariants.{Memory, ReadFailed, Cut, BytesAfterEnd}
 use Rattle.cops_trace.specs.declared.found.Item.{Item}
 use Rattle.cops_trace.specs.declared.found.Item.TheVariants.{Head, Op as Entry, End}
-use Rattle.cops_trace.specs.declared.found.Found.{Found}
 use Rattle.cops_trace.specs.declared.found.Found.TheVariants.{Gives, Waits, Fails}
 use Rattle.cops_trace.specs.Text.{ATrace, IsTrace, turn, text}
 use Rattle.cops_trace.specs.Answer.{Begins, front, HasFault}
-use Rattle.cops_trace.specs.Kept.{grown}
+use Rattle.cops_trace.specs.Kept.{MayGrow, grown}
 use Rattle.cops_trace.specs.Counts.{ACounts, AreCountsOf}
 use Rattle.cops_trace.specs.Next.{Progress, Stands}
+use Rattle.cops_trace.specs.Reading.{Reading}
 pub use Rattle.cops_trace.specs.Reading.{is_end}
 
 -- how far a text has come that stands at this place
@@ -44,7 +43,7 @@ after item used s = record { begun = with_item item s.begun; at = s.at + used; e
 abbrev pub ItemHasRoom : Item → Option ATrace → Type 0
 ItemHasRoom (Head clients) begun = Unit {0}
 ItemHasRoom (Entry client op) None = ⊥
-ItemHasRoom (Entry client op) (Some t) = (client < t.clients) × (turn client t.records < MAX_CLIENT_OPS) × (length t.records < MAX_OPS)
+ItemHasRoom (Entry client op) (Some t) = MayGrow t client
 ItemHasRoom End begun = Unit {0}
 
 -- the counts are those of the trace that was begun
@@ -87,7 +86,45 @@ pub record HasFailed (fed : List ℕ) (e : TraceFault) : Type 0 where
   pub device : e ≢ ReadFailed
   pub stays : (more : List ℕ) → HasFault (fed ++ more) e
 
--- all whole items were taken, or it has failed
-abbrev pub Advances : List ℕ → Result (Unit {0}) TraceFault → Stage → Type 0
-Advances fed (Ok u) new = Fed fed new × IsSettled new
-Advances fed (Err e) new = (e ≡ Memory) ⊎ HasFailed fed e
+-- want of memory, or it has failed
+abbrev pub Stops : List ℕ → TraceFault → Type 0
+Stops fed e = (e ≡ Memory) ⊎ HasFailed fed e
+
+-- what was read by a reader that gave out the head and the records of a trace
+abbrev pub stage_of : Option ATrace → Reading → Stage
+stage_of begun r = record { begun = begun; at = r.at; ended = r.ended; rest = r.rest }
+
+-- ---- with a sink, of which it is known whether it took a trace
+
+module _ {S : Type 0} (took : S → ATrace → Type 0) where
+  -- the sink that was begun took the trace that was begun
+  abbrev pub IsTakenAs : Option S → Option ATrace → Type 0
+  IsTakenAs None None = Unit {0}
+  IsTakenAs (Some sink) (Some t) = took sink t
+  IsTakenAs _ _ = ⊥
+
+  -- it took what a reader gave out, a trace
+  pub record IsUnderway (begun : Option S) (r : Reading) : Type 0 where
+    pub trace : Option ATrace
+    pub taken : IsTakenAs begun trace
+    pub counts : IsBegunAs trace r.counts
+
+  -- and that is what was read of these bytes
+  pub record FedInto (fed : List ℕ) (begun : Option S) (r : Reading) : Type 0 where
+    pub underway : IsUnderway begun r
+    pub stage : Fed fed (stage_of underway.trace r)
+
+  -- and no whole item is left
+  pub record SettledInto (fed : List ℕ) (begun : Option S) (r : Reading) : Type 0 where
+    pub into : FedInto fed begun r
+    pub settled : IsSettled (stage_of into.underway.trace r)
+
+  -- what a step answers, and what it leaves
+  abbrev pub StepsInto : Stage → Result Bool TraceFault → Option S → Reading → Type 0
+  StepsInto old (Ok went) begun r = (new : IsUnderway begun r) × StepGives old (Ok went) (stage_of new.trace r)
+  StepsInto old (Err e) begun r = (e ≡ Memory) ⊎ FailsAt old.ended old e
+
+  -- all whole items were taken, or it stops
+  abbrev pub AdvancesInto : List ℕ → Result (Unit {0}) TraceFault → Option S → Reading → Type 0
+  AdvancesInto fed (Ok u) begun r = SettledInto fed begun r
+  AdvancesInto fed (Err e) begun r = Stops fed e

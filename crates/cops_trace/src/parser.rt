@@ -1,40 +1,31 @@
-//! A trace's text that comes in pieces, with the trace that it has spelled so far.
-ghost use Rattle.std.specs.Prelude.{◌≡◌, OnOk};
-ghost use Rattle.cops_trace.specs.Parsing.{ItemHasRoom, with_item};
+//! A trace's text that comes in pieces, with what took the trace that it has spelled so far.
+ghost use Rattle.std.specs.Prelude.{◌≡◌, Option, OnOk};
+ghost use Rattle.cops_trace.specs.Parsing.{IsTakenAs, ItemHasRoom, with_item};
+ghost use Rattle.cops_trace.specs.Text.{ATrace};
 
 use crate::fault::TraceFault;
 use crate::found::Item;
 use crate::reader::TraceReader;
-use crate::trace::{Partial, Trace};
-use cops_types::{Memory, Op, TypeFault};
+use crate::sink::{Sink, Taken};
+use cops_types::{Memory, Op};
 use std::alloc::Global;
-use std::marker::Model;
 
-/// What was read of a text: the head with the records so far, and the bytes that no item was taken from.
-#[derive(Debug, Drop)]
-pub(crate) struct Parser {
+/// What was read of a text: what took the head and the records so far, and the bytes that no item was taken from.
+#[derive(Drop)]
+pub(crate) struct Parser<S: Drop> {
     alloc: Global,
-    reader: TraceReader,
-    begun: Option<Trace>,
+    pub(crate) reader: TraceReader,
+    pub(crate) begun: Option<S>,
 }
 
-impl Model for Parser {
-    ghost use Rattle.cops_trace.specs.Parsing.{IsBegunAs, Stage};
+impl<S: Sink> Parser<S> {
+    ghost use Rattle.std.specs.Prelude.{◌++◌, [], None, false, IfOk, List, ℕ};
+    ghost use Rattle.cops_trace.specs.Answer.{TakesFrom};
+    ghost use Rattle.cops_trace.specs.Parsing.{AdvancesInto, FedInto, IsBegunAs, IsUnderway, SettledInto, StepsInto, stage_of};
 
-    ghost Value = { Stage };
-
-    ghost view = { λ p. record { begun = p.begun; at = p.reader.at; ended = p.reader.ended; rest = p.reader.rest } };
-
-    ghost invariant = { λ p. IsBegunAs p.begun p.reader.counts };
-}
-
-impl Parser {
-    ghost use Rattle.std.specs.Prelude.{◌≡◌, ◌++◌, [], None, false, IfOk, IsErrOf, List, ℕ};
-    ghost use Rattle.cops_trace.specs.Parsing.{Stage, StepGives, Fed, Advances, IsSettled};
-    ghost use Rattle.cops_trace.specs.Answer.{Says, BeginsAs};
-
-    pub(crate) fn new(alloc: Global) -> Parser
-        ensures { result ≡ record { begun = None; at = 0; ended = false; rest = [] } }
+    pub(crate) fn new(alloc: Global) -> Parser<S>
+        ensures reader { result.reader ≡ record { counts = None; at = 0; ended = false; rest = []; fault = None } }
+        ensures begun { result.begun ≡ None }
     {
         Parser {
             alloc,
@@ -43,27 +34,25 @@ impl Parser {
         }
     }
 
-    /// Takes the next item into the trace, and says whether a whole one was there. Where memory is refused what was read is let
-    /// go.
+    /// Takes the next item, and says whether a whole one was there.
     fn step(&mut self) -> Result<bool, TraceFault>
-        ensures { StepGives self.old result self.new }
+        requires { IsUnderway S.took self.old.begun self.old.reader }
+        ensures { (t : Option ATrace) → IsTakenAs S.took self.old.begun t → IsBegunAs t self.old.reader.counts
+            → StepsInto S.took (stage_of t self.old.reader) result self.new.begun self.new.reader }
     {
         let Some(item) = self.reader.next()? else {
             return Ok(false);
         };
         match take(self.alloc, &mut self.begun, item) {
             Ok(()) => Ok(true),
-            Err(Memory) => {
-                self.reader = TraceReader::new(self.alloc);
-                self.begun = None;
-                Err(TraceFault::Memory)
-            }
+            Err(Memory) => Err(TraceFault::Memory),
         }
     }
 
     /// Takes all whole items off the rest. Nothing may be left after the end.
     fn advance(&mut self) -> Result<(), TraceFault>
-        ensures { (fed : List ℕ) → Fed fed self.old → Advances fed result self.new }
+        requires { IsUnderway S.took self.old.begun self.old.reader }
+        ensures { (fed : List ℕ) → FedInto S.took fed self.old.begun self.old.reader → AdvancesInto S.took fed result self.new.begun self.new.reader }
     {
         while self.step()? {}
         Ok(())
@@ -71,7 +60,9 @@ impl Parser {
 
     /// Takes the next piece, and then all whole items off the rest.
     pub(crate) fn take_piece(&mut self, piece: &[u8]) -> Result<(), TraceFault>
-        ensures { (fed : List ℕ) → Fed fed self.old → Advances (fed ++ piece.now) result self.new }
+        requires { IsUnderway S.took self.old.begun self.old.reader }
+        ensures { (fed : List ℕ) → FedInto S.took fed self.old.begun self.old.reader
+            → AdvancesInto S.took (fed ++ piece.now) result self.new.begun self.new.reader }
     {
         let Ok(()) = self.reader.feed(piece) else {
             return Err(TraceFault::Memory);
@@ -81,42 +72,28 @@ impl Parser {
 
     /// Where the next item begins.
     pub(crate) fn at(&self) -> u64
-        ensures { result ≡ self.now.at }
+        ensures { result ≡ self.now.reader.at }
     {
         self.reader.at()
     }
 
-    /// The trace where its end came, else the fault of a text that is cut here.
-    pub(crate) fn finish(self) -> Result<Trace, TraceFault>
-        ensures says { (fed : List ℕ) → Fed fed self → IsSettled self → Says fed result }
-        ensures device { ¬ IsErrOf result TraceFault.ReadFailed }
-    {
-        let at = self.reader.at();
-        let ended = self.reader.has_ended();
-        let Parser { begun, .. } = self;
-        match begun {
-            Some(trace) if ended => Ok(trace),
-            _ => Err(TraceFault::Cut { offset: at }),
-        }
-    }
-
-    /// The whole records before a cut, or all of them.
-    pub(crate) fn so_far(self) -> Result<Partial, Memory>
-        ensures { (fed : List ℕ) → Fed fed self → IsSettled self → IfOk result (λ p. BeginsAs fed p.trace p.cut) }
+    /// Where nothing more comes: what took the whole records, and the cut's place where the end did not come.
+    pub(crate) fn closed(self) -> Result<Taken<S>, Memory>
+        ensures { (fed : List ℕ) → SettledInto S.took fed self.begun self.reader → IfOk result (TakesFrom S.took fed) }
     {
         let at = self.reader.at();
         let ended = self.reader.has_ended();
         let Parser { alloc, begun, .. } = self;
         match begun {
-            Some(trace) if ended => Ok(Partial { trace, cut: None }),
-            Some(trace) => Ok(Partial {
-                trace,
+            Some(sink) if ended => Ok(Taken { sink, cut: None }),
+            Some(sink) => Ok(Taken {
+                sink,
                 cut: Some(at),
             }),
             None => {
-                let trace = Trace::new(alloc, 0)?;
-                Ok(Partial {
-                    trace,
+                let sink = S::begin(alloc, 0)?;
+                Ok(Taken {
+                    sink,
                     cut: Some(at),
                 })
             }
@@ -124,15 +101,15 @@ impl Parser {
     }
 }
 
-/// Takes an item into the trace that was begun.
-fn take(alloc: Global, begun: &mut Option<Trace>, item: Item) -> Result<(), Memory>
-    requires { ItemHasRoom item begun.old }
-    ensures { OnOk result (begun.new ≡ with_item item begun.old) }
+/// Gives an item to the sink that was begun.
+fn take<S: Sink>(alloc: Global, begun: &mut Option<S>, item: Item) -> Result<(), Memory>
+    requires { (t : Option ATrace) × IsTakenAs S.took begun.old t × ItemHasRoom item t }
+    ensures { (t : Option ATrace) → IsTakenAs S.took begun.old t → OnOk result (IsTakenAs S.took begun.new (with_item item t)) }
 {
     match item {
         Item::Head { clients } => {
-            let trace = Trace::new(alloc, clients)?;
-            drop(begun.replace(trace));
+            let sink = S::begin(alloc, clients)?;
+            drop(begun.replace(sink));
             Ok(())
         }
         Item::Op { client, op } => push(begun, client, op),
@@ -140,17 +117,13 @@ fn take(alloc: Global, begun: &mut Option<Trace>, item: Item) -> Result<(), Memo
     }
 }
 
-/// Adds a record to the trace that was begun.
-fn push(begun: &mut Option<Trace>, client: u16, op: Op) -> Result<(), Memory>
-    requires { ItemHasRoom (Item.Op client op) begun.old }
-    ensures { OnOk result (begun.new ≡ with_item (Item.Op client op) begun.old) }
+/// Gives a record to the sink that was begun.
+fn push<S: Sink>(begun: &mut Option<S>, client: u16, op: Op) -> Result<(), Memory>
+    requires { (t : Option ATrace) × IsTakenAs S.took begun.old t × ItemHasRoom (Item.Op client op) t }
+    ensures { (t : Option ATrace) → IsTakenAs S.took begun.old t → OnOk result (IsTakenAs S.took begun.new (with_item (Item.Op client op) t)) }
 {
     match begun {
-        Some(trace) => match trace.push(client, op) {
-            Ok(()) => Ok(()),
-            Err(TypeFault::Memory) => Err(Memory),
-            Err(_) => unreachable!(),
-        },
+        Some(sink) => sink.take(client, op),
         None => unreachable!(),
     }
 }

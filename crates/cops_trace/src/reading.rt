@@ -5,11 +5,12 @@ ghost use Rattle.cops_types.specs.Counted.{failures, inner};
 ghost use Rattle.cops_trace.specs.declared.fault.TraceFault.{TraceFault as AFault};
 ghost use Rattle.cops_wire.specs.Answer.{IsBytes};
 ghost use Rattle.cops_trace.specs.Text.{ATrace};
-ghost use Rattle.cops_trace.specs.Answer.{Says, Agrees, AgreesSoFar, Gives, HasFault};
-ghost use Rattle.cops_trace.specs.Parsing.{Fed, IsSettled};
+ghost use Rattle.cops_trace.specs.Answer.{Says, Agrees, AgreesInto, AgreesSoFar, Gives, HasFault};
+ghost use Rattle.cops_trace.specs.Parsing.{SettledInto};
 
 use crate::fault::TraceFault;
 use crate::parser::Parser;
+use crate::sink::{Sink, Taken};
 use crate::trace::{Partial, Trace};
 use cops_types::{Counted, Memory};
 use std::alloc::Global;
@@ -22,8 +23,11 @@ const PIECE: usize = 65_536;
 const READS: u64 = 1 << 40;
 
 /// Reads to the end of the input, or to the first fault. A failed read is not tried again.
-fn read_items<R: Read>(alloc: Global, reader: &mut Counted<R>) -> Result<Parser, TraceFault>
-    ensures ok { IfOk result (λ parser. IfSome (R.remaining (inner reader.old)) (λ bytes. Fed bytes parser × IsSettled parser)) }
+fn read_items<S: Sink, R: Read>(
+    alloc: Global,
+    reader: &mut Counted<R>,
+) -> Result<Parser<S>, TraceFault>
+    ensures ok { IfOk result (λ parser. IfSome (R.remaining (inner reader.old)) (λ bytes. SettledInto S.took bytes parser.begun parser.reader)) }
     ensures err { IfErr result (λ e. (e ≡ TraceFault.Memory) ⊎ (e ≡ TraceFault.ReadFailed) ⊎ IfSome (R.remaining (inner reader.old)) (λ bytes. HasFault bytes e)) }
     ensures no_cut { IfErr result (λ e. (offset : ℕ) → e ≢ TraceFault.Cut offset) }
     ensures failed { IsErrOf result TraceFault.ReadFailed → Failed (failures reader.old) (failures reader.new) }
@@ -46,6 +50,24 @@ fn read_items<R: Read>(alloc: Global, reader: &mut Counted<R>) -> Result<Parser,
     })
 }
 
+/// Gives the trace whose text a reader gives to a sink as it comes, and keeps nothing else of it: the sink that took the whole
+/// records, and the cut's place where the text is cut; each other fault as `read_trace` answers it. Where the head is cut the
+/// sink took one of no clients.
+pub fn read_into<S: Sink, R: Read>(
+    alloc: Global,
+    reader: &mut Counted<R>,
+) -> Result<Taken<S>, TraceFault>
+    ensures says { IfSome (R.remaining (inner reader.old)) (λ bytes. AgreesInto S.took bytes result) }
+    ensures failed { IsErrOf result TraceFault.ReadFailed → Failed (failures reader.old) (failures reader.new) }
+    ensures heard { IsErrOf result TraceFault.ReadFailed ⊎ (failures reader.new ≡ failures reader.old) }
+{
+    let parser = read_items::<S, R>(alloc, reader)?;
+    match parser.closed() {
+        Ok(taken) => Ok(taken),
+        Err(Memory) => Err(TraceFault::Memory),
+    }
+}
+
 /// The trace whose text a reader gives, or the text's first fault; `ReadFailed` where a read failed.
 pub fn read_trace<R: Read>(alloc: Global, reader: &mut Counted<R>) -> Result<Trace, TraceFault>
     ensures says { IfSome (R.remaining (inner reader.old)) (λ bytes. Agrees bytes result) }
@@ -55,8 +77,11 @@ pub fn read_trace<R: Read>(alloc: Global, reader: &mut Counted<R>) -> Result<Tra
     ensures failed { IsErrOf result TraceFault.ReadFailed → Failed (failures reader.old) (failures reader.new) }
     ensures heard { IsErrOf result TraceFault.ReadFailed ⊎ (failures reader.new ≡ failures reader.old) }
 {
-    let parser = read_items(alloc, reader)?;
-    parser.finish()
+    let taken = read_into::<Trace, R>(alloc, reader)?;
+    match taken.cut {
+        None => Ok(taken.sink),
+        Some(offset) => Err(TraceFault::Cut { offset }),
+    }
 }
 
 /// The whole records before a cut and the cut's place, for a whole text all its records and no place; each other fault
@@ -66,9 +91,9 @@ pub fn read_so_far<R: Read>(alloc: Global, reader: &mut Counted<R>) -> Result<Pa
     ensures failed { IsErrOf result TraceFault.ReadFailed → Failed (failures reader.old) (failures reader.new) }
     ensures heard { IsErrOf result TraceFault.ReadFailed ⊎ (failures reader.new ≡ failures reader.old) }
 {
-    let parser = read_items(alloc, reader)?;
-    match parser.so_far() {
-        Ok(partial) => Ok(partial),
-        Err(Memory) => Err(TraceFault::Memory),
-    }
+    let taken = read_into::<Trace, R>(alloc, reader)?;
+    Ok(Partial {
+        trace: taken.sink,
+        cut: taken.cut,
+    })
 }

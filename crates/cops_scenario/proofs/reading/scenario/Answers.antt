@@ -4,7 +4,7 @@ use Rattle.serde_json.specs.Data.{Data}
 use Rattle.serde_json.specs.View.{view}
 use Rattle.cops_core.specs.declared.event.Event.{Event}
 use Rattle.cops_scenario.specs.File.{AreRightBefore, AreUnscripted, IsRight, TellClients, list_json}
-use Rattle.cops_scenario.specs.declared.fault.Field.TheVariants.{Root, DataCentres, Splits, Link, Turns, Clients, Events}
+use Rattle.cops_scenario.specs.declared.fault.Field.TheVariants.{Root, DataCentres, Splits, Link, Turns, Retries, Clients, Events}
 use Rattle.cops_scenario.proofs.Order.{before_clients, before_events}
 use Rattle.cops_scenario.proofs.Scripts.{are_events}
 use Rattle.cops_scenario.proofs.reading.scenario.Goals as goal
@@ -17,8 +17,9 @@ returns-in_err-clients-clause-first c = λ field e.
     let splits : IsRight root Splits = search rules in
     let link : IsRight root Link = search rules in
     let turns : IsRight root Turns = search rules in
+    let retries : IsRight root Retries = search rules in
     let is : Clients ≡ field = search rules in
-    subst (AreRightBefore root) is (before_clients root whole dcs splits link turns)
+    subst (AreRightBefore root) is (before_clients root whole dcs splits link turns retries)
 
 pub returns-in_err-events-clause-first : goal.returns-in_err-events-clause-first
 returns-in_err-events-clause-first c = λ field e.
@@ -30,7 +31,8 @@ returns-in_err-events-clause-first c = λ field e.
     let splits : IsRight root Splits = search rules in
     let link : IsRight root Link = search rules in
     let turns : IsRight root Turns = search rules in
-    let earlier = before_clients root whole dcs splits link turns in
+    let retries : IsRight root Retries = search rules in
+    let earlier = before_clients root whole dcs splits link turns retries in
     let is : Events ≡ field = search rules in
     before_events root field is earlier right
 

@@ -1,7 +1,16 @@
-use Rattle.std.proofs.Common.{subst}
+use Rattle.std.proofs.Common.{subst, sym, ◌∙◌, ap}
+use Rattle.cops_audit.specs.Judged.{IsJudged}
+use Rattle.cops_stream.specs.Audit.{answer_of}
+use Rattle.cops_trace.specs.Text.{sessions_of}
 use Rattle.cops_types.specs.Histories.{Sessions}
-use Rattle.cops_audit.specs.Verdicts.{IsVerdict}
 use Rattle.cops_stream.proofs.so_far.whole.Goals as goal
 
-pub reported-requires : goal.reported-requires
-reported-requires c = subst (λ (s : Sessions). IsVerdict s c.in_ok-verdict.verdict) c.history.ensures.sessions c.in_ok-verdict.ensures.verdict
+pub returns : goal.returns
+returns c = λ t fed.
+    let judged = c.in_ok-judged.judged in
+    let is = subst (λ (h : Sessions). IsJudged h judged) fed c.in_ok-judged.ensures in
+    record {
+      verdict = judged.verdict;
+      is_report = record { is_verdict = is.verdict; is_report = c.in_ok-text.ensures (sessions_of t) is };
+      answer_is = c.answer_of.ensures ∙ ap answer_of c.verdict.ensures;
+    }

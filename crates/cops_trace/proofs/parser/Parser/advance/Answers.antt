@@ -1,23 +1,40 @@
-use Rattle.std.proofs.Common.{◌≡◌, Bool, true, false, subst, Ok}
+use Rattle.std.proofs.Common.{Bool, Ok, Option, subst}
 use Rattle.std.proofs.lemmas.Result.{err_from_is_err_and}
-use Rattle.cops_trace.specs.Parsing.{StepGives}
-use Rattle.cops_trace.proofs.Feeding.{step_fails, step_waits, step_takes, step_less}
+use Rattle.cops_trace.specs.Parsing.{IsBegunAs, IsTakenAs, StepsInto, stage_of}
+use Rattle.cops_trace.specs.Text.{ATrace}
+use Rattle.cops_trace.proofs.Underway.{into_fails, into_less, into_next, into_takes, into_waits}
 use Rattle.cops_trace.proofs.parser.Parser.advance.Goals as goal
 
 pub returns-in_err-step : goal.returns-in_err-step
-returns-in_err-step c = λ fed h.
+returns-in_err-step g c = λ fed h.
     let p = err_from_is_err_and c.from_residual.result c.from_residual.ensures.1 in
-    rw (p.1, p.2) (step_fails fed c.loop.self c.step.new.self c.in_err-step.field-0.0 (c.loop.invariant.fed fed h) c.in_err-step.ensures)
+    let old = c.loop.self in
+    let new = c.step.new.self in
+    rw (p.1, p.2) (into_fails g.S.Sink.took fed old.reader new.reader old.begun new.begun c.in_err-step.field-0.0 (c.loop.invariant.fed fed h) c.in_err-step.ensures)
 
 pub loop-smaller : goal.loop-smaller
-loop-smaller c = step_less c.loop.self c.step.new.self (subst (λ (b : Bool). StepGives c.loop.self (Ok b) c.step.new.self) c.if-branch.true c.in_ok-step.ensures)
+loop-smaller g c =
+    let took = g.S.Sink.took in
+    let old = c.loop.self in
+    let new = c.step.new.self in
+    let steps = subst (λ (b : Bool). (t : Option ATrace) → IsTakenAs took old.begun t → IsBegunAs t old.reader.counts → StepsInto took (stage_of t old.reader) (Ok b) new.begun new.reader) c.if-branch.true c.in_ok-step.ensures in
+    into_less took old.reader new.reader old.begun new.begun c.loop.invariant.underway steps
 
 pub loop-preserved : goal.loop-preserved
-loop-preserved c =
-    let took = subst (λ (b : Bool). StepGives c.loop.self (Ok b) c.step.new.self) c.if-branch.true c.in_ok-step.ensures in
-    record { fed = λ fed h. step_takes fed c.loop.self c.step.new.self (c.loop.invariant.fed fed h) took }
+loop-preserved g c =
+    let took = g.S.Sink.took in
+    let old = c.loop.self in
+    let new = c.step.new.self in
+    let steps = subst (λ (b : Bool). (t : Option ATrace) → IsTakenAs took old.begun t → IsBegunAs t old.reader.counts → StepsInto took (stage_of t old.reader) (Ok b) new.begun new.reader) c.if-branch.true c.in_ok-step.ensures in
+    record {
+      underway = into_next took old.reader new.reader old.begun new.begun c.loop.invariant.underway steps;
+      fed = λ fed h. into_takes took fed old.reader new.reader old.begun new.begun (c.loop.invariant.fed fed h) steps;
+    }
 
 pub returns : goal.returns
-returns c = λ fed h.
-    let waits = subst (λ (b : Bool). StepGives c.loop.self (Ok b) c.step.new.self) c.if-branch.false c.in_ok-step.ensures in
-    step_waits fed c.loop.self c.step.new.self (c.loop.invariant.fed fed h) waits
+returns g c = λ fed h.
+    let took = g.S.Sink.took in
+    let old = c.loop.self in
+    let new = c.step.new.self in
+    let steps = subst (λ (b : Bool). (t : Option ATrace) → IsTakenAs took old.begun t → IsBegunAs t old.reader.counts → StepsInto took (stage_of t old.reader) (Ok b) new.begun new.reader) c.if-branch.false c.in_ok-step.ensures in
+    into_waits took fed old.reader new.reader old.begun new.begun (c.loop.invariant.fed fed h) steps

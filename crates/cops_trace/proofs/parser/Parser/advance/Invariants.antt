@@ -1,11 +1,14 @@
-use Rattle.std.proofs.Common.{◌≡◌, ℕ, List, length}
-use Rattle.cops_trace.specs.Parsing.{Fed}
+use Rattle.std.proofs.Common.{ℕ, List, length}
+use Rattle.cops_trace.specs.Parsing.{FedInto, IsUnderway}
 use Rattle.cops_trace.proofs.parser.Parser.advance.Given as goal
 
 abbrev pub invariant-loop : goal.invariant-loop
-invariant-loop l = record {
-  fed : (fed : List ℕ) → Fed fed l.fn.self → Fed fed l.self;
-}
+invariant-loop g l =
+    let took = g.S.Sink.took in
+    record {
+      underway : IsUnderway took l.self.begun l.self.reader;
+      fed : (fed : List ℕ) → FedInto took fed l.fn.self.begun l.fn.self.reader → FedInto took fed l.self.begun l.self.reader;
+    }
 
 abbrev pub decreases-loop : goal.decreases-loop
-decreases-loop l = length l.self.rest
+decreases-loop g l = length l.self.reader.rest

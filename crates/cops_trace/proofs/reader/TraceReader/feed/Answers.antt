@@ -1,4 +1,4 @@
-use Rattle.std.proofs.Common.{◌≡◌, List, ℕ, sym, subst}
+use Rattle.std.proofs.Common.{List, ℕ, sym, subst}
 use Rattle.cops_trace.specs.Reading.{IsStoppedBy, Reading}
 use Rattle.cops_trace.proofs.Underway.{stopped_more}
 use Rattle.cops_trace.proofs.reader.TraceReader.feed.Goals as goal

@@ -1,8 +1,7 @@
-use Rattle.std.proofs.Common.{◌≡◌, ℕ, ◌+◌, ◌<◌, ◌≤◌, Bool, false, List, length, Option, None, sym, ap, ◌∙◌, subst, arith}
+use Rattle.std.proofs.Common.{◌≡◌, ◌+◌, Bool, false, Option, None, sym, ap, ◌∙◌, subst, arith}
 use Rattle.std.specs.Prelude.{option_map}
-use Rattle.cops_trace.specs.declared.fault.TraceFault.{TraceFault}
 use Rattle.cops_trace.specs.Counts.{ACounts, progress_from}
-use Rattle.cops_trace.specs.Reading.{IsStoppedBy, IsWithinReach, Reading, counts_with, is_end, progress_so_far}
+use Rattle.cops_trace.specs.Reading.{IsWithinReach, Reading, counts_with, is_end}
 use Rattle.cops_trace.proofs.Items.{given, stands_used}
 use Rattle.cops_trace.proofs.Underway.{reach_after, stands_too, stopped_none, within_reach}
 use Rattle.cops_trace.proofs.reader.TraceReader.give.Goals as goal

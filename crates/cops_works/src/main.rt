@@ -1,15 +1,23 @@
-//! What the benchmarks of a node, of a world and of the auditor that is fed run, for the scripts in `bench/`: `node PAIRS TURNS AMONG`,
-//! `world FILE MODE DATA_CENTRES CLIENTS`, or `online TRACE MODE`. With no words it does nothing.
+//! What scripts run. For those in `bench/`, which time a node, a world and the auditor that is fed: `node PAIRS TURNS AMONG`, `world FILE MODE
+//! DATA_CENTRES CLIENTS`, `online TRACE MODE`. For `tests/growths.py`, which refuses growths in turn: `growths SCENARIO LINES TRACE LINES SCENARIO
+//! LINES`. With no words it does nothing.
 #![tactic(auto)]
 
+mod auditing;
+mod clustering;
+mod growths;
+mod happening;
 mod node;
 mod online;
+mod running;
 mod world;
 
 use anyhow::Error;
 use cops_words::{u8_of, u16_of, u64_of};
 use std::env;
 use std::rt::Files;
+use std::sync::Wait;
+use std::thread::Threads;
 
 fn time_node<R: Print + AllocGlobal>(rt: &R, words: &[&String; 3]) -> Result<(), Error> {
     let [pairs, turns, among] = words;
@@ -22,7 +30,10 @@ fn time_world<R: Files + Print + AllocGlobal>(rt: &R, words: &[&String; 4]) -> R
 }
 
 /// Runs what the words name.
-fn perform<R: Files + Print + AllocGlobal>(rt: &R, words: &[String]) -> Result<(), Error> {
+fn perform<R: Files + Threads + Wait + Sync + Print + AllocGlobal>(
+    rt: &R,
+    words: &[String],
+) -> Result<(), Error> {
     match words {
         [what, pairs, turns, among] if what.as_str() == "node" => {
             time_node(rt, &[pairs, turns, among])
@@ -31,6 +42,9 @@ fn perform<R: Files + Print + AllocGlobal>(rt: &R, words: &[String]) -> Result<(
             time_world(rt, &[path, mode, dcs, clients])
         }
         [what, path, mode] if what.as_str() == "online" => online::say(rt, path, mode),
+        [what, events, happened, trace, report, scripts, ran] if what.as_str() == "growths" => {
+            growths::say(rt, &[events, happened, trace, report, scripts, ran])
+        }
         _ => Ok(()),
     }
 }

@@ -1,0 +1,49 @@
+//! What takes a trace while it is read.
+ghost use Rattle.std.specs.Prelude.{◌≡◌};
+
+use crate::trace::Trace;
+use cops_types::{Memory, Op, TypeFault};
+use std::alloc::Global;
+
+/// What takes the head of a trace and then its records, one after the other.
+pub trait Sink: Drop {
+    ghost use Rattle.std.specs.Prelude.{[], IfOk, OnOk};
+    ghost use Rattle.cops_trace.specs.Text.{ATrace};
+    ghost use Rattle.cops_trace.specs.Kept.{MayGrow, grown};
+
+    /// Whether it took the head and the records of this trace, and no more.
+    ghost took: { Self → ATrace → Type 0 };
+
+    /// Takes a head of so many clients.
+    fn begin(alloc: Global, clients: u16) -> Result<Self, Memory>
+        ensures { IfOk result (λ sink. took sink (record { clients = clients; records = [] })) };
+
+    /// Takes a record: a client's next operation.
+    fn take(&mut self, client: u16, op: Op) -> Result<(), Memory>
+        requires { (t : ATrace) × took self.old t × MayGrow t client }
+        ensures { (t : ATrace) → took self.old t → OnOk result (took self.new (grown t (record { client = client; op = op }))) };
+}
+
+/// What took the whole records of a text, and where the text is cut: nowhere where they are all.
+#[derive(Drop)]
+pub struct Taken<S: Drop> {
+    pub sink: S,
+    pub cut: Option<u64>,
+}
+
+/// A trace takes itself.
+impl Sink for Trace {
+    ghost took = { λ trace t. trace ≡ t };
+
+    fn begin(alloc: Global, clients: u16) -> Result<Trace, Memory> {
+        Trace::new(alloc, clients)
+    }
+
+    fn take(&mut self, client: u16, op: Op) -> Result<(), Memory> {
+        match self.push(client, op) {
+            Ok(()) => Ok(()),
+            Err(TypeFault::Memory) => Err(Memory),
+            Err(_) => unreachable!(),
+        }
+    }
+}

@@ -1,0 +1,130 @@
+//! The verdict on a trace, by each way to it.
+
+use cops_audit::{FeedFault, Online, Verdict};
+use cops_batch::{BatchFault, judge_with};
+use cops_command::reported;
+use cops_report::{report, report_judged};
+use cops_stream::{StreamFault, audit_stream};
+use cops_trace::{Trace, TraceFault, read_trace};
+use cops_types::{Counted, History, Memory, Op, OpName, OpenGate};
+use std::alloc::Global;
+use std::sync::Wait;
+use std::thread::Threads;
+
+/// A trace, or nothing where the bytes are none.
+fn read(alloc: Global, bytes: &[u8]) -> Result<Option<Trace>, Memory> {
+    match read_trace(alloc, &mut Counted::new(bytes)) {
+        Ok(trace) => Ok(Some(trace)),
+        Err(TraceFault::Memory) => Err(Memory),
+        Err(_) => Ok(None),
+    }
+}
+
+/// The verdict by two workers.
+fn by_two<R: Threads + Wait + Sync>(
+    rt: &R,
+    alloc: Global,
+    history: &History,
+) -> Result<Option<Verdict>, Memory> {
+    match judge_with(rt, alloc, history, 2, &OpenGate) {
+        Ok(verdict) => Ok(Some(verdict)),
+        Err(BatchFault::Memory) => Err(Memory),
+        Err(_) => Ok(None),
+    }
+}
+
+/// Whether two workers say so.
+fn two_say<R: Threads + Wait + Sync>(
+    rt: &R,
+    alloc: Global,
+    history: &History,
+    wanted: &[u8],
+) -> Result<bool, Memory> {
+    let Some(verdict) = by_two(rt, alloc, history)? else {
+        return Ok(false);
+    };
+    let text = report(alloc, history, &verdict)?;
+    Ok(text.as_slice() == wanted)
+}
+
+/// Feeds an operation: where memory is refused once more, and tells whether it was taken.
+fn feed(online: &mut Online, client: u16, op: &Op) -> Result<bool, Memory> {
+    match online.feed(client, op.clone()?) {
+        Ok(()) => Ok(true),
+        Err(FeedFault::Memory) => Ok(online.feed(client, op.clone()?).is_ok()),
+        Err(_) => Ok(false),
+    }
+}
+
+/// Feeds a client's operations, and tells whether all were taken.
+fn feed_session(online: &mut Online, history: &History, client: u16) -> Result<bool, Memory> {
+    for index in 0..history.session(client).len() {
+        let index = index as u32;
+        let is_fed = match history.op(OpName { client, index }) {
+            Some(op) => feed(online, client, op)?,
+            None => false,
+        };
+        if !is_fed {
+            return Ok(false);
+        }
+    }
+    Ok(true)
+}
+
+/// Whether an auditor that is fed says so.
+fn fed_says(alloc: Global, history: &History, wanted: &[u8]) -> Result<bool, Memory> {
+    let mut online = Online::new(alloc, history.clients() as u16)?;
+    for client in 0..history.clients() {
+        if !feed_session(&mut online, history, client as u16)? {
+            return Ok(false);
+        }
+    }
+    let judged = online.close()?;
+    let text = report_judged(alloc, &judged)?;
+    Ok(text.as_slice() == wanted)
+}
+
+/// Whether the audit of the bytes by so many workers writes so, and nothing where memory is refused.
+fn streams<R: Threads + Wait + Sync>(
+    rt: &R,
+    alloc: Global,
+    bytes: &[u8],
+    workers: u8,
+    wanted: &[u8],
+) -> Result<bool, Memory> {
+    let mut writer = Counted::new(Vec::new(alloc));
+    let answer = audit_stream(
+        rt,
+        alloc,
+        &mut Counted::new(bytes),
+        &mut writer,
+        workers,
+        &OpenGate,
+    );
+    let text = writer.into_inner();
+    match answer {
+        Ok(_) => Ok(text.as_slice() == wanted),
+        Err(StreamFault::Memory) if text.is_empty() => Err(Memory),
+        Err(_) => Ok(false),
+    }
+}
+
+/// Whether this is said of a trace's bytes, by one judge, by two workers, by an auditor that is fed, and by the audit.
+pub fn says<R: Threads + Wait + Sync>(
+    rt: &R,
+    alloc: Global,
+    bytes: &[u8],
+    wanted: &[u8],
+) -> Result<bool, Memory> {
+    let Some(trace) = read(alloc, bytes)? else {
+        return Ok(false);
+    };
+    let history = trace.history();
+    Ok(
+        reported(alloc, history)?.as_slice() == wanted
+            && two_say(rt, alloc, history, wanted)?
+            && fed_says(alloc, history, wanted)?
+            && streams(rt, alloc, bytes, 1, wanted)?
+            && streams(rt, alloc, bytes, 2, wanted)?,
+    )
+}

@@ -1,0 +1,117 @@
+//! A client of a cluster, on one thread.
+
+use cops_clients::{Client, CloseFault, Closed, Cluster, OpenFault, Opened, Share};
+use cops_node::Outcome;
+use cops_place::Place;
+use cops_types::{Key, Memory, OpenGate, Refusal, TypeFault, Value, Version};
+use std::alloc::Global;
+use std::sync::Wait;
+
+/// A cluster of one node with one client, or nothing where it is refused for another reason than memory.
+fn opened(alloc: Global) -> Result<Option<Opened>, Memory> {
+    let Ok(place) = Place::new(1, Vec::new(alloc)) else {
+        return Ok(None);
+    };
+    match Cluster::open(alloc, place, Vec::from_slice(alloc, &[0])?) {
+        Ok(opened) => Ok(Some(opened)),
+        Err(OpenFault::Memory) => Err(Memory),
+        Err(_) => Ok(None),
+    }
+}
+
+fn key(alloc: Global) -> Result<Key, Memory> {
+    Key::new(alloc, b"a key of more bytes than lie in it").or(Err(Memory))
+}
+
+fn value(alloc: Global) -> Result<Value, Memory> {
+    Value::new(alloc, b"a value of more bytes than lie in it").or(Err(Memory))
+}
+
+/// Puts, or gets.
+fn step<R: Wait>(
+    rt: &R,
+    alloc: Global,
+    cluster: &Cluster,
+    client: &mut Client,
+    puts: bool,
+) -> Result<Option<Outcome>, Memory> {
+    let answer = if puts {
+        cluster.put(rt, client, &OpenGate, key(alloc)?, value(alloc)?)
+    } else {
+        cluster.get(rt, client, &OpenGate, key(alloc)?)
+    };
+    Ok(answer.ok())
+}
+
+/// The answer to a put or a get: one that is refused for want of memory, and then has no entry, is asked for again.
+fn surely<R: Wait>(
+    rt: &R,
+    alloc: Global,
+    cluster: &Cluster,
+    client: &mut Client,
+    puts: bool,
+) -> Result<Option<Outcome>, Memory> {
+    let before = client.share().entries().len();
+    let answer = step(rt, alloc, cluster, client, puts)?;
+    if answer != Some(Outcome::Refused(Refusal::Memory)) {
+        return Ok(answer);
+    }
+    if client.share().entries().len() != before {
+        return Ok(answer);
+    }
+    step(rt, alloc, cluster, client, puts)
+}
+
+/// Whether a client gets what it put, and each of the two has its entry.
+fn gets_what_it_put<R: Wait>(
+    rt: &R,
+    alloc: Global,
+    cluster: &Cluster,
+    client: &mut Client,
+) -> Result<bool, Memory> {
+    let Ok(version) = Version::new(1, 0) else {
+        return Ok(false);
+    };
+    let put = surely(rt, alloc, cluster, client, true)?;
+    let got = surely(rt, alloc, cluster, client, false)?;
+    Ok(
+        put == Some(Outcome::PutDone(version))
+            && got == Some(Outcome::Got(value(alloc)?, version))
+            && client.share().entries().len() == 2,
+    )
+}
+
+/// What is left of a cluster, which is closed again where memory was refused.
+fn closed(cluster: Cluster, shares: Vec<Share>) -> Option<Closed> {
+    match cluster.close(shares) {
+        Ok(closed) => Some(closed),
+        Err(CloseFault::Memory(cluster, shares)) => cluster.close(shares).ok(),
+        Err(_) => None,
+    }
+}
+
+/// Whether a client of a cluster gets what it put, and both are in the trace in the end.
+pub fn answers<R: Wait>(rt: &R, alloc: Global) -> Result<bool, Memory> {
+    let Some(
+        Opened {
+            cluster,
+            mut clients,
+            mut shares,
+        },
+    ) = opened(alloc)?
+    else {
+        return Ok(false);
+    };
+    let Some(mut client) = clients.pop() else {
+        return Ok(false);
+    };
+    if !gets_what_it_put(rt, alloc, &cluster, &mut client)? {
+        return Ok(false);
+    }
+    shares.reserve(1)?;
+    shares.push(client.into_share())?;
+    match closed(cluster, shares) {
+        Some(closed) => Ok(closed.trace.len() == 2),
+        None => Ok(false),
+    }
+}

@@ -1,0 +1,57 @@
+//! The works of a cluster and of an auditor, one after the other, each beside what is wanted of it.
+
+use crate::{auditing, clustering, happening, running};
+use anyhow::{Error, bail};
+use cops_types::Memory;
+use std::fs;
+use std::rt::Files;
+use std::sync::Wait;
+use std::thread::Threads;
+
+/// What the works are given, and what is wanted of them.
+#[derive(Drop)]
+struct Inputs {
+    events: Vec<u8>,
+    happened: Vec<u8>,
+    trace: Vec<u8>,
+    report: Vec<u8>,
+    scripts: Vec<u8>,
+    ran: Vec<u8>,
+}
+
+fn read<R: Files + AllocGlobal>(rt: &R, paths: &[&String; 6]) -> Result<Inputs, Error> {
+    let [events, happened, trace, report, scripts, ran] = paths;
+    Ok(Inputs {
+        events: fs::read(rt, events)?,
+        happened: fs::read(rt, happened)?,
+        trace: fs::read(rt, trace)?,
+        report: fs::read(rt, report)?,
+        scripts: fs::read(rt, scripts)?,
+        ran: fs::read(rt, ran)?,
+    })
+}
+
+/// Whether all works go as is wanted.
+fn go<R: Threads + Wait + Sync + AllocGlobal>(rt: &R, inputs: &Inputs) -> Result<bool, Memory> {
+    let alloc = rt.alloc();
+    Ok(
+        happening::happens(alloc, &inputs.events, &inputs.happened)?
+            && clustering::answers(rt, alloc)?
+            && auditing::says(rt, alloc, &inputs.trace, &inputs.report)?
+            && running::ends(rt, alloc, &inputs.scripts, &inputs.ran)?,
+    )
+}
+
+/// Says whether all works go as is wanted by the files: a scenario with events and what is told of them, a trace and what is told of it,
+/// a scenario with scripts and the report on its run. It fails where memory is refused to a work that has that for an answer.
+pub fn say<R: Files + Threads + Wait + Sync + Print + AllocGlobal>(
+    rt: &R,
+    paths: &[&String; 6],
+) -> Result<(), Error> {
+    match go(rt, &read(rt, paths)?) {
+        Ok(true) => println!(rt; "as wanted")?,
+        Ok(false) => println!(rt; "not as wanted")?,
+        Err(Memory) => bail!("out of memory"),
+    }
+    Ok(())
+}
