@@ -197,7 +197,8 @@ def scenarios():
 
 
 def mixed(seed, operations=40, data_centres=3, clients=6):
-    """Scripts of puts and gets of a few keys, over two nodes in each data centre. Gives the scenario and the number of puts."""
+    """Scripts of puts and gets of a few keys, over up to three nodes in each data centre, with small links, messages that are repeated and that come late.
+    Gives the scenario and the number of puts."""
     pick = random.Random(seed)
 
     def operation(n):
@@ -206,7 +207,8 @@ def mixed(seed, operations=40, data_centres=3, clients=6):
 
     scripts = [[operation(n) for n in range(operations)] for _ in range(clients)]
     members = [{"at": n % data_centres, "script": script} for n, script in enumerate(scripts)]
-    text = json.dumps({"data_centres": data_centres, "splits": ["k2"], "link": 1 + seed % 16, "clients": members})
+    weather = {"link": 1 + seed % 3, "retries": pick.randrange(4), "repeat": pick.randrange(4), "hold": pick.choice((0, 0, 1, 7, 50))}
+    text = json.dumps({"data_centres": data_centres, "splits": pick.choice(([], ["k2"], ["k1", "k3"])), "clients": members, **weather})
     return text.encode(), sum("put" in one for script in scripts for one in script)
 
 
@@ -220,10 +222,13 @@ def mixed_scripts():
     for client, key in ((0, "a"), (1, "b")):
         own = [line.split(" version=")[1] for line in lines if f" client={client} index=" in line and f" key={key} value=1 version=" in line]
         check(f"client {client} got its own put", (len(own), len(set(own))), (2, 1))
-    for seed in range(200):
+    late = {"data_centres": 2, "link": 1, "repeat": 2, "hold": 5, "clients": [{"at": 0, "script": [{"put": ["x", "1"]}, {"put": ["y", "2"]}]}]}
+    check("messages that come late and three times", ran(json.dumps(late).encode())[0], (0, b"client 0 done\naccepted: 2 operations, 2 puts\n", b""))
+    check("fewer turns than come late", ran(json.dumps({**late, "turns": 3}).encode())[0], (4, b"", b"failed: turn limit\n"))
+    for seed in range(490):
         run_of_mixed(seed)
     loads = [subprocess.Popen([sys.executable, "-c", "while True: pass"]) for _ in range(os.cpu_count() or 2)]
-    for seed in range(200, 210):
+    for seed in range(490, 500):
         run_of_mixed(seed)
     for load in loads:
         load.kill()

@@ -184,6 +184,8 @@ fn line(alloc: Global, number: &str, words: &[&str]) -> Result<String, Error> {
 fn ask(alloc: Global, scenario: &Scenario, words: &[&str]) -> Result<String, Error> {
     match words {
         ["retries"] => text(alloc, &[Number(u64::from(scenario.retries()))]),
+        ["repeat"] => text(alloc, &[Number(u64::from(scenario.repeat()))]),
+        ["hold"] => text(alloc, &[Number(u64::from(scenario.hold()))]),
         ["client", number] => client(alloc, scenario, number),
         ["script", number, index] => script(alloc, scenario, number, index),
         ["events"] => events(alloc, scenario),

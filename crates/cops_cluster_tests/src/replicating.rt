@@ -82,7 +82,7 @@ fn set_up(alloc: Global, link: LinkOut) -> Result<Scene, Fail> {
 fn sender_into(alloc: Global, link: LinkIn) -> Result<Sender, Memory> {
     let mut links = Vec::new(alloc);
     links.push(link)?;
-    Sender::new(alloc, 0, links)
+    Sender::new(alloc, 0, links, 0)
 }
 
 /// A scene with the sender into this link.

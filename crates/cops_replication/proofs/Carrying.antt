@@ -1,10 +1,12 @@
 -- What a sender read and carried, one step after the other.
 use Rattle.std.proofs.Common.{◌≡◌, ◌==◌, ◌||◌, ◌+◌, ◌≤◌, Bool, true, inl, inr, rules, ℕ, List, [], ◌∷◌, ◌++◌, All, drop, length, map, slice_index, slice_set, append_assoc, ap, refl, sym, ◌∙◌, subst, arith}
 use Rattle.std.proofs.lemmas.List.{append-nil}
+use Rattle.std.proofs.Common.{replicate}
 use Rattle.std.specs.List.{list_any}
 use Rattle.std.proofs.Math.Bool.{or-true}
 use Rattle.std.proofs.lemmas.Bool.{cases_lt}
 use Rattle.std.proofs.lemmas.Grind.{common_steps}
+use Rattle.std.proofs.lemmas.List.Concat.{flat_map-append}
 use Rattle.std.proofs.lemmas.List.Folds.{list_any-append}
 use Rattle.std.proofs.lemmas.List.Elements.{All-append, All-cons}
 use Rattle.cops_types.specs.declared.put_record.PutRecord.{PutRecord}
@@ -12,7 +14,7 @@ use Rattle.cops_book.specs.Book.{puts_in}
 use Rattle.cops_book.specs.declared.entry.Entry.{Entry}
 use Rattle.cops_cluster.specs.declared.cluster.Cluster.{Cluster}
 use Rattle.cops_cluster.specs.Cluster.{IsNode}
-use Rattle.cops_replication.specs.Lanes.{Carried, EachSends, and_due}
+use Rattle.cops_replication.specs.Lanes.{Carried, EachSends, and_due, repeated}
 use Rattle.cops_replication.specs.Reading.{Reading, AreReadBelow, is_at, IsReadingAt, puts_read, read_after}
 use Rattle.cops_replication.specs.Sending.{Carries, CarriesBelow, lanes}
 use Rattle.cops_replication.specs.declared.sender.Sender.{Sender}
@@ -30,9 +32,14 @@ puts_both read (r ∷ rs) ss =
     ap (λ (l : List PutRecord). first ++ l) (puts_both next rs ss)
     ∙ sym (append_assoc first (puts_read next rs) (puts_read (read_after next rs) ss))
 
+-- puts that are sent more than once, in two parts
+repeated_both : (more : ℕ) (xs ys : List PutRecord) → repeated more (xs ++ ys) ≡ repeated more xs ++ repeated more ys
+repeated_both more xs ys = flat_map-append (replicate (more + 1)) xs ys
+
 pub carries_refl : (cluster : Cluster) (a : Sender) → Carries cluster a a
 carries_refl cluster a = record {
   dc = refl;
+  repeat = refl;
   readings = [];
   nodes = λ k d less. absurd (omega (arith, less));
   read = refl;
@@ -44,31 +51,37 @@ carries_trans cluster a b c p q =
     let nodes : All (IsReadingAt cluster a.dc) q.readings = subst (λ (dc : ℕ). All (IsReadingAt cluster dc) q.readings) p.dc q.nodes in
     let puts : puts_read a.read p.readings ++ puts_read b.read q.readings ≡ puts_read a.read (p.readings ++ q.readings) =
     ap (λ (read : List ℕ). puts_read a.read p.readings ++ puts_read read q.readings) p.read ∙ sym (puts_both a.read p.readings q.readings) in
+    let first = repeated a.repeat (puts_read a.read p.readings) in
+    let all : first ++ repeated b.repeat (puts_read b.read q.readings) ≡ repeated a.repeat (puts_read a.read (p.readings ++ q.readings)) =
+    ap (λ (n : ℕ). first ++ repeated n (puts_read b.read q.readings)) p.repeat ∙ sym (repeated_both a.repeat (puts_read a.read p.readings) (puts_read b.read q.readings)) ∙ ap (repeated a.repeat) puts in
     record {
       dc = q.dc ∙ p.dc;
+      repeat = q.repeat ∙ p.repeat;
       readings = p.readings ++ q.readings;
       nodes = All-append (IsReadingAt cluster a.dc) p.readings q.readings p.nodes nodes;
       read = q.read ∙ ap (λ (read : List ℕ). read_after read q.readings) p.read ∙ sym (read_both a.read p.readings q.readings);
-      carried = subst (λ (l : List PutRecord). Carried l (lanes a) (lanes c)) puts (carried_trans (puts_read a.read p.readings) (puts_read b.read q.readings) (lanes a) (lanes b) (lanes c) p.carried q.carried);
+      carried = subst (λ (l : List PutRecord). Carried l (lanes a) (lanes c)) all (carried_trans first (repeated b.repeat (puts_read b.read q.readings)) (lanes a) (lanes b) (lanes c) p.carried q.carried);
     }
 
 -- a book was read
-pub carries_one : (cluster : Cluster) (a b : Sender) (place count : ℕ) (puts : List PutRecord) (entries : List Entry) → b.dc ≡ a.dc → IsReadingAt cluster a.dc (record { place = place; entries = entries }) → count ≡ length entries → b.read ≡ slice_set a.read place count → puts ≡ puts_in (drop (slice_index a.read place) entries) → lanes b ≡ map (and_due puts) (lanes a) → Carries cluster a b
-carries_one cluster a b place count puts entries dc node all read found more =
+pub carries_one : (cluster : Cluster) (a b : Sender) (place count : ℕ) (puts : List PutRecord) (entries : List Entry) → b.dc ≡ a.dc → b.repeat ≡ a.repeat → IsReadingAt cluster a.dc (record { place = place; entries = entries }) → count ≡ length entries → b.read ≡ slice_set a.read place count → puts ≡ puts_in (drop (slice_index a.read place) entries) → lanes b ≡ map (and_due (repeated a.repeat puts)) (lanes a) → Carries cluster a b
+carries_one cluster a b place count puts entries dc repeat node all read found more =
     let r : Reading = record { place = place; entries = entries } in
     let found_all : puts ≡ puts_read a.read (r ∷ []) = found ∙ sym (append-nil (puts_in (drop (slice_index a.read place) entries))) in
     record {
       dc = dc;
+      repeat = repeat;
       readings = r ∷ [];
       nodes = All-cons (IsReadingAt cluster a.dc) r [] node (λ k d less. absurd (omega (arith, less)));
       read = read ∙ ap (slice_set a.read place) all;
-      carried = subst (λ (l : List PutRecord). Carried l (lanes a) (lanes b)) found_all (carried_more puts (lanes a) (lanes b) more);
+      carried = subst (λ (l : List PutRecord). Carried (repeated a.repeat l) (lanes a) (lanes b)) found_all (carried_more (repeated a.repeat puts) (lanes a) (lanes b) more);
     }
 
 -- some frames were sent
-pub carries_sent : (cluster : Cluster) (a b : Sender) → b.dc ≡ a.dc → b.read ≡ a.read → EachSends (lanes a) (lanes b) → Carries cluster a b
-carries_sent cluster a b dc read sends = record {
+pub carries_sent : (cluster : Cluster) (a b : Sender) → b.dc ≡ a.dc → b.repeat ≡ a.repeat → b.read ≡ a.read → EachSends (lanes a) (lanes b) → Carries cluster a b
+carries_sent cluster a b dc repeat read sends = record {
   dc = dc;
+  repeat = repeat;
   readings = [];
   nodes = λ k d less. absurd (omega (arith, less));
   read = read;
@@ -134,10 +147,10 @@ below_at_last end cluster a b c p q = record {
 }
 
 -- the book at the next place was read
-pub below_one : (cluster : Cluster) (start a b : Sender) (place count : ℕ) (puts : List PutRecord) (entries : List Entry) → CarriesBelow place cluster start a → b.dc ≡ a.dc → IsReadingAt cluster a.dc (record { place = place; entries = entries }) → count ≡ length entries → b.read ≡ slice_set a.read place count → puts ≡ puts_in (drop (slice_index a.read place) entries) → lanes b ≡ map (and_due puts) (lanes a) → CarriesBelow (place + 1) cluster start b
+pub below_one : (cluster : Cluster) (start a b : Sender) (place count : ℕ) (puts : List PutRecord) (entries : List Entry) → CarriesBelow place cluster start a → b.dc ≡ a.dc → b.repeat ≡ a.repeat → IsReadingAt cluster a.dc (record { place = place; entries = entries }) → count ≡ length entries → b.read ≡ slice_set a.read place count → puts ≡ puts_in (drop (slice_index a.read place) entries) → lanes b ≡ map (and_due (repeated a.repeat puts)) (lanes a) → CarriesBelow (place + 1) cluster start b
 unfolding carries_trans carries_one
-below_one cluster start a b place count puts entries p dc node all read found more =
-    let one = carries_one cluster a b place count puts entries dc node all read found more in
+below_one cluster start a b place count puts entries p dc repeat node all read found more =
+    let one = carries_one cluster a b place count puts entries dc repeat node all read found more in
     record {
       carries = carries_trans cluster start a b p.carries one;
       all = below_more cluster start.dc place p.carries.readings entries p.all;

@@ -6,4 +6,5 @@ pub mod Gained
 pub mod Taken
 pub mod Joining
 pub mod Doings
+pub mod Repeating
 pub mod Seats

@@ -1,6 +1,6 @@
 -- Links, each with the frames that it is still to be sent.
-use Rattle.std.specs.Prelude.{◌≡◌, ℕ, ◌-◌, ◌≤◌, List, [], ◌∷◌, ◌++◌, drop, length, map, sum_by}
-use Rattle.std.specs.List.{All}
+use Rattle.std.specs.Prelude.{◌≡◌, ℕ, ◌+◌, ◌-◌, ◌≤◌, List, [], ◌∷◌, ◌++◌, drop, length, map, replicate, sum_by}
+use Rattle.std.specs.List.{All, flat_map}
 use Rattle.cops_link.specs.Frame.{spelled}
 use Rattle.cops_link.specs.Link.{sent, SameIn}
 use Rattle.cops_link.specs.declared.ends.LinkIn.{LinkIn}
@@ -27,6 +27,10 @@ counted_from first l = record { link = l.link; next = l.next - first }
 -- nothing is due
 abbrev pub idle : LinkIn → ALane
 idle link = record { link = link; due = [] }
+
+-- each of these so many times more, one after the other
+abbrev pub repeated : {A : Type 0} → ℕ → List A → List A
+repeated more xs = flat_map (replicate (more + 1)) xs
 
 -- the frames of these puts are due after all others
 abbrev pub and_due : List PutRecord → ALane → ALane

@@ -1,6 +1,6 @@
 //! Puts that are to go out on links.
-ghost use Rattle.std.specs.Prelude.{◌≡◌, ◌≤◌, ◌↔◌, ◌-◌, All, IfOk, IsTrue, drop, map, vec_len};
-ghost use Rattle.cops_replication.specs.Lanes.{EachSends, counted_from, frames, shown, IsWithin};
+ghost use Rattle.std.specs.Prelude.{◌≡◌, ◌≤◌, ◌↔◌, ◌-◌, ◌++◌, All, IfOk, OnOk, IsTrue, drop, map, replicate, vec_len};
+ghost use Rattle.cops_replication.specs.Lanes.{EachSends, counted_from, frames, repeated, shown, IsWithin};
 ghost use Rattle.cops_replication.specs.Turns.{IsCountOf};
 
 use cops_link::{Frame, LinkIn};
@@ -61,7 +61,7 @@ impl Lane {
 
 impl Outbox {
     ghost use Rattle.std.specs.Prelude.{◌≡◌, ◌↔◌, ◌-◌, IfOk, OnOk, OnErr, IsTrue, map};
-    ghost use Rattle.cops_replication.specs.Lanes.{EachSends, HasSentAll, and_due, frames, idle};
+    ghost use Rattle.cops_replication.specs.Lanes.{EachSends, HasSentAll, and_due, frames, idle, repeated};
     ghost use Rattle.cops_replication.specs.Turns.{IsCountOf};
 
     /// These links, with nothing to send. Where memory runs out the links are gone.
@@ -79,11 +79,12 @@ impl Outbox {
         })
     }
 
-    /// More puts, which go last. A refusal changes nothing.
-    pub(crate) fn add(&mut self, mut puts: Vec<PutRecord>) -> Result<(), Memory>
-        ensures ok { OnOk result (self.new ≡ map (and_due puts.items) self.old) }
+    /// More puts, each so many times more, which go last. A refusal changes nothing.
+    pub(crate) fn add(&mut self, puts: Vec<PutRecord>, repeat: u8) -> Result<(), Memory>
+        ensures ok { OnOk result (self.new ≡ map (and_due (repeated repeat puts.items)) self.old) }
         ensures err { OnErr result (self.new ≡ self.old) }
     {
+        let mut puts = repeated(self.alloc, puts, repeat)?;
         self.puts.append(&mut puts)?;
         Ok(())
     }
@@ -127,6 +128,30 @@ impl Outbox {
             let _finished = link.finish();
         }
     }
+}
+
+/// Puts, each so many times more.
+fn repeated(alloc: Global, puts: Vec<PutRecord>, repeat: u8) -> Result<Vec<PutRecord>, Memory>
+    ensures { IfOk result (λ all. all.items ≡ repeated repeat puts.items) }
+{
+    if repeat == 0 {
+        return Ok(puts);
+    }
+    let mut all = Vec::new(alloc);
+    for put in &puts {
+        push_times(&mut all, put, u16::from(repeat) + 1)?;
+    }
+    Ok(all)
+}
+
+/// Adds a put so many times.
+fn push_times(all: &mut Vec<PutRecord>, put: &PutRecord, times: u16) -> Result<(), Memory>
+    ensures { OnOk result (all.new.items ≡ all.old.items ++ replicate times put.now) }
+{
+    for _ in 0..times {
+        all.push(put.clone()?)?;
+    }
+    Ok(())
 }
 
 /// Sends on each link those of the puts that it was not sent yet, until it is full, and says how many frames in all.

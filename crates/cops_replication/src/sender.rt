@@ -9,10 +9,12 @@ use std::sync::Wait;
 /// The most nodes of a data centre.
 const MAX_NODES: usize = 64;
 
-/// What sends the puts of a data centre to others, each once on each of its links.
+/// What sends the puts of a data centre to others, each once on each of its links, or some times more.
 #[derive(Drop)]
 pub struct Sender {
     dc: u8,
+    /// How many times more each put is sent.
+    repeat: u8,
     /// Of each node, by its place, how many entries of its book were read.
     read: [usize; MAX_NODES],
     outbox: Outbox,
@@ -27,14 +29,17 @@ impl Sender {
     ghost use Rattle.cops_replication.specs.Sending.{Carries, CarriesBelow, lanes};
     ghost use Rattle.cops_replication.specs.Turns.{IsTurnOf};
 
-    /// The sender of a data centre, with these links, which has read nothing. Where memory runs out the links are gone.
-    pub fn new(alloc: Global, dc: u8, links: Vec<LinkIn>) -> Result<Self, Memory>
+    /// The sender of a data centre, with these links, which has read nothing, and sends each put so many times more than once. Where
+    /// memory runs out the links are gone.
+    pub fn new(alloc: Global, dc: u8, links: Vec<LinkIn>, repeat: u8) -> Result<Self, Memory>
         ensures dc { IfOk result (λ s. s.dc ≡ dc) }
+        ensures repeat { IfOk result (λ s. s.repeat ≡ repeat) }
         ensures unread { IfOk result (λ s. s.read ≡ unread) }
         ensures links { IfOk result (λ s. lanes s ≡ map idle links.items) }
     {
         Ok(Sender {
             dc,
+            repeat,
             read: [0; MAX_NODES],
             outbox: Outbox::new(alloc, links)?,
         })
@@ -76,6 +81,7 @@ impl Sender {
     pub fn finish(self) {
         let Sender {
             dc: _,
+            repeat: _,
             read: _,
             outbox,
         } = self;
@@ -93,7 +99,7 @@ impl Sender {
             let Some(more) = cluster.puts_from(rt, self.dc, place as u8, from)? else {
                 return Ok(());
             };
-            self.outbox.add(more.puts)?;
+            self.outbox.add(more.puts, self.repeat)?;
             self.read[place] = more.entries;
         }
         Ok(())

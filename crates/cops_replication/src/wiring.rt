@@ -22,16 +22,23 @@ pub struct Replicas {
 }
 
 /// A sender and a receiver for each of so many data centres, in order, with a link of this capacity from each sender to the
-/// receiver of each other one. The receivers take the shares in order. Where shares are missing, the last data centres have no
-/// receiver.
-pub fn wired(alloc: Global, dcs: u8, capacity: u16, shares: Vec<Share>) -> Result<Replicas, Memory>
+/// receiver of each other one, on which each put is sent so many times more than once. The receivers take the shares in order.
+/// Where shares are missing, the last data centres have no receiver.
+pub fn wired(
+    alloc: Global,
+    dcs: u8,
+    capacity: u16,
+    repeat: u8,
+    shares: Vec<Share>,
+) -> Result<Replicas, Memory>
     requires { (1 ≤ capacity) × (capacity ≤ MAX_CAPACITY) }
     ensures senders { IfOk result (λ r. AreSenders dcs (dcs - 1) capacity r.senders.items) }
+    ensures repeat { IfOk result (λ r. All (λ s. s.repeat ≡ repeat) r.senders.items) }
     ensures receivers { IfOk result (λ r. length shares.items ≡ dcs → AreReceivers dcs shares.items r.receivers.items) }
     ensures joined { IfOk result (λ r. length shares.items ≡ dcs → AreJoined dcs (map lanes r.senders.items) (map ends r.receivers.items)) }
 {
     let mut outs = no_ends(alloc, dcs)?;
-    let senders = senders(alloc, dcs, capacity, &mut outs)?;
+    let senders = senders(alloc, dcs, capacity, repeat, &mut outs)?;
     let receivers = receivers(alloc, dcs, outs, shares)?;
     Ok(Replicas { senders, receivers })
 }
@@ -53,19 +60,21 @@ fn senders(
     alloc: Global,
     dcs: u8,
     capacity: u16,
+    repeat: u8,
     outs: &mut [Vec<LinkOut>],
 ) -> Result<Vec<Sender>, Memory>
     requires capacity { (1 ≤ capacity) × (capacity ≤ MAX_CAPACITY) }
     requires length { length outs.old ≡ dcs }
     requires none { All (λ (v : _). v.items ≡ []) outs.old }
     ensures senders { IfOk result (λ s. AreSenders dcs (dcs - 1) capacity s.items) }
+    ensures repeat { IfOk result (λ s. All (λ (x : _). x.repeat ≡ repeat) s.items) }
     ensures ends { IfOk result (λ _. AreEnds dcs dcs (rows outs.new)) }
     ensures joined { IfOk result (λ s. AreJoined dcs (map lanes s.items) (rows outs.new)) }
 {
     let mut senders = Vec::new(alloc);
     for dc in 0..dcs {
         let links = links_from(alloc, dc, capacity, outs)?;
-        senders.push(Sender::new(alloc, dc, links)?)?;
+        senders.push(Sender::new(alloc, dc, links, repeat)?)?;
     }
     Ok(senders)
 }

@@ -22,8 +22,8 @@ pub(crate) struct Opening<'a> {
     pub(crate) replicas: Replicas,
 }
 
-/// What a run of a scenario begins with, in its setting: the links are those of the scenario, a loop may make so many turns, and an
-/// operation is tried again so often.
+/// What a run of a scenario begins with, in its setting: the links are those of the scenario, a loop may make so many turns, an
+/// operation is tried again and a record is sent again so often, and so many turns of a receiver come late.
 pub(crate) fn opened<'a>(
     alloc: Global,
     setting: &Setting,
@@ -33,6 +33,8 @@ pub(crate) fn opened<'a>(
     ensures place { IfOk result (λ o. o.stage.cluster.place ≡ setting.now.place) }
     ensures turns { IfOk result (λ o. o.stage.turns ≡ scenario.now.turns) }
     ensures retries { IfOk result (λ o. o.stage.retries ≡ scenario.now.retries) }
+    ensures hold { IfOk result (λ o. o.stage.hold ≡ scenario.now.hold) }
+    ensures repeat { IfOk result (λ o. All (λ s. s.repeat ≡ scenario.now.repeat) o.replicas.senders.items) }
     ensures clients { IfOk result (λ o. o.stage.cluster.clients ≡ length setting.now.homes) }
     ensures jobs { IfOk result (λ o. AreJobsOf setting.now o.jobs.items) }
     ensures scripts { IfOk result (λ o. All (HasItsScript scenario.now.clients) o.jobs.items) }
@@ -52,7 +54,13 @@ pub(crate) fn opened<'a>(
             return Err(Memory);
         }
     };
-    let replicas = match wired(alloc, setting.dcs(), scenario.link(), shares) {
+    let replicas = match wired(
+        alloc,
+        setting.dcs(),
+        scenario.link(),
+        scenario.repeat(),
+        shares,
+    ) {
         Ok(replicas) => replicas,
         Err(_) => {
             drop(cluster);
@@ -61,7 +69,12 @@ pub(crate) fn opened<'a>(
         }
     };
     Ok(Opening {
-        stage: Stage::new(cluster, scenario.turns(), scenario.retries()),
+        stage: Stage::new(
+            cluster,
+            scenario.turns(),
+            scenario.retries(),
+            scenario.hold(),
+        ),
         jobs,
         replicas,
     })

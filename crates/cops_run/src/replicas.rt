@@ -37,7 +37,7 @@ fn drain<R: Wait>(rt: &R, stage: &Stage, sender: &mut Sender) -> bool {
 }
 
 /// A receiver's thread: it turns until the clients are joined, and then for at most so many turns as the stage says, until the senders
-/// are joined and nothing is kept back.
+/// are joined and nothing is kept back. Where turns are to come late it makes none before, and then so many that take no frame.
 pub(crate) fn receive<R: Wait, G: Gate>(
     rt: &R,
     stage: &Stage,
@@ -70,7 +70,9 @@ fn take_in<R: Wait, G: Gate>(rt: &R, stage: &Stage, gate: &G, receiver: &mut Rec
         if stage.are_clients_joined() {
             break;
         }
-        if turn(rt, stage, gate, receiver) {
+        if stage.hold() > 0 {
+            stage.rest(rt);
+        } else if turn(rt, stage, gate, receiver) {
             return true;
         }
     }
@@ -83,8 +85,10 @@ fn settle<R: Wait, G: Gate>(rt: &R, stage: &Stage, gate: &G, receiver: &mut Rece
     ensures drained { result ≡ End.Drained → KeepsNothing receiver.new }
     ensures held { result ≡ End.Held → MayHoldReceiving stage.now.cluster (G.may_hold gate.now) }
 {
-    for _ in 0..stage.turns() {
-        if let Some(end) = counted(rt, stage, gate, receiver) {
+    for n in 0..stage.turns() {
+        if n < u32::from(stage.hold()) && !stage.is_broken() {
+            stage.rest(rt);
+        } else if let Some(end) = counted(rt, stage, gate, receiver) {
             return end;
         }
     }

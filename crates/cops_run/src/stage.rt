@@ -6,13 +6,14 @@ use std::time::Duration;
 /// How long an idle loop rests before its next turn, in microseconds.
 const REST: u64 = 50;
 
-/// What the threads of a run share: the cluster, how many turns a loop may make, how often an operation is tried again, and what
-/// they tell each other.
+/// What the threads of a run share: the cluster, how many turns a loop may make, how often an operation is tried again, how many
+/// turns of a receiver come late, and what they tell each other.
 #[derive(Drop)]
 pub(crate) struct Stage {
     cluster: Cluster,
     turns: u32,
     retries: u8,
+    hold: u16,
     /// What idle loops rest on. It stays 0, and nobody wakes them: they rest for their time.
     resting: AtomicU64,
     broken: AtomicBool,
@@ -23,16 +24,18 @@ pub(crate) struct Stage {
 impl Stage {
     ghost use Rattle.std.specs.Prelude.{◌≡◌};
 
-    /// A stage of this cluster and these numbers of turns and of further tries, on which all is to come.
-    pub(crate) fn new(cluster: Cluster, turns: u32, retries: u8) -> Stage
+    /// A stage of this cluster and these numbers of turns, of further tries and of late turns, on which all is to come.
+    pub(crate) fn new(cluster: Cluster, turns: u32, retries: u8, hold: u16) -> Stage
         ensures cluster { result.cluster ≡ cluster }
         ensures turns { result.turns ≡ turns }
         ensures retries { result.retries ≡ retries }
+        ensures hold { result.hold ≡ hold }
     {
         Stage {
             cluster,
             turns,
             retries,
+            hold,
             resting: AtomicU64::new(0),
             broken: AtomicBool::new(false),
             clients_joined: AtomicBool::new(false),
@@ -65,6 +68,13 @@ impl Stage {
         ensures { result ≡ self.now.retries }
     {
         self.retries
+    }
+
+    /// How many turns of a receiver come late.
+    pub(crate) fn hold(&self) -> u16
+        ensures { result ≡ self.now.hold }
+    {
+        self.hold
     }
 
     /// An idle loop leaves the processor and the locks to others for a while.

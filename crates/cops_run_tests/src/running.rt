@@ -1,5 +1,7 @@
 use cops_clients::*;
+use cops_core::World;
 use cops_gates::{HoldsAt, Meeting, TURNS, waits_for};
+use cops_node::Outcome;
 use cops_outcomes::*;
 use cops_scenario::{Scenario, ScenarioFault};
 use cops_types::{Gate, GateHeld, OpenGate, Point, Refusal};
@@ -22,6 +24,10 @@ const SPLIT: &str =
 /// A client puts three keys, which go through a link for one frame, and a loop may make one turn.
 const LIMITED: &str =
     "{\"data_centres\":2,\"link\":1,\"turns\":1,\"clients\":[{\"at\":0,\"script\":[{\"put\":[\"a\",\"1\"]},{\"put\":[\"b\",\"1\"]},{\"put\":[\"c\",\"1\"]}]}]}";
+
+/// A client puts two keys, whose messages go through a link for one frame, each three times, to a receiver that comes late.
+const LATE: &str =
+    "{\"data_centres\":2,\"link\":1,\"repeat\":2,\"hold\":5,\"clients\":[{\"at\":0,\"script\":[{\"put\":[\"x\",\"1\"]},{\"put\":[\"y\",\"2\"]}]}]}";
 
 fn scenario(alloc: Global, text: &str) -> Result<Scenario, ScenarioFault> {
     Scenario::from_json(alloc, text.as_bytes())
@@ -171,5 +177,23 @@ fn a_client_with_a_full_context_stops(rt: HostRuntime) -> Result<(), Fail> {
             .as_slice()
     );
     assert_eq!(rt; run.trace.len(), 514);
+    Ok(())
+}
+
+/// How many of the outcomes are like one.
+fn count(outcomes: &[Outcome], like: &Outcome) -> usize {
+    outcomes.iter().filter(|outcome| *outcome == like).count()
+}
+
+#[test]
+fn each_message_comes_three_times(rt: HostRuntime) -> Result<(), Fail> {
+    let alloc = rt.alloc();
+    let setting = scenario(alloc, LATE)?.setting(alloc)?;
+    let run = run(&rt, alloc, scenario(alloc, LATE)?, &OpenGate)?;
+    let mut world = World::of(alloc, setting)?;
+    let outcomes = world.run(&run.events)?;
+    assert_eq!(rt; count(&outcomes, &Outcome::Held), 2);
+    assert_eq!(rt; count(&outcomes, &Outcome::Repeat), 4);
+    assert_eq!(rt; count(&outcomes, &Outcome::Settled), 2);
     Ok(())
 }

@@ -5,8 +5,8 @@ use Rattle.serde_json.specs.Data.{Data, null, boolean, number, string, array, ob
 use Rattle.serde_json.specs.Find.{get, as_object}
 use Rattle.cops_types.specs.declared.limits.TheConstants.{MAX_DCS}
 use Rattle.cops_scenario.specs.declared.fault.Field.{Field}
-use Rattle.cops_scenario.specs.declared.fault.Field.TheVariants.{Root, DataCentres, Splits, Link, Turns, Retries, Clients, Events}
-use Rattle.cops_scenario.specs.declared.scenario.TheConstants.{DEFAULT_LINK, DEFAULT_RETRIES, DEFAULT_TURNS, MAX_LINK, MAX_RETRIES, MAX_TURNS}
+use Rattle.cops_scenario.specs.declared.fault.Field.TheVariants.{Root, DataCentres, Splits, Link, Turns, Retries, Repeat, Hold, Clients, Events}
+use Rattle.cops_scenario.specs.declared.scenario.TheConstants.{DEFAULT_HOLD, DEFAULT_LINK, DEFAULT_REPEAT, DEFAULT_RETRIES, DEFAULT_TURNS, MAX_HOLD, MAX_LINK, MAX_REPEAT, MAX_RETRIES, MAX_TURNS}
 use Rattle.cops_scenario.specs.Scenario.{AScenario}
 use Rattle.cops_scenario.specs.Fields.{name_of, number_or}
 use Rattle.cops_scenario.specs.Limits.{IsLegalClient, IsLegalScenario}
@@ -43,6 +43,12 @@ never_wrong root s Turns told legal wrong =
 never_wrong root s Retries told legal wrong =
     let low : 0 ≤ s.retries = omega arith in
     no_wrong (Some DEFAULT_RETRIES) 0 MAX_RETRIES (get (name_of Retries) root) s.retries told.numbers.3 low legal.is_scenario.retries_in_range wrong
+never_wrong root s Repeat told legal wrong =
+    let low : 0 ≤ s.repeat = omega arith in
+    no_wrong (Some DEFAULT_REPEAT) 0 MAX_REPEAT (get (name_of Repeat) root) s.repeat told.numbers.4 low legal.is_scenario.repeat_in_range wrong
+never_wrong root s Hold told legal wrong =
+    let low : 0 ≤ s.hold = omega arith in
+    no_wrong (Some DEFAULT_HOLD) 0 MAX_HOLD (get (name_of Hold) root) s.hold told.numbers.5 low legal.is_scenario.hold_in_range wrong
 never_wrong root s Clients told legal wrong =
     let each = subst (λ (dcs : ℕ). All (IsLegalClient dcs) s.clients) (sym (ap (number_or 0) told.numbers.0)) legal.clients in
     wrong told.clients.0 s.clients told.clients.1 told.clients.2 legal.is_scenario.few_clients each

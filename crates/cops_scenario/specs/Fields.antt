@@ -5,9 +5,9 @@ use Rattle.serde_json.specs.Data.{Data}
 use Rattle.serde_json.specs.Find.{get, as_number, as_u64}
 use Rattle.cops_scenario.specs.declared.fault.Field.{Field}
 use Rattle.cops_scenario.specs.declared.fault.Range.{Range}
-use Rattle.cops_scenario.specs.declared.fault.Field.TheVariants.{Root, DataCentres, Splits, Link, Turns, Retries, Clients, Events}
+use Rattle.cops_scenario.specs.declared.fault.Field.TheVariants.{Root, DataCentres, Splits, Link, Turns, Retries, Repeat, Hold, Clients, Events}
 use Rattle.cops_types.specs.declared.limits.TheConstants.{MAX_DCS}
-use Rattle.cops_scenario.specs.declared.scenario.TheConstants.{DEFAULT_LINK, DEFAULT_RETRIES, DEFAULT_TURNS, MAX_LINK, MAX_RETRIES, MAX_TURNS}
+use Rattle.cops_scenario.specs.declared.scenario.TheConstants.{DEFAULT_HOLD, DEFAULT_LINK, DEFAULT_REPEAT, DEFAULT_RETRIES, DEFAULT_TURNS, MAX_HOLD, MAX_LINK, MAX_REPEAT, MAX_RETRIES, MAX_TURNS}
 
 -- the names of the fields in a file
 abbrev pub name_of : Field → List ℕ
@@ -17,6 +17,8 @@ name_of Splits = codes "splits"
 name_of Link = codes "link"
 name_of Turns = codes "turns"
 name_of Retries = codes "retries"
+name_of Repeat = codes "repeat"
+name_of Hold = codes "hold"
 name_of Clients = codes "clients"
 name_of Events = codes "events"
 
@@ -26,6 +28,8 @@ range_of DataCentres = Some (record { least = 1; most = MAX_DCS; missing = None 
 range_of Link = Some (record { least = 1; most = MAX_LINK; missing = Some DEFAULT_LINK })
 range_of Turns = Some (record { least = 1; most = MAX_TURNS; missing = Some DEFAULT_TURNS })
 range_of Retries = Some (record { least = 0; most = MAX_RETRIES; missing = Some DEFAULT_RETRIES })
+range_of Repeat = Some (record { least = 0; most = MAX_REPEAT; missing = Some DEFAULT_REPEAT })
+range_of Hold = Some (record { least = 0; most = MAX_HOLD; missing = Some DEFAULT_HOLD })
 range_of _ = None
 
 -- the whole number of a member, or what stands for it where there is no member

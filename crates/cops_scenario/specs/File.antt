@@ -8,7 +8,7 @@ use Rattle.cops_types.specs.Texts.{version_text}
 use Rattle.cops_core.specs.declared.event.Event.{Event}
 use Rattle.cops_core.specs.declared.event.Event.TheVariants.{Put, Get, Deliver, Ask, Mark, Settle}
 use Rattle.cops_scenario.specs.declared.fault.Field.{Field}
-use Rattle.cops_scenario.specs.declared.fault.Field.TheVariants.{Root, DataCentres, Splits, Link, Turns, Retries, Clients, Events}
+use Rattle.cops_scenario.specs.declared.fault.Field.TheVariants.{Root, DataCentres, Splits, Link, Turns, Retries, Repeat, Hold, Clients, Events}
 use Rattle.cops_core.specs.declared.script.ScriptOp.{ScriptOp}
 use Rattle.cops_core.specs.declared.script.ScriptOp.TheVariants as script
 use Rattle.cops_core.specs.declared.script.ScriptedClient.{ScriptedClient}
@@ -72,7 +72,9 @@ TellsNumberAt root field n = IfSome (range_of field) (λ range. TellsNumber rang
 
 -- the whole numbers of a scenario
 abbrev pub TellsNumbers : Data → AScenario → Type 0
-TellsNumbers root s = TellsNumberAt root DataCentres s.place.dcs × TellsNumberAt root Link s.link × TellsNumberAt root Turns s.turns × TellsNumberAt root Retries s.retries
+TellsNumbers root s =
+    TellsNumberAt root DataCentres s.place.dcs × TellsNumberAt root Link s.link × TellsNumberAt root Turns s.turns × TellsNumberAt root Retries s.retries
+    × TellsNumberAt root Repeat s.repeat × TellsNumberAt root Hold s.hold
 
 -- an object that tells the client's data centre and its script
 pub record TellsClient (d : Data) (c : ScriptedClient) : Type 0 where
@@ -139,6 +141,8 @@ IsWrong root Splits = TellsNoSplits root
 IsWrong root Link = IsWrongNumber root Link
 IsWrong root Turns = IsWrongNumber root Turns
 IsWrong root Retries = IsWrongNumber root Retries
+IsWrong root Repeat = IsWrongNumber root Repeat
+IsWrong root Hold = IsWrongNumber root Hold
 IsWrong root Clients = TellsNoClients root
 IsWrong root Events = TellsNoEvents root
 
@@ -163,6 +167,8 @@ IsRight root Splits = (splits : List (List ℕ)) × AreSplits splits × IsListOr
 IsRight root Link = IsRightNumber root Link
 IsRight root Turns = IsRightNumber root Turns
 IsRight root Retries = IsRightNumber root Retries
+IsRight root Repeat = IsRightNumber root Repeat
+IsRight root Hold = IsRightNumber root Hold
 IsRight root Clients =
     (ds : List Data) × (clients : List ScriptedClient) × (get (name_of Clients) root ≡ Some (list_json ds)) × TellClients ds clients
     × (length clients ≤ MAX_CLIENTS) × All (IsLegalClient (number_at root DataCentres)) clients
@@ -176,8 +182,10 @@ before Splits = DataCentres ∷ Root ∷ []
 before Link = Splits ∷ DataCentres ∷ Root ∷ []
 before Turns = Link ∷ Splits ∷ DataCentres ∷ Root ∷ []
 before Retries = Turns ∷ Link ∷ Splits ∷ DataCentres ∷ Root ∷ []
-before Clients = Retries ∷ Turns ∷ Link ∷ Splits ∷ DataCentres ∷ Root ∷ []
-before Events = Clients ∷ Retries ∷ Turns ∷ Link ∷ Splits ∷ DataCentres ∷ Root ∷ []
+before Repeat = Retries ∷ Turns ∷ Link ∷ Splits ∷ DataCentres ∷ Root ∷ []
+before Hold = Repeat ∷ Retries ∷ Turns ∷ Link ∷ Splits ∷ DataCentres ∷ Root ∷ []
+before Clients = Hold ∷ Repeat ∷ Retries ∷ Turns ∷ Link ∷ Splits ∷ DataCentres ∷ Root ∷ []
+before Events = Clients ∷ Hold ∷ Repeat ∷ Retries ∷ Turns ∷ Link ∷ Splits ∷ DataCentres ∷ Root ∷ []
 
 -- those are of their form
 abbrev pub AreRightBefore : Data → Field → Type 0

@@ -9,7 +9,7 @@ use Rattle.cops_core.specs.declared.event.Event.TheVariants as event
 use Rattle.cops_core.specs.declared.script.ScriptOp.{ScriptOp}
 use Rattle.cops_core.specs.declared.script.ScriptOp.TheVariants as script
 use Rattle.cops_core.specs.declared.script.ScriptedClient.{ScriptedClient}
-use Rattle.cops_scenario.specs.declared.scenario.TheConstants.{MAX_CLIENT, MAX_CLIENTS, MAX_DC, MAX_DEP, MAX_EVENTS, MAX_LINK, MAX_RETRIES, MAX_SCRIPT, MAX_TURNS}
+use Rattle.cops_scenario.specs.declared.scenario.TheConstants.{MAX_CLIENT, MAX_CLIENTS, MAX_DC, MAX_DEP, MAX_EVENTS, MAX_HOLD, MAX_LINK, MAX_REPEAT, MAX_RETRIES, MAX_SCRIPT, MAX_TURNS}
 use Rattle.cops_scenario.specs.Scenario.{AScenario}
 
 -- the client lives in a data centre that is there, and has at most 10,000 operations
@@ -27,6 +27,8 @@ pub record IsScenario (s : AScenario) : Type 0 where
   pub link_in_range : (1 ≤ s.link) × (s.link ≤ MAX_LINK)
   pub turns_in_range : (1 ≤ s.turns) × (s.turns ≤ MAX_TURNS)
   pub retries_in_range : s.retries ≤ MAX_RETRIES
+  pub repeat_in_range : s.repeat ≤ MAX_REPEAT
+  pub hold_in_range : s.hold ≤ MAX_HOLD
   pub few_clients : length s.clients ≤ MAX_CLIENTS
   pub each_client : All (IsClientOf s.place.dcs) s.clients
   pub few_events : AreEventsOf s.clients s.events

@@ -5,13 +5,15 @@ use Rattle.cops_core.specs.declared.event.Event.{Event}
 use Rattle.cops_core.specs.declared.script.ScriptedClient.{ScriptedClient}
 use Rattle.cops_core.specs.World.{Setting}
 
--- a place, what the links hold, how many turns a loop may take, how often an operation is tried again, the clients, and the events
--- where there are any
+-- a place, what the links hold, how many turns a loop may take, how often an operation is tried again, how often each record is sent
+-- again, how many turns of a receiver come late, the clients, and the events where there are any
 pub record AScenario : Type 0 where
   pub place : APlace
   pub link : ℕ
   pub turns : ℕ
   pub retries : ℕ
+  pub repeat : ℕ
+  pub hold : ℕ
   pub clients : List ScriptedClient
   pub events : Option (List Event)
 

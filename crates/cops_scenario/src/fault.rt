@@ -1,6 +1,7 @@
 //! Why bytes are no scenario.
 use crate::scenario::{
-    DEFAULT_LINK, DEFAULT_RETRIES, DEFAULT_TURNS, MAX_LINK, MAX_RETRIES, MAX_TURNS,
+    DEFAULT_HOLD, DEFAULT_LINK, DEFAULT_REPEAT, DEFAULT_RETRIES, DEFAULT_TURNS, MAX_HOLD, MAX_LINK,
+    MAX_REPEAT, MAX_RETRIES, MAX_TURNS,
 };
 use cops_types::MAX_DCS;
 use std::fmt;
@@ -23,6 +24,8 @@ pub enum Field {
     Link,
     Turns,
     Retries,
+    Repeat,
+    Hold,
     Clients,
     Events,
 }
@@ -40,6 +43,8 @@ impl Field {
             Field::Link => (1, u64::from(MAX_LINK), Some(u64::from(DEFAULT_LINK))),
             Field::Turns => (1, u64::from(MAX_TURNS), Some(u64::from(DEFAULT_TURNS))),
             Field::Retries => (0, u64::from(MAX_RETRIES), Some(u64::from(DEFAULT_RETRIES))),
+            Field::Repeat => (0, u64::from(MAX_REPEAT), Some(u64::from(DEFAULT_REPEAT))),
+            Field::Hold => (0, u64::from(MAX_HOLD), Some(u64::from(DEFAULT_HOLD))),
             _ => return None,
         };
         Some(Range {
@@ -60,6 +65,8 @@ impl Field {
             Field::Link => "link",
             Field::Turns => "turns",
             Field::Retries => "retries",
+            Field::Repeat => "repeat",
+            Field::Hold => "hold",
             Field::Clients => "clients",
             Field::Events => "events",
         }

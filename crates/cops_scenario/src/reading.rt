@@ -61,6 +61,8 @@ fn scenario(alloc: Global, root: &Json) -> Result<Scenario, ScenarioFault>
     let link = number_of(root, Field::Link)? as u16;
     let turns = number_of(root, Field::Turns)? as u32;
     let retries = number_of(root, Field::Retries)? as u8;
+    let repeat = number_of(root, Field::Repeat)? as u8;
+    let hold = number_of(root, Field::Hold)? as u16;
     let Some(listed) = root.get(Field::Clients.name()) else {
         return Err(ScenarioFault::BadField(Field::Clients));
     };
@@ -68,7 +70,7 @@ fn scenario(alloc: Global, root: &Json) -> Result<Scenario, ScenarioFault>
     let events = events_beside(alloc, listed, root.get(Field::Events.name())).map_err(
         |unread| unread.of(Field::Events),
     )?;
-    Ok(Scenario::new(place, link, turns, retries, clients, events))
+    Ok(Scenario::new(place, link, turns, retries, repeat, hold, clients, events))
 }
 
 /// The whole number of a field that is one, or what stands for it where the field is missing.

@@ -41,15 +41,29 @@ pub const MAX_RETRIES: u8 = 3;
 /// How often it is where a file says nothing.
 pub const DEFAULT_RETRIES: u8 = 0;
 
+/// The most times that a record is sent again on each link.
+pub const MAX_REPEAT: u8 = 3;
+
+/// How often it is where a file says nothing.
+pub const DEFAULT_REPEAT: u8 = 0;
+
+/// The most turns of a receiver that come late.
+pub const MAX_HOLD: u16 = 1_000;
+
+/// How many they are where a file says nothing.
+pub const DEFAULT_HOLD: u16 = 0;
+
 /// What a cluster is made of, and what happens in it: where keys live; how many frames a link holds, 1 to 1,024; how many
 /// turns a loop may make, 1 to 1,000,000,000; how often a client's operation is tried again which memory was refused to, 0
-/// to 3; at most 64 clients; and, where no client has a script, at most 100,000 events.
+/// to 3; how often each record is sent again on each link, 0 to 3; how many turns of a receiver come late, 0 to 1,000; at most 64 clients; and, where no client has a script, at most 100,000 events.
 #[derive(Debug, Drop)]
 pub struct Scenario {
     place: Place,
     link: u16,
     turns: u32,
     retries: u8,
+    repeat: u8,
+    hold: u16,
     clients: Vec<ScriptedClient>,
     events: Option<Vec<Event>>,
 }
@@ -61,15 +75,15 @@ impl Model for Scenario {
 
     ghost Value = { AScenario };
 
-    ghost view = { λ s. record { place = s.place; link = s.link; turns = s.turns; retries = s.retries; clients = s.clients.items; events = option_map (λ e. e.items) s.events } };
+    ghost view = { λ s. record { place = s.place; link = s.link; turns = s.turns; retries = s.retries; repeat = s.repeat; hold = s.hold; clients = s.clients.items; events = option_map (λ e. e.items) s.events } };
 
-    ghost invariant = { λ s. IsScenario (record { place = s.place; link = s.link; turns = s.turns; retries = s.retries; clients = s.clients.items; events = option_map (λ e. e.items) s.events }) };
+    ghost invariant = { λ s. IsScenario (record { place = s.place; link = s.link; turns = s.turns; retries = s.retries; repeat = s.repeat; hold = s.hold; clients = s.clients.items; events = option_map (λ e. e.items) s.events }) };
 }
 
 impl Scenario {
     ghost use Rattle.std.specs.Prelude.{◌≡◌, ◌≤◌, length, All, IfOk, option_map};
     ghost use Rattle.cops_place.specs.Clients.{AreClients};
-    ghost use Rattle.cops_scenario.specs.declared.scenario.TheConstants.{MAX_CLIENTS, MAX_LINK, MAX_RETRIES, MAX_TURNS};
+    ghost use Rattle.cops_scenario.specs.declared.scenario.TheConstants.{MAX_CLIENTS, MAX_HOLD, MAX_LINK, MAX_REPEAT, MAX_RETRIES, MAX_TURNS};
     ghost use Rattle.cops_scenario.specs.Scenario.{homes_of, setting_of};
     ghost use Rattle.cops_scenario.specs.Limits.{IsScenario, IsClientOf, AreEventsOf};
 
@@ -79,16 +93,20 @@ impl Scenario {
         link: u16,
         turns: u32,
         retries: u8,
+        repeat: u8,
+        hold: u16,
         clients: Vec<ScriptedClient>,
         events: Option<Vec<Event>>,
     ) -> Scenario
         requires link { (1 ≤ link) × (link ≤ MAX_LINK) }
         requires turns { (1 ≤ turns) × (turns ≤ MAX_TURNS) }
         requires retries { retries ≤ MAX_RETRIES }
+        requires repeat { repeat ≤ MAX_REPEAT }
+        requires hold { hold ≤ MAX_HOLD }
         requires clients { (length clients.items ≤ MAX_CLIENTS) × All (IsClientOf place.dcs) clients.items }
         requires events { AreEventsOf clients.items (option_map (λ e. e.items) events) }
         ensures scenario { IsScenario result }
-        ensures parts { result ≡ record { place = place; link = link; turns = turns; retries = retries; clients = clients.items; events = option_map (λ e. e.items) events } }
+        ensures parts { result ≡ record { place = place; link = link; turns = turns; retries = retries; repeat = repeat; hold = hold; clients = clients.items; events = option_map (λ e. e.items) events } }
     {
         let _dcs = place.dcs();
         Scenario {
@@ -96,6 +114,8 @@ impl Scenario {
             link,
             turns,
             retries,
+            repeat,
+            hold,
             clients,
             events,
         }
@@ -131,6 +151,23 @@ impl Scenario {
         ensures scenario { IsScenario self.now }
     {
         self.retries
+    }
+
+    /// How often each record is sent again on each link, 0 to 3.
+    pub fn repeat(&self) -> u8
+        ensures value { result ≡ self.now.repeat }
+        ensures scenario { IsScenario self.now }
+    {
+        self.repeat
+    }
+
+    /// How many turns a receiver makes first that take no frame, once the clients are joined, 0 to 1,000. Where it is above 0 it makes
+    /// none before.
+    pub fn hold(&self) -> u16
+        ensures value { result ≡ self.now.hold }
+        ensures scenario { IsScenario self.now }
+    {
+        self.hold
     }
 
     /// The clients, at most 64.

@@ -19,7 +19,13 @@ impl FrontEnd {
             clients,
             shares,
         } = Cluster::of(alloc, &scenario.setting(alloc)?)?;
-        let Replicas { senders, receivers } = wired(alloc, cluster.dcs(), scenario.link(), shares)?;
+        let Replicas { senders, receivers } = wired(
+            alloc,
+            cluster.dcs(),
+            scenario.link(),
+            scenario.repeat(),
+            shares,
+        )?;
         Ok(FrontEnd {
             turns: scenario.turns(),
             cluster,

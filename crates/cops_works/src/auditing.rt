@@ -1,6 +1,6 @@
 //! The verdict on a trace, by each way to it.
 
-use cops_audit::{FeedFault, Online, Verdict};
+use cops_audit::{FeedFault, Online};
 use cops_batch::{BatchFault, judge_with};
 use cops_command::reported;
 use cops_report::{report, report_judged};
@@ -20,19 +20,6 @@ fn read(alloc: Global, bytes: &[u8]) -> Result<Option<Trace>, Memory> {
     }
 }
 
-/// The verdict by two workers.
-fn by_two<R: Threads + Wait + Sync>(
-    rt: &R,
-    alloc: Global,
-    history: &History,
-) -> Result<Option<Verdict>, Memory> {
-    match judge_with(rt, alloc, history, 2, &OpenGate) {
-        Ok(verdict) => Ok(Some(verdict)),
-        Err(BatchFault::Memory) => Err(Memory),
-        Err(_) => Ok(None),
-    }
-}
-
 /// Whether two workers say so.
 fn two_say<R: Threads + Wait + Sync>(
     rt: &R,
@@ -40,8 +27,10 @@ fn two_say<R: Threads + Wait + Sync>(
     history: &History,
     wanted: &[u8],
 ) -> Result<bool, Memory> {
-    let Some(verdict) = by_two(rt, alloc, history)? else {
-        return Ok(false);
+    let verdict = match judge_with(rt, alloc, history, 2, &OpenGate) {
+        Ok(verdict) => verdict,
+        Err(BatchFault::Memory) => return Err(Memory),
+        Err(_) => return Ok(false),
     };
     let text = report(alloc, history, &verdict)?;
     Ok(text.as_slice() == wanted)

@@ -4,7 +4,7 @@ use Rattle.serde_json.specs.Data.{Data}
 use Rattle.serde_json.specs.View.{view}
 use Rattle.cops_core.specs.declared.event.Event.{Event}
 use Rattle.cops_scenario.specs.File.{AreRightBefore, AreUnscripted, IsRight, TellClients, list_json}
-use Rattle.cops_scenario.specs.declared.fault.Field.TheVariants.{Root, DataCentres, Splits, Link, Turns, Retries, Clients, Events}
+use Rattle.cops_scenario.specs.declared.fault.Field.TheVariants.{Root, DataCentres, Splits, Link, Turns, Retries, Repeat, Hold, Clients, Events}
 use Rattle.cops_scenario.proofs.Order.{before_clients, before_events}
 use Rattle.cops_scenario.proofs.Scripts.{are_events}
 use Rattle.cops_scenario.proofs.reading.scenario.Goals as goal
@@ -18,8 +18,10 @@ returns-in_err-clients-clause-first c = λ field e.
     let link : IsRight root Link = search rules in
     let turns : IsRight root Turns = search rules in
     let retries : IsRight root Retries = search rules in
+    let repeat : IsRight root Repeat = search rules in
+    let hold : IsRight root Hold = search rules in
     let is : Clients ≡ field = search rules in
-    subst (AreRightBefore root) is (before_clients root whole dcs splits link turns retries)
+    subst (AreRightBefore root) is (before_clients root whole dcs splits link turns retries repeat hold)
 
 pub returns-in_err-events-clause-first : goal.returns-in_err-events-clause-first
 returns-in_err-events-clause-first c = λ field e.
@@ -32,7 +34,9 @@ returns-in_err-events-clause-first c = λ field e.
     let link : IsRight root Link = search rules in
     let turns : IsRight root Turns = search rules in
     let retries : IsRight root Retries = search rules in
-    let earlier = before_clients root whole dcs splits link turns retries in
+    let repeat : IsRight root Repeat = search rules in
+    let hold : IsRight root Hold = search rules in
+    let earlier = before_clients root whole dcs splits link turns retries repeat hold in
     let is : Events ≡ field = search rules in
     before_events root field is earlier right
 

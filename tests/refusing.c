@@ -1,0 +1,61 @@
+/* Before the C library (LD_PRELOAD) it refuses the call that REFUSED names, as `growth 7`, `read 2` or `write 1`: the seventh growth, the second read, the
+   first write. At the end it says on standard error how many there were of that kind, as `growths 7`. */
+#define _GNU_SOURCE
+#include <errno.h>
+#include <stdatomic.h>
+#include <stdio.h>
+#include <stdlib.h>
+#include <string.h>
+#include <sys/syscall.h>
+#include <unistd.h>
+
+extern void *__libc_malloc(size_t size);
+extern void *__libc_realloc(void *old, size_t size);
+
+static char kind[8];
+static long number;
+static atomic_long calls;
+
+__attribute__((constructor)) static void begin(void) {
+    const char *refused = getenv("REFUSED");
+    if (refused && sscanf(refused, "%7s %ld", kind, &number) != 2)
+        _exit(120);
+}
+
+__attribute__((destructor)) static void end(void) {
+    char text[40];
+    int length = snprintf(text, sizeof text, "%ss %ld\n", kind, atomic_load(&calls));
+    syscall(SYS_write, 2, text, length);
+}
+
+static int refuses(const char *call) {
+    return !strcmp(call, kind) && atomic_fetch_add(&calls, 1) + 1 == number;
+}
+
+void *malloc(size_t size) {
+    if (!refuses("growth"))
+        return __libc_malloc(size);
+    errno = ENOMEM;
+    return NULL;
+}
+
+void *realloc(void *old, size_t size) {
+    if (!refuses("growth"))
+        return __libc_realloc(old, size);
+    errno = ENOMEM;
+    return NULL;
+}
+
+ssize_t read(int file, void *bytes, size_t count) {
+    if (!refuses("read"))
+        return syscall(SYS_read, file, bytes, count);
+    errno = EIO;
+    return -1;
+}
+
+ssize_t write(int file, const void *bytes, size_t count) {
+    if (!refuses("write"))
+        return syscall(SYS_write, file, bytes, count);
+    errno = EIO;
+    return -1;
+}
