@@ -1,5 +1,5 @@
 /* Before the C library (LD_PRELOAD) it refuses the call that REFUSED names, as `growth 7`, `read 2` or `write 1`: the seventh growth, the second read, the
-   first write. At the end it says on standard error how many there were of that kind, as `growths 7`. */
+   first write. When it does it says `refused` on standard error. */
 #define _GNU_SOURCE
 #include <errno.h>
 #include <stdatomic.h>
@@ -22,14 +22,12 @@ __attribute__((constructor)) static void begin(void) {
         _exit(120);
 }
 
-__attribute__((destructor)) static void end(void) {
-    char text[40];
-    int length = snprintf(text, sizeof text, "%ss %ld\n", kind, atomic_load(&calls));
-    syscall(SYS_write, 2, text, length);
-}
-
 static int refuses(const char *call) {
-    return !strcmp(call, kind) && atomic_fetch_add(&calls, 1) + 1 == number;
+    static const char told[] = "refused\n";
+    if (strcmp(call, kind) || atomic_fetch_add(&calls, 1) + 1 != number)
+        return 0;
+    syscall(SYS_write, 2, told, sizeof told - 1);
+    return 1;
 }
 
 void *malloc(size_t size) {

@@ -4,7 +4,6 @@ use cops_audit::{FeedFault, Online};
 use cops_batch::{BatchFault, judge_with};
 use cops_command::reported;
 use cops_report::{report, report_judged};
-use cops_stream::{StreamFault, audit_stream};
 use cops_trace::{Trace, TraceFault, read_trace};
 use cops_types::{Counted, History, Memory, Op, OpName, OpenGate};
 use std::alloc::Global;
@@ -73,32 +72,7 @@ fn fed_says(alloc: Global, history: &History, wanted: &[u8]) -> Result<bool, Mem
     Ok(text.as_slice() == wanted)
 }
 
-/// Whether the audit of the bytes by so many workers writes so, and nothing where memory is refused.
-fn streams<R: Threads + Wait + Sync>(
-    rt: &R,
-    alloc: Global,
-    bytes: &[u8],
-    workers: u8,
-    wanted: &[u8],
-) -> Result<bool, Memory> {
-    let mut writer = Counted::new(Vec::new(alloc));
-    let answer = audit_stream(
-        rt,
-        alloc,
-        &mut Counted::new(bytes),
-        &mut writer,
-        workers,
-        &OpenGate,
-    );
-    let text = writer.into_inner();
-    match answer {
-        Ok(_) => Ok(text.as_slice() == wanted),
-        Err(StreamFault::Memory) if text.is_empty() => Err(Memory),
-        Err(_) => Ok(false),
-    }
-}
-
-/// Whether this is said of a trace's bytes, by one judge, by two workers, by an auditor that is fed, and by the audit.
+/// Whether this is said of a trace's bytes, by one judge, by two workers, and by an auditor that is fed.
 pub fn says<R: Threads + Wait + Sync>(
     rt: &R,
     alloc: Global,
@@ -112,8 +86,6 @@ pub fn says<R: Threads + Wait + Sync>(
     Ok(
         reported(alloc, history)?.as_slice() == wanted
             && two_say(rt, alloc, history, wanted)?
-            && fed_says(alloc, history, wanted)?
-            && streams(rt, alloc, bytes, 1, wanted)?
-            && streams(rt, alloc, bytes, 2, wanted)?,
+            && fed_says(alloc, history, wanted)?,
     )
 }

@@ -1,6 +1,6 @@
 //! A client of a cluster, on one thread.
 
-use cops_clients::{Client, CloseFault, Closed, Cluster, OpenFault, Opened, Share};
+use cops_cluster::{Client, CloseFault, Closed, Cluster, OpenFault, Opened, Share};
 use cops_node::Outcome;
 use cops_place::Place;
 use cops_types::{Key, Memory, OpenGate, Refusal, TypeFault, Value, Version};

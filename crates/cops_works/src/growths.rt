@@ -1,6 +1,6 @@
 //! The works of a cluster and of an auditor, one after the other, each beside what is wanted of it.
 
-use crate::{auditing, clustering, happening, running};
+use crate::{auditing, clustering, happening};
 use anyhow::{Error, bail};
 use cops_types::Memory;
 use std::fs;
@@ -15,19 +15,15 @@ struct Inputs {
     happened: Vec<u8>,
     trace: Vec<u8>,
     report: Vec<u8>,
-    scripts: Vec<u8>,
-    ran: Vec<u8>,
 }
 
-fn read<R: Files + AllocGlobal>(rt: &R, paths: &[&String; 6]) -> Result<Inputs, Error> {
-    let [events, happened, trace, report, scripts, ran] = paths;
+fn read<R: Files + AllocGlobal>(rt: &R, paths: &[&String; 4]) -> Result<Inputs, Error> {
+    let [events, happened, trace, report] = paths;
     Ok(Inputs {
         events: fs::read(rt, events)?,
         happened: fs::read(rt, happened)?,
         trace: fs::read(rt, trace)?,
         report: fs::read(rt, report)?,
-        scripts: fs::read(rt, scripts)?,
-        ran: fs::read(rt, ran)?,
     })
 }
 
@@ -37,16 +33,15 @@ fn go<R: Threads + Wait + Sync + AllocGlobal>(rt: &R, inputs: &Inputs) -> Result
     Ok(
         happening::happens(alloc, &inputs.events, &inputs.happened)?
             && clustering::answers(rt, alloc)?
-            && auditing::says(rt, alloc, &inputs.trace, &inputs.report)?
-            && running::ends(rt, alloc, &inputs.scripts, &inputs.ran)?,
+            && auditing::says(rt, alloc, &inputs.trace, &inputs.report)?,
     )
 }
 
-/// Says whether all works go as is wanted by the files: a scenario with events and what is told of them, a trace and what is told of it,
-/// a scenario with scripts and the report on its run. It fails where memory is refused to a work that has that for an answer.
+/// Says whether all works go as is wanted by the files: a scenario with events and what is told of them, a trace and what is told of
+/// it. It fails where memory is refused to a work that has that for an answer.
 pub fn say<R: Files + Threads + Wait + Sync + Print + AllocGlobal>(
     rt: &R,
-    paths: &[&String; 6],
+    paths: &[&String; 4],
 ) -> Result<(), Error> {
     match go(rt, &read(rt, paths)?) {
         Ok(true) => println!(rt; "as wanted")?,

@@ -1,6 +1,6 @@
 //! What scripts run. For those in `bench/`, which time a node, a world and the auditor that is fed: `node PAIRS TURNS AMONG`, `world FILE MODE
-//! DATA_CENTRES CLIENTS`, `online TRACE MODE`. For `tests/growths.py`, which refuses growths in turn: `growths SCENARIO LINES TRACE LINES SCENARIO
-//! LINES`. With no words it does nothing.
+//! DATA_CENTRES CLIENTS`, `online TRACE MODE`. For `tests/growths.py`, which refuses growths in turn: `growths SCENARIO LINES TRACE LINES`. With
+//! no words it does nothing.
 #![tactic(auto)]
 
 mod auditing;
@@ -9,7 +9,6 @@ mod growths;
 mod happening;
 mod node;
 mod online;
-mod running;
 mod world;
 
 use anyhow::Error;
@@ -42,8 +41,8 @@ fn perform<R: Files + Threads + Wait + Sync + Print + AllocGlobal>(
             time_world(rt, &[path, mode, dcs, clients])
         }
         [what, path, mode] if what.as_str() == "online" => online::say(rt, path, mode),
-        [what, events, happened, trace, report, scripts, ran] if what.as_str() == "growths" => {
-            growths::say(rt, &[events, happened, trace, report, scripts, ran])
+        [what, events, happened, trace, report] if what.as_str() == "growths" => {
+            growths::say(rt, &[events, happened, trace, report])
         }
         _ => Ok(()),
     }
