@@ -59,17 +59,32 @@ fn feed_session(online: &mut Online, history: &History, client: u16) -> Result<b
     Ok(true)
 }
 
-/// Whether an auditor that is fed says so.
-fn fed_says(alloc: Global, history: &History, wanted: &[u8]) -> Result<bool, Memory> {
-    let mut online = Online::new(alloc, history.clients() as u16)?;
+/// Feeds a history, and tells whether all was taken.
+fn feed_all(online: &mut Online, history: &History) -> Result<bool, Memory> {
     for client in 0..history.clients() {
-        if !feed_session(&mut online, history, client as u16)? {
+        if !feed_session(online, history, client as u16)? {
             return Ok(false);
         }
     }
+    Ok(true)
+}
+
+/// The report of what an auditor that is fed says, or nothing where not all was taken.
+fn fed_report(alloc: Global, history: &History) -> Result<Option<Vec<u8>>, Memory> {
+    let mut online = Online::new(alloc, history.clients() as u16)?;
+    if !feed_all(&mut online, history)? {
+        return Ok(None);
+    }
     let judged = online.close()?;
-    let text = report_judged(alloc, &judged)?;
-    Ok(text.as_slice() == wanted)
+    Ok(Some(report_judged(alloc, &judged)?))
+}
+
+/// Whether an auditor that is fed says so.
+fn fed_says(alloc: Global, history: &History, wanted: &[u8]) -> Result<bool, Memory> {
+    match fed_report(alloc, history)? {
+        Some(text) => Ok(text.as_slice() == wanted),
+        None => Ok(false),
+    }
 }
 
 /// Whether this is said of a trace's bytes, by one judge, by two workers, and by an auditor that is fed.

@@ -90,28 +90,36 @@ fn closed(cluster: Cluster, shares: Vec<Share>) -> Option<Closed> {
     }
 }
 
+/// Whether so many operations are in the trace of a cluster in the end.
+fn are_told(cluster: Cluster, shares: Vec<Share>, operations: usize) -> bool {
+    match closed(cluster, shares) {
+        Some(closed) => closed.trace.len() == operations,
+        None => false,
+    }
+}
+
+/// The same once a client has got what it put.
+fn is_told(cluster: Cluster, client: Client, mut shares: Vec<Share>) -> Result<bool, Memory> {
+    shares.push(client.into_share())?;
+    Ok(are_told(cluster, shares, 2))
+}
+
 /// Whether a client of a cluster gets what it put, and both are in the trace in the end.
 pub fn answers<R: Wait>(rt: &R, alloc: Global) -> Result<bool, Memory> {
-    let Some(
-        Opened {
-            cluster,
-            mut clients,
-            mut shares,
-        },
-    ) = opened(alloc)?
-    else {
+    let Some(opened) = opened(alloc)? else {
         return Ok(false);
     };
+    let Opened {
+        cluster,
+        mut clients,
+        shares,
+    } = opened;
     let Some(mut client) = clients.pop() else {
         return Ok(false);
     };
-    if !gets_what_it_put(rt, alloc, &cluster, &mut client)? {
-        return Ok(false);
-    }
-    shares.reserve(1)?;
-    shares.push(client.into_share())?;
-    match closed(cluster, shares) {
-        Some(closed) => Ok(closed.trace.len() == 2),
-        None => Ok(false),
+    if gets_what_it_put(rt, alloc, &cluster, &mut client)? {
+        is_told(cluster, client, shares)
+    } else {
+        Ok(false)
     }
 }

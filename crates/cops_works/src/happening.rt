@@ -1,20 +1,11 @@
 //! The events of a world.
 
 use cops_command::reported;
-use cops_core::{Event, World};
+use cops_core::{Event, Setting, World};
 use cops_node::Outcome;
 use cops_scenario::{Scenario, ScenarioFault, outcome_line};
 use cops_types::{Memory, Refusal};
 use std::alloc::Global;
-
-/// A scenario, or nothing where the bytes are none.
-pub fn scenario(alloc: Global, bytes: &[u8]) -> Result<Option<Scenario>, Memory> {
-    match Scenario::from_json(alloc, bytes) {
-        Ok(scenario) => Ok(Some(scenario)),
-        Err(ScenarioFault::Memory) => Err(Memory),
-        Err(_) => Ok(None),
-    }
-}
 
 /// The answer to an event: one that is refused for want of memory, and then has changed nothing, is asked for again.
 fn answered(world: &mut World, event: &Event) -> Outcome {
@@ -40,15 +31,26 @@ fn told(alloc: Global, world: &mut World, events: &[Event]) -> Result<Vec<u8>, M
     Ok(text)
 }
 
+/// The same of a world in a setting, in which nothing has happened.
+fn told_in(alloc: Global, setting: Setting, events: &[Event]) -> Result<Vec<u8>, Memory> {
+    let mut world = World::of(alloc, setting)?;
+    told(alloc, &mut world, events)
+}
+
 /// Whether these lines are told of the events of a scenario.
-pub fn happens(alloc: Global, bytes: &[u8], wanted: &[u8]) -> Result<bool, Memory> {
-    let Some(scenario) = scenario(alloc, bytes)? else {
-        return Ok(false);
-    };
+fn tells(alloc: Global, scenario: &Scenario, wanted: &[u8]) -> Result<bool, Memory> {
     let Some(events) = scenario.events() else {
         return Ok(false);
     };
-    let mut world = World::of(alloc, scenario.setting(alloc)?)?;
-    let text = told(alloc, &mut world, events)?;
+    let text = told_in(alloc, scenario.setting(alloc)?, events)?;
     Ok(text.as_slice() == wanted)
+}
+
+/// The same of a scenario's bytes.
+pub fn happens(alloc: Global, bytes: &[u8], wanted: &[u8]) -> Result<bool, Memory> {
+    match Scenario::from_json(alloc, bytes) {
+        Ok(scenario) => tells(alloc, &scenario, wanted),
+        Err(ScenarioFault::Memory) => Err(Memory),
+        Err(_) => Ok(false),
+    }
 }
