@@ -2,10 +2,9 @@
 use Rattle.std.proofs.Common.{◌≡◌, ◌<◌, ◌≤◌, ◌⊎◌, ℕ, Some, refl, sym, ◌∙◌, ap, inl, inr, arith}
 use Rattle.cops_types.specs.declared.op.Op.TheVariants.{Put, Got}
 use Rattle.cops_types.specs.declared.op.OpName.{OpName}
-use Rattle.cops_types.specs.Histories.{Sessions, op_at, PutsVersion}
+use Rattle.cops_types.specs.Histories.{Sessions, op_at, PutsVersion, GetsVersion}
 use Rattle.cops_types.specs.Past.{Step, Past, step, more}
 use Rattle.cops_types.specs.Faults.{IsNotBelow}
-use Rattle.cops_audit.specs.Tables.{GetsVersion}
 
 pub same_name : (a b : OpName) → a.client ≡ b.client → a.index ≡ b.index → a ≡ b
 same_name a b c i = ap (λ (p : ℕ × ℕ). let n : OpName = record { client = p.0; index = p.1 } in n) (let q : (a.client, a.index) ≡ (b.client, b.index) = cc in q)

@@ -2,7 +2,7 @@
 use Rattle.std.proofs.Common.{◌≡◌, ◌↔◌, ℕ, List, Some, sym, ◌∙◌, subst, inl, inr}
 use Rattle.cops_types.specs.declared.op.Op.TheVariants.{Put, Got}
 use Rattle.cops_types.specs.declared.op.OpName.{OpName}
-use Rattle.cops_types.specs.Histories.{Sessions, PutsVersion, SourceStep}
+use Rattle.cops_types.specs.Histories.{Sessions, PutsVersion, SourceStep, GetsVersion}
 use Rattle.cops_types.specs.Past.{Step, Past, step, more}
 use Rattle.cops_types.specs.Faults.{HasNoSource, IsNewer, IsNotAbove, IsNotBelow, IsStale}
 use Rattle.cops_types.specs.VersionOrder.{IsDoubled}
@@ -15,7 +15,6 @@ use Rattle.cops_audit.specs.declared.verdict.Verdict.TheVariants.{Accepted, Refu
 use Rattle.cops_audit.specs.declared.verdict.Faults.TheVariants as class
 use Rattle.cops_audit.specs.SoFar.{IsSoFar, IsWaiting, HasLastingFault, Continues}
 use Rattle.cops_audit.specs.Verdicts.{Accepts, IsVerdict}
-use Rattle.cops_audit.specs.Tables.{GetsVersion}
 use Rattle.cops_audit.proofs.Firsts.{versions_rise, none_newer}
 use Rattle.cops_audit.proofs.Exact.{source_of, source_version}
 use Rattle.cops_audit.proofs.Unique.{some_fault}

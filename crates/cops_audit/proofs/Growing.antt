@@ -1,5 +1,5 @@
 -- Room for a history that grows.
-use Rattle.std.proofs.Common.{◌≡◌, ◌≢◌, ◌<◌, ◌≤◌, ◌+◌, ◌⊎◌, ℕ, zero, suc, List, [], ◌∷◌, ◌++◌, length, length-append, get_or, replicate, Some, None, map, Vec, Global, refl, sym, ◌∙◌, ap, subst, inl, inr, arith, slice_get, slice_index_or, get_or-set_same, get_or-set_other}
+use Rattle.std.proofs.Common.{◌≡◌, ◌≢◌, ◌<◌, ◌≤◌, ◌+◌, ℕ, zero, suc, List, [], ◌∷◌, ◌++◌, length, length-append, get_or, replicate, map, Vec, Global, refl, sym, ◌∙◌, ap, subst, inl, inr, arith, slice_index_or, get_or-set_same, get_or-set_other}
 use Rattle.std.specs.Prelude.{Result, Ok, Err, OnErr, sum_by, vec_capacity}
 use Rattle.std.proofs.Math.ListN.{length-set}
 use Rattle.std.proofs.lemmas.Bool.{cases_order}
@@ -7,20 +7,15 @@ use Rattle.std.proofs.lemmas.List.{length-map, length-replicate}
 use Rattle.std.proofs.lemmas.List.Folds.{sum_by-replicate}
 use Rattle.std.proofs.lemmas.List.Sums.{sum_by-cons, sum_by-set}
 use Rattle.cops_types.specs.declared.op.Op.{Op}
-use Rattle.cops_types.specs.declared.op.Op.TheVariants.{Put}
-use Rattle.cops_types.specs.declared.op.OpName.{OpName}
-use Rattle.cops_types.specs.Histories.{Sessions, op_at, with_op}
+use Rattle.cops_types.specs.Histories.{Sessions, with_op}
 use Rattle.cops_types.specs.Counts.{count_of}
 use Rattle.cops_audit.specs.declared.notes.Note.{Note}
-use Rattle.cops_audit.specs.declared.numbers.Numbers.{Numbers}
 use Rattle.cops_audit.specs.declared.room.Room.{Room}
 use Rattle.cops_audit.specs.declared.sweep.Range.{Range}
 use Rattle.cops_audit.specs.declared.sweep.Sweep.{Sweep}
 use Rattle.cops_audit.specs.Notes.{AreAsLong, LengthensBy}
-use Rattle.cops_audit.specs.Numbers.{AreNumbers, HasNumber, KnowsKeys}
 use Rattle.cops_audit.specs.Rooms.{Fits, HasSpace, IsSameButSpace}
 use Rattle.cops_audit.specs.Sweeps.{HasRoom, IsFresh, IsIdle}
-use Rattle.cops_audit.proofs.Marks.{slice_get_push}
 use Rattle.cops_audit.proofs.Flooring.{zero_at}
 
 -- sessions without operations
@@ -38,12 +33,6 @@ empty_as_long n notes same = subst (AreAsLong (replicate n [])) (sym same) (reco
   each = λ c. ap length (empty_at {A = Note} n c) ∙ sym (ap length (empty_at {A = Op} n c));
 })
 
-pub empty_keys : (n : ℕ) (m : Numbers) → KnowsKeys (replicate n []) m
-empty_keys n m put key version puts =
-    let none : slice_get (get_or (replicate {A = List Op} n []) put.client []) put.index ≡ None = ap (λ (s : List Op). slice_get s put.index) (empty_at n put.client) in
-    let e : None ≡ Some (Put key puts.0 version) = sym none ∙ puts.1 in
-    absurd cc
-
 -- a client's next operation
 module _ (h : Sessions) (client : ℕ) (op : Op) (inside : client < length h) where
   abbrev own : List Op
@@ -54,26 +43,6 @@ module _ (h : Sessions) (client : ℕ) (op : Op) (inside : client < length h) wh
 
   pub clients_same : length (with_op h client op) ≡ length h
   clients_same = length-set h client (own ++ op ∷ [])
-
-  -- what is there then was there before, or is the operation
-  new_or_old : (name : OpName) (o : Op) → op_at (with_op h client op) name ≡ Some o → (op_at h name ≡ Some o) ⊎ (op ≡ o)
-  new_or_old name o at = elim (cases_order name.client client) [
-    | inl same ↦
-        let here : slice_index_or (with_op h client op) name.client [] ≡ own ++ op ∷ [] = ap (λ (k : ℕ). get_or (with_op h client op) k []) same ∙ get_or-set_same h client (own ++ op ∷ []) [] inside in
-        elim (slice_get_push own op o name.index (sym (ap (λ (s : List Op). slice_get s name.index) here) ∙ at)) [
-          | inl old ↦ inl (ap (λ (k : ℕ). slice_get (get_or h k []) name.index) same ∙ old)
-          | inr last ↦ inr last.1
-        ]
-    | inr other ↦
-        let differs : name.client ≢ client = λ e. elim other [ inl l ↦ omega (arith, l, e) | inr m ↦ omega (arith, m, e) ] in
-        inl (sym (ap (λ (s : List Op). slice_get s name.index) (get_or-set_other h client name.client (own ++ op ∷ []) [] differs)) ∙ at)
-  ]
-
-  pub keys_more : (m n : Numbers) → ((key : List ℕ) → HasNumber m key → HasNumber n key) → ((key value : List ℕ) (version : ℕ) → op ≡ Put key value version → HasNumber n key) → KnowsKeys h m → KnowsKeys (with_op h client op) n
-  keys_more m n kept new known put key version puts = elim (new_or_old put (Put key puts.0 version) puts.1) [
-    | inl old ↦ kept key (known put key version (puts.0, old))
-    | inr is ↦ new key puts.0 version is
-  ]
 
   pub as_long_more : (old new : List (List Note)) → LengthensBy old new client → AreAsLong h old → AreAsLong (with_op h client op) new
   as_long_more old new more long = record {
@@ -94,8 +63,6 @@ fits_on h old new count same fits space but = record {
   notes = subst (AreAsLong h) (sym but.notes) fits.notes;
   counts = ap length but.counts ∙ fits.counts;
   empty = but.empty fits.empty;
-  numbers = subst AreNumbers (sym but.numbers) fits.numbers;
-  keys = subst (KnowsKeys h) (sym but.numbers) fits.keys;
 }
 
 -- what holds at an error
@@ -103,12 +70,13 @@ pub at_error : {X E : Type 0} (r : Result X E) (P : Type 0) → P → OnErr r P
 at_error (Ok x) P p = tt
 at_error (Err e) P p = p
 
--- the space of a room with other notes and numbers
-pub space_of : (count : ℕ) (room : Room) (notes : List (List Note)) (numbers : Numbers) → HasSpace count room → HasSpace count (record room { notes = notes; numbers = numbers })
-space_of count room notes numbers s = record {
+-- the space of a room with other notes
+pub space_of : (count : ℕ) (room : Room) (notes : List (List Note)) → HasSpace count room → HasSpace count (record room { notes = notes })
+space_of count room notes s = record {
   names = s.names;
   table = s.table;
   nexts = s.nexts;
+  by_key = s.by_key;
   firsts = s.firsts;
   suspects = s.suspects;
   floors = s.floors;

@@ -20,7 +20,6 @@ pub mod Crossing
 pub mod Reading
 pub mod TallyLemmas
 pub mod Linking
-pub mod Numbering
 pub mod Passing
 pub mod PastMarks
 pub mod Suspecting

@@ -2,14 +2,14 @@
 use Rattle.std.proofs.Common.{◌≡◌, ◌≢◌, ◌<◌, ◌≤◌, ◌↔◌, ◌⊎◌, ℕ, List, Some, refl, sym, ◌∙◌, ap, subst, inl, inr, arith}
 use Rattle.cops_types.specs.declared.op.Op.TheVariants as op
 use Rattle.cops_types.specs.declared.op.OpName.{OpName}
-use Rattle.cops_types.specs.Histories.{Sessions, IsMissed, IsNamed, PutsVersion, SourceStep}
+use Rattle.cops_types.specs.Histories.{Sessions, IsMissed, IsNamed, PutsVersion, SourceStep, GetsVersion}
 use Rattle.cops_types.specs.Faults.{HasNoSource, HasVersion, IsNotAbove, IsNotBelow}
 use Rattle.cops_audit.specs.SoFar.{HaveSourcesOrWait}
 use Rattle.cops_audit.specs.declared.table.VersionedPut.{VersionedPut}
 use Rattle.cops_audit.specs.declared.notes.Note.{Note}
 use Rattle.cops_audit.specs.declared.notes.Seen.{Seen}
 use Rattle.cops_audit.specs.declared.notes.Seen.TheVariants.{Put, Got, Missed, Sourceless}
-use Rattle.cops_audit.specs.Tables.{GetsVersion, IsVersionTable}
+use Rattle.cops_audit.specs.Tables.{IsVersionTable}
 use Rattle.cops_audit.specs.Notes.{above, IsNoted, IsSeen, IsSourceless, SeesNotAbove, SeesNotBelow, StandsAt, note_at}
 use Rattle.cops_audit.proofs.Acyclic.{one_version, put_is_no_get}
 use Rattle.cops_audit.proofs.Gets.{one_get_version}

@@ -3,14 +3,14 @@ use Rattle.std.proofs.Common.{◌≡◌, ◌<◌, ◌≤◌, ◌+◌, ℕ, List,
 use Rattle.std.proofs.Math.Nat.{eq-or-lt_of_le}
 use Rattle.std.proofs.lemmas.Bool.{cases_lt}
 use Rattle.cops_types.specs.declared.op.OpName.{OpName}
-use Rattle.cops_types.specs.Histories.{Sessions, PutsVersion, SourceStep}
+use Rattle.cops_types.specs.Histories.{Sessions, PutsVersion, SourceStep, GetsVersion}
 use Rattle.cops_types.specs.Past.{Past, step, more}
 use Rattle.cops_audit.specs.declared.table.VersionedPut.{VersionedPut}
 use Rattle.cops_audit.specs.declared.sweep.Range.{Range}
 use Rattle.cops_audit.specs.declared.sweep.Sweep.{Sweep}
 use Rattle.cops_audit.specs.Searches.{Finds, IsSearching, TakesSources}
 use Rattle.cops_audit.specs.Sweeps.{Counted, InRange, InSome, Raises}
-use Rattle.cops_audit.specs.Tables.{GetsVersion, IsPutTable}
+use Rattle.cops_audit.specs.Tables.{IsPutTable}
 use Rattle.cops_audit.proofs.Acyclic.{one_version, same_name}
 use Rattle.cops_audit.proofs.Closing.{none_in_nothing}
 use Rattle.cops_audit.proofs.Gets.{one_get_version}

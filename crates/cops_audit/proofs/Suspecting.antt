@@ -2,12 +2,11 @@
 use Rattle.std.proofs.Common.{◌≡◌, ◌≢◌, ◌<◌, ◌≤◌, ℕ, List, Some, None, refl, sym, ◌∙◌, subst, inl, inr, arith}
 use Rattle.cops_types.specs.declared.op.Op.TheVariants.{Got, Missed}
 use Rattle.cops_types.specs.declared.op.OpName.{OpName}
-use Rattle.cops_types.specs.Histories.{Sessions, IsGot, IsMissed, PutsKey, PutsVersion}
-use Rattle.cops_types.specs.Faults.{HasNoSource}
+use Rattle.cops_types.specs.Histories.{Sessions, IsGot, IsMissed, PutsKey, PutsVersion, GetsVersion}
 use Rattle.cops_audit.specs.declared.table.VersionedPut.{VersionedPut}
 use Rattle.cops_audit.specs.declared.notes.Seen.TheVariants as seen
 use Rattle.cops_audit.specs.SoFar.{IsWaiting}
-use Rattle.cops_audit.specs.Tables.{GetsVersion, IsVersionTable}
+use Rattle.cops_audit.specs.Tables.{IsVersionTable}
 use Rattle.cops_audit.specs.Notes.{IsSeen, StandsAt}
 use Rattle.cops_audit.specs.Keys.{IsFirstFrom, IsFirstOn, IsNext, OnKey}
 use Rattle.cops_audit.specs.Windows.{HasFirst, IsSuspect, NoneWithin, WouldBeNewer}
@@ -26,10 +25,6 @@ one_got : (h : Sessions) (n : OpName) (a b x y : List ℕ) (v w : ℕ) → IsGot
 one_got h n a b x y v w first second =
     let e : Some (Got a x v) ≡ Some (Got b y w) = sym first ∙ second in
     (let k : a ≡ b = cc in k, let s : v ≡ w = cc in s)
-
--- the key that was read of a get is its key
-pub got_is_own : (h : Sessions) (n : OpName) (k : List ℕ) (f : HasNoSource h n) → ((value : List ℕ) × (version : ℕ) × IsGot h n k value version) → k ≡ f.key
-got_is_own h n k f got = (one_got h n k f.key got.0 f.value got.1 f.version got.2 f.got).0
 
 module _ (h : Sessions) (table : List VersionedPut) (t : IsVersionTable h table) where
   -- the first place on a key is that of each put on it

@@ -1,5 +1,5 @@
 -- A verdict with the sessions that it is on, their values left out.
-use Rattle.std.specs.Prelude.{◌≡◌, List, [], map}
+use Rattle.std.specs.Prelude.{◌≡◌, [], map}
 use Rattle.cops_types.specs.declared.op.Op.{Op}
 use Rattle.cops_types.specs.declared.op.Op.TheVariants.{Put, Got, Missed}
 use Rattle.cops_types.specs.Histories.{Sessions}

@@ -1,10 +1,9 @@
 -- The puts on each key, by their places in the table of puts in order of versions.
-use Rattle.std.specs.Prelude.{◌≡◌, ◌<◌, ◌≤◌, ◌+◌, ℕ, List, length, slice_get, Option, Some, None, nat_eq}
-use Rattle.std.specs.Borrow.{Bor}
-use Rattle.std.specs.Cmp.Lexicographic.{pointwise}
-use Rattle.std.specs.HashMap.{HashMap, get}
+use Rattle.std.specs.Prelude.{◌≡◌, ◌<◌, ◌≤◌, ℕ, List, length, slice_get, slice_index_or, Option, Some, None}
+use Rattle.std.specs.Option.{option_map}
 use Rattle.cops_types.specs.declared.op.OpName.{OpName}
-use Rattle.cops_types.specs.Histories.{Sessions, PutsKey}
+use Rattle.cops_types.specs.Histories.{Sessions, PutsKey, key_of, op_at}
+use Rattle.cops_types.specs.Recorded.{Recorded}
 use Rattle.cops_audit.specs.declared.table.VersionedPut.{VersionedPut}
 use Rattle.cops_audit.specs.Notes.{StandsAt}
 
@@ -22,9 +21,13 @@ abbrev pub IsFirstFrom : Sessions → List VersionedPut → ℕ → List ℕ →
 IsFirstFrom h table i key None = (place : ℕ) → i ≤ place → ¬ OnKey h table place key
 IsFirstFrom h table i key (Some first) = (i ≤ first) × OnKey h table first key × ((place : ℕ) → i ≤ place → OnKey h table place key → first ≤ place)
 
--- of each key, the first put on it
-abbrev pub KnowsFirsts : {S : Type 0} → Sessions → List VersionedPut → HashMap (Bor (List ℕ)) ℕ S → Type 0
-KnowsFirsts h table firsts = (key : Bor (List ℕ)) → IsFirstFrom h table 0 key.now (get (λ x y. pointwise nat_eq x.now y.now) firsts key)
+-- the operation of that name is on the key
+abbrev pub IsOnKey : Sessions → OpName → List ℕ → Type 0
+IsOnKey h name key = option_map key_of (op_at h name) ≡ Some key
+
+-- of each key, by its number, the first put on it
+abbrev pub KnowsFirsts : Recorded → List VersionedPut → List (Option ℕ) → Type 0
+KnowsFirsts r table firsts = (number : ℕ) (key : List ℕ) → slice_get r.keys number ≡ Some key → IsFirstFrom r.sessions table 0 key (slice_index_or firsts number None)
 
 -- no later put is on the key of the put at this place, or this one is the next
 abbrev pub IsNext : Sessions → List VersionedPut → ℕ → Option ℕ → Type 0
@@ -40,7 +43,3 @@ pub record AreNexts (h : Sessions) (table : List VersionedPut) (nexts : List (Op
 pub record AreFirsts (h : Sessions) (table : List VersionedPut) (firsts : List ℕ) : Type 0 where
   pub whole : length firsts ≡ length table
   pub each : (place first : ℕ) (key : List ℕ) → slice_get firsts place ≡ Some first → OnKey h table place key → IsFirstOn h table key first
-
--- the keys of puts in a row, the last of which stands just before this place
-abbrev pub AreAhead : Sessions → List VersionedPut → ℕ → List (Bor (List ℕ)) → Type 0
-AreAhead h table end keys = (from : ℕ) × (from + length keys ≡ end) × ((j : ℕ) (key : Bor (List ℕ)) → slice_get keys j ≡ Some key → OnKey h table (from + j) key.now)

@@ -1,10 +1,8 @@
 pub mod Keys
-pub mod Known
 pub mod Links
 pub mod Names
 pub mod Noted
 pub mod Notes
-pub mod Numbers
 pub mod Rooms
 pub mod Searches
 pub mod SoFar

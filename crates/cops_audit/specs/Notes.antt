@@ -1,13 +1,12 @@
 -- What each operation did, by places in the table of puts in order of versions.
 use Rattle.std.specs.Prelude.{◌≡◌, ◌≢◌, ◌<◌, ◌≤◌, ◌+◌, ◌⊎◌, ℕ, List, [], length, slice_index_or, slice_get, Option, Some}
 use Rattle.cops_types.specs.declared.op.OpName.{OpName}
-use Rattle.cops_types.specs.Histories.{Sessions, IsMissed, PutsVersion, SourceStep}
+use Rattle.cops_types.specs.Histories.{Sessions, IsMissed, PutsVersion, SourceStep, GetsVersion}
 use Rattle.cops_types.specs.Faults.{HasNoSource}
 use Rattle.cops_audit.specs.declared.table.VersionedPut.{VersionedPut}
 use Rattle.cops_audit.specs.declared.notes.Note.{Note}
 use Rattle.cops_audit.specs.declared.notes.Seen.{Seen}
 use Rattle.cops_audit.specs.declared.notes.Seen.TheVariants.{Put, Got, Missed, Sourceless}
-use Rattle.cops_audit.specs.Tables.{GetsVersion}
 
 -- just above the place of what was seen: of a get without a source above the puts of lower versions, 0 where nothing was found
 abbrev pub above : Seen → ℕ

@@ -8,7 +8,6 @@ use Rattle.cops_audit.specs.declared.room.Room.{Room}
 use Rattle.cops_audit.specs.Floors.{AreFloors}
 use Rattle.cops_audit.specs.Keys.{AreFirsts}
 use Rattle.cops_audit.specs.Notes.{AreAsLong, IsNoted}
-use Rattle.cops_audit.specs.Numbers.{AreNumbers, KnowsKeys}
 use Rattle.cops_audit.specs.Sweeps.{HasRoom, IsIdle}
 use Rattle.cops_audit.specs.Tables.{IsVersionTable}
 use Rattle.cops_audit.specs.Windows.{AreSuspects}
@@ -18,6 +17,7 @@ pub record HasSpace (count : ℕ) (room : Room) : Type 0 where
   pub names : count ≤ vec_capacity room.names
   pub table : count ≤ vec_capacity room.table
   pub nexts : count ≤ vec_capacity room.nexts
+  pub by_key : count ≤ vec_capacity room.by_key
   pub firsts : count ≤ vec_capacity room.firsts
   pub suspects : count ≤ vec_capacity room.suspects
   pub floors : count ≤ vec_capacity room.floors
@@ -31,22 +31,18 @@ pub record IsFilled (h : Sessions) (room : Room) : Type 0 where
   pub table : IsVersionTable h room.table.items
   pub few : length room.table.items ≤ count_of h
 
--- the same notes, numbers and counts, and nothing left to look at
+-- the same notes and counts, and nothing left to look at
 pub record IsSameButSpace (old new : Room) : Type 0 where
   pub notes : new.notes ≡ old.notes
-  pub numbers : new.numbers ≡ old.numbers
   pub counts : new.sweep.counts ≡ old.sweep.counts
   pub empty : old.sweep.pending.items ≡ [] → new.sweep.pending.items ≡ []
 
--- space for all operations, a note for each, a count for each client and a number for each key that was put; nothing is left
--- to look at
+-- space for all operations, a note for each, and a count for each client; nothing is left to look at
 pub record Fits (h : Sessions) (room : Room) : Type 0 where
   pub space : HasSpace (count_of h) room
   pub notes : AreAsLong h room.notes
   pub counts : length room.sweep.counts ≡ length h
   pub empty : room.sweep.pending.items ≡ []
-  pub numbers : AreNumbers room.numbers
-  pub keys : KnowsKeys h room.numbers
 
 -- room for a history, with its names, its puts and the notes on its operations
 pub record IsNotedIn (h : Sessions) (room : Room) : Type 0 where

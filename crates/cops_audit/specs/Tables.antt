@@ -1,13 +1,8 @@
 -- The puts by their versions.
 use Rattle.std.specs.Prelude.{◌≢◌, ◌<◌, ◌≤◌, ◌+◌, ◌↔◌, ℕ, List, length, slice_index_or, Contains, AllPairs}
 use Rattle.cops_types.specs.declared.limits.TheConstants.{MAX_OPS}
-use Rattle.cops_types.specs.declared.op.OpName.{OpName}
-use Rattle.cops_types.specs.Histories.{Sessions, IsGot, PutsVersion}
+use Rattle.cops_types.specs.Histories.{Sessions, PutsVersion}
 use Rattle.cops_audit.specs.declared.table.VersionedPut.{VersionedPut}
-
--- a get's version
-abbrev pub GetsVersion : Sessions → OpName → ℕ → Type 0
-GetsVersion h name version = (key : List ℕ) × (value : List ℕ) × IsGot h name key value version
 
 -- in order of versions, where one may stand twice
 abbrev pub VersionsNeverFall : List VersionedPut → Type 0

@@ -9,11 +9,9 @@ ghost use Rattle.cops_audit.specs.SoFar.{HaveSourcesOrWait, IsMismatched, IsSoFa
 ghost use Rattle.cops_audit.specs.Tables.{IsVersionTable};
 
 use crate::floors::set_floors;
-use crate::keys::set_firsts;
-use crate::known::Firsts;
+use crate::keys::{link, set_firsts};
 use crate::names::set_names;
 use crate::notes::{Notes, count_sourceless, is_sourceless};
-use crate::ops::got_version;
 use crate::rising::has_not_above;
 use crate::room::Room;
 use crate::stale::has_stale;
@@ -30,7 +28,7 @@ fn is_mismatched(history: &History, table: &[VersionedPut], got: OpName) -> bool
     ensures mismatched { IsTrue result → (put : OpName) × IsMismatched history.now.sessions got put }
     ensures waiting { ¬ IsTrue result → IsWaiting history.now.sessions got }
 {
-    let Some(version) = got_version(history, got) else {
+    let Some(version) = history.got_version(got) else {
         return false;
     };
     match place_of(table, version) {
@@ -77,10 +75,10 @@ impl Room {
     {
         let table = self.table.as_slice();
         let names = self.names.as_slice();
-        self.numbers.link(&mut self.nexts, history, table)?;
+        link(&mut self.nexts, &mut self.by_key, history, table)?;
         let nexts = self.nexts.as_slice();
         set_firsts(&mut self.firsts, table, nexts)?;
-        let known = Firsts::Numbered(&self.numbers);
+        let by_key = self.by_key.as_slice();
         self.suspects.clear();
         push_suspects(
             &mut self.suspects,
@@ -88,7 +86,7 @@ impl Room {
             table,
             &self.notes,
             nexts,
-            &known,
+            by_key,
             names,
         )?;
         set_floors(&mut self.floors, self.suspects.as_slice())?;

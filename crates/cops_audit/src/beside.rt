@@ -61,16 +61,16 @@ fn notes_by<R: Threads + Sync>(
 }
 
 /// The notes and the links, by at most so many threads: the ones beside the others where there are two.
-pub fn notes_and_links<'a, R: Threads + Sync>(
+pub fn notes_and_links<R: Threads + Sync>(
     rt: &R,
     alloc: Global,
-    history: &'a History,
+    history: &History,
     table: &[VersionedPut],
     threads: u8,
-) -> Result<(Notes, Links<'a>), AllocError>
+) -> Result<(Notes, Links), AllocError>
     requires { IsVersionTable history.now.sessions table.now }
     ensures notes { IfOk result (λ r. IsNoted history.now.sessions table.now r.0) }
-    ensures links { IfOk result (λ r. AreLinks history.now.sessions table.now r.1) }
+    ensures links { IfOk result (λ r. AreLinks history.now table.now r.1) }
 {
     if threads < 2 {
         let notes = Notes::new(alloc, history, table)?;
@@ -86,7 +86,7 @@ pub fn notes_and_links<'a, R: Threads + Sync>(
         { notes_by(rt, alloc, history, table, others) },
         || -> Result<Links, AllocError>
             requires { IsVersionTable history.now.sessions table.now }
-            ensures { IfOk result (AreLinks history.entry.now.sessions table.entry.now) }
+            ensures { IfOk result (AreLinks history.entry.now table.entry.now) }
         { Links::new(alloc, history, table) },
     );
     Ok((notes?, links?))

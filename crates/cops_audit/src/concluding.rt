@@ -7,7 +7,7 @@ ghost use Rattle.cops_audit.specs.Rooms.{Fits, IsFilled, IsNotedIn};
 ghost use Rattle.cops_audit.specs.Verdicts.{IsVerdict};
 
 use crate::names::set_names;
-use crate::notes::without_source;
+use crate::notes::{Notes, without_source};
 use crate::rising::not_above;
 use crate::room::Room;
 use crate::stale::stale_suspects;
@@ -72,7 +72,9 @@ impl Room {
         requires filled { IsFilled history.now.sessions self.old }
         ensures { IfOk result (IsVerdict history.now.sessions) }
     {
-        self.notes.renew(history, self.table.as_slice());
+        // The notes that are kept were made one by one: they are given back, and made for all at once, which is sooner done.
+        self.notes = Notes::empty(alloc, 0)?;
+        self.notes = Notes::new(alloc, history, self.table.as_slice())?;
         if let Some(verdict) = self.judge_notes(alloc, history)? {
             return Ok(verdict);
         }
@@ -84,7 +86,8 @@ impl Room {
         Ok(Verdict::Accepted(puts))
     }
 
-    /// The verdict on a history. Beside the room it takes memory for the faults alone, or for the names of the puts.
+    /// The verdict on a history. Beside the room it takes memory for the faults alone, or for the names of the puts, and while it
+    /// notes what the operations did for hints of where versions stand.
     pub fn judge(&mut self, alloc: Global, history: &History) -> Result<Verdict, AllocError>
         requires { Fits history.now.sessions self.old }
         ensures { IfOk result (IsVerdict history.now.sessions) }

@@ -4,7 +4,7 @@ ghost use Rattle.cops_audit.specs.declared.table.VersionedPut.{VersionedPut};
 ghost use Rattle.cops_audit.specs.Tables.{VersionsNeverFall};
 
 use crate::table::{VersionedPut, place_of};
-use cops_types::{History, Op, OpName, Version};
+use cops_types::{History, OpName, Version};
 use std::alloc::{AllocError, Global};
 
 /// A hint that says nothing: no place of a table.
@@ -23,10 +23,9 @@ fn stands_at(table: &[VersionedPut], place: u32, version: Version) -> bool
 
 /// The version of what an operation put or got.
 fn version_of(history: &History, name: OpName) -> Option<Version> {
-    match history.op(name) {
-        Some(Op::Put { version, .. }) => Some(*version),
-        Some(Op::Got { version, .. }) => Some(*version),
-        _ => None,
+    match history.put_version(name) {
+        Some(version) => Some(version),
+        None => history.got_version(name),
     }
 }
 

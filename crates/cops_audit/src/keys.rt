@@ -1,97 +1,74 @@
 ghost use Rattle.cops_types.specs.declared.limits.TheConstants.{MAX_OPS};
-ghost use Rattle.std.specs.Prelude.{◌≡◌, ◌<◌, ◌≤◌, ◌+◌, ℕ, IfOk, IsOk, OnOk, length, slice_get, vec_capacity, Some};
-ghost use Rattle.cops_types.specs.Histories.{Sessions, PutsKey, Puts};
-ghost use Rattle.cops_audit.specs.Keys.{AreAhead, AreFirsts, AreNexts, KnowsFirsts, OnKey};
+ghost use Rattle.std.specs.Prelude.{◌≡◌, ◌<◌, ◌≤◌, ◌+◌, ℕ, List, None, IfOk, IsOk, OnOk, length, slice_get, slice_index_or, vec_capacity, Some};
+ghost use Rattle.cops_types.specs.Counts.{count_of};
+ghost use Rattle.cops_types.specs.Histories.{IsNamed, Sessions};
+ghost use Rattle.cops_audit.specs.Keys.{AreFirsts, AreNexts, IsFirstFrom, IsOnKey, KnowsFirsts};
 ghost use Rattle.cops_audit.specs.Tables.{IsVersionTable};
+ghost use Rattle.cops_audit.specs.declared.table.VersionedPut.{VersionedPut as APut};
 
 use crate::table::VersionedPut;
-use cops_types::{History, Key, Op, OpName};
+use cops_types::{History, OpName};
 use std::alloc::{AllocError, Global};
-use std::collections::HashMap;
 
-/// The key of a put.
-pub fn put_key(history: &History, name: OpName) -> &Key
-    requires { Puts history.now.sessions name }
-    ensures { (version : ℕ) × PutsKey history.now.sessions name result.now version }
+/// The number of the key of an operation.
+fn number_of(history: &History, name: OpName) -> usize
+    requires { IsNamed history.now.sessions name }
+    ensures key { (key : List ℕ) → IsOnKey history.now.sessions name key → slice_get history.now.keys result ≡ Some key }
+    ensures within { result < length history.now.keys }
 {
-    match history.op(name) {
-        Some(Op::Put { key, .. }) => key,
-        _ => unreachable!(),
-    }
-}
-
-/// The puts on each key, by their places in the table.
-#[derive(Drop)]
-pub struct Keys<'a> {
-    pub nexts: Vec<Option<u32>>,
-    pub firsts: HashMap<&'a [u8], u32>,
-}
-
-/// How many keys are read in a row: those of puts that stand side by side lie far apart, and are then fetched side by side.
-const ROW: usize = 32;
-
-/// Reads the keys of the puts just before a place, where none are ahead.
-fn read_ahead<'a>(
-    ahead: &mut Vec<&'a [u8]>,
-    history: &'a History,
-    table: &[VersionedPut],
-    end: usize,
-) -> Result<(), AllocError>
-    requires table { IsVersionTable history.now.sessions table.now }
-    requires inside { (0 < end) × (end ≤ length table.now) }
-    requires ahead { AreAhead history.now.sessions table.now end ahead.old.items }
-    ensures ahead { OnOk result (AreAhead history.now.sessions table.now end ahead.new.items) }
-    ensures some { OnOk result (0 < length ahead.new.items) }
-{
-    if !ahead.is_empty() {
-        return Ok(());
-    }
-    for place in end.saturating_sub(ROW)..end {
-        let put = &table[place];
-        ahead.push(put_key(history, put.name).as_bytes())?;
-    }
-    Ok(())
-}
-
-/// The key of the put at a place, which is the last one ahead.
-fn next_key<'a>(
-    ahead: &mut Vec<&'a [u8]>,
-    history: &'a History,
-    table: &[VersionedPut],
-    place: usize,
-) -> Result<&'a [u8], AllocError>
-    requires table { IsVersionTable history.now.sessions table.now }
-    requires inside { place < length table.now }
-    requires ahead { AreAhead history.now.sessions table.now (place + 1) ahead.old.items }
-    ensures key { IfOk result (λ key. OnKey history.now.sessions table.now place key.now) }
-    ensures ahead { OnOk result (AreAhead history.now.sessions table.now place ahead.new.items) }
-{
-    read_ahead(ahead, history, table, place + 1)?;
-    match ahead.pop() {
-        Some(key) => Ok(key),
+    match history.key_number(name) {
+        Some(number) => number as usize,
         None => unreachable!(),
     }
 }
 
-/// Links each put to the next one on its key, and each key to the first put on it.
-pub fn link<'a>(
-    alloc: Global,
-    history: &'a History,
-    table: &[VersionedPut],
-) -> Result<Keys<'a>, AllocError>
-    requires { IsVersionTable history.now.sessions table.now }
-    ensures nexts { IfOk result (λ keys. AreNexts history.now.sessions table.now keys.nexts.items) }
-    ensures firsts { IfOk result (λ keys. KnowsFirsts history.now.sessions table.now keys.firsts) }
+/// The place of the first put on the key of an operation, of the first puts by the numbers of their keys.
+pub fn first_on(history: &History, firsts: &[Option<u32>], name: OpName) -> Option<u32>
+    requires { IsNamed history.now.sessions name }
+    ensures { (table : List APut) (key : List ℕ) → KnowsFirsts history.now table firsts.now → IsOnKey history.now.sessions name key
+        → IsFirstFrom history.now.sessions table 0 key result }
 {
-    let mut nexts = vec![in alloc; None; table.len()]?;
-    let mut firsts = HashMap::new(alloc);
-    let mut ahead = Vec::with_capacity(alloc, ROW)?;
-    for place in (0..table.len()).rev() {
-        let key = next_key(&mut ahead, history, table, place)?;
-        let next = firsts.insert(key, place as u32)?;
-        nexts[place] = next;
+    match firsts.get(number_of(history, name)) {
+        Some(first) => *first,
+        None => None,
     }
-    Ok(Keys { nexts, firsts })
+}
+
+/// Empties it, and makes it so many that are none. It takes no memory where there is room for them.
+fn set_none(places: &mut Vec<Option<u32>>, count: usize) -> Result<(), AllocError>
+    ensures count { OnOk result (length places.new.items ≡ count) }
+    ensures none { OnOk result ((k : ℕ) → slice_index_or places.new.items k None ≡ None) }
+    ensures capacity { vec_capacity places.old ≤ vec_capacity places.new }
+    ensures succeeds { count ≤ vec_capacity places.old → IsOk result }
+{
+    places.clear();
+    places.resize(count, None)
+}
+
+/// Links each put to the next one on its key, and gives of each key, by its number, the first put on it. It takes no memory
+/// where there is room for as many links as there are puts and as many first puts as there are operations.
+pub fn link(
+    nexts: &mut Vec<Option<u32>>,
+    firsts: &mut Vec<Option<u32>>,
+    history: &History,
+    table: &[VersionedPut],
+) -> Result<(), AllocError>
+    requires { IsVersionTable history.now.sessions table.now }
+    ensures nexts { OnOk result (AreNexts history.now.sessions table.now nexts.new.items) }
+    ensures firsts { OnOk result (KnowsFirsts history.now table.now firsts.new.items) }
+    ensures nexts_capacity { vec_capacity nexts.old ≤ vec_capacity nexts.new }
+    ensures firsts_capacity { vec_capacity firsts.old ≤ vec_capacity firsts.new }
+    ensures succeeds { length table.now ≤ vec_capacity nexts.old → count_of history.now.sessions ≤ vec_capacity firsts.old → IsOk result }
+{
+    set_none(nexts, table.len())?;
+    set_none(firsts, history.keys())?;
+    for place in (0..table.len()).rev() {
+        let put = &table[place];
+        let number = number_of(history, put.name);
+        nexts[place] = firsts[number];
+        firsts[number] = Some(place as u32);
+    }
+    Ok(())
 }
 
 /// Makes it so many places, each with itself. It takes no memory where there is room for them.

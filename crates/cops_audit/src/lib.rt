@@ -16,14 +16,11 @@ mod hints;
 mod judged;
 mod judging;
 mod keys;
-mod known;
 mod laws;
 mod links;
 mod names;
 mod notes;
-mod numbers;
 mod online;
-mod ops;
 mod puts;
 mod rising;
 mod room;
@@ -44,7 +41,6 @@ pub use laws::{
     refused_stays_refused, verdict_on_convergence,
 };
 pub use online::Online;
-pub use ops::{got_version, is_source, put_version};
 pub use puts::Puts;
 pub use search::past;
 pub use table::VersionedPut;

@@ -1,16 +1,18 @@
-use crate::keys::{Keys, link, passed_firsts};
+use crate::keys::{link, passed_firsts};
 use crate::table::VersionedPut;
 use cops_types::History;
 use std::alloc::{AllocError, Global};
 
-/// The puts by their keys, and where many look for stale gets of each put the place of the first put on its key.
+/// The puts by their keys: of each put the next one on its key, of each key, by its number, the first put on it, and where
+/// many look for stale gets of each put the place of the first put on its key.
 #[derive(Drop)]
-pub struct Links<'a> {
-    pub keys: Keys<'a>,
+pub struct Links {
+    pub nexts: Vec<Option<u32>>,
+    pub by_key: Vec<Option<u32>>,
     pub firsts: Option<Vec<u32>>,
 }
 
-impl<'a> Links<'a> {
+impl Links {
     ghost use Rattle.std.specs.Prelude.{IfOk};
     ghost use Rattle.cops_audit.specs.Links.{AreLinks};
     ghost use Rattle.cops_audit.specs.Tables.{IsVersionTable};
@@ -18,35 +20,30 @@ impl<'a> Links<'a> {
     /// The links of a table for one look.
     pub fn once(
         alloc: Global,
-        history: &'a History,
+        history: &History,
         table: &[VersionedPut],
     ) -> Result<Self, AllocError>
         requires { IsVersionTable history.now.sessions table.now }
-        ensures { IfOk result (λ links. AreLinks history.entry.now.sessions table.now links) }
+        ensures { IfOk result (λ links. AreLinks history.now table.now links) }
     {
-        let keys = link(alloc, history, table)?;
-        Ok(Links { keys, firsts: None })
+        let mut nexts = Vec::new(alloc);
+        let mut by_key = Vec::new(alloc);
+        link(&mut nexts, &mut by_key, history, table)?;
+        Ok(Links {
+            nexts,
+            by_key,
+            firsts: None,
+        })
     }
 
     /// The links of a table for many looks.
-    pub fn new(
-        alloc: Global,
-        history: &'a History,
-        table: &[VersionedPut],
-    ) -> Result<Self, AllocError>
+    pub fn new(alloc: Global, history: &History, table: &[VersionedPut]) -> Result<Self, AllocError>
         requires { IsVersionTable history.now.sessions table.now }
-        ensures { IfOk result (λ links. AreLinks history.entry.now.sessions table.now links) }
+        ensures { IfOk result (λ links. AreLinks history.now table.now links) }
     {
-        let keys = link(alloc, history, table)?;
-        match passed_firsts(alloc, table, keys.nexts.as_slice()) {
-            Ok(firsts) => Ok(Links {
-                keys,
-                firsts: Some(firsts),
-            }),
-            Err(fault) => {
-                drop(keys);
-                Err(fault)
-            }
-        }
+        let mut links = Links::once(alloc, history, table)?;
+        let firsts = passed_firsts(alloc, table, links.nexts.as_slice())?;
+        links.firsts = Some(firsts);
+        Ok(links)
     }
 }

@@ -17,7 +17,7 @@ fn push_session(names: &mut Vec<OpName>, history: &History, client: u16)
     ensures count { vec_len names.new ≡ vec_len names.old + length (slice_index_or history.now.sessions client []) }
     ensures capacity { vec_capacity names.new ≡ vec_capacity names.old }
 {
-    for index in 0..history.session(client).len() {
+    for index in 0..history.session_len(client) {
         let index = index as u32;
         names.push_reserved(OpName { client, index });
     }

@@ -1,17 +1,16 @@
 ghost use Rattle.std.specs.Prelude.{◌≡◌, ◌<◌, ◌≤◌, ◌+◌, ◌^◌, ◌↔◌, List, IfOk, OnOk, IsTrue, length, map, vec_len, All, AllPairs, slice_index_or, []};
 ghost use Rattle.cops_types.specs.declared.limits.TheConstants.{MAX_CLIENTS};
 ghost use Rattle.cops_types.specs.declared.op.OpName.{OpName};
-ghost use Rattle.cops_types.specs.Histories.{IsNamed};
+ghost use Rattle.cops_types.specs.Histories.{IsNamed, GetsVersion};
 ghost use Rattle.cops_types.specs.Faults.{IsBefore};
 ghost use Rattle.cops_audit.specs.Names.{ListsAmong};
 ghost use Rattle.cops_audit.specs.Notes.{above as above_of, AreFrontsNoted, AreLongEnough, AreMarks, IsFrontNoted, IsMark, IsSeen, IsSessionNoted, IsSourceless};
-ghost use Rattle.cops_audit.specs.Tables.{GetsVersion, IsVersionTable};
+ghost use Rattle.cops_audit.specs.Tables.{IsVersionTable};
 ghost use Rattle.cops_audit.specs.declared.table.VersionedPut.{VersionedPut};
 
 use crate::hints::{Hints, hint_near, hinted_place};
-use crate::ops::is_source;
 use crate::table::{VersionedPut, first_from};
-use cops_types::{History, Op, OpName};
+use cops_types::{History, OpName};
 use std::alloc::{AllocError, Global};
 use std::marker::Model;
 
@@ -45,16 +44,18 @@ fn see(history: &History, table: &[VersionedPut], hint: u32, name: OpName) -> Se
     requires named { IsNamed history.now.sessions name }
     ensures { IsSeen history.now.sessions table.now name result }
 {
-    match history.op(name) {
-        Some(Op::Put { version, .. }) => match hinted_place(table, hint, *version) {
+    if let Some(version) = history.put_version(name) {
+        return match hinted_place(table, hint, version) {
             Some(place) => Seen::Put(place as u32),
-            None => Seen::Missed,
-        },
-        Some(Op::Got { version, .. }) => match hinted_place(table, hint, *version) {
+            None => unreachable!(),
+        };
+    }
+    match history.got_version(name) {
+        Some(version) => match hinted_place(table, hint, version) {
             Some(place) => see_source(history, table, name, place),
-            None => Seen::Sourceless(first_from(table, *version) as u32),
+            None => Seen::Sourceless(first_from(table, version) as u32),
         },
-        _ => Seen::Missed,
+        None => Seen::Missed,
     }
 }
 
@@ -66,7 +67,7 @@ fn see_source(history: &History, table: &[VersionedPut], got: OpName, place: usi
     ensures { IsSeen history.now.sessions table.now got result }
 {
     let put = &table[place];
-    if is_source(history, put.name, got) {
+    if history.is_source(put.name, got) {
         Seen::Got(place as u32)
     } else {
         Seen::Sourceless(place as u32)
@@ -112,7 +113,7 @@ fn note_on(
     ensures whole { OnOk result (length table.now ≤ place → length (slice_index_or history.now.sessions client []) ≤ vec_len notes.new) }
 {
     let mut mark = last_mark(notes.as_slice());
-    for index in notes.len()..history.session(client).len() {
+    for index in notes.len()..history.session_len(client) {
         if mark as usize > place {
             return Ok(());
         }
@@ -167,7 +168,7 @@ fn no_notes(
 {
     let mut sessions = Vec::new(alloc);
     for client in first..end {
-        let notes = Vec::with_capacity(alloc, history.session(client as u16).len())?;
+        let notes = Vec::with_capacity(alloc, history.session_len(client as u16))?;
         sessions.push(notes)?;
     }
     Ok(sessions)
@@ -186,7 +187,7 @@ fn renew_session(notes: &mut Vec<Note>, history: &History, table: &[VersionedPut
     ensures { IsSessionNoted history.now.sessions table.now client notes.new.items }
 {
     let mut mark = 0;
-    for index in 0..history.session(client).len() {
+    for index in 0..history.session_len(client) {
         let name = OpName {
             client,
             index: index as u32,

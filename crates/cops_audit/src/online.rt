@@ -59,7 +59,7 @@ impl Online {
             drop(op);
             return Err(FeedFault::of(fault));
         }
-        if self.room.grow(&self.history, client, &op).is_err() {
+        if self.room.grow(&self.history, client).is_err() {
             drop(op);
             return Err(FeedFault::Memory);
         }

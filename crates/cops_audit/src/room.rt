@@ -2,22 +2,21 @@ ghost use Rattle.std.specs.Prelude.{◌≤◌, IfOk, OnOk, replicate, vec_capaci
 ghost use Rattle.cops_audit.specs.Rooms.{Fits};
 
 use crate::notes::Notes;
-use crate::numbers::Numbers;
 use crate::sweep::{Range, Sweep};
 use crate::table::VersionedPut;
 use crate::window::Suspect;
-use cops_types::{History, Op, OpName};
+use cops_types::{History, OpName};
 use std::alloc::{AllocError, Global};
 
-/// What a look for faults fills, with room for a history as it grows: 88 bytes for each operation, and some 50 for each
-/// key that was put. A vector doubles as it grows, so that up to twice as much may be held.
+/// What a look for faults fills, with room for a history as it grows: 96 bytes for each operation. A vector doubles as it
+/// grows, so that up to twice as much may be held.
 #[derive(Drop)]
 pub struct Room {
     pub names: Vec<OpName>,
     pub table: Vec<VersionedPut>,
     pub notes: Notes,
-    pub numbers: Numbers,
     pub nexts: Vec<Option<u32>>,
+    pub by_key: Vec<Option<u32>>,
     pub firsts: Vec<u32>,
     pub suspects: Vec<Suspect>,
     pub floors: Vec<u32>,
@@ -37,6 +36,7 @@ fn make_room<T: Drop>(items: &mut Vec<T>, count: usize) -> Result<(), AllocError
 impl Room {
     ghost use Rattle.std.specs.Prelude.{◌<◌, ◌-◌, OnErr, OnOk, length};
     ghost use Rattle.cops_types.specs.Histories.{with_op};
+    ghost use Rattle.cops_types.specs.declared.op.Op.{Op as AnOp};
     ghost use Rattle.cops_audit.specs.Rooms.{Fits, HasSpace, IsSameButSpace};
 
     /// Room for no operations, of so many clients.
@@ -49,8 +49,8 @@ impl Room {
             names: Vec::new(alloc),
             table: Vec::new(alloc),
             notes,
-            numbers: Numbers::new(alloc),
             nexts: Vec::new(alloc),
+            by_key: Vec::new(alloc),
             firsts: Vec::new(alloc),
             suspects: Vec::new(alloc),
             floors: Vec::new(alloc),
@@ -68,6 +68,7 @@ impl Room {
         make_room(&mut self.names, count)?;
         make_room(&mut self.table, count)?;
         make_room(&mut self.nexts, count)?;
+        make_room(&mut self.by_key, count)?;
         make_room(&mut self.firsts, count)?;
         make_room(&mut self.suspects, count)?;
         make_room(&mut self.floors, count)?;
@@ -79,14 +80,13 @@ impl Room {
     }
 
     /// Makes room for a client's next operation.
-    pub fn grow(&mut self, history: &History, client: u16, op: &Op) -> Result<(), AllocError>
+    pub fn grow(&mut self, history: &History, client: u16) -> Result<(), AllocError>
         requires client { client < length history.now.sessions }
         requires fits { Fits history.now.sessions self.old }
-        ensures ok { OnOk result (Fits (with_op history.now.sessions client op.now) self.new) }
+        ensures ok { (op : AnOp) → OnOk result (Fits (with_op history.now.sessions client op) self.new) }
         ensures err { OnErr result (Fits history.now.sessions self.new) }
     {
         self.reserve(history.len() + 1)?;
-        self.numbers.take_key_of(op)?;
         self.notes.grow(client)?;
         Ok(())
     }

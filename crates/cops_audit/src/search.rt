@@ -8,7 +8,6 @@ ghost use Rattle.cops_audit.specs.Sweeps.{Counted, InRange, work_left};
 ghost use Rattle.cops_audit.specs.Tables.{IsPutTable};
 
 use crate::names::all_names;
-use crate::ops::{got_version, is_source};
 use crate::sweep::{Range, Sweep};
 use crate::table::{VersionedPut, first_from, puts_by_version};
 use cops_types::{History, Memory, OpName};
@@ -26,7 +25,7 @@ fn take_source(
     ensures source { OnOk result (SourceStep history.now.sessions put name → Counted search.new.counts put) }
     ensures work { OnOk result (work_left search.new ≤ work_left search.old) }
 {
-    if is_source(history, put, name) {
+    if history.is_source(put, name) {
         search.raise(put.client, put.index + 1)?;
     }
     Ok(())
@@ -45,7 +44,7 @@ fn take_sources(
     ensures sources { OnOk result ((put : OpName) → SourceStep history.now.sessions put name → Counted search.new.counts put) }
     ensures work { OnOk result (work_left search.new ≤ work_left search.old) }
 {
-    let Some(version) = got_version(history, name) else {
+    let Some(version) = history.got_version(name) else {
         return Ok(());
     };
     let first = first_from(table, version);

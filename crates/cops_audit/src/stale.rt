@@ -16,7 +16,6 @@ ghost use Rattle.cops_audit.specs.Windows.{IsSuspect};
 
 use crate::floors::{judge_next, set_floors};
 use crate::keys::passed_firsts;
-use crate::known::Firsts;
 use crate::links::Links;
 use crate::notes::Notes;
 use crate::sweep::Sweep;
@@ -112,14 +111,14 @@ pub fn stale_among(
     requires notes { IsNoted history.now.sessions table.now notes.now }
     requires sources { HaveSourcesOrWait history.now.sessions }
     requires above { AllAbove history.now.sessions }
-    requires links { AreLinks history.now.sessions table.now links.now }
+    requires links { AreLinks history.now table.now links.now }
     requires in_order { AllPairs IsBefore names.now }
     ensures { IfOk result (λ v. ListsAmong (λ f. f.op) (λ f. IsStale history.now.sessions f.op f.newer) names.now v.items) }
 {
-    let nexts = links.keys.nexts.as_slice();
+    let nexts = links.nexts.as_slice();
+    let by_key = links.by_key.as_slice();
     let mut found = Vec::new(alloc);
-    let known = Firsts::Mapped(&links.keys.firsts);
-    push_suspects(&mut found, history, table, notes, nexts, &known, names)?;
+    push_suspects(&mut found, history, table, notes, nexts, by_key, names)?;
     let suspects = found.as_slice();
     if suspects.is_empty() {
         return Ok(Vec::new(alloc));

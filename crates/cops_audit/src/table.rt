@@ -8,7 +8,6 @@ ghost use Rattle.cops_audit.specs.Names.{ListsAmong};
 ghost use Rattle.cops_audit.specs.declared.table.VersionedPut.{VersionedPut};
 ghost use Rattle.cops_audit.specs.Tables.{IsPutTable, Repeats, Rises, VersionsNeverFall};
 
-use crate::ops::put_version;
 use cops_types::{History, OpName, Version};
 use std::alloc::{AllocError, Global};
 
@@ -33,7 +32,7 @@ fn push_puts(
     ensures succeeds { length names.now ≤ vec_capacity puts.old → IsOk result }
 {
     for name in names {
-        if let Some(version) = put_version(history, *name) {
+        if let Some(version) = history.put_version(*name) {
             puts.push(VersionedPut {
                 version,
                 name: *name,
@@ -143,7 +142,7 @@ fn is_doubled(history: &History, table: &[VersionedPut], name: OpName) -> bool
     requires { IsPutTable history.now.sessions table.now }
     ensures { IsTrue result ↔ IsDoubled history.now.sessions name }
 {
-    let Some(version) = put_version(history, name) else {
+    let Some(version) = history.put_version(name) else {
         return false;
     };
     let Some(place) = place_of(table, version) else {

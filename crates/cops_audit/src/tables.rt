@@ -19,7 +19,7 @@ pub struct Tables<'a> {
     names: Vec<OpName>,
     table: Vec<VersionedPut>,
     notes: Notes,
-    links: Option<Links<'a>>,
+    links: Option<Links>,
 }
 
 impl<'a> Model for Tables<'a> {
@@ -32,7 +32,7 @@ impl<'a> Model for Tables<'a> {
     ghost view = { λ t. record { sessions = t.history.now.sessions; names = t.names.items; notes = t.notes } };
 
     ghost invariant = { λ t. AreTables t.table.items (record { sessions = t.history.now.sessions; names = t.names.items; notes = t.notes })
-        × IfSome t.links (AreLinks t.history.now.sessions t.table.items) };
+        × IfSome t.links (AreLinks t.history.now t.table.items) };
 }
 
 impl<'a> Tables<'a> {

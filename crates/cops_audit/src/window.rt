@@ -4,17 +4,15 @@ ghost use Rattle.cops_types.specs.Histories.{IsGot, IsMissed, IsNamed};
 ghost use Rattle.cops_types.specs.Faults.{IsBefore, IsNewer};
 ghost use Rattle.cops_types.specs.Verdicts.{AllAbove};
 ghost use Rattle.cops_audit.specs.SoFar.{HaveSourcesOrWait, IsWaiting};
-ghost use Rattle.cops_audit.specs.Known.{KnowsAllFirsts};
-ghost use Rattle.cops_audit.specs.Keys.{AreNexts};
+ghost use Rattle.cops_audit.specs.Keys.{AreNexts, KnowsFirsts};
 ghost use Rattle.cops_audit.specs.Notes.{IsNoted, IsSeen};
 ghost use Rattle.cops_audit.specs.Tables.{IsVersionTable};
 ghost use Rattle.cops_audit.specs.Windows.{AreSuspects, IsSuspect, NoneWithin};
 
-use crate::keys::put_key;
-use crate::known::Firsts;
+use crate::keys::first_on;
 use crate::notes::{Notes, Seen};
 use crate::table::VersionedPut;
-use cops_types::{History, Key, Op, OpName};
+use cops_types::{History, OpName};
 use std::alloc::AllocError;
 
 /// A get that is stale where its past has a put from this place on, on the key whose first put stands at `first`.
@@ -25,30 +23,19 @@ pub struct Suspect {
     pub from: u32,
 }
 
-/// The key of a get that found nothing.
-fn missed_key(history: &History, name: OpName) -> &Key
-    requires { (key : List ℕ) × IsMissed history.now.sessions name key }
-    ensures { IsMissed history.now.sessions name result.now }
-{
-    match history.op(name) {
-        Some(Op::Missed { key }) => key,
-        _ => unreachable!(),
-    }
-}
-
 /// A get whose source stands at a place: no suspect where no put on the key stands between it and the mark.
 fn got_suspect(
     history: &History,
     table: &[VersionedPut],
     nexts: &[Option<u32>],
-    firsts: &Firsts,
+    firsts: &[Option<u32>],
     op: OpName,
     place: u32,
     mark: u32,
 ) -> Option<Suspect>
     requires table { IsVersionTable history.now.sessions table.now }
     requires nexts { AreNexts history.now.sessions table.now nexts.now }
-    requires firsts { KnowsAllFirsts history.now.sessions table.now firsts.now }
+    requires firsts { KnowsFirsts history.now table.now firsts.now }
     requires got { IsSeen history.now.sessions table.now op (Seen.Got place) }
     ensures suspect { IfSome result (λ s. (s.op ≡ op) × IsSuspect history.now.sessions table.now s) }
     ensures none { IfNone result (NoneWithin history.now.sessions table.now op mark) }
@@ -59,9 +46,7 @@ fn got_suspect(
     if from >= mark {
         return None;
     }
-    let put = &table[place as usize];
-    let key = put_key(history, put.name);
-    let Some(first) = firsts.on(key) else {
+    let Some(first) = first_on(history, firsts, op) else {
         return None;
     };
     Some(Suspect { op, first, from })
@@ -71,18 +56,17 @@ fn got_suspect(
 fn missed_suspect(
     history: &History,
     table: &[VersionedPut],
-    firsts: &Firsts,
+    firsts: &[Option<u32>],
     op: OpName,
     mark: u32,
 ) -> Option<Suspect>
     requires table { IsVersionTable history.now.sessions table.now }
-    requires firsts { KnowsAllFirsts history.now.sessions table.now firsts.now }
+    requires firsts { KnowsFirsts history.now table.now firsts.now }
     requires missed { (key : List ℕ) × IsMissed history.now.sessions op key }
     ensures suspect { IfSome result (λ s. (s.op ≡ op) × IsSuspect history.now.sessions table.now s) }
     ensures none { IfNone result (NoneWithin history.now.sessions table.now op mark) }
 {
-    let key = missed_key(history, op);
-    let Some(first) = firsts.on(key) else {
+    let Some(first) = first_on(history, firsts, op) else {
         return None;
     };
     if first >= mark {
@@ -95,29 +79,18 @@ fn missed_suspect(
     })
 }
 
-/// The key of a get that returned a value.
-fn got_key(history: &History, name: OpName) -> &Key
-    requires { (key : List ℕ) × (value : List ℕ) × (version : ℕ) × IsGot history.now.sessions name key value version }
-    ensures { (value : List ℕ) × (version : ℕ) × IsGot history.now.sessions name result.now value version }
-{
-    match history.op(name) {
-        Some(Op::Got { key, .. }) => key,
-        _ => unreachable!(),
-    }
-}
-
 /// A get that waits for its source, whose version divides the puts at a place: no suspect where the place is not below
 /// the mark, or there is no put on the key.
 fn waiting_suspect(
     history: &History,
     table: &[VersionedPut],
-    firsts: &Firsts,
+    firsts: &[Option<u32>],
     op: OpName,
     place: u32,
     mark: u32,
 ) -> Option<Suspect>
     requires table { IsVersionTable history.now.sessions table.now }
-    requires firsts { KnowsAllFirsts history.now.sessions table.now firsts.now }
+    requires firsts { KnowsFirsts history.now table.now firsts.now }
     requires seen { IsSeen history.now.sessions table.now op (Seen.Sourceless place) }
     requires waiting { IsWaiting history.now.sessions op }
     ensures suspect { IfSome result (λ s. (s.op ≡ op) × IsSuspect history.now.sessions table.now s) }
@@ -126,8 +99,7 @@ fn waiting_suspect(
     if place >= mark {
         return None;
     }
-    let key = got_key(history, op);
-    let Some(first) = firsts.on(key) else {
+    let Some(first) = first_on(history, firsts, op) else {
         return None;
     };
     Some(Suspect {
@@ -143,13 +115,13 @@ fn find_suspect(
     table: &[VersionedPut],
     notes: &Notes,
     nexts: &[Option<u32>],
-    firsts: &Firsts,
+    firsts: &[Option<u32>],
     op: OpName,
 ) -> Option<Suspect>
     requires table { IsVersionTable history.now.sessions table.now }
     requires notes { IsNoted history.now.sessions table.now notes.now }
     requires nexts { AreNexts history.now.sessions table.now nexts.now }
-    requires firsts { KnowsAllFirsts history.now.sessions table.now firsts.now }
+    requires firsts { KnowsFirsts history.now table.now firsts.now }
     requires sources { HaveSourcesOrWait history.now.sessions }
     requires above { AllAbove history.now.sessions }
     ensures suspect { IfSome result (λ s. (s.op ≡ op) × IsSuspect history.now.sessions table.now s) }
@@ -173,14 +145,14 @@ pub fn push_suspects(
     table: &[VersionedPut],
     notes: &Notes,
     nexts: &[Option<u32>],
-    firsts: &Firsts,
+    firsts: &[Option<u32>],
     names: &[OpName],
 ) -> Result<(), AllocError>
     requires empty { suspects.old.items ≡ [] }
     requires table { IsVersionTable history.now.sessions table.now }
     requires notes { IsNoted history.now.sessions table.now notes.now }
     requires nexts { AreNexts history.now.sessions table.now nexts.now }
-    requires firsts { KnowsAllFirsts history.now.sessions table.now firsts.now }
+    requires firsts { KnowsFirsts history.now table.now firsts.now }
     requires sources { HaveSourcesOrWait history.now.sessions }
     requires above { AllAbove history.now.sessions }
     requires in_order { AllPairs IsBefore names.now }

@@ -1,7 +1,7 @@
 //! Whether clients ended as their sessions and the world at the end of a run say.
 ghost use Rattle.std.specs.Prelude.{◌≡◌, ◌≢◌, ◌≤◌, ◌↔◌, IfOk, IsTrue, length, slice_get, slice_index_or, [], option_copied};
 ghost use Rattle.cops_types.specs.declared.refusal.Refusal.TheVariants.{Memory as OutOfMemory};
-ghost use Rattle.cops_types.specs.Histories.{Sessions};
+ghost use Rattle.cops_types.specs.OpRefs.{seen as seen_op};
 ghost use Rattle.cops_node.specs.declared.outcome.Outcome.TheVariants.{Refused};
 ghost use Rattle.cops_core.specs.World.{happens};
 ghost use Rattle.cops_outcomes.specs.Outcomes.{AreOutcomes, IsFrontOf, IsOutcome, IsSeenAs, IsStop, event_for};
@@ -9,7 +9,7 @@ ghost use Rattle.cops_outcomes.specs.Outcomes.{AreOutcomes, IsFrontOf, IsOutcome
 use crate::outcome::ClientOutcome;
 use cops_core::{Event, ScriptOp, ScriptedClient, World, every_interleaving_is_accepted};
 use cops_node::Outcome;
-use cops_types::{History, Memory, Op, Refusal};
+use cops_types::{History, Memory, OpName, OpRef, Refusal};
 use std::alloc::AllocError;
 
 /// Whether there are a session and an outcome for each client, and each outcome is one of its session.
@@ -25,8 +25,7 @@ pub fn are_outcomes(
         return Ok(false);
     }
     for i in 0..clients.len() {
-        let session = history.session(i as u16);
-        if !is_outcome(world, i as u16, &clients[i].script, session, outcomes[i])? {
+        if !is_outcome(world, i as u16, &clients[i].script, history, outcomes[i])? {
             return Ok(false);
         }
     }
@@ -38,35 +37,37 @@ fn is_outcome(
     world: &mut World,
     client: u16,
     script: &[ScriptOp],
-    session: &[Op],
+    history: &History,
     outcome: ClientOutcome,
 ) -> Result<bool, Memory>
-    ensures is { IfOk result (λ is. IsTrue is ↔ IsOutcome world.old.setting world.old.world client script.now session.now outcome) }
+    ensures is { IfOk result (λ is. IsTrue is ↔ IsOutcome world.old.setting world.old.world client script.now (slice_index_or history.now.sessions client []) outcome) }
     ensures stays { IfOk result (λ is. IsTrue is → world.new ≡ world.old) }
 {
-    if !is_front_of(script, session) {
+    if !is_front_of(script, history, client) {
         return Ok(false);
     }
+    let operations = history.session_len(client);
     match outcome {
-        ClientOutcome::Done => Ok(session.len() == script.len()),
-        ClientOutcome::Stopped(refused) => is_stop(
-            world,
-            client,
-            script.get(session.len()),
-            refused,
-        ),
+        ClientOutcome::Done => Ok(operations == script.len()),
+        ClientOutcome::Stopped(refused) => is_stop(world, client, script.get(operations), refused),
     }
 }
 
-/// Whether the session has one operation for each of a front of the script, each seen so.
-fn is_front_of(script: &[ScriptOp], session: &[Op]) -> bool
-    ensures { IsTrue result ↔ IsFrontOf script.now session.now }
+/// Whether the client's session has one operation for each of a front of the script, each seen so.
+fn is_front_of(script: &[ScriptOp], history: &History, client: u16) -> bool
+    ensures { IsTrue result ↔ IsFrontOf script.now (slice_index_or history.now.sessions client []) }
 {
-    if session.len() > script.len() {
+    let operations = history.session_len(client);
+    if operations > script.len() {
         return false;
     }
-    for n in 0..session.len() {
-        if !is_seen_as(&script[n], &session[n]) {
+    for n in 0..operations {
+        let index = n as u32;
+        let is_so = match history.op(OpName { client, index }) {
+            Some(op) => is_seen_as(&script[n], &op),
+            None => unreachable!(),
+        };
+        if !is_so {
             return false;
         }
     }
@@ -74,20 +75,20 @@ fn is_front_of(script: &[ScriptOp], session: &[Op]) -> bool
 }
 
 /// Whether an operation of a script was seen so.
-fn is_seen_as(op: &ScriptOp, seen: &Op) -> bool
-    ensures { IsTrue result ↔ IsSeenAs op.now seen.now }
+fn is_seen_as(op: &ScriptOp, seen: &OpRef<'_>) -> bool
+    ensures { IsTrue result ↔ IsSeenAs op.now (seen_op seen.now) }
 {
     match (op, seen) {
         (
             ScriptOp::Put { key, value },
-            Op::Put {
+            OpRef::Put {
                 key: k,
                 value: v,
                 ..
             },
         ) => k.is(key) && v.is(value),
-        (ScriptOp::Get { key }, Op::Got { key: k, .. }) => k.is(key),
-        (ScriptOp::Get { key }, Op::Missed { key: k }) => k.is(key),
+        (ScriptOp::Get { key }, OpRef::Got { key: k, .. }) => k.is(key),
+        (ScriptOp::Get { key }, OpRef::Missed { key: k }) => k.is(key),
         _ => false,
     }
 }

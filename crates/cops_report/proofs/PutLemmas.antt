@@ -6,11 +6,10 @@ use Rattle.std.proofs.lemmas.List.{get_or_past, get_or_default, get_or-drop, len
 use Rattle.std.proofs.lemmas.List.Sorted.{Contains-permutation}
 use Rattle.cops_types.specs.declared.op.Op.TheVariants.{Got}
 use Rattle.cops_types.specs.declared.op.OpName.{OpName}
-use Rattle.cops_types.specs.Histories.{Sessions, IsNamed, PutsVersion, SourceStep}
+use Rattle.cops_types.specs.Histories.{Sessions, IsNamed, PutsVersion, SourceStep, GetsVersion}
 use Rattle.cops_report.specs.declared.marks.Mark.{Mark}
 use Rattle.cops_audit.specs.declared.table.VersionedPut.{VersionedPut}
 use Rattle.cops_report.specs.Marks.{Table, Gains, IsMarked}
-use Rattle.cops_audit.specs.Tables.{GetsVersion}
 use Rattle.cops_report.specs.Puts.{HasPut, HasAllPuts}
 use Rattle.cops_report.proofs.NameCases.{same_name}
 use Rattle.cops_report.proofs.StepLemmas.{name_at}

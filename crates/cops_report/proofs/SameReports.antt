@@ -1,6 +1,6 @@
 -- Histories that differ in values alone and have one verdict have one report.
 use Rattle.std.proofs.Common.{IfOk, Result, Ok, Err, ◌≡◌, ◌≢◌, ◌+◌, ◌⊎◌, ℕ, zero, suc, List, [], ◌∷◌, ◌++◌, length, map, flat_map, Option, Some, None, option_map, refl, sym, ◌∙◌, ap, ap₂, inl, inr, slice_get, slice_index_or}
-use Rattle.std.specs.Prelude.{codes, count_by, sum_by, cond}
+use Rattle.std.specs.Prelude.{codes, count_by, cond}
 use Rattle.std.proofs.lemmas.Bool.{cases_eq}
 use Rattle.std.proofs.lemmas.List.{length-map}
 use Rattle.std.proofs.lemmas.List.Sums.{sum_by-cons}
@@ -9,8 +9,7 @@ use Rattle.cops_types.specs.declared.op.Op.{Op}
 use Rattle.cops_types.specs.declared.op.Op.TheVariants.{Put, Got, Missed}
 use Rattle.cops_types.specs.declared.op.OpName.{OpName}
 use Rattle.cops_types.specs.Counts.{count_of}
-use Rattle.cops_types.specs.Faults.{HasNoSource}
-use Rattle.cops_types.specs.Histories.{Sessions, op_at, IsGot, IsNamed, IsPut, SessionStep, SourceStep}
+use Rattle.cops_types.specs.Histories.{Sessions, op_at, IsGot, IsNamed, IsPut, SourceStep}
 use Rattle.cops_types.specs.Past.{Step}
 use Rattle.cops_types.specs.Verdicts.{AllHaveSources}
 use Rattle.cops_types.specs.VersionOrder.{NoneDoubled}
@@ -22,7 +21,7 @@ use Rattle.cops_audit.specs.declared.verdict.Faults.TheVariants as class
 use Rattle.cops_audit.specs.declared.verdict.NotAbove.{NotAbove}
 use Rattle.cops_audit.specs.declared.verdict.Stale.{Stale}
 use Rattle.cops_report.specs.Chains.{IsChain, IsFirstChain, LeadsTo}
-use Rattle.cops_report.specs.Reports.{AreStaleLines, IsReport, accepted_line, is_put, named_line, not_above_line, op_version, put_count, refused_line, returned_text, stale_head, stale_line, version_at}
+use Rattle.cops_report.specs.Reports.{AreStaleLines, IsReport, accepted_line, is_put, named_line, not_above_line, op_version, put_count, refused_line, returned_text, stale_line, version_at}
 use Rattle.cops_report.proofs.NameCases.{name_cases}
 
 -- ---- what is left where the values are left out

@@ -1,5 +1,5 @@
 //! The lines of reports.
-ghost use Rattle.std.specs.Prelude.{◌≡◌, ◌++◌, ◌≤◌, ℕ, OnOk, IfOk, Contains, count_by, string_bytes};
+ghost use Rattle.std.specs.Prelude.{◌≡◌, ◌++◌, ◌≤◌, ℕ, OnOk, IfOk, Contains, [], count_by, slice_index_or, string_bytes};
 ghost use Rattle.std.specs.List.{flat_map};
 ghost use Rattle.cops_types.specs.Histories.{op_at};
 ghost use Rattle.cops_types.specs.declared.op.OpName.{OpName};
@@ -9,23 +9,17 @@ ghost use Rattle.cops_report.specs.Reports.{HasSomeVersion, accepted_line, refus
 ghost use Rattle.cops_report.specs.Reports.{stale_head, stale_line, chain_text, is_put, put_count, returned_text, version_at};
 
 use cops_audit::{NotAbove, Stale};
-use cops_types::{History, Op, OpName, Version};
+use cops_types::{History, OpName, OpRef, Version};
 use std::alloc::{AllocError, Global};
 
-/// Whether it is a put.
-fn is_put(op: &Op) -> bool
-    ensures { result ≡ is_put op.now }
-{
-    matches!(op, Op::Put { .. })
-}
-
-/// How many puts are among the operations.
-fn session_puts(session: &[Op]) -> usize
-    ensures { result ≡ count_by is_put session.now }
+/// How many puts are in a client's session.
+fn session_puts(history: &History, client: u16) -> usize
+    ensures { result ≡ count_by is_put (slice_index_or history.now.sessions client []) }
 {
     let mut puts = 0;
-    for op in session {
-        if is_put(op) {
+    for index in 0..history.session_len(client) {
+        let index = index as u32;
+        if let Some(_version) = history.put_version(OpName { client, index }) {
             puts += 1;
         }
     }
@@ -38,7 +32,7 @@ pub fn put_count(history: &History) -> usize
 {
     let mut puts = 0;
     for client in 0..history.clients() {
-        puts += session_puts(history.session(client as u16));
+        puts += session_puts(history, client as u16);
     }
     puts
 }
@@ -49,8 +43,8 @@ fn version(history: &History, name: OpName) -> Version
     ensures { result ≡ version_at history.now.sessions name }
 {
     match history.op(name) {
-        Some(Op::Put { version, .. }) => *version,
-        Some(Op::Got { version, .. }) => *version,
+        Some(OpRef::Put { version, .. }) => *version,
+        Some(OpRef::Got { version, .. }) => *version,
         _ => unreachable!(),
     }
 }
@@ -143,7 +137,7 @@ fn returned(alloc: Global, history: &History, name: OpName) -> Result<String, Al
     ensures { IfOk result (λ text. string_bytes text ≡ returned_text (op_at history.now.sessions name)) }
 {
     match history.op(name) {
-        Some(Op::Got { version, .. }) => format!(in alloc; "{version}"),
+        Some(OpRef::Got { version, .. }) => format!(in alloc; "{version}"),
         _ => String::from_str(alloc, "nothing"),
     }
 }

@@ -37,7 +37,7 @@ impl Marks {
     {
         let mut sessions = Vec::new(alloc);
         for client in 0..history.clients() {
-            let operations = history.session(client as u16).len();
+            let operations = history.session_len(client as u16);
             sessions.push(no_marks(alloc, operations)?)?;
         }
         Ok(Marks { sessions })

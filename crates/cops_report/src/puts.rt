@@ -6,7 +6,7 @@ ghost use Rattle.cops_types.specs.Histories.{PutsVersion};
 ghost use Rattle.cops_audit.specs.declared.table.VersionedPut.{VersionedPut};
 ghost use Rattle.cops_report.specs.Puts.{HasPut, HasAllPuts};
 
-use cops_audit::{VersionedPut, put_version};
+use cops_audit::VersionedPut;
 use cops_types::{History, OpName, Version};
 use std::alloc::{AllocError, Global};
 
@@ -16,7 +16,7 @@ fn push_put(puts: &mut Vec<VersionedPut>, history: &History, name: OpName) -> Re
     ensures all { OnOk result ((v : ℕ) →
         PutsVersion history.now.sessions name v → HasPut puts.new.items name v) }
 {
-    match put_version(history, name) {
+    match history.put_version(name) {
         Some(version) => {
             puts.push(VersionedPut { version, name })?;
             Ok(())
@@ -31,7 +31,7 @@ fn push_puts(puts: &mut Vec<VersionedPut>, history: &History, client: u16) -> Re
     ensures all { OnOk result ((n : OpName) (v : ℕ) → n.client ≡ client →
         PutsVersion history.now.sessions n v → HasPut puts.new.items n v) }
 {
-    for index in 0..history.session(client).len() {
+    for index in 0..history.session_len(client) {
         let index = index as u32;
         push_put(puts, history, OpName { client, index })?;
     }

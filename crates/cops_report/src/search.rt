@@ -12,7 +12,7 @@ ghost use Rattle.cops_report.specs.Searches.{IsFound, IsLevel, IsRising, IsSearc
 
 use crate::marks::{Mark, Marks};
 use crate::puts::from_version;
-use cops_audit::{VersionedPut, got_version, is_source};
+use cops_audit::VersionedPut;
 use cops_types::{History, OpName, Version};
 use std::alloc::{AllocError, Global};
 
@@ -95,7 +95,7 @@ fn mark_bearers(
         if put.version.as_u64() != version.as_u64() {
             return Ok(());
         }
-        if is_source(history, put.name, mark.next) {
+        if history.is_source(put.name, mark.next) {
             mark_new(marks, names, put.name, mark)?;
         }
     }
@@ -117,7 +117,7 @@ fn mark_sources(
     ensures all { OnOk result ((n : OpName) →
         SourceStep history.now.sessions n mark.next → IsMarked marks.new n) }
 {
-    match got_version(history, mark.next) {
+    match history.got_version(mark.next) {
         Some(version) => {
             let bearers = from_version(puts, version);
             mark_bearers(history, bearers, version, marks, names, mark)

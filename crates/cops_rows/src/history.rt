@@ -51,7 +51,7 @@ pub fn name(client: &str, index: &str) -> Result<OpName, Error> {
 /// What a client did at an index.
 pub fn op_at(alloc: Global, history: &History, client: &str, index: &str) -> Result<String, Error> {
     match history.op(name(client, index)?) {
-        Some(op) => op_text(alloc, op),
+        Some(op) => op_text(alloc, &op),
         None => word(alloc, "nothing"),
     }
 }

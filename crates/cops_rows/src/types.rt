@@ -89,7 +89,7 @@ fn pairs(alloc: Global, word: &str) -> Result<String, Error> {
 fn op_copy(alloc: Global, words: &[&str]) -> Result<String, Error> {
     let op = op(alloc, words)?;
     let copy = op.clone()?;
-    op_text(alloc, &copy)
+    op_text(alloc, &copy.as_ref())
 }
 
 fn pair_copy(alloc: Global, name: &str, at: &str) -> Result<String, Error> {

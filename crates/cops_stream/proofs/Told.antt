@@ -1,19 +1,23 @@
 -- What is written, from what was read and told.
-use Rattle.std.proofs.Common.{◌≡◌, ℕ, List, ◌++◌, take, drop, Option, Some, None, Result, Ok, Err, sym, ap, subst, inl, inr}
+use Rattle.std.proofs.Common.{◌≡◌, ℕ, List, ◌++◌, take, drop, Option, Some, None, Result, Ok, Err, sym, ap, subst, ◌∙◌, inl, inr}
 use Rattle.std.specs.Prelude.{IfSome, IfOk, IsErrOf}
 use Rattle.std.specs.Io.KnownBytes.{Appends}
 use Rattle.std.proofs.lemmas.List.{take-append-drop}
-use Rattle.cops_audit.specs.Verdicts.{Accepts}
+use Rattle.cops_types.specs.Convergence.{IsCausallyConvergent}
+use Rattle.cops_types.specs.Histories.{Sessions}
+use Rattle.cops_audit.specs.Verdicts.{Accepts, IsVerdict}
+use Rattle.cops_audit.proofs.Consequences.{convergent}
 use Rattle.cops_audit.specs.declared.verdict.Verdict.{Verdict}
 use Rattle.cops_audit.specs.declared.verdict.Verdict.TheVariants as verdict
 use Rattle.cops_trace.specs.declared.fault.TraceFault.{TraceFault}
 use Rattle.cops_trace.specs.declared.fault.TraceFault.TheVariants.{Memory, ReadFailed}
-use Rattle.cops_trace.specs.Text.{ATrace}
-use Rattle.cops_trace.specs.Answer.{HasFault, Says, Agrees}
+use Rattle.cops_trace.specs.Text.{sessions_of}
+use Rattle.cops_trace.specs.Answer.{HasFault, Agrees}
 use Rattle.cops_stream.specs.declared.audit.Answer.{Answer}
 use Rattle.cops_stream.specs.declared.audit.Answer.TheVariants.{Accepted}
-use Rattle.cops_stream.specs.Audit.{Converges, answer_of}
+use Rattle.cops_stream.specs.Audit.{AuditSays, answer_of}
 use Rattle.cops_stream.specs.Convergent.{SpellsConvergent}
+use Rattle.cops_stream.proofs.OneText.{one_text}
 
 -- a verdict whose answer is accepted
 pub accepts : (v : Verdict) → answer_of v ≡ Accepted → Accepts v
@@ -33,17 +37,30 @@ module _ (Agreeing : List ℕ → Type 0) (Saying : List ℕ → Answer → List
   told_front (Some u) answer told n old new agrees says w =
       (answer, take n told, drop n told, subst (Saying u answer) (sym (take-append-drop n told)) (says u agrees), w)
 
-pub accepted_spells : (a : Option (List ℕ)) (read : Result ATrace TraceFault) (answer : Answer) → IfSome a (λ bytes. Agrees bytes read)
-    → IfOk read (λ t. IfSome a (λ bytes. (x : Result ATrace TraceFault) → Says bytes x → x ≡ Ok t)) → (answer ≡ Accepted → Converges read) → answer ≡ Accepted → IfSome a SpellsConvergent
-accepted_spells None read answer agrees one converges is = tt
-accepted_spells (Some u) (Ok t) answer agrees one converges is = record {
+converges : (h : Sessions) (v : Verdict) → Accepted ≡ answer_of v → IsVerdict h v → IsCausallyConvergent h
+converges h v is w = convergent h v w (accepts v (sym is))
+
+-- bytes of which an audit says accepted spell a history that is causally convergent
+pub accepted_is_convergent : (bytes told : List ℕ) → AuditSays bytes Accepted told → SpellsConvergent bytes
+accepted_is_convergent bytes told (inl (t, says, w)) = record {
   trace = t;
-  is_trace = agrees.0;
-  spells = agrees.1;
-  one = λ other h e. let same = one (Ok other) (h, e) in cc;
-  convergent = converges is;
+  is_trace = says.0;
+  spells = says.1;
+  one = λ other h e. one_text other t h says.0 (sym e ∙ says.1);
+  convergent = converges (sessions_of t) w.verdict w.answer_is w.is_report.is_verdict;
 }
-accepted_spells (Some u) (Err e) answer agrees one converges is = absurd (converges is)
+accepted_is_convergent bytes told (inr (e, _, is, _)) = absurd cc
+
+pub accepted_spells : (a : Option (List ℕ)) (answer : Answer) (told : List ℕ) → IfSome a (λ bytes. AuditSays bytes answer told) → answer ≡ Accepted → IfSome a SpellsConvergent
+accepted_spells None answer told says is = tt
+accepted_spells (Some u) answer told says is = accepted_is_convergent u told (subst (λ (x : Answer). AuditSays u x told) is says)
+
+-- what is told of what was read is told of the bytes
+pub told_of_bytes : {T E : Type 0} (Agreeing : List ℕ → Type 0) (Saying : List ℕ → T → Type 0) (a : Option (List ℕ)) (r : Result T E) → IfSome a Agreeing → ((bytes : List ℕ) → Agreeing bytes → IfOk r (Saying bytes))
+    → IfOk r (λ told. IfSome a (λ bytes. Saying bytes told))
+told_of_bytes Agreeing Saying None (Ok x) agrees says = tt
+told_of_bytes Agreeing Saying (Some u) (Ok x) agrees says = says u agrees
+told_of_bytes Agreeing Saying a (Err e) agrees says = tt
 
 -- a fault of the text is told by its line
 pub fault_told : (bytes : List ℕ) (e : TraceFault) → (e ≡ Memory → ⊥) → (e ≡ ReadFailed → ⊥) → Agrees bytes (Err e) → HasFault bytes e

@@ -1,27 +1,24 @@
 -- What answers mean of bytes that may be cut.
-use Rattle.std.proofs.Common.{◌≡◌, ℕ, List, Vec, Global, Option, Some, None, Result, Ok, Err, sym, subst, ◌∙◌, inl, inr}
+use Rattle.std.proofs.Common.{◌≡◌, ℕ, List, Vec, Global, Option, Some, None, Result, Ok, Err, subst, ap, inl, inr}
 use Rattle.std.specs.Prelude.{IfOk, IfSome}
 use Rattle.std.specs.Result.{result_or}
 use Rattle.cops_types.specs.Histories.{Sessions}
-use Rattle.cops_types.specs.Convergence.{IsCausallyConvergent}
 use Rattle.cops_audit.specs.declared.verdict.SoFar.{SoFar}
 use Rattle.cops_audit.specs.declared.verdict.SoFar.TheVariants.{Clean, Waiting, Refused}
-use Rattle.cops_audit.specs.declared.verdict.Verdict.{Verdict}
 use Rattle.cops_audit.specs.SoFar.{IsSoFar, HasLastingFault}
-use Rattle.cops_audit.specs.Verdicts.{IsVerdict}
-use Rattle.cops_audit.proofs.Consequences.{convergent}
 use Rattle.cops_trace.specs.declared.fault.TraceFault.{TraceFault}
+use Rattle.cops_trace.specs.declared.fault.TraceFault.TheVariants.{Cut, Memory, ReadFailed}
+use Rattle.cops_trace.specs.Lines.{fault_line}
 use Rattle.cops_trace.specs.declared.sink.Taken.{Taken}
 use Rattle.cops_trace.specs.Text.{sessions_of}
-use Rattle.cops_trace.specs.Answer.{AgreesInto, BeginsAs, TakesFrom}
+use Rattle.cops_trace.specs.Answer.{AgreesInto, BeginsAs, HasFault, TakesFrom}
 use Rattle.cops_stream.specs.declared.fed.Fed.{Fed}
 use Rattle.cops_stream.specs.Fed.{WasFed}
 use Rattle.cops_stream.specs.declared.audit.Answer.{Answer}
-use Rattle.cops_stream.specs.declared.audit.Answer.TheVariants.{Accepted}
-use Rattle.cops_stream.specs.Audit.{IsTold, answer_of}
+use Rattle.cops_stream.specs.declared.audit.Answer.TheVariants.{Accepted, Faulty}
+use Rattle.cops_stream.specs.Audit.{AuditSays, IsTold}
 use Rattle.cops_stream.specs.SoFar.{IsSoundSoFar, SaysSoFar, answer_so_far, cut_text}
-use Rattle.cops_stream.proofs.OneText.{one_text}
-use Rattle.cops_stream.proofs.Told.{accepts}
+use Rattle.cops_stream.proofs.Told.{accepted_is_convergent}
 
 -- what holds of an answer holds of it also where want of memory is told as another fault
 pub or_fault : {T D E : Type 0} (r : Result T D) (e : E) (P : T → Type 0) → IfOk r P → IfOk (result_or r (Err e)) P
@@ -33,18 +30,9 @@ no_lasting_fault h Clean is s = s.0
 no_lasting_fault h (Waiting n) is s = s.0
 no_lasting_fault h Refused is s = absurd cc
 
-converges : (h : Sessions) (v : Verdict) → Accepted ≡ answer_of v → IsVerdict h v → IsCausallyConvergent h
-converges h v is w = convergent h v w (accepts v (sym is))
-
 pub accepted_is_sound : (bytes told : List ℕ) → SaysSoFar bytes Accepted told → IsSoundSoFar bytes
 accepted_is_sound bytes told (inl (offset, so_far, cut, is, _)) = inr (cut.trace, offset, cut.is_cut, no_lasting_fault (sessions_of cut.trace) so_far is cut.is_so_far)
-accepted_is_sound bytes told (inr (inl (t, says, w))) = inl (record {
-  trace = t;
-  is_trace = says.0;
-  spells = says.1;
-  one = λ other h e. one_text other t h says.0 (sym e ∙ says.1);
-  convergent = converges (sessions_of t) w.verdict w.answer_is w.is_report.is_verdict;
-})
+accepted_is_sound bytes told (inr (inl w)) = inl (accepted_is_convergent bytes told (inl w))
 accepted_is_sound bytes told (inr (inr (e, _, _, is, _))) = absurd cc
 
 pub accepted_sound : (a : Option (List ℕ)) (read : Result (Taken Fed) TraceFault) (answer : Answer) (told : List ℕ) → IfSome a (λ bytes. AgreesInto WasFed bytes read)
@@ -68,3 +56,27 @@ pub told_whole : {E : Type 0} (bytes : List ℕ) (taken : Taken Fed) (result : R
     → IfOk result (λ told. IsTold takes.trace told.0 told.1.items) → IfOk result (λ told. SaysSoFar bytes told.0 told.1.items)
 told_whole bytes taken (Err e) takes place is = tt
 told_whole bytes taken (Ok told) takes place is = inr (inl (takes.trace, subst (BeginsAs bytes takes.trace) place takes.begins, is))
+
+-- a trace that is cut has that fault
+pub cut_fault : (bytes : List ℕ) (taken : Taken Fed) (offset : ℕ) → TakesFrom WasFed bytes taken → taken.cut ≡ Some offset → HasFault bytes (Cut offset)
+cut_fault bytes taken offset takes place =
+    let cut = subst (BeginsAs bytes takes.trace) place takes.begins in
+    inr (inl (record { begun = cut.begun; rest = cut.rest; begins = cut.begins; stands = cut.stands; fault_is = ap Cut cut.place }))
+
+-- the line of a fault
+pub told_faulty : {E : Type 0} (bytes : List ℕ) (e : TraceFault) (result : Result (Answer × Vec ℕ Global) E) → HasFault bytes e → IfOk result (λ told. (told.0 ≡ Faulty) × (told.1.items ≡ fault_line e))
+    → IfOk result (λ told. AuditSays bytes told.0 told.1.items)
+told_faulty bytes e (Err x) fault is = tt
+told_faulty bytes e (Ok told) fault is = inr (e, fault, is.0, is.1)
+
+-- the report of a whole trace
+pub told_trace : {E : Type 0} (bytes : List ℕ) (taken : Taken Fed) (result : Result (Answer × Vec ℕ Global) E) → (takes : TakesFrom WasFed bytes taken) → taken.cut ≡ None
+    → IfOk result (λ told. IsTold takes.trace told.0 told.1.items) → IfOk result (λ told. AuditSays bytes told.0 told.1.items)
+told_trace bytes taken (Err e) takes place is = tt
+told_trace bytes taken (Ok told) takes place is = inl (takes.trace, subst (BeginsAs bytes takes.trace) place takes.begins, is)
+
+-- a fault that was met in what was fed
+pub fed_fault : (bytes : List ℕ) (e : TraceFault) → (e ≡ Memory → ⊥) → (e ≡ ReadFailed → ⊥) → AgreesInto WasFed bytes (Err e) → HasFault bytes e
+fed_fault bytes e m r (inl h) = absurd (m h)
+fed_fault bytes e m r (inr (inl h)) = absurd (r h)
+fed_fault bytes e m r (inr (inr h)) = h.0

@@ -1,7 +1,6 @@
 -- What an audit says of bytes, and what it writes.
-use Rattle.std.specs.Prelude.{◌≡◌, ◌⊎◌, ℕ, List, ◌++◌, Option, Result, Ok, Err}
+use Rattle.std.specs.Prelude.{◌≡◌, ◌⊎◌, ℕ, List, ◌++◌, Option, Ok, Err}
 use Rattle.std.specs.Io.KnownBytes.{Appends}
-use Rattle.cops_types.specs.Convergence.{IsCausallyConvergent}
 use Rattle.cops_audit.specs.declared.verdict.Verdict.{Verdict}
 use Rattle.cops_audit.specs.declared.verdict.Verdict.TheVariants as verdict
 use Rattle.cops_command.specs.Told.{IsReportOf}
@@ -22,11 +21,6 @@ pub record IsTold (t : ATrace) (answer : Answer) (told : List ℕ) : Type 0 wher
   pub verdict : Verdict
   pub is_report : IsReportOf (sessions_of t) verdict told
   pub answer_is : answer ≡ answer_of verdict
-
--- what was read is a trace whose history is causally convergent
-abbrev pub Converges : Result ATrace TraceFault → Type 0
-Converges (Ok t) = IsCausallyConvergent (sessions_of t)
-Converges (Err e) = ⊥
 
 -- of bytes: the report, where they are a trace's text, else the line of their first fault
 abbrev pub AuditSays : List ℕ → Answer → List ℕ → Type 0

@@ -9,13 +9,15 @@ ghost use Rattle.cops_trace.specs.Lines.{fault_line};
 ghost use Rattle.cops_batch.specs.Pieces.{MayHoldPiece};
 ghost use Rattle.cops_audit.specs.Verdicts.{IsVerdict};
 ghost use Rattle.cops_trace.specs.Text.{sessions_of};
-ghost use Rattle.cops_stream.specs.Audit.{AuditSays, Writes, WritesFront, IsTold, Converges, answer_of};
+ghost use Rattle.cops_stream.specs.Audit.{AuditSays, Writes, WritesFront, IsTold, answer_of};
 ghost use Rattle.cops_stream.specs.Convergent.{SpellsConvergent};
 
+use crate::alone::told_alone;
+use crate::fed::Fed;
 use cops_audit::Verdict;
 use cops_batch::{BatchFault, judge_with};
 use cops_report::report;
-use cops_trace::{Trace, TraceFault, fault_line, read_trace};
+use cops_trace::{Trace, TraceFault, fault_line, read_into, read_trace};
 use cops_types::{Counted, Gate, MAX_WORKERS, Memory, write_text};
 use std::alloc::Global;
 use std::io::{Read, Write};
@@ -67,8 +69,7 @@ pub(crate) fn answer_of(verdict: &Verdict) -> Answer
 /// The answer that a verdict on a trace makes, with its report.
 fn reported(alloc: Global, trace: &Trace, verdict: &Verdict) -> Result<(Answer, Vec<u8>), Memory>
     requires { IsVerdict (sessions_of trace.now) verdict.now }
-    ensures told { IfOk result (λ told. IsTold trace.now told.0 told.1.items) }
-    ensures answer { IfOk result (λ told. told.0 ≡ answer_of verdict.now) }
+    ensures { IfOk result (λ told. IsTold trace.now told.0 told.1.items) }
 {
     let text = report(alloc, trace.history(), verdict)?;
     Ok((answer_of(verdict), text))
@@ -83,7 +84,6 @@ fn judged<T: Threads + Wait + Sync, G: Gate>(
     gate: &G,
 ) -> Result<(Answer, Vec<u8>), StreamFault>
     ensures told { IfOk result (λ told. IsTold trace.now told.0 told.1.items) }
-    ensures convergent { IfOk result (λ told. told.0 ≡ Answer.Accepted → Converges (Ok trace.now)) }
     ensures bad { IsErrOf result StreamFault.BadWorkers → (workers ≡ 0) ⊎ (MAX_WORKERS < workers) }
     ensures held { IsErrOf result StreamFault.Held → (i : ℕ) × (i < workers) × MayHoldPiece (G.may_hold gate.now) i }
     ensures no_read { ¬ IsErrOf result StreamFault.ReadFailed }
@@ -120,7 +120,6 @@ fn told<T: Threads + Wait + Sync, G: Gate>(
     gate: &G,
 ) -> Result<(Answer, Vec<u8>), StreamFault>
     ensures says { (bytes : List ℕ) → Agrees bytes read → IfOk result (λ told. AuditSays bytes told.0 told.1.items) }
-    ensures convergent { IfOk result (λ told. told.0 ≡ Answer.Accepted → Converges read) }
     ensures bad { IsErrOf result StreamFault.BadWorkers → (workers ≡ 0) ⊎ (MAX_WORKERS < workers) }
     ensures held { IsErrOf result StreamFault.Held → (i : ℕ) × (i < workers) × MayHoldPiece (G.may_hold gate.now) i }
     ensures read_failed { IsErrOf result StreamFault.ReadFailed → read ≡ Err TraceFault.ReadFailed }
@@ -132,6 +131,29 @@ fn told<T: Threads + Wait + Sync, G: Gate>(
         Err(TraceFault::Memory) => Err(StreamFault::Memory),
         Err(TraceFault::ReadFailed) => Err(StreamFault::ReadFailed),
         Err(fault) => faulty(alloc, &fault),
+    }
+}
+
+/// The answer for what a reader gives, with its text, by so many workers: one is fed what is read as it comes, and several share
+/// the trace that was read.
+fn read_and_told<T: Threads + Wait + Sync, R: Read, G: Gate>(
+    rt: &T,
+    alloc: Global,
+    reader: &mut Counted<R>,
+    workers: u8,
+    gate: &G,
+) -> Result<(Answer, Vec<u8>), StreamFault>
+    ensures says { IfOk result (λ told. IfSome (R.remaining (inner reader.old)) (λ bytes. AuditSays bytes told.0 told.1.items)) }
+    ensures bad { IsErrOf result StreamFault.BadWorkers → (workers ≡ 0) ⊎ (MAX_WORKERS < workers) }
+    ensures held { IsErrOf result StreamFault.Held → (i : ℕ) × (i < workers) × MayHoldPiece (G.may_hold gate.now) i }
+    ensures read_count { IsErrOf result StreamFault.ReadFailed → Failed (failures reader.old) (failures reader.new) }
+    ensures read_heard { IsErrOf result StreamFault.ReadFailed ⊎ (failures reader.new ≡ failures reader.old) }
+    ensures no_write { ¬ IsErrOf result StreamFault.WriteFailed }
+{
+    if workers == 1 {
+        told_alone(rt, alloc, read_into::<Fed, R>(alloc, reader), gate)
+    } else {
+        told(rt, alloc, read_trace(alloc, reader), workers, gate)
     }
 }
 
@@ -177,7 +199,7 @@ pub fn audit_stream<T: Threads + Wait + Sync, R: Read, W: Write, G: Gate>(
     if workers > MAX_WORKERS {
         return Err(StreamFault::BadWorkers);
     }
-    let (answer, text) = told(rt, alloc, read_trace(alloc, reader), workers, gate)?;
+    let (answer, text) = read_and_told(rt, alloc, reader, workers, gate)?;
     match write_text(writer, &text) {
         Ok(()) => Ok(answer),
         Err(_) => Err(StreamFault::WriteFailed),

@@ -3,6 +3,7 @@
 //! bytes read, and that a trace is accepted only where its bytes spell one history and that is causally convergent.
 #![tactic(auto)]
 
+mod alone;
 mod audit;
 mod fed;
 mod laws;

@@ -3,18 +3,16 @@ ghost use Rattle.std.specs.Prelude.{◌≡◌, ◌⊎◌, ℕ, List, Err, IfErr,
 ghost use Rattle.std.specs.Io.KnownBytes.{Keeps};
 ghost use Rattle.cops_types.specs.Counted.{failures, inner};
 ghost use Rattle.cops_types.specs.Failures.{Failed};
-ghost use Rattle.cops_trace.specs.Text.{ATrace, sessions_of};
 ghost use Rattle.cops_trace.specs.Answer.{AgreesInto, TakesFrom};
 ghost use Rattle.cops_audit.specs.SoFar.{IsSoFar};
 ghost use Rattle.cops_audit.specs.declared.verdict.SoFar.{SoFar as ASoFar};
-ghost use Rattle.cops_stream.specs.Audit.{IsTold};
 ghost use Rattle.cops_stream.specs.Fed.{WasFed};
 ghost use Rattle.cops_stream.specs.SoFar.{IsSoundSoFar, SaysSoFar, WritesFrontSoFar, WritesSoFar, answer_so_far, cut_text};
 
-use crate::audit::{Answer, StreamFault, answer_of, faulty};
+use crate::alone::whole;
+use crate::audit::{Answer, StreamFault, faulty};
 use crate::fed::Fed;
 use cops_audit::{Online, SoFar};
-use cops_report::report_judged;
 use cops_trace::{Taken, TraceFault, read_into};
 use cops_types::{Counted, Memory, write_text};
 use std::alloc::Global;
@@ -50,15 +48,6 @@ fn cut(alloc: Global, online: &mut Online, offset: u64) -> Result<(Answer, Vec<u
     let so_far = online.so_far();
     let text = cut_text(alloc, offset, so_far)?;
     Ok((answer_so_far(so_far), text))
-}
-
-/// The answer for a whole trace, with its report, by an auditor that was fed it.
-fn whole(alloc: Global, online: Online) -> Result<(Answer, Vec<u8>), Memory>
-    ensures { (t : ATrace) → online ≡ sessions_of t → IfOk result (λ told. IsTold t told.0 told.1.items) }
-{
-    let judged = online.close()?;
-    let text = report_judged(alloc, &judged)?;
-    Ok((answer_of(judged.verdict()), text))
 }
 
 /// The answer for a trace, whole or up to a cut, with its text.

@@ -193,8 +193,11 @@ fn said_of(alloc: Global, text: &[u8]) -> Result<(Option<u64>, SoFar), Fail> {
     let Partial { trace, cut } = read_so_far(alloc, &mut Counted::new(text))?;
     let mut online = Online::new(alloc, trace.clients())?;
     for client in 0..trace.clients() {
-        for op in trace.history().session(client) {
-            online.feed(client, op.clone()?)?;
+        for index in 0..trace.history().session_len(client) {
+            let index = index as u32;
+            if let Some(op) = trace.history().op(OpName { client, index }) {
+                online.feed(client, op.to_op()?)?;
+            }
         }
     }
     let so_far = online.so_far();

@@ -1,6 +1,7 @@
 //! Whether the entries of all books are one run of the world in which the clients saw what a trace says.
-ghost use Rattle.std.specs.Prelude.{◌≡◌, ◌<◌, ◌≤◌, ◌*◌, ◌+◌, ◌∷◌, ◌↔◌, List, drop, AllPairs, length, map, IfOk, IfErr, IfSome, IfNone, IsTrue, OnOk, Some};
+ghost use Rattle.std.specs.Prelude.{◌≡◌, ◌<◌, ◌≤◌, ◌*◌, ◌+◌, ◌∷◌, ◌↔◌, [], List, drop, slice_index_or, AllPairs, length, map, IfOk, IfErr, IfSome, IfNone, IsTrue, OnOk, Some};
 ghost use Rattle.cops_core.specs.World.{Happens, World as AWorld, context_in, opening, sent};
+ghost use Rattle.cops_types.specs.Histories.{op_at};
 ghost use Rattle.cops_types.specs.Verdicts.{HasAcceptedVerdict};
 ghost use Rattle.cops_trace.specs.Text.{sessions_of};
 ghost use Rattle.cops_tie.specs.Tie.{Placed, IsBelow, Continues, Follows, IsFrom, IsHomeOf, event_at, event_of, place_asked, ticket};
@@ -13,7 +14,7 @@ use cops_book::{Entry, is_same_put};
 use cops_core::{Event, Setting, World};
 use cops_node::{NodeEvent, Outcome};
 use cops_trace::Trace;
-use cops_types::{Deps, History, Memory, PutRecord};
+use cops_types::{Deps, History, Memory, OpName, PutRecord};
 use std::alloc::{AllocError, Global};
 
 /// A run of the world that books are: its events, the world in which it ends, and the ticket above the greatest: 0 where
@@ -312,11 +313,39 @@ fn is_same(one: &History, other: &History) -> bool
         return false;
     }
     for client in 0..one.clients() {
-        if one.session(client as u16) != other.session(client as u16) {
+        if !is_same_session(one, other, client as u16) {
             return false;
         }
     }
     true
+}
+
+/// Whether a client saw the same in both.
+fn is_same_session(one: &History, other: &History, client: u16) -> bool
+    ensures { IsTrue result ↔ (slice_index_or one.now.sessions client [] ≡ slice_index_or other.now.sessions client []) }
+{
+    let operations = one.session_len(client);
+    if operations != other.session_len(client) {
+        return false;
+    }
+    for index in 0..operations {
+        let index = index as u32;
+        if !is_same_op(one, other, OpName { client, index }) {
+            return false;
+        }
+    }
+    true
+}
+
+/// Whether there is the same operation of that name in both, or none in either.
+fn is_same_op(one: &History, other: &History, name: OpName) -> bool
+    ensures { IsTrue result ↔ (op_at one.now.sessions name ≡ op_at other.now.sessions name) }
+{
+    match (one.op(name), other.op(name)) {
+        (Some(op), Some(other_op)) => op.is(&other_op),
+        (None, None) => true,
+        _ => false,
+    }
 }
 
 /// The ticket above the greatest: 0 where there is no entry, and the greatest `u64` where that is a ticket.

@@ -1,3 +1,7 @@
 pub mod DepLemmas
 pub mod Sessions
+pub mod Keys
+pub mod Telling
+pub mod Sources
+pub mod Holding
 pub mod Devices

@@ -9,6 +9,7 @@ pub mod Deps
 pub mod Clock
 pub mod Texts
 pub mod Histories
+pub mod OpRefs
 pub mod Past
 pub mod Convergence
 pub mod VersionOrder
@@ -16,5 +17,8 @@ pub mod Faults
 pub mod Verdicts
 pub mod Counts
 pub mod Recorded
+pub mod KeySets
+pub mod Entries
+pub mod Keeping
 pub mod Failures
 pub mod Counted

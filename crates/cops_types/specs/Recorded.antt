@@ -4,10 +4,11 @@ use Rattle.cops_types.specs.declared.limits.TheConstants.{MAX_CLIENT_OPS, MAX_CL
 use Rattle.cops_types.specs.Histories.{Sessions}
 use Rattle.cops_types.specs.Counts.{count_of}
 
--- the sessions, and of each client whether its next operation takes no memory
+-- the sessions, of each client whether its next operation takes no memory, and the keys, each once, in the order of their first use
 pub record Recorded : Type 0 where
   pub sessions : Sessions
   pub room : List Bool
+  pub keys : List (List ℕ)
 
 -- the client has no room by the limits: 1,000,000 operations of a client, 16,000,000 of all
 abbrev pub IsFull : Sessions → ℕ → Type 0

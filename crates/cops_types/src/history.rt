@@ -1,38 +1,57 @@
+ghost use Rattle.std.specs.Prelude.{◌≡◌, ◌<◌, length, IfSome};
 ghost use Rattle.cops_types.specs.declared.limits.TheConstants.{MAX_CLIENT_OPS, MAX_OPS};
+ghost use Rattle.cops_types.specs.declared.op.Op.TheVariants.{Got};
+ghost use Rattle.cops_types.specs.Entries.{AreSound, IsSound, told};
+ghost use Rattle.cops_types.specs.KeySets.{AreDistinct, GainsKey};
 
+use crate::entries::Entries;
+use crate::entry::Entry;
 use crate::fault::{Memory, TypeFault};
+use crate::key::Key;
+use crate::key_set::KeySet;
 use crate::limits::{MAX_CLIENT_OPS, MAX_OPS};
 use crate::op::{Op, OpName};
+use crate::op_ref::OpRef;
+use crate::recent::Recent;
+use crate::value::Value;
+use crate::version::Version;
 use std::alloc::Global;
 use std::marker::Model;
 
 /// A history (POPL 2017, section 3): a session for each client, each the list of its operations. There are at most
-/// 65,535 clients, 1,000,000 operations of one client and 16,000,000 in all.
+/// 65,535 clients, 1,000,000 operations of one client and 16,000,000 in all. Each key lies there once, and where a get
+/// names its put, so does the value.
 #[derive(Debug, Drop)]
 pub struct History {
-    sessions: Vec<Vec<Op>>,
+    keys: KeySet,
+    entries: Entries,
+    reserved: Vec<bool>,
+    reservations: usize,
     len: usize,
+    recent: Recent,
 }
 
 impl Model for History {
-    ghost use Rattle.std.specs.Prelude.{◌≡◌, map, vec_len, vec_capacity, nat_lt};
-    ghost use Rattle.cops_types.specs.Recorded.{Recorded, IsWithinLimits};
-    ghost use Rattle.cops_types.specs.Counts.{count_of};
+    ghost use Rattle.cops_types.specs.Recorded.{Recorded};
+    ghost use Rattle.cops_types.specs.Entries.{told_by};
+    ghost use Rattle.cops_types.specs.Keeping.{IsKept};
 
     ghost Value = { Recorded };
 
     ghost view = { λ a. record {
-      sessions = map (λ s. s.items) a.sessions.items;
-      room = map (λ s. nat_lt (vec_len s) (vec_capacity s)) a.sessions.items;
+      sessions = told_by a.keys.keys a.entries.all;
+      room = a.reserved.items;
+      keys = a.keys.keys;
     } };
 
-    ghost invariant = { λ a. IsWithinLimits (map (λ s. s.items) a.sessions.items) × (a.len ≡ count_of (map (λ s. s.items) a.sessions.items)) };
+    ghost invariant = { λ a. IsKept a.keys a.entries a.reserved.items a.reservations a.len };
 }
 
 impl History {
-    ghost use Rattle.std.specs.Prelude.{◌≡◌, ◌≢◌, ◌≤◌, ◌<◌, ◌↔◌, ℕ, length, slice_index_or, [], OnOk, OnErr, OnSome, IfOk, IfErr, IsErrOf, replicate, false, ◌==◌};
-    ghost use Rattle.std.specs.Option.{option_copied};
-    ghost use Rattle.cops_types.specs.Histories.{op_at, with_op};
+    ghost use Rattle.std.specs.Prelude.{◌≡◌, ◌≢◌, ◌≤◌, ◌<◌, ◌↔◌, ℕ, length, slice_index_or, slice_get, [], Some, OnOk, OnErr, OnSome, IfOk, IfErr, IfSome, IfNone, IsOk, IsErrOf, IsTrue, replicate, false, ◌==◌};
+    ghost use Rattle.std.specs.Option.{option_map, option_and_then};
+    ghost use Rattle.cops_types.specs.Histories.{GetsVersion, PutsVersion, SourceStep, key_of, op_at, with_op};
+    ghost use Rattle.cops_types.specs.OpRefs.{seen};
     ghost use Rattle.cops_types.specs.Counts.{count_of};
     ghost use Rattle.cops_types.specs.Recorded.{IsFull, IsWithinLimits, HasRoom};
     ghost use Rattle.cops_types.specs.TypeFaults.{IsHistoryFault};
@@ -41,11 +60,16 @@ impl History {
     pub fn new(alloc: Global, clients: u16) -> Result<Self, Memory>
         ensures { IfOk result (λ history. history.sessions ≡ replicate clients []) }
     {
-        let mut sessions = Vec::new(alloc);
-        for _ in 0..clients {
-            sessions.push(Vec::new(alloc))?;
-        }
-        Ok(History { sessions, len: 0 })
+        let entries = Entries::new(alloc, clients)?;
+        let reserved = vec![in alloc; false; clients as usize]?;
+        Ok(History {
+            keys: KeySet::new(alloc),
+            entries,
+            reserved,
+            reservations: 0,
+            len: 0,
+            recent: Recent::new(alloc),
+        })
     }
 
     /// Makes room for the client's next operation, whose `push` then takes no memory: `UnknownClient` where there is
@@ -59,8 +83,7 @@ impl History {
         ensures only { IfErr result IsHistoryFault }
     {
         self.admit(client)?;
-        let session = &mut self.sessions[client as usize];
-        session.reserve(1)?;
+        self.hold(client).or(Err(TypeFault::Memory))?;
         Ok(())
     }
 
@@ -76,9 +99,8 @@ impl History {
         ensures only { IfErr result IsHistoryFault }
     {
         self.admit(client)?;
-        let session = &mut self.sessions[client as usize];
-        session.push(op)?;
-        self.len += 1;
+        self.hold(client).or(Err(TypeFault::Memory))?;
+        self.put_in(client, op);
         Ok(())
     }
 
@@ -91,13 +113,52 @@ impl History {
         ensures only { IfErr result IsHistoryFault }
         ensures no_memory { ¬ IsErrOf result TypeFault.Memory }
     {
-        if client as usize >= self.sessions.len() {
+        if client as usize >= self.clients() {
             return Err(TypeFault::UnknownClient);
         }
-        if self.sessions[client as usize].len() >= MAX_CLIENT_OPS || self.len >= MAX_OPS {
+        if self.session_len(client) >= MAX_CLIENT_OPS || self.len >= MAX_OPS {
             return Err(TypeFault::TooManyOps);
         }
         Ok(())
+    }
+
+    /// Holds a place for the client's next operation, among its entries and among the keys, unless one is held.
+    fn hold(&mut self, client: u16) -> Result<(), Memory>
+        requires { client < length self.old.sessions }
+        ensures same { self.new.sessions ≡ self.old.sessions }
+        ensures room { OnOk result (HasRoom self.new client) }
+        ensures others { (c : ℕ) → HasRoom self.old c → HasRoom self.new c }
+        ensures held { HasRoom self.old client → IsOk result }
+    {
+        if self.reserved[client as usize] {
+            return Ok(());
+        }
+        self.entries.reserve(client)?;
+        self.keys.reserve(self.reservations + 1)?;
+        self.recent.grow(self.len);
+        self.reserved[client as usize] = true;
+        self.reservations += 1;
+        Ok(())
+    }
+
+    /// Adds the operation, at the place that is held for it.
+    fn put_in(&mut self, client: u16, op: Op)
+        requires inside { client < length self.old.sessions }
+        requires session { length (slice_index_or self.old.sessions client []) < MAX_CLIENT_OPS }
+        requires all { count_of self.old.sessions < MAX_OPS }
+        requires room { HasRoom self.old client }
+        ensures ok { self.new.sessions ≡ with_op self.old.sessions client op }
+        ensures others { (c : ℕ) → c ≢ client → HasRoom self.old c → HasRoom self.new c }
+    {
+        let name = OpName {
+            client,
+            index: self.entries.session_len(client) as u32,
+        };
+        let entry = entry_of(&mut self.keys, &mut self.recent, &self.entries, name, op);
+        self.entries.push(client, entry);
+        self.reserved[client as usize] = false;
+        self.reservations -= 1;
+        self.len += 1;
     }
 
     /// How many clients there are, at most 65,535.
@@ -105,7 +166,7 @@ impl History {
         ensures count { result ≡ length self.now.sessions }
         ensures limits { IsWithinLimits self.now.sessions }
     {
-        self.sessions.len()
+        self.entries.clients()
     }
 
     /// How many operations there are, at most 16,000,000.
@@ -123,22 +184,196 @@ impl History {
         self.len == 0
     }
 
-    /// The operations of a client, in their order: none for a client that is not there.
-    pub fn session(&self, client: u16) -> &[Op]
-        ensures operations { result.now ≡ slice_index_or self.now.sessions client [] }
-        ensures limit { length result.now ≤ MAX_CLIENT_OPS }
+    /// How many operations a client has, at most 1,000,000: none where it is not there.
+    pub fn session_len(&self, client: u16) -> usize
+        ensures count { result ≡ length (slice_index_or self.now.sessions client []) }
+        ensures limit { result ≤ MAX_CLIENT_OPS }
     {
-        match self.sessions.get(client as usize) {
-            Some(session) => session.as_slice(),
-            None => &[],
-        }
+        self.entries.session_len(client)
+    }
+
+    /// How many keys the operations are on, each counted once: no more than there are operations.
+    pub fn keys(&self) -> usize
+        ensures count { result ≡ length self.now.keys }
+        ensures few { result ≤ count_of self.now.sessions }
+        ensures distinct { AreDistinct self.now.keys }
+    {
+        self.keys.len()
     }
 
     /// The operation of that name, if there is one.
-    pub fn op(&self, name: OpName) -> Option<&Op>
-        ensures operation { option_copied result ≡ op_at self.now.sessions name }
+    pub fn op(&self, name: OpName) -> Option<OpRef<'_>>
+        ensures operation { option_map seen result ≡ op_at self.now.sessions name }
         ensures limit { OnSome result (name.index < MAX_CLIENT_OPS) }
     {
-        self.session(name.client).get(name.index as usize)
+        let entry = self.entries.get(name)?;
+        let key = self.keys.key(entry.key());
+        match entry {
+            Entry::Put { value, version, .. } => Some(OpRef::Put {
+                key,
+                value,
+                version,
+            }),
+            Entry::Got { value, version, .. } => Some(OpRef::Got {
+                key,
+                value,
+                version,
+            }),
+            Entry::Sourced { put, version, .. } => Some(OpRef::Got {
+                key,
+                value: self.entries.value_put(*put)?,
+                version,
+            }),
+            Entry::Missed { .. } => Some(OpRef::Missed { key }),
+        }
+    }
+
+    /// The number of the key that the operation of that name is on, if there is one: below `keys`.
+    pub fn key_number(&self, name: OpName) -> Option<u32>
+        ensures key { option_and_then (slice_get self.now.keys) result ≡ option_map key_of (op_at self.now.sessions name) }
+        ensures within { IfSome result (λ number. number < length self.now.keys) }
+    {
+        Some(self.entries.get(name)?.key())
+    }
+
+    /// The version that the put of that name bears: none where there is no put of that name. It reads neither key nor value.
+    pub fn put_version(&self, name: OpName) -> Option<Version>
+        ensures put { IfSome result (λ v. PutsVersion self.now.sessions name v) }
+        ensures none { IfNone result ((v : ℕ) → ¬ PutsVersion self.now.sessions name v) }
+    {
+        match self.entries.get(name)? {
+            Entry::Put { version, .. } => Some(*version),
+            _ => None,
+        }
+    }
+
+    /// The version of what the get of that name returned: none where there is no get of that name, or it missed. It reads
+    /// neither key nor value.
+    pub fn got_version(&self, name: OpName) -> Option<Version>
+        ensures got { IfSome result (λ v. GetsVersion self.now.sessions name v) }
+        ensures none { IfNone result ((v : ℕ) → ¬ GetsVersion self.now.sessions name v) }
+    {
+        match self.entries.get(name)? {
+            Entry::Got { version, .. } => Some(*version),
+            Entry::Sourced { version, .. } => Some(*version),
+            _ => None,
+        }
+    }
+
+    /// Whether the one is a put, and the other a get that returned it: its key, its value and its version.
+    pub fn is_source(&self, put: OpName, got: OpName) -> bool
+        ensures source { IsTrue result ↔ SourceStep self.now.sessions put got }
+        ensures limit { IsTrue result → put.index < MAX_CLIENT_OPS }
+    {
+        let Some(entry) = self.entries.get(got) else {
+            return false;
+        };
+        match entry {
+            Entry::Sourced {
+                key,
+                put: source,
+                version,
+            } => self.entries.is_same_put(put, *source, *key, *version),
+            Entry::Got {
+                key,
+                value,
+                version,
+            } => self.entries.is_put(put, *key, value, *version),
+            Entry::Put { .. } | Entry::Missed { .. } => false,
+        }
+    }
+}
+
+/// The entry of an operation of that name, whose key is added where it is not there.
+fn entry_of(
+    keys: &mut KeySet,
+    recent: &mut Recent,
+    entries: &Entries,
+    name: OpName,
+    op: Op,
+) -> Entry
+    requires sound { AreSound keys.old.keys entries.now.all }
+    requires distinct { AreDistinct keys.old.keys }
+    requires few { length keys.old.keys < MAX_OPS }
+    requires room { 0 < keys.old.spare }
+    ensures told { told keys.new.keys entries.now.all result ≡ op }
+    ensures sound { IsSound keys.new.keys entries.now.all result }
+    ensures gains { GainsKey keys.old keys.new }
+{
+    match op {
+        Op::Put {
+            key,
+            value,
+            version,
+        } => {
+            recent.note(version, name);
+            Entry::Put {
+                key: keys.number(key),
+                value,
+                version,
+            }
+        }
+        Op::Got {
+            key,
+            value,
+            version,
+        } => got_entry(keys, recent, entries, key, value, version),
+        Op::Missed { key } => Entry::Missed {
+            key: keys.number(key),
+        },
+    }
+}
+
+/// The entry of a get. Where the put that wrote its value is found among the recent ones, the entry names it, and its
+/// key and its value are let go.
+fn got_entry(
+    keys: &mut KeySet,
+    recent: &Recent,
+    entries: &Entries,
+    key: Key,
+    value: Value,
+    version: Version,
+) -> Entry
+    requires sound { AreSound keys.old.keys entries.now.all }
+    requires distinct { AreDistinct keys.old.keys }
+    requires few { length keys.old.keys < MAX_OPS }
+    requires room { 0 < keys.old.spare }
+    ensures told { told keys.new.keys entries.now.all result ≡ Got key value version }
+    ensures sound { IsSound keys.new.keys entries.now.all result }
+    ensures gains { GainsKey keys.old keys.new }
+{
+    match sourced(keys, recent, entries, &key, &value, version) {
+        Some(entry) => entry,
+        None => Entry::Got {
+            key: keys.number(key),
+            value,
+            version,
+        },
+    }
+}
+
+/// The entry of a get that names the put of that version, where it is found among the recent ones and wrote the value.
+fn sourced(
+    keys: &KeySet,
+    recent: &Recent,
+    entries: &Entries,
+    key: &Key,
+    value: &Value,
+    version: Version,
+) -> Option<Entry>
+    requires { AreSound keys.now.keys entries.now.all }
+    ensures told { IfSome result (λ entry. told keys.now.keys entries.now.all entry ≡ Got key.now value.now version) }
+    ensures sound { IfSome result (IsSound keys.now.keys entries.now.all) }
+{
+    let put = recent.find(version)?;
+    let number = entries.put_key(put, value, version)?;
+    if keys.key(number).is(key) {
+        Some(Entry::Sourced {
+            key: number,
+            put,
+            version,
+        })
+    } else {
+        None
     }
 }

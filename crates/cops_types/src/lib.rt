@@ -1,5 +1,5 @@
 //! What every other crate speaks of: keys, values, versions, dependencies, operations, and histories of what clients
-//! saw; want of memory; and readers and writers that count their failures. Stands on std alone. The layers above use
+//! saw; want of memory; and readers and writers that count their failures. Stands on no other crate of the repository. The layers above use
 //! the ranges of these types, the order of versions, a history as a list of sessions, and the definitions of causal
 //! convergence, faults and verdicts in `specs/`.
 #![tactic(auto)]
@@ -7,15 +7,20 @@
 mod clock;
 mod counted;
 mod dep;
+mod entries;
+mod entry;
 mod failing;
 mod fault;
 mod format;
 mod gate;
 mod history;
 mod key;
+mod key_set;
 mod limits;
 mod op;
+mod op_ref;
 mod put_record;
+mod recent;
 mod refusal;
 mod value;
 mod version;
@@ -34,6 +39,7 @@ pub use limits::{
     MAX_VALUE, MAX_WORKERS, NODES, PLACES,
 };
 pub use op::{Op, OpName};
+pub use op_ref::OpRef;
 pub use put_record::{NodeStatus, PutRecord};
 pub use refusal::Refusal;
 pub use value::{Value, ValueRoom};

@@ -1,4 +1,5 @@
 use crate::key::Key;
+use crate::op_ref::OpRef;
 use crate::value::Value;
 use crate::version::Version;
 use std::alloc::AllocError;
@@ -52,6 +53,38 @@ impl Clone for Op {
                 version: *version,
             }),
             Op::Missed { key } => Ok(Op::Missed { key: key.clone()? }),
+        }
+    }
+}
+
+impl Op {
+    ghost use Rattle.std.specs.Prelude.{◌≡◌};
+    ghost use Rattle.cops_types.specs.OpRefs.{seen};
+
+    /// The operation, seen where it lies.
+    pub fn as_ref(&self) -> OpRef<'_>
+        ensures { seen result ≡ self.now }
+    {
+        match self {
+            Op::Put {
+                key,
+                value,
+                version,
+            } => OpRef::Put {
+                key,
+                value,
+                version,
+            },
+            Op::Got {
+                key,
+                value,
+                version,
+            } => OpRef::Got {
+                key,
+                value,
+                version,
+            },
+            Op::Missed { key } => OpRef::Missed { key },
         }
     }
 }

@@ -4,7 +4,7 @@ use crate::texts::Part::{At, Bytes, Count, Word};
 use crate::texts::{text, word};
 use crate::words::u16_of;
 use anyhow::Error;
-use cops_types::{Dep, History, Key, Op, Value, Version};
+use cops_types::{Dep, History, Key, OpRef, Value, Version};
 use std::alloc::Global;
 
 /// `yes` or `no`.
@@ -52,24 +52,24 @@ fn done_text<'a>(
 }
 
 /// The text of what a client did.
-pub fn op_text(alloc: Global, op: &Op) -> Result<String, Error> {
+pub fn op_text(alloc: Global, op: &OpRef<'_>) -> Result<String, Error> {
     match op {
-        Op::Put {
+        OpRef::Put {
             key,
             value,
             version,
-        } => done_text(alloc, "put ", key, value, *version),
-        Op::Got {
+        } => done_text(alloc, "put ", key, value, **version),
+        OpRef::Got {
             key,
             value,
             version,
-        } => done_text(alloc, "got ", key, value, *version),
-        Op::Missed { key } => text(alloc, &[Word("missed "), Bytes(key.as_bytes())]),
+        } => done_text(alloc, "got ", key, value, **version),
+        OpRef::Missed { key } => text(alloc, &[Word("missed "), Bytes(key.as_bytes())]),
     }
 }
 
 /// How many operations a client has.
 pub fn session_text(alloc: Global, history: &History, client: &str) -> Result<String, Error> {
-    let session = history.session(u16_of(client)?);
-    text(alloc, &[Count(session.len()), Word(" operations")])
+    let operations = history.session_len(u16_of(client)?);
+    text(alloc, &[Count(operations), Word(" operations")])
 }

@@ -5,7 +5,7 @@ use cops_batch::{BatchFault, judge_with};
 use cops_command::reported;
 use cops_report::{report, report_judged};
 use cops_trace::{Trace, TraceFault, read_trace};
-use cops_types::{Counted, History, Memory, Op, OpName, OpenGate};
+use cops_types::{Counted, History, Memory, OpName, OpRef, OpenGate};
 use std::alloc::Global;
 use std::sync::Wait;
 use std::thread::Threads;
@@ -36,17 +36,17 @@ fn two_say<R: Threads + Wait + Sync>(
 }
 
 /// Feeds an operation: where memory is refused once more, and tells whether it was taken.
-fn feed(online: &mut Online, client: u16, op: &Op) -> Result<bool, Memory> {
-    match online.feed(client, op.clone()?) {
+fn feed(online: &mut Online, client: u16, op: OpRef<'_>) -> Result<bool, Memory> {
+    match online.feed(client, op.to_op()?) {
         Ok(()) => Ok(true),
-        Err(FeedFault::Memory) => Ok(online.feed(client, op.clone()?).is_ok()),
+        Err(FeedFault::Memory) => Ok(online.feed(client, op.to_op()?).is_ok()),
         Err(_) => Ok(false),
     }
 }
 
 /// Feeds a client's operations, and tells whether all were taken.
 fn feed_session(online: &mut Online, history: &History, client: u16) -> Result<bool, Memory> {
-    for index in 0..history.session(client).len() {
+    for index in 0..history.session_len(client) {
         let index = index as u32;
         let is_fed = match history.op(OpName { client, index }) {
             Some(op) => feed(online, client, op)?,

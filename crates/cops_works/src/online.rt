@@ -12,7 +12,7 @@ use std::rt::Files;
 fn longest(history: &History) -> u32 {
     let mut longest = 0;
     for client in 0..history.clients() {
-        longest = longest.max(history.session(client as u16).len() as u32);
+        longest = longest.max(history.session_len(client as u16) as u32);
     }
     longest
 }
@@ -26,7 +26,7 @@ fn feed_in_turns(online: &mut Online, history: &History) -> Result<(), Error> {
                 index,
             };
             if let Some(op) = history.op(name) {
-                online.feed(name.client, op.clone()?)?;
+                online.feed(name.client, op.to_op()?)?;
             }
         }
     }
@@ -37,8 +37,11 @@ fn feed_in_turns(online: &mut Online, history: &History) -> Result<(), Error> {
 fn feed_by_sessions(online: &mut Online, history: &History) -> Result<(), Error> {
     for client in 0..history.clients() {
         let client = client as u16;
-        for op in history.session(client) {
-            online.feed(client, op.clone()?)?;
+        for index in 0..history.session_len(client) {
+            let index = index as u32;
+            if let Some(op) = history.op(OpName { client, index }) {
+                online.feed(client, op.to_op()?)?;
+            }
         }
     }
     Ok(())

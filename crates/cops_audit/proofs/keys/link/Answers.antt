@@ -1,54 +1,78 @@
-use Rattle.std.proofs.Common.{◌≡◌, ◌≢◌, ◌+◌, ◌-◌, ℕ, List, Some, None, length, nat_eq, Bor, cond, sym, ◌∙◌, ap, subst, inl, inr, arith}
+use Rattle.std.proofs.Common.{◌≡◌, ◌≢◌, ◌<◌, ◌+◌, ◌-◌, ◌⊎◌, ℕ, Some, None, length, slice_index_or, get_or-set_same, get_or-set_other, slice_get, slice_set, sym, ◌∙◌, ap, subst, inl, inr, arith, eqb}
 use Rattle.std.proofs.Math.ListN.{length-set}
-use Rattle.std.specs.Cmp.Lexicographic.{pointwise}
-use Rattle.std.specs.HashMap as hash
-use Rattle.std.specs.Map.{lookup}
-use Rattle.std.proofs.lemmas.Bool.{cases_Bool}
-use Rattle.std.proofs.lemmas.Slice.Eq.{bytes_eq-Decides}
-use Rattle.cops_audit.specs.Keys.{AreAhead, IsFirstFrom, IsNext, OnKey}
-use Rattle.cops_audit.proofs.Linking.{next_is, first_here, first_kept, none_past_end, written}
+use Rattle.std.specs.Option.{option_map}
+use Rattle.std.proofs.lemmas.Bool.{cases_Bool, eqb-true, eqb-false}
+use Rattle.cops_types.specs.declared.op.Op.TheVariants.{Put}
+use Rattle.cops_types.specs.Histories.{key_of}
+use Rattle.cops_audit.specs.Keys.{IsFirstFrom, IsNext, OnKey}
+use Rattle.cops_audit.proofs.Collect.{get_or-default}
+use Rattle.cops_audit.proofs.Linking.{next_is, on_key, first_here, first_kept, none_past_end, written}
 use Rattle.cops_audit.proofs.Marks.{slice_get_inside}
 use Rattle.cops_audit.proofs.keys.link.Goals as goal
 
+same_or_not : (a b : ℕ) → (a ≡ b) ⊎ (a ≢ b)
+same_or_not a b = elim (cases_Bool (eqb a b)) [ inl p ↦ inl (eqb-true _ _ p) | inr p ↦ inr (eqb-false _ _ p) ]
+
 pub loop-place-init : goal.loop-place-init
 loop-place-init c = record {
-  whole = omega (arith, c.in_ok-nexts.ensures.len);
-  nexts = λ t next le at. let l = slice_get_inside c.in_ok-nexts.nexts.items t next at in absurd (omega (arith, l, le, c.in_ok-nexts.ensures.len));
-  ahead = (length c.args.table.now, omega (arith, ap length c.in_ok-ahead.ensures.items), λ j key at. let l = slice_get_inside c.in_ok-ahead.ahead.items j key at in absurd (omega (arith, l, ap length c.in_ok-ahead.ensures.items)));
-  firsts = λ q.
-      let got : hash.get (λ x y. pointwise nat_eq x.now y.now) c.new-firsts.result q ≡ None = ap (lookup (λ (k : Bor (List ℕ)). pointwise nat_eq q.now k.now)) c.new-firsts.ensures.empty in
-      subst (IsFirstFrom c.args.history.now.sessions c.args.table.now (length c.args.table.now) q.now) (sym got) (none_past_end c.args.history.now.sessions c.args.table.now q.now);
+  whole = c.in_ok-set_none.ensures.count;
+  width = c.in_ok-set_none-2.ensures.count ∙ c.keys.ensures.count;
+  nexts = λ t next le at. let l = slice_get_inside c.set_none.new.places.items t next at in absurd (omega (arith, l, le, c.in_ok-set_none.ensures.count));
+  firsts = λ number key at. subst (IsFirstFrom c.args.history.now.sessions c.args.table.now (length c.args.table.now) key) (sym (c.in_ok-set_none-2.ensures.none number))
+      (none_past_end c.args.history.now.sessions c.args.table.now key);
+  nexts_capacity = c.in_ok-set_none.ensures.capacity;
+  firsts_capacity = c.in_ok-set_none-2.ensures.capacity;
 }
 
-pub next_key-requires-clause-ahead : goal.next_key-requires-clause-ahead
-next_key-requires-clause-ahead c = subst (λ (n : ℕ). AreAhead c.args.history.now.sessions c.args.table.now n c.loop-place.ahead.items) (omega arith) c.loop-place.invariant.ahead
+pub number_of-number-requires : goal.number_of-number-requires
+number_of-number-requires c =
+    let own = (c.requires.table.members c.index-table-place.result).0 (c.loop-place.place - 1, omega arith, sym c.index-table-place.is) in
+    (Put own.0 own.1 c.index-table-place.result.version, own.2)
+
+pub index-requires : goal.index-requires
+index-requires c = omega (arith, c.number_of-number.ensures.within, c.loop-place.invariant.width)
+
+pub index_mut-requires-in-loop-place : goal.index_mut-requires-in-loop-place
+index_mut-requires-in-loop-place c = omega (arith, c.number_of-number.ensures.within, c.loop-place.invariant.width)
 
 pub loop-place-preserved : goal.loop-place-preserved
 loop-place-preserved c =
     let h = c.args.history.now.sessions in
+    let keys = c.args.history.now.keys in
     let table = c.args.table.now in
+    let firsts = c.loop-place.firsts.items in
     let k = c.loop-place.place - 1 in
     let e : c.loop-place.place ≡ k + 1 = omega arith in
-    let key = c.in_ok-key.key in
-    let here : OnKey h table k key.now = c.in_ok-key.ensures.key in
-    let found : c.in_ok-next.next ≡ hash.get (λ x y. pointwise nat_eq x.now y.now) c.loop-place.firsts key = c.in_ok-next.ensures.old in
+    let put = c.index-table-place.result in
+    let number = c.number_of-number.result in
+    let next = c.index.result.now in
+    let own = (c.requires.table.members put).0 (k, omega arith, sym c.index-table-place.is) in
+    let key = own.0 in
+    let here : OnKey h table k key = on_key h table c.requires k put key put.version (omega arith) c.index-table-place.is (own.1, own.2) in
+    let at = c.number_of-number.ensures.key key (ap (option_map key_of) own.2) in
+    let inside : number < length firsts = omega (arith, c.number_of-number.ensures.within, c.loop-place.invariant.width) in
+    let is_next : slice_index_or firsts number None ≡ next = get_or-default firsts number None next inside ∙ sym c.index.ensures in
     record {
-      whole = omega (arith, length-set c.loop-place.nexts.items k c.in_ok-next.next, c.loop-place.invariant.whole);
-      nexts = λ t next le at. elim (written c.loop-place.nexts.items k t c.in_ok-next.next next at) [
-        | inl w ↦ subst (λ o. IsNext h table t o) w.1 (subst (λ (j : ℕ). IsNext h table j c.in_ok-next.next) (sym w.0) (next_is h table c.requires.rising k c.loop-place.place key.now c.in_ok-next.next e here
-            (subst (IsFirstFrom h table c.loop-place.place key.now) (sym found) (c.loop-place.invariant.firsts key))))
-        | inr w ↦ c.loop-place.invariant.nexts t next (omega (arith, le, w.0, e)) w.1
+      whole = omega (arith, length-set c.loop-place.nexts.items k next, c.loop-place.invariant.whole);
+      width = omega (arith, length-set firsts number (Some k), c.loop-place.invariant.width);
+      nexts = λ t other le there. elim (written c.loop-place.nexts.items k t next other there) [
+        | inl w ↦ subst (λ o. IsNext h table t o) w.1 (subst (λ (j : ℕ). IsNext h table j next) (sym w.0) (next_is h table c.requires.rising k c.loop-place.place key next e here
+            (subst (IsFirstFrom h table c.loop-place.place key) is_next (c.loop-place.invariant.firsts number key at))))
+        | inr w ↦ c.loop-place.invariant.nexts t other (omega (arith, le, w.0, e)) w.1
       ];
-      ahead = c.in_ok-key.ensures.ahead;
-      firsts = λ q. elim (cases_Bool (pointwise nat_eq key.now q.now)) [
+      firsts = λ other q there. elim (same_or_not other number) [
         | inl same ↦
-            let e' : key.now ≡ q.now = (bytes_eq-Decides key.now q.now).0 same in
-            let got : hash.get (λ x y. pointwise nat_eq x.now y.now) c.insert.new.self q ≡ Some k = c.in_ok-next.ensures.updates.0 q ∙ ap (λ b. cond b (Some k) (hash.get (λ x y. pointwise nat_eq x.now y.now) c.loop-place.firsts q)) same in
-            subst (IsFirstFrom h table k q.now) (sym got) (first_here h table c.requires.rising k q.now (subst (OnKey h table k) e' here))
-        | inr other ↦
-            let differ : key.now ≢ q.now = λ same. let b = (bytes_eq-Decides key.now q.now).1 same in cc in
-            subst (IsFirstFrom h table k q.now) (sym (c.in_ok-next.ensures.updates.2 q other)) (first_kept h table c.requires.rising k c.loop-place.place key.now q.now _ e here differ (c.loop-place.invariant.firsts q))
+            let both : Some key ≡ Some q = sym at ∙ ap (slice_get keys) (sym same) ∙ there in
+            let one : key ≡ q = cc in
+            let now : slice_index_or (slice_set firsts number (Some k)) other None ≡ Some k = ap (λ (j : ℕ). slice_index_or (slice_set firsts number (Some k)) j None) same ∙ get_or-set_same firsts number (Some k) None inside in
+            subst (IsFirstFrom h table k q) (sym now) (first_here h table c.requires.rising k q (subst (OnKey h table k) one here))
+        | inr differs ↦
+            let apart : key ≢ q = λ one. differs (c.keys.ensures.distinct other number q there (at ∙ ap (λ x. Some x) one)) in
+            subst (IsFirstFrom h table k q) (sym (get_or-set_other firsts number other (Some k) None differs))
+            (first_kept h table c.requires.rising k c.loop-place.place key q _ e here apart (c.loop-place.invariant.firsts other q there))
       ];
+      nexts_capacity = c.loop-place.invariant.nexts_capacity;
+      firsts_capacity = c.loop-place.invariant.firsts_capacity;
     }
 
 pub returns-clause-nexts : goal.returns-clause-nexts
@@ -58,6 +82,6 @@ returns-clause-nexts c = record {
 }
 
 pub returns-clause-firsts : goal.returns-clause-firsts
-returns-clause-firsts c = λ q.
+returns-clause-firsts c = λ number key at.
     let e : c.loop-place.place ≡ 0 = omega arith in
-    subst (λ i. IsFirstFrom c.args.history.now.sessions c.args.table.now i q.now (hash.get (λ x y. pointwise nat_eq x.now y.now) c.loop-place.firsts q)) e (c.loop-place.invariant.firsts q)
+    subst (λ i. IsFirstFrom c.args.history.now.sessions c.args.table.now i key (slice_index_or c.loop-place.firsts.items number None)) e (c.loop-place.invariant.firsts number key at)

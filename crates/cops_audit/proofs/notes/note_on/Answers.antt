@@ -1,4 +1,4 @@
-use Rattle.std.proofs.Common.{◌≡◌, [], length, slice_index_or, arith, ap, subst, sym}
+use Rattle.std.proofs.Common.{◌≡◌, [], length, slice_index_or, arith, subst, sym}
 use Rattle.cops_audit.specs.Notes.{AreMarks, IsMark}
 use Rattle.cops_audit.proofs.Listing.{slice_get_there}
 use Rattle.cops_audit.proofs.Noting.{few_places, front_noted, higher_note, lower_note}
@@ -6,7 +6,7 @@ use Rattle.cops_audit.proofs.notes.note_on.Goals as goal
 use Rattle.cops_audit.proofs.notes.note_on.Goals.{then-mark-above, else-mark-above}
 
 pub see-seen-requires-clause-named : goal.see-seen-requires-clause-named
-see-seen-requires-clause-named c = slice_get_there (slice_index_or c.args.history.now.sessions c.args.client []) c.loop-index.index (omega (arith, ap length c.session-index-end.ensures.operations, c.loop-index-test.true))
+see-seen-requires-clause-named c = slice_get_there (slice_index_or c.args.history.now.sessions c.args.client []) c.loop-index.index (omega (arith, c.session_len-index-end.ensures.count, c.loop-index-test.true))
 
 pub above-above-requires : goal.above-above-requires
 above-above-requires c = omega (arith, few_places c.args.history.now.sessions c.args.table.now c.requires.table _ c.see-seen.result c.see-seen.ensures, c.requires.table.table.few)
@@ -31,11 +31,11 @@ loop-index-preserved c =
         | else-mark-above w ↦ rw c.in_ok-push.ensures.items
             (lower_note h c.args.table.now c.args.client old c.loop-index.index c.loop-index.mark c.see-seen.result c.loop-index.invariant.noted c.see-seen.ensures _ c.above-above.result w.mark-is c.above-above.ensures w.if-mark-above.false)
       ];
-      within = omega (arith, ap length c.session-index-end.ensures.operations, c.loop-index-test.true);
+      within = omega (arith, c.session_len-index-end.ensures.count, c.loop-index-test.true);
     }
 
 pub returns-clause-front : goal.returns-clause-front
 returns-clause-front c = record { within = omega (arith, c.loop-index.invariant.within, c.loop-index.invariant.noted.whole); seen = c.loop-index.invariant.noted.seen; marks = c.loop-index.invariant.noted.marks }
 
 pub returns-clause-whole : goal.returns-clause-whole
-returns-clause-whole c = λ le. omega (arith, le, ap length c.session-index-end.ensures.operations, c.loop-index-test.false, c.loop-index.invariant.noted.whole, c.loop-index.notes.ok.0)
+returns-clause-whole c = λ le. omega (arith, le, c.session_len-index-end.ensures.count, c.loop-index-test.false, c.loop-index.invariant.noted.whole, c.loop-index.notes.ok.0)

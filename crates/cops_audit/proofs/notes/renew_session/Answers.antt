@@ -1,4 +1,4 @@
-use Rattle.std.proofs.Common.{◌<◌, ◌≤◌, ◌++◌, ◌∷◌, [], ℕ, length, take, slice_index_or, add-one, arith, ap, subst}
+use Rattle.std.proofs.Common.{◌<◌, ◌≤◌, ◌++◌, ◌∷◌, [], ℕ, length, take, slice_index_or, add-one, arith, subst}
 use Rattle.std.proofs.Math.ListN.{length-set}
 use Rattle.std.proofs.Math.Seq.{take-suc-set}
 use Rattle.std.proofs.lemmas.List.{take_all}
@@ -9,7 +9,7 @@ use Rattle.cops_audit.proofs.notes.renew_session.Goals as goal
 use Rattle.cops_audit.proofs.notes.renew_session.Goals.{then-mark-above, else-mark-above}
 
 pub see-seen-requires-clause-named : goal.see-seen-requires-clause-named
-see-seen-requires-clause-named c = slice_get_there (slice_index_or c.args.history.now.sessions c.args.client []) c.loop-index.index (omega (arith, ap length c.session-index-end.ensures.operations, c.loop-index-test.true))
+see-seen-requires-clause-named c = slice_get_there (slice_index_or c.args.history.now.sessions c.args.client []) c.loop-index.index (omega (arith, c.session_len-index-end.ensures.count, c.loop-index-test.true))
 
 pub above-above-requires : goal.above-above-requires
 above-above-requires c = omega (arith, few_places c.args.history.now.sessions c.args.table.now c.requires.table _ c.see-seen.result c.see-seen.ensures, c.requires.table.table.few)
@@ -26,7 +26,7 @@ loop-index-preserved c =
     let i = c.loop-index.index in
     let old = c.loop-index.notes.items in
     let note : Note = record { seen = c.see-seen.result; mark = c.if-mark-above.mark } in
-    let inside : i < length old = omega (arith, c.loop-index.invariant.len, ap length c.session-index-end.ensures.operations, c.loop-index-test.true) in
+    let inside : i < length old = omega (arith, c.loop-index.invariant.len, c.session_len-index-end.ensures.count, c.loop-index-test.true) in
     record {
       len = omega (arith, length-set old i note, c.loop-index.invariant.len);
       noted = rw (add-one, take-suc-set old i note inside)
@@ -41,6 +41,6 @@ pub returns : goal.returns
 returns c =
     let h = c.args.history.now.sessions in
     let notes = c.loop-index.notes.items in
-    let end : length notes ≤ c.loop-index.index = omega (arith, c.loop-index.invariant.len, ap length c.session-index-end.ensures.operations, c.loop-index-test.false) in
+    let end : length notes ≤ c.loop-index.index = omega (arith, c.loop-index.invariant.len, c.session_len-index-end.ensures.count, c.loop-index-test.false) in
     let noted = subst (λ ns. Noted h c.args.table.now c.args.client ns c.loop-index.index c.loop-index.mark) (take_all c.loop-index.index notes end) c.loop-index.invariant.noted in
     record { whole = c.loop-index.invariant.len; seen = noted.seen; marks = noted.marks }

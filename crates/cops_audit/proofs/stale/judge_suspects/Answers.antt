@@ -1,4 +1,4 @@
-use Rattle.std.proofs.Common.{ℕ, length, ap, sym, ◌∙◌, arith}
+use Rattle.std.proofs.Common.{ℕ, length, ap, ◌∙◌, arith}
 use Rattle.std.proofs.lemmas.List.{length-replicate}
 use Rattle.cops_audit.proofs.stale.judge_suspects.Goals as goal
 

@@ -1,26 +1,31 @@
-use Rattle.std.proofs.Common.{refl}
+use Rattle.std.proofs.Common.{refl, ap}
+use Rattle.std.specs.Option.{option_map}
+use Rattle.cops_types.specs.Histories.{key_of}
 use Rattle.cops_audit.proofs.Suspecting.{missed_clear, missed_far, missed_is}
 use Rattle.cops_audit.proofs.window.missed_suspect.Goals as goal
+
+pub first_on-requires : goal.first_on-requires
+first_on-requires c = (_, c.requires.missed.1)
 
 pub returns-in_default-clause-none : goal.returns-in_default-clause-none
 returns-in_default-clause-none c =
     let h = c.args.history.now.sessions in
-    let key = c.missed_key-key.result in
-    missed_clear h c.args.table.now c.requires.table c.args.op key.now c.missed_key-key.ensures c.args.mark
-    (c.in_default.ensures h c.args.table.now c.requires.firsts)
+    let missed = c.requires.missed in
+    missed_clear h c.args.table.now c.requires.table c.args.op missed.0 missed.1 c.args.mark
+    (c.in_default.ensures c.args.table.now missed.0 c.requires.firsts (ap (option_map key_of) missed.1))
 
 pub returns-then-first-mark-clause-none : goal.returns-then-first-mark-clause-none
 returns-then-first-mark-clause-none c =
     let h = c.args.history.now.sessions in
-    let key = c.missed_key-key.result in
-    missed_far h c.args.table.now c.requires.table c.args.op key.now c.missed_key-key.ensures c.args.mark c.in-Some.first
-    (c.in-Some.ensures h c.args.table.now c.requires.firsts) c.if-first-mark.true
+    let missed = c.requires.missed in
+    missed_far h c.args.table.now c.requires.table c.args.op missed.0 missed.1 c.args.mark c.in-Some.first
+    (c.in-Some.ensures c.args.table.now missed.0 c.requires.firsts (ap (option_map key_of) missed.1)) c.if-first-mark.true
 
 pub returns-clause-suspect : goal.returns-clause-suspect
 returns-clause-suspect c =
     let h = c.args.history.now.sessions in
-    let key = c.missed_key-key.result in (
+    let missed = c.requires.missed in (
       refl,
-      missed_is h c.args.table.now c.requires.table c.args.op key.now c.missed_key-key.ensures c.in-Some.first
-          (c.in-Some.ensures h c.args.table.now c.requires.firsts),
+      missed_is h c.args.table.now c.requires.table c.args.op missed.0 missed.1 c.in-Some.first
+          (c.in-Some.ensures c.args.table.now missed.0 c.requires.firsts (ap (option_map key_of) missed.1)),
     )

@@ -27,7 +27,7 @@ returns-then-not-branch c = (
   λ are.
       let i = c.loop-i.i in
       let item = c.index-clients-i.result in
-      let there = moved c.args.world.now c.loop-i.world i _ _ _ _ _ _ (sym c.loop-i.invariant.same) (sym c.deref.ensures.value) (sym c.session-session.ensures.operations) refl (are.each i item Done c.loop-i-test.true) in
+      let there = moved c.args.world.now c.loop-i.world i _ _ _ _ _ _ (sym c.loop-i.invariant.same) (sym c.deref.ensures.value) refl refl (are.each i item Done c.loop-i-test.true) in
       absurd (true_is_false c.in_ok-is_outcome.field-0 (c.in_ok-is_outcome.ensures.is.1 there) c.if-not-branch.true),
 )
 
@@ -45,7 +45,7 @@ loop-i-preserved c =
     let here : P i = λ x o.
     moved c.loop-i.world w i _ _ _ _ _ _ c.loop-i.invariant.same
     (c.deref.ensures.value ∙ ap (λ (y : ScriptedClient). y.script.items) (get_or_default clients i item x c.loop-i-test.true))
-    c.session-session.ensures.operations (get_or_default outcomes i Done o lt) (c.in_ok-is_outcome.ensures.is.0 yes) in
+    refl (get_or_default outcomes i Done o lt) (c.in_ok-is_outcome.ensures.is.0 yes) in
     record {
       same = c.in_ok-is_outcome.ensures.stays yes ∙ c.loop-i.invariant.same;
       each = λ k x o less. below_more P i (λ n h y p. c.loop-i.invariant.each n y p h) here k less x o;

@@ -1,4 +1,4 @@
-use Rattle.std.proofs.Common.{ap, arith, length}
+use Rattle.std.proofs.Common.{arith}
 use Rattle.cops_report.proofs.PutLemmas.{has_more, puts_of_client}
 use Rattle.cops_report.proofs.puts.push_puts.Goals as goal
 
@@ -11,4 +11,4 @@ loop-index-preserved c = record {
 
 pub returns-clause-all : goal.returns-clause-all
 returns-clause-all c = puts_of_client c.args.history.now.sessions c.args.client c.loop-index.index c.loop-index.puts.items
-    (omega (arith, ap length c.session-index-end.ensures.operations)) c.loop-index.invariant.all
+    (omega (arith, c.session_len-index-end.ensures.count)) c.loop-index.invariant.all

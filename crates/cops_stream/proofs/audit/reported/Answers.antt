@@ -7,8 +7,8 @@ use Rattle.cops_stream.proofs.audit.reported.Goals as goal
 pub report-requires : goal.report-requires
 report-requires c = subst (λ (s : Sessions). IsVerdict s c.args.verdict.now) (sym c.history.ensures.sessions) c.requires
 
-pub returns-clause-told : goal.returns-clause-told
-returns-clause-told c = record {
+pub returns : goal.returns
+returns c = record {
   verdict = c.args.verdict.now;
   is_report = record {
     is_verdict = c.requires;

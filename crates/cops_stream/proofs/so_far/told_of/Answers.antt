@@ -1,7 +1,3 @@
-use Rattle.std.proofs.Common.{◌≡◌, ap, inl, inr, subst, sym, ◌∙◌}
-use Rattle.cops_audit.specs.SoFar.{IsSoFar}
-use Rattle.cops_types.specs.Histories.{Sessions}
-use Rattle.cops_trace.specs.Answer.{BeginsAs}
 use Rattle.cops_stream.proofs.ToldSoFar.{told_cut, told_whole}
 use Rattle.cops_stream.proofs.so_far.told_of.Goals as goal
 

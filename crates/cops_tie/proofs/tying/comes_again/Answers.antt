@@ -1,4 +1,4 @@
-use Rattle.std.proofs.Common.{◌≡◌, ◌+◌, ◌∙◌, length, map, slice_index_or, sym, ap, arith, refl}
+use Rattle.std.proofs.Common.{◌+◌, ◌∙◌, map, sym, ap, arith}
 use Rattle.std.proofs.Common.{eqb-true, eq-eqb}
 use Rattle.std.proofs.lemmas.List.{get_or-map, length-map}
 use Rattle.cops_tie.specs.declared.order.Ticketed.{Ticketed}

@@ -1,9 +1,7 @@
-use Rattle.std.proofs.Common.{◌≡◌, ◌<◌, ◌≤◌, ◌+◌, ℕ, zero, suc, List, [], ◌∷◌, Bool, true, false, not, length, slice_index_or, ltb, refl, sym, ap, ap₂, subst, arith, ◌∙◌}
-use Rattle.std.specs.Cmp.Lexicographic.{pointwise}
+use Rattle.std.proofs.Common.{◌≡◌, ◌<◌, ◌+◌, ℕ, suc, List, [], ◌∷◌, Bool, true, false, length, slice_index_or, ltb, refl, ap₂, subst, arith}
 use Rattle.std.proofs.lemmas.Bool.{ltb-true, ltb-false}
 use Rattle.cops_types.specs.declared.op.Op.{Op}
 use Rattle.cops_types.specs.Histories.{Sessions}
-use Rattle.cops_book.proofs.Same.{pointwise_true, pointwise_refl, same_op, same_op_true, same_op_refl, not_false}
 use Rattle.cops_tie.proofs.tying.is_same.Goals as goal
 
 abbrev SameAt : Sessions → Sessions → ℕ → Type 0
@@ -22,25 +20,8 @@ all_same [] (y ∷ ys) e h = absurd (omega (arith, e))
 all_same (x ∷ xs) [] e h = absurd (omega (arith, e))
 all_same (x ∷ xs) (y ∷ ys) e h = ap₂ (λ (a : List Op) (b : Sessions). a ∷ b) (h 0 (omega arith)) (all_same xs ys (omega (arith, e)) (λ k less. h (suc k) (omega (arith, less))))
 
-pub returns-then-ne : goal.returns-then-ne
-returns-then-ne c = (
-  λ t. cc,
-  λ e.
-      let n = c.loop-client.client in
-      let same : pointwise same_op c.session.result.now c.session-in-loop-client.result.now ≡ true =
-      ap₂ (pointwise same_op) c.session.ensures.operations (c.session-in-loop-client.ensures.operations ∙ ap (λ (h : Sessions). slice_index_or h n []) (sym e))
-      ∙ pointwise_refl same_op same_op_refl (slice_index_or c.args.one.now.sessions n []) in
-      let differ : c.ne.result ≡ false = c.ne.ensures ∙ ap not same in
-      let are : c.ne.result ≡ true = c.if-ne.true in
-      cc,
-)
-
 pub loop-client-preserved : goal.loop-client-preserved
-loop-client-preserved c =
-    let n = c.loop-client.client in
-    let same : c.session.result.now ≡ c.session-in-loop-client.result.now =
-    pointwise_true same_op same_op_true _ _ (not_false _ (sym c.ne.ensures ∙ c.if-ne.false)) in
-    one_more c.args.one.now.sessions c.args.other.now.sessions n c.loop-client.invariant (sym c.session.ensures.operations ∙ same ∙ c.session-in-loop-client.ensures.operations)
+loop-client-preserved c = one_more c.args.one.now.sessions c.args.other.now.sessions c.loop-client.client c.loop-client.invariant (c.is_same_session.ensures.0 c.if-not-is_same_session.false)
 
 pub returns : goal.returns
 returns c = (

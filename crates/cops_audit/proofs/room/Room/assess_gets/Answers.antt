@@ -1,5 +1,6 @@
-use Rattle.std.proofs.Common.{◌∙◌, Vec, Global, ap, inl, inr, arith}
+use Rattle.std.proofs.Common.{◌∙◌, Vec, Global, AllPairs, ap, inl, inr, sym, subst, arith}
 use Rattle.cops_types.specs.declared.op.OpName.{OpName}
+use Rattle.cops_types.specs.Faults.{IsBefore}
 use Rattle.cops_audit.proofs.Lasting.{all_above, all_wait, not_true, seen_names, seen_table, waits}
 use Rattle.cops_audit.proofs.Reading.{above_same}
 use Rattle.cops_audit.proofs.room.Room.assess_gets.Goals as goal
@@ -34,3 +35,7 @@ returns-clause-so_far c =
     let w = waits (seen_names c.args.history.now.sessions c.as_slice-names.ensures.value c.requires.filled.names) (seen_table c.as_slice-table.ensures.value c.requires.filled.table) c.renew.ensures (c.has_mismatched.ensures.waiting (not_true c.if-has_mismatched.false))
     (c.has_not_above.ensures.none (not_true c.if-has_not_above.false)) (c.in_ok-stale.ensures.none (not_true c.if-stale.false)) names c.in_ok-stale.ensures.notes listed.1 in
     (w.lasting, omega (arith, c.if-waiting-eq0.false), listed.0, w.waiting, listed.2)
+
+pub count_sourceless-waiting-requires : goal.count_sourceless-waiting-requires
+count_sourceless-waiting-requires c =
+    subst (AllPairs IsBefore) (sym (c.as_slice.ensures.value ∙ ap (λ (v : Vec OpName Global). v.items) c.in_ok-stale.ensures.names)) c.requires.filled.names.in_order

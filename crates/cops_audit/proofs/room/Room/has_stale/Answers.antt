@@ -31,6 +31,7 @@ returns-clause-fits c =
         names = fits.space.names;
         table = fits.space.table;
         nexts = fits.space.nexts;
+        by_key = fits.space.by_key;
         firsts = fits.space.firsts;
         suspects = fits.space.suspects;
         floors = fits.space.floors;
@@ -40,6 +41,4 @@ returns-clause-fits c =
       notes = fits.notes;
       counts = idle.clients;
       empty = idle.empty;
-      numbers = fits.numbers;
-      keys = fits.keys;
     }

@@ -1,7 +1,7 @@
 use Rattle.std.proofs.Common.{ℕ, List, [], length, ap, sym, ◌∙◌, arith}
 use Rattle.std.proofs.lemmas.List.{length-replicate}
 use Rattle.cops_types.specs.declared.op.Op.{Op}
-use Rattle.cops_audit.proofs.Growing.{count_empty, empty_as_long, empty_keys}
+use Rattle.cops_audit.proofs.Growing.{count_empty, empty_as_long}
 use Rattle.cops_audit.proofs.room.Room.new.Goals as goal
 
 pub returns : goal.returns
@@ -14,6 +14,7 @@ returns c =
         names = omega (arith, none);
         table = omega (arith, none);
         nexts = omega (arith, none);
+        by_key = omega (arith, none);
         firsts = omega (arith, none);
         suspects = omega (arith, none);
         floors = omega (arith, none);
@@ -23,6 +24,4 @@ returns c =
       notes = empty_as_long n c.in_ok-notes.notes c.in_ok-notes.ensures;
       counts = ap length fresh.counts ∙ length-replicate {A = ℕ} n 0 ∙ sym (length-replicate {A = List Op} n []);
       empty = fresh.pending;
-      numbers = c.new-4.ensures;
-      keys = empty_keys n c.new-4.result;
     }

@@ -8,11 +8,12 @@ use Rattle.cops_audit.specs.Tables.{IsVersionTable}
 use Rattle.cops_audit.specs.Windows.{AreSuspects}
 use Rattle.cops_audit.proofs.Fitting.{no_ok}
 use Rattle.cops_audit.proofs.Growing.{count_notes, fresh_idle, fresh_room}
-use Rattle.cops_audit.proofs.Numbering.{keys_same, still_numbers}
 use Rattle.cops_audit.proofs.room.Room.suspect.Goals as goal
 
 pub returns-in_err-link-clause-ok : goal.returns-in_err-link-clause-ok
-returns-in_err-link-clause-ok c = no_ok (c.in_err-link.ensures.succeeds (omega (arith, c.requires.noted.filled.few, c.requires.noted.fits.space.nexts, ap length c.as_slice-table.ensures.value)))
+returns-in_err-link-clause-ok c = no_ok (c.in_err-link.ensures.succeeds
+    (omega (arith, c.requires.noted.filled.few, c.requires.noted.fits.space.nexts, ap length c.as_slice-table.ensures.value))
+    c.requires.noted.fits.space.by_key)
 
 pub returns-in_err-set_firsts-clause-ok : goal.returns-in_err-set_firsts-clause-ok
 returns-in_err-set_firsts-clause-ok c = no_ok (c.in_err-set_firsts.ensures.succeeds (omega (arith, c.requires.noted.filled.few, c.requires.noted.fits.space.firsts, ap length c.as_slice-table.ensures.value)))
@@ -58,7 +59,8 @@ returns-clause-fits c =
       space = record {
         names = fits.space.names;
         table = fits.space.table;
-        nexts = omega (arith, fits.space.nexts, c.in_ok-link.ensures.capacity);
+        nexts = omega (arith, fits.space.nexts, c.in_ok-link.ensures.nexts_capacity);
+        by_key = omega (arith, fits.space.by_key, c.in_ok-link.ensures.firsts_capacity);
         firsts = omega (arith, fits.space.firsts, c.in_ok-set_firsts.ensures.capacity);
         suspects = omega (arith, fits.space.suspects, c.clear.ensures.capacity, c.in_ok-push_suspects.ensures.capacity);
         floors = omega (arith, fits.space.floors, c.in_ok-set_floors.ensures.capacity);
@@ -68,6 +70,4 @@ returns-clause-fits c =
       notes = fits.notes;
       counts = idle.clients;
       empty = idle.empty;
-      numbers = still_numbers c.args.self.now.numbers c.link.new.self c.in_ok-link.ensures.same c.in_ok-link.ensures.len fits.numbers;
-      keys = keys_same h c.args.self.now.numbers c.link.new.self c.in_ok-link.ensures.same fits.keys;
     }

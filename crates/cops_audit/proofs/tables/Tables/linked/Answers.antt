@@ -14,5 +14,5 @@ invariant_of-result g c =
         puts = record { table = c.puts.invariant.table; rising = subst (λ (s : Sorted). Rises s.table) (sym c.puts.view_is) c.requires };
         notes = subst (λ table. IsNoted h table c.in_ok-notes.notes) seen c.in_ok-notes.ensures.notes;
       },
-      subst (λ table. AreLinks h table c.in_ok-notes.links) seen c.in_ok-notes.ensures.links,
+      subst (λ table. AreLinks c.puts.inside.history.now table c.in_ok-notes.links) seen c.in_ok-notes.ensures.links,
     )

@@ -1,11 +1,17 @@
-use Rattle.std.proofs.Common.{◌≡◌, ◌≤◌, sym, subst, arith}
-use Rattle.cops_types.specs.Histories.{Sessions}
-use Rattle.cops_types.specs.Recorded.{IsWithinLimits}
-use Rattle.cops_types.specs.Counts.{count_of}
-use Rattle.cops_types.proofs.Sessions.{none_within, count-none}
+use Rattle.std.proofs.Common.{◌≤◌, Bool, List, map, replicate, false, ap, ◌∙◌, subst, sym, arith, ◌≡◌}
+use Rattle.cops_types.specs.Entries.{EntryLists, told}
+use Rattle.cops_types.specs.Keeping.{IsKept}
+use Rattle.cops_types.proofs.Holding.{new_kept}
+use Rattle.cops_types.proofs.Telling.{told-none}
 use Rattle.cops_types.proofs.history.History.new.Goals as goal
 
 pub invariant_of-result : goal.invariant_of-result
 invariant_of-result c =
-    let le : c.loop.counter ≤ 65535 = omega (arith, c.loop.auto.counter-end, c.ranges.clients.fits) in
-    subst (λ (h : Sessions). IsWithinLimits h × (0 ≡ count_of h)) (sym c.loop.invariant.empty) (none_within c.loop.counter le, sym (count-none c.loop.counter))
+    let few : c.args.clients ≤ 65535 = omega (arith, c.ranges.clients.fits) in
+    let flags : c.in_ok-reserved.reserved.items ≡ replicate c.args.clients false = c.in_ok-reserved.ensures.items_if_clones_equal (λ y h. h) in
+    subst (λ (reserved : List Bool). IsKept c.new-2.result c.in_ok-entries.entries reserved 0 0) (sym flags) (new_kept c.new-2.result c.in_ok-entries.entries c.args.clients few c.new-2.ensures c.in_ok-entries.ensures)
+
+pub returns : goal.returns
+returns c =
+    ap (λ (all : EntryLists). map (map (told c.new-2.result.keys c.in_ok-entries.entries.all)) all) c.in_ok-entries.ensures
+    ∙ told-none c.new-2.result.keys c.in_ok-entries.entries.all c.args.clients

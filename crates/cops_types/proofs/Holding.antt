@@ -1,0 +1,119 @@
+-- What a history keeps, as clients hold places and use them.
+use Rattle.std.proofs.Common.{◌≡◌, ◌≢◌, ℕ, zero, suc, ◌+◌, ◌-◌, ◌<◌, ◌≤◌, Bool, true, false, List, [], ◌∷◌, map, length, get_or, slice_get, replicate, sum_by, Some, None, ◌++◌, refl, sym, ap, ◌∙◌, subst, arith, get_or-set_same, get_or-set_other, inl, inr}
+use Rattle.std.proofs.Math.ListN.{set, length-set}
+use Rattle.std.proofs.lemmas.List.{length-replicate, length-map}
+use Rattle.std.proofs.lemmas.List.Sums.{sum_by-set, sum_by-cons}
+use Rattle.std.proofs.lemmas.List.Folds.{sum_by-replicate}
+use Rattle.cops_types.specs.declared.op.Op.{Op}
+use Rattle.cops_types.specs.declared.entry.Entry.{Entry}
+use Rattle.cops_types.specs.Counts.{count_of}
+use Rattle.cops_types.specs.Entries.{EntryLists, KeptEntries, IsSound, AreSound, told, told_by}
+use Rattle.cops_types.specs.Histories.{item_at, with_item, with_op}
+use Rattle.cops_types.specs.Keeping.{IsKept, flag_count}
+use Rattle.cops_types.specs.KeySets.{AreDistinct, GainsKey, KeptKeys}
+use Rattle.cops_types.specs.Recorded.{IsWithinLimits}
+use Rattle.cops_types.proofs.Sessions.{at_or_other, count-with_op, within_with_op, none_of, none_within, count-none}
+use Rattle.cops_types.proofs.Telling.{told_by-with_item, sound-with_item, told-none}
+
+-- ---- flags
+
+-- no more flags are set than there are
+pub flags-le : (flags : List Bool) → sum_by flag_count flags ≤ length flags
+flags-le [] = omega arith
+flags-le (true ∷ flags) = omega (arith, flags-le flags, sum_by-cons flag_count true flags)
+flags-le (false ∷ flags) = omega (arith, flags-le flags, sum_by-cons flag_count false flags)
+
+pub set_flag : (flags : List Bool) (i : ℕ) → i < length flags → get_or flags i false ≡ false → sum_by flag_count (set flags i true) ≡ sum_by flag_count flags + 1
+set_flag flags i inside was = omega (arith, sum_by-set flag_count flags i true false inside, ap flag_count was)
+
+pub clear_flag : (flags : List Bool) (i : ℕ) → i < length flags → get_or flags i false ≡ true → sum_by flag_count (set flags i false) + 1 ≡ sum_by flag_count flags
+clear_flag flags i inside was = omega (arith, sum_by-set flag_count flags i false false inside, ap flag_count was)
+
+no_flag : (n c : ℕ) → get_or (replicate n false) c false ≡ false
+no_flag zero c = refl
+no_flag (suc n) zero = refl
+no_flag (suc n) (suc c) = no_flag n c
+
+-- ---- a history with no operation
+
+pub new_kept : (keys : KeptKeys) (entries : KeptEntries) (n : ℕ) → n ≤ 65535 → keys.keys ≡ [] → entries.all ≡ replicate n [] → IsKept keys entries (replicate n false) 0 0
+new_kept keys entries n le no_keys no_entries =
+    let none : told_by keys.keys entries.all ≡ replicate n [] = ap (λ (all : EntryLists). map (map (told keys.keys entries.all)) all) no_entries ∙ told-none keys.keys entries.all n in
+    record {
+      limits = subst IsWithinLimits (sym none) (none_within n le);
+      count = sym (ap count_of none ∙ count-none n);
+      sound = λ name e at. let gone : None ≡ Some e = ap (λ (s : List Entry). slice_get s name.index) (sym (none_of n name.client)) ∙ ap (λ (all : EntryLists). item_at all name) (sym no_entries) ∙ at in cc;
+      distinct = λ i j key at also. let gone : None ≡ Some key = ap (λ (k : List (List ℕ)). slice_get k i) (sym no_keys) ∙ at in cc;
+      few = omega (arith, ap length no_keys);
+      flags = length-replicate n false ∙ sym (ap length no_entries ∙ length-replicate n []);
+      room = λ client flag. let gone : true ≡ false = sym flag ∙ no_flag n client in cc;
+      held = omega (arith, sum_by-replicate flag_count n false);
+      places = omega arith;
+    }
+
+-- ---- places that are held
+
+module _ (k k' : KeptKeys) (e e' : KeptEntries) (reserved : List Bool) (reservations len : ℕ) (keys : k'.keys ≡ k.keys) (spare : k.spare ≤ k'.spare) (all : e'.all ≡ e.all)
+    (room : (c : ℕ) → get_or e.room c false ≡ true → get_or e'.room c false ≡ true) (kept : IsKept k e reserved reservations len) where
+  pub same_told : told_by k'.keys e'.all ≡ told_by k.keys e.all
+  same_told = λ j. told_by (keys j) (all j)
+
+  -- more room changes nothing
+  pub room_kept : IsKept k' e' reserved reservations len
+  room_kept = record {
+    limits = subst IsWithinLimits (sym same_told) kept.limits;
+    count = kept.count ∙ ap count_of (sym same_told);
+    sound = subst (λ (ks : List (List ℕ)). AreSound ks e'.all) (sym keys) (subst (AreSound k.keys) (sym all) kept.sound);
+    distinct = subst AreDistinct (sym keys) kept.distinct;
+    few = omega (arith, ap length keys, kept.few);
+    flags = kept.flags ∙ ap length (sym all);
+    room = λ c flag. room c (kept.room c flag);
+    held = kept.held;
+    places = omega (arith, kept.places);
+  }
+
+  -- one more place is held
+  pub flag_kept : (client : ℕ) → client < length e.all → get_or reserved client false ≡ false → get_or e'.room client false ≡ true → reservations + 1 ≤ k'.spare → IsKept k' e' (set reserved client true) (reservations + 1) len
+  flag_kept client inside was has places = record {
+    limits = room_kept.limits;
+    count = room_kept.count;
+    sound = room_kept.sound;
+    distinct = room_kept.distinct;
+    few = room_kept.few;
+    flags = length-set reserved client true ∙ kept.flags ∙ ap length (sym all);
+    room = λ c flag. elim (at_or_other client c) [
+      | inl p ↦ subst (λ (d : ℕ). get_or e'.room d false ≡ true) p has
+      | inr p ↦ room c (kept.room c (sym (get_or-set_other reserved client c true false p) ∙ flag))
+    ];
+    held = omega (arith, kept.held, set_flag reserved client (omega (arith, kept.flags)) was);
+    places = places;
+  }
+
+-- ---- one more operation
+
+module _ (k k' : KeptKeys) (e e' : KeptEntries) (reserved : List Bool) (reservations len client : ℕ) (entry : Entry) (op : Op) (inside : client < length e.all) (kept : IsKept k e reserved reservations len)
+    (gains : GainsKey k k') (fits : IsSound k'.keys e.all entry) (is : told k'.keys e.all entry ≡ op) (all : e'.all ≡ with_item e.all client entry) where
+  pub put_told : told_by k'.keys e'.all ≡ with_op (told_by k.keys e.all) client op
+  put_told = ap (told_by k'.keys) all ∙ told_by-with_item k.keys k'.keys gains.places e.all client entry inside kept.sound fits op is
+
+  pub put_kept : get_or reserved client false ≡ true → ((c : ℕ) → c ≢ client → get_or e.room c false ≡ true → get_or e'.room c false ≡ true)
+      → length (get_or (told_by k.keys e.all) client []) < 1000000 → count_of (told_by k.keys e.all) < 16000000 → IsKept k' e' (set reserved client false) (reservations - 1) (len + 1)
+  put_kept flag room session most =
+      let h = told_by k.keys e.all in
+      let there : client < length h = omega (arith, length-map e.all (map (told k.keys e.all))) in
+      let flags : client < length reserved = omega (arith, kept.flags) in
+      record {
+        limits = subst IsWithinLimits (sym put_told) (within_with_op h client op (there, session, most) kept.limits);
+        count = omega (arith, kept.count, ap count_of put_told, count-with_op h client op there);
+        sound = subst (AreSound k'.keys) (sym all) (sound-with_item k.keys k'.keys gains.places e.all client entry inside kept.sound fits);
+        distinct = gains.distinct;
+        few = omega (arith, gains.few, kept.few);
+        flags = length-set reserved client false ∙ kept.flags ∙ sym (ap length all ∙ length-set e.all client (get_or e.all client [] ++ entry ∷ []));
+        room = λ c set_there. elim (at_or_other client c) [
+          | inl p ↦
+              let gone : false ≡ true = sym (get_or-set_same reserved client false false flags) ∙ ap (λ (d : ℕ). get_or (set reserved client false) d false) p ∙ set_there in cc
+          | inr p ↦ room c p (kept.room c (sym (get_or-set_other reserved client c false false p) ∙ set_there))
+        ];
+        held = omega (arith, kept.held, clear_flag reserved client flags flag);
+        places = omega (arith, kept.held, kept.places, gains.spare, clear_flag reserved client flags flag);
+      }

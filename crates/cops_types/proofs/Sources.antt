@@ -1,0 +1,102 @@
+-- What is told of an entry by its name, and when the one entry is the source of the other.
+use Rattle.std.proofs.Common.{◌≡◌, ◌<◌, ℕ, List, [], length, get_or, slice_get, Option, Some, None, refl, sym, ap, ◌∙◌, inl, inr}
+use Rattle.std.specs.Prelude.{◌⊎◌}
+use Rattle.std.specs.Option.{option_map}
+use Rattle.std.proofs.lemmas.Option.{slice_get-get_or}
+use Rattle.cops_types.specs.declared.op.Op.{Op}
+use Rattle.cops_types.specs.declared.op.Op.TheVariants.{Put as PutOp, Got as GotOp, Missed as MissedOp}
+use Rattle.cops_types.specs.declared.op.OpName.{OpName}
+use Rattle.cops_types.specs.declared.entry.Entry.{Entry}
+use Rattle.cops_types.specs.declared.entry.Entry.TheVariants.{Put, Got, Sourced, Missed}
+use Rattle.cops_types.specs.Histories.{GetsVersion, PutsVersion, SourceStep, item_at, op_at, key_of}
+use Rattle.cops_types.specs.Entries.{EntryLists, AreSound, IsSound, value_in, told, told_by, key_number_of}
+use Rattle.cops_types.specs.KeySets.{AreDistinct}
+use Rattle.cops_types.proofs.Telling.{op_at-told}
+
+key_told : (keys : List (List ℕ)) (all : EntryLists) (e : Entry) → key_of (told keys all e) ≡ get_or keys (key_number_of e) []
+key_told keys all (Put key value version) = refl
+key_told keys all (Got key value version) = refl
+key_told keys all (Sourced key put version) = refl
+key_told keys all (Missed key) = refl
+
+module _ (keys : List (List ℕ)) (all : EntryLists) (name : OpName) where
+  -- where no entry is, no operation is
+  pub none_told : None ≡ item_at all name → None ≡ op_at (told_by keys all) name
+  none_told none = ap (option_map (told keys all)) none ∙ sym (op_at-told keys all name)
+
+  -- where an entry is, the operation is that it stands for
+  pub told_as : (e : Entry) (op : Op) → Some e ≡ item_at all name → told keys all e ≡ op → Some op ≡ op_at (told_by keys all) name
+  told_as e op at is = ap Some (sym is) ∙ ap (option_map (told keys all)) at ∙ sym (op_at-told keys all name)
+
+  -- its key has the entry's number
+  pub key_numbered : (e : Entry) (number : ℕ) → AreSound keys all → Some e ≡ item_at all name → number ≡ key_number_of e → slice_get keys number ≡ option_map key_of (op_at (told_by keys all) name)
+  key_numbered e number sound at is =
+      ap (slice_get keys) is ∙ slice_get-get_or keys (key_number_of e) [] (sound name e (sym at)).key ∙ ap Some (sym (key_told keys all e))
+      ∙ ap (option_map key_of) (told_as e (told keys all e) at refl)
+
+  -- what is no put's entry is no put
+  pub no_put : (e : Entry) → Some e ≡ item_at all name → ((key : ℕ) (value : List ℕ) (version : ℕ) → e ≡ Put key value version → ⊥) → (version : ℕ) → ¬ PutsVersion (told_by keys all) name version
+  no_put (Put key value own) at not version puts = not key value own refl
+  no_put (Got key value own) at not version puts = let both = told_as (Got key value own) _ at refl ∙ puts.2 in cc
+  no_put (Sourced key put own) at not version puts = let both = told_as (Sourced key put own) _ at refl ∙ puts.2 in cc
+  no_put (Missed key) at not version puts = let both = told_as (Missed key) _ at refl ∙ puts.2 in cc
+
+  -- and what is no entry of a get that returned a value is no such get
+  pub no_got : (e : Entry) → Some e ≡ item_at all name → ((key : ℕ) (value : List ℕ) (version : ℕ) → e ≡ Got key value version → ⊥) → ((key : ℕ) (put : OpName) (version : ℕ) → e ≡ Sourced key put version → ⊥)
+      → (version : ℕ) → ¬ GetsVersion (told_by keys all) name version
+  no_got (Put key value own) at not nor version gets = let both = told_as (Put key value own) _ at refl ∙ gets.2 in cc
+  no_got (Got key value own) at not nor version gets = not key value own refl
+  no_got (Sourced key put own) at not nor version gets = nor key put own refl
+  no_got (Missed key) at not nor version gets = let both = told_as (Missed key) _ at refl ∙ gets.2 in cc
+
+-- an entry that names its source stands for a get of what that put wrote
+module _ (keys : List (List ℕ)) (all : EntryLists) (put : OpName) (number : ℕ) (value : List ℕ) (version : ℕ) (at : item_at all put ≡ Some (Put number value version)) where
+  pub named_told : (key : List ℕ) → get_or keys number [] ≡ key → told keys all (Sourced number put version) ≡ GotOp key value version
+  named_told key is = λ j. GotOp (is j) (ap value_in at j) version
+
+  pub named_sound : AreSound keys all → IsSound keys all (Sourced number put version)
+  named_sound sound = record {
+    key = (sound put (Put number value version) at).key;
+    source = at ∙ ap (λ (v : List ℕ). Some (Put number v version)) (sym (ap value_in at));
+  }
+
+-- an entry that stands for a put of the key of that number
+put_entry : (keys : List (List ℕ)) (all : EntryLists) (key : ℕ) (value : List ℕ) (version : ℕ) → AreDistinct keys → key < length keys
+    → (found : Option Entry) → ((e : Entry) → found ≡ Some e → key_number_of e < length keys) → option_map (told keys all) found ≡ Some (PutOp (get_or keys key []) value version) → found ≡ Some (Put key value version)
+put_entry keys all key value version distinct inside None numbered is = cc
+put_entry keys all key value version distinct inside (Some (Put k v w)) numbered is =
+    let same : get_or keys k [] ≡ get_or keys key [] = cc in
+    let number : k ≡ key = distinct k key (get_or keys k []) (slice_get-get_or keys k [] (numbered (Put k v w) refl)) (slice_get-get_or keys key [] inside ∙ ap Some (sym same)) in
+    let values : v ≡ value = cc in
+    let versions : w ≡ version = cc in
+    λ j. Some (Put (number j) (values j) (versions j))
+put_entry keys all key value version distinct inside (Some (Got k v w)) numbered is = cc
+put_entry keys all key value version distinct inside (Some (Sourced k p w)) numbered is = cc
+put_entry keys all key value version distinct inside (Some (Missed k)) numbered is = cc
+
+module _ (keys : List (List ℕ)) (all : EntryLists) (put got : OpName) (key : ℕ) (value : List ℕ) (version : ℕ) (was_got : Some (GotOp (get_or keys key []) value version) ≡ op_at (told_by keys all) got) where
+  -- a put of that key, value and version is the get's source
+  pub source_there : item_at all put ≡ Some (Put key value version) → SourceStep (told_by keys all) put got
+  source_there at = record {
+    key = get_or keys key [];
+    value = value;
+    version = version;
+    put = op_at-told keys all put ∙ ap (option_map (told keys all)) at;
+    got = sym was_got;
+  }
+
+  -- and the source is such a put
+  pub source_found : AreSound keys all → AreDistinct keys → key < length keys → SourceStep (told_by keys all) put got → item_at all put ≡ Some (Put key value version)
+  source_found sound distinct inside s =
+      let same : Some (GotOp s.key s.value s.version) ≡ Some (GotOp (get_or keys key []) value version) = sym s.got ∙ sym was_got in
+      let as_put : Some (PutOp s.key s.value s.version) ≡ Some (PutOp (get_or keys key []) value version) = cc in
+      put_entry keys all key value version distinct inside (item_at all put) (λ e at. (sound put e at).key) (sym (op_at-told keys all put) ∙ s.put ∙ as_put)
+
+-- a put or a get that found nothing has no source
+pub no_source : (keys : List (List ℕ)) (all : EntryLists) (put got : OpName) (e : Entry) → Some e ≡ item_at all got
+    → ((key : ℕ) × (value : List ℕ) × (version : ℕ) × (e ≡ Put key value version)) ⊎ ((key : ℕ) × (e ≡ Missed key)) → SourceStep (told_by keys all) put got → ⊥
+no_source keys all put got e at is s =
+    elim is [
+      | inl p ↦ let both = told_as keys all got e (PutOp (get_or keys p.0 []) p.1 p.2) at (ap (told keys all) p.3) ∙ s.got in cc
+      | inr p ↦ let both = told_as keys all got e (MissedOp (get_or keys p.0 [])) at (ap (told keys all) p.1) ∙ s.got in cc
+    ]

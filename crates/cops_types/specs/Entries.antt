@@ -1,0 +1,57 @@
+-- Entries: operations as a history keeps them, which name their keys by number, and some gets' values by the put that wrote them.
+use Rattle.std.specs.Prelude.{◌≡◌, ◌<◌, ℕ, List, [], length, map, Option, Some, slice_index_or, Bool}
+use Rattle.cops_types.specs.declared.entry.Entry.{Entry}
+use Rattle.cops_types.specs.declared.entry.Entry.TheVariants.{Put, Got, Sourced, Missed}
+use Rattle.cops_types.specs.declared.op.Op.{Op}
+use Rattle.cops_types.specs.declared.op.Op.TheVariants.{Put as PutOp, Got as GotOp, Missed as MissedOp}
+use Rattle.cops_types.specs.declared.op.OpName.{OpName}
+use Rattle.cops_types.specs.Histories.{Sessions, item_at}
+
+-- the entries of each client, in their order
+abbrev pub EntryLists : Type 0
+EntryLists = List (List Entry)
+
+-- the entries, and of each client whether its next one takes no memory
+pub record KeptEntries : Type 0 where
+  pub all : EntryLists
+  pub room : List Bool
+
+-- the number of its key
+abbrev pub key_number_of : Entry → ℕ
+key_number_of (Put key value version) = key
+key_number_of (Got key value version) = key
+key_number_of (Sourced key put version) = key
+key_number_of (Missed key) = key
+
+-- the value, where the entry is a put
+abbrev pub value_in : Option Entry → List ℕ
+value_in (Some (Put key value version)) = value
+value_in _ = []
+
+-- the value that the put of that name wrote
+abbrev pub value_put : EntryLists → OpName → List ℕ
+value_put all put = value_in (item_at all put)
+
+-- the operation that an entry stands for
+abbrev pub told : List (List ℕ) → EntryLists → Entry → Op
+told keys all (Put key value version) = PutOp (slice_index_or keys key []) value version
+told keys all (Got key value version) = GotOp (slice_index_or keys key []) value version
+told keys all (Sourced key put version) = GotOp (slice_index_or keys key []) (value_put all put) version
+told keys all (Missed key) = MissedOp (slice_index_or keys key [])
+
+-- the history that the entries stand for
+abbrev pub told_by : List (List ℕ) → EntryLists → Sessions
+told_by keys all = map (map (told keys all)) all
+
+-- the put that it names is there, with its key and version
+abbrev pub HasSource : EntryLists → Entry → Type 0
+HasSource all (Sourced key put version) = item_at all put ≡ Some (Put key (value_put all put) version)
+HasSource all _ = Unit {0}
+
+-- its key is there, and the put that it names, if it names one
+pub record IsSound (keys : List (List ℕ)) (all : EntryLists) (entry : Entry) : Type 0 where
+  pub key : key_number_of entry < length keys
+  pub source : HasSource all entry
+
+abbrev pub AreSound : List (List ℕ) → EntryLists → Type 0
+AreSound keys all = (name : OpName) (entry : Entry) → item_at all name ≡ Some entry → IsSound keys all entry

@@ -1,0 +1,71 @@
+use crate::fault::Memory;
+use crate::key::Key;
+use indexmap::IndexSet;
+use std::alloc::Global;
+use std::marker::Model;
+
+/// Keys, each once, in the order in which they came: a key's number is its place.
+#[derive(Debug, Drop)]
+pub(crate) struct KeySet {
+    keys: IndexSet<Key>,
+}
+
+impl Model for KeySet {
+    ghost use Rattle.indexmap.specs.IndexSet.{spare};
+    ghost use Rattle.cops_types.specs.KeySets.{KeptKeys};
+
+    ghost Value = { KeptKeys };
+
+    ghost view = { λ a. record { keys = a.keys.keys; spare = spare a.keys } };
+}
+
+impl KeySet {
+    ghost use Rattle.std.specs.Prelude.{◌≡◌, ◌<◌, ◌≤◌, [], length, slice_index_or, slice_get, Some, OnOk};
+    ghost use Rattle.cops_types.specs.KeySets.{GainsKey};
+    ghost use Rattle.cops_types.specs.declared.limits.TheConstants.{MAX_OPS};
+
+    /// No key. It takes no memory.
+    pub(crate) fn new(alloc: Global) -> Self
+        ensures { result.keys ≡ [] }
+    {
+        KeySet {
+            keys: IndexSet::new(alloc),
+        }
+    }
+
+    /// How many keys there are.
+    pub(crate) fn len(&self) -> usize
+        ensures { result ≡ length self.now.keys }
+    {
+        self.keys.len()
+    }
+
+    /// The key of that number.
+    pub(crate) fn key(&self, number: u32) -> &Key
+        requires { number < length self.now.keys }
+        ensures { result.now ≡ slice_index_or self.now.keys number [] }
+    {
+        &self.keys.as_slice()[number as usize]
+    }
+
+    /// Makes room for so many more keys. A refusal changes nothing.
+    pub(crate) fn reserve(&mut self, more: usize) -> Result<(), Memory>
+        ensures same { self.new.keys ≡ self.old.keys }
+        ensures ok { OnOk result (more ≤ self.new.spare) }
+        ensures kept { self.old.spare ≤ self.new.spare }
+    {
+        self.keys.reserve(more)?;
+        Ok(())
+    }
+
+    /// The number of a key, which is added where it is not there. It takes no memory.
+    pub(crate) fn number(&mut self, key: Key) -> u32
+        requires few { length self.old.keys < MAX_OPS }
+        requires room { 0 < self.old.spare }
+        ensures found { slice_get self.new.keys result ≡ Some key }
+        ensures gains { GainsKey self.old self.new }
+    {
+        let (number, _) = self.keys.insert_full(key).unwrap();
+        number as u32
+    }
+}
