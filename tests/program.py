@@ -222,6 +222,7 @@ def mixed_scripts():
     for client, key in ((0, "a"), (1, "b")):
         own = [line.split(" version=")[1] for line in lines if f" client={client} index=" in line and f" key={key} value=1 version=" in line]
         check(f"client {client} got its own put", (len(own), len(set(own))), (2, 1))
+    to_standard_output()
     late = {"data_centres": 2, "link": 1, "repeat": 2, "hold": 5, "clients": [{"at": 0, "script": [{"put": ["x", "1"]}, {"put": ["y", "2"]}]}]}
     check("messages that come late and three times", ran(json.dumps(late).encode())[0], (0, b"client 0 done\naccepted: 2 operations, 2 puts\n", b""))
     check("fewer turns than come late", ran(json.dumps({**late, "turns": 3}).encode())[0], (4, b"", b"failed: turn limit\n"))
@@ -239,6 +240,27 @@ def mixed_scripts():
     reads = [{"put": ["a", ""]}] + [{"get": f"k{n}"} for n in range(257)]
     both = json.dumps({"data_centres": 1, "clients": [{"at": 0, "script": full[0]["script"] + reads}]}).encode()
     check("a full context stops a client", ran(both)[0], (0, b"client 0 stopped 2\naccepted: 513 operations, 258 puts\n", b""))
+
+
+def to_standard_output():
+    """A trace that goes to standard output, and to an audit from there; all else is printed to standard error."""
+    lines, report = b"client 0 done\nclient 1 done\n", b"accepted: 4 operations, 2 puts\n"
+    path = os.path.join(ROOT, "examples", "two_clients.json")
+    status, recorded, told = cops("run", path, "-")
+    check("run to standard output", (status, told), (0, lines + report))
+    check("audit of what it wrote", cops("audit", "-", stdin=recorded), (0, report, b""))
+    program = os.path.join(ROOT, "cops")
+    running = subprocess.Popen([program, "run", path, "-"], stdout=subprocess.PIPE, stderr=subprocess.PIPE)
+    audit = subprocess.run([program, "audit", "-"], stdin=running.stdout, stdout=subprocess.PIPE, check=False)
+    running.stdout.close()
+    told = running.stderr.read()
+    running.stderr.close()
+    check("run into an audit", (running.wait(), told, audit.returncode, audit.stdout), (0, lines + report, 0, report))
+    events, listed = ran(example("newer_put_elsewhere.json")), os.path.join(ROOT, "examples", "newer_put_elsewhere.json")
+    check("events to standard output", cops("run", listed, "-"), (0, events[1], events[0][1]))
+    check("a faulty scenario to standard output", cops("run", "-", "-", stdin=b"{"), (2, b"", b"faulty: scenario is not JSON\n"))
+    with open("/dev/full", "wb") as full:
+        check("a run to standard output that is full", cops("run", path, "-", stdout=full), (4, None, b"failed: write\n"))
 
 
 def run_of_mixed(seed):

@@ -16,7 +16,7 @@ mod progress;
 use crate::progress::{Cleared, Watched, begun, remove};
 use cops_command::Status;
 use cops_line::{Job, LineFault, line};
-use cops_run_stream::run_stream;
+use cops_run_stream::{Streamed, run_stream};
 use cops_serve::serve_stream;
 use cops_stream::{Answer, StreamFault, audit_so_far, audit_stream, show_stream};
 use cops_types::{Counted, Memory, OpenGate};
@@ -127,32 +127,51 @@ where
 }
 
 /// Runs the scenario that the input holds, writes its trace to the file of that name, and gives the status: accepted only of a
-/// scenario with a run whose history is accepted.
+/// scenario with a run whose history is accepted. Where the name is `-`, the trace goes to standard output, and all else that is
+/// printed to standard error.
 fn run_scenario<R, I, E>(rt: &R, input: I, trace: &str, errors: E) -> u8
 where
-    R: Files + Print + Eprint + AllocGlobal + Threads + Wait + Sync,
+    R: Files<File = File> + Print + Eprint + AllocGlobal + Threads + Wait + Sync,
     I: Read + Drop,
+    E: Write + Copy + Drop,
+    ensures ran { result ≡ number Accepted → IfSome (I.remaining input) TellsRun }
+    ensures refused { result ≡ number Refused → IfSome (I.remaining input) (λ _. ⊥) }
+    ensures faulty { result ≡ number Faulty → IfSome (I.remaining input) TellsNone }
+{
+    if trace == "-" {
+        return run_over(rt, input, io::writer(rt), errors, errors);
+    }
+    let Ok(file) = File::create(rt, trace) else {
+        return failed(rt, "open", Status::Failed);
+    };
+    run_over(rt, input, file, io::writer(rt), errors)
+}
+
+/// The same over the writers of the trace, of what is printed, and of what failed.
+fn run_over<R, I, T, W, E>(rt: &R, input: I, trace: T, out: W, errors: E) -> u8
+where
+    R: Eprint + AllocGlobal + Threads + Wait + Sync,
+    I: Read + Drop,
+    T: Write + Send + Drop,
+    W: Write + Drop,
     E: Write + Drop,
     ensures ran { result ≡ number Accepted → IfSome (I.remaining input) TellsRun }
     ensures refused { result ≡ number Refused → IfSome (I.remaining input) (λ _. ⊥) }
     ensures faulty { result ≡ number Faulty → IfSome (I.remaining input) TellsNone }
 {
-    let Ok(file) = File::create(rt, trace) else {
-        return failed(rt, "open", Status::Failed);
-    };
     let mut reader = Counted::new(input);
-    let mut trace = Counted::new(file);
-    let mut out = Counted::new(io::writer(rt));
+    let mut out = Counted::new(out);
     let mut errors = Counted::new(errors);
-    match run_stream(
+    let Streamed { status, .. } = run_stream(
         rt,
         rt.alloc(),
         &mut reader,
-        &mut trace,
+        Counted::new(trace),
         &mut out,
         &mut errors,
         &OpenGate,
-    ) {
+    );
+    match status {
         Ok(status) => status,
         Err(Memory) => failed(rt, "memory", Status::NoMemory),
     }
@@ -191,10 +210,10 @@ where
 /// Does a job over its input, and gives the status.
 fn command<R, I, E>(rt: &R, job: Job<'_>, input: I, errors: E) -> u8
 where
-    R: Files + Print + Eprint + AllocGlobal + Threads + Wait + Sync + Clock,
+    R: Files<File = File> + Print + Eprint + AllocGlobal + Threads + Wait + Sync + Clock,
     R: Net<Listener = TcpListener, Stream = TcpStream>,
     I: Read + Drop,
-    E: Write + IsTerminal + Drop,
+    E: Write + IsTerminal + Copy + Drop,
     ensures well { result ≡ number Accepted → IfSome (I.remaining input) (EndsWell job.entry) }
     ensures refused { result ≡ number Refused → IfSome (I.remaining input) (EndsRefused job.entry) }
     ensures faulty { result ≡ number Faulty → MayWork job.entry → IfSome (I.remaining input) (EndsFaulty job.entry) }
@@ -227,9 +246,10 @@ fn input_of<'a>(job: Job<'a>) -> &'a str {
 /// Runs the job over the file that it names, or over standard input where that is `-`.
 fn perform<R, E>(rt: &R, job: Job<'_>, errors: E) -> u8
 where
-    R: Files + Input + Print + Eprint + AllocGlobal + Threads + Wait + Sync + Clock,
+    R: Files<File = File> + Input + Print + Eprint + AllocGlobal,
+    R: Threads + Wait + Sync + Clock,
     R: Net<Listener = TcpListener, Stream = TcpStream>,
-    E: Write + IsTerminal + Drop,
+    E: Write + IsTerminal + Copy + Drop,
 {
     let input = input_of(job);
     if input == "-" {
@@ -259,9 +279,10 @@ fn no_job<R: Print + Eprint>(rt: &R, fault: LineFault) -> u8 {
 /// Does what the words after the program's name ask for.
 fn run<R, E>(rt: &R, arguments: &[String], errors: E) -> Result<u8, AllocError>
 where
-    R: Files + Input + Print + Eprint + AllocGlobal + Threads + Wait + Sync + Clock,
+    R: Files<File = File> + Input + Print + Eprint + AllocGlobal,
+    R: Threads + Wait + Sync + Clock,
     R: Net<Listener = TcpListener, Stream = TcpStream>,
-    E: Write + IsTerminal + Drop,
+    E: Write + IsTerminal + Copy + Drop,
 {
     let words: Vec<&str> = arguments
         .iter()

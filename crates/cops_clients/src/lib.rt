@@ -8,4 +8,4 @@ pub use cops_cluster::{
 };
 pub use cops_outcomes::ClientOutcome;
 pub use cops_replication::{Receiver, Replicas, Sender, Turn, TurnFault, wired};
-pub use cops_run::{Run, RunFault, run};
+pub use cops_run::{Live, Run, RunFault, run, run_live};

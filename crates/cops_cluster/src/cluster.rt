@@ -11,6 +11,7 @@ use cops_book::{Book, Puts};
 use cops_context::Context;
 use cops_place::{Place, Setting};
 use cops_record::Recorder;
+use cops_trace::Record;
 use cops_types::{Key, Memory, NodeStatus};
 use std::alloc::{AllocError, Global};
 use std::sync::atomic::AtomicU64;
@@ -131,6 +132,11 @@ impl Cluster {
         };
         let puts = self.lock_of(spot).lock(rt).puts_from(self.alloc, from)?;
         Ok(Some(puts))
+    }
+
+    /// Copies of the records of what clients saw so far, in order of arrival, from a place on.
+    pub fn records_from<R: Wait>(&self, rt: &R, place: usize) -> Result<Vec<Record>, Memory> {
+        self.recorder.copy_from(rt, place)
     }
 
     /// The node at a place of a data centre, where it is there.

@@ -59,8 +59,9 @@ Runs the cluster that a scenario describes, and records what its clients saw.
 
 Prints a line for each event with its outcome, or, where clients have scripts, a line for each
 client, and then the report of the recorded history. Clients with scripts run on threads of their
-own. The trace file is written anew. A scenario that is mistaken is answered with one line,
-`faulty: ..`, that names the field.";
+own, and their trace is written meanwhile. The trace file is written anew. A scenario that is
+mistaken is answered with one line, `faulty: ..`, that names the field. Where the trace goes to
+standard output, all that is printed goes to standard error.";
 
 const SERVE_ABOUT: &str = "Serves clients of a scenario's cluster on a port of this machine";
 
@@ -86,7 +87,7 @@ const WORKERS_HELP: &str = "How many workers judge the trace, 1 to 64, and 1 whe
 const SO_FAR_HELP: &str =
     "Judge the records before the cut of a trace that is cut, without --workers";
 
-const NEW_TRACE_HELP: &str = "The trace file to write";
+const NEW_TRACE_HELP: &str = "The trace file to write, or `-` for standard output";
 
 const SCENARIO_HELP: &str = "The scenario file, or `-` for standard input";
 

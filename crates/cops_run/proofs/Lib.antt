@@ -1,2 +1,3 @@
 pub mod Holding
 pub mod Seats
+pub mod Tickets

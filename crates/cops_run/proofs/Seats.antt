@@ -1,11 +1,13 @@
 -- Whose shares there are.
-use Rattle.std.proofs.Common.{◌≡◌, ◌⊎◌, Bool, IsTrue, ℕ, suc, ◌<◌, inl, inr, append_assoc, slice_index_or, List, [], ◌∷◌, ◌++◌, All, length, map, ap, refl, sym, subst, ◌∙◌, arith}
+use Rattle.std.proofs.Common.{◌≡◌, ◌⊎◌, Bool, IsTrue, ℕ, suc, ◌<◌, Result, Ok, Err, inl, inr, append_assoc, slice_index_or, List, [], ◌∷◌, ◌++◌, All, length, map, ap, refl, sym, subst, ◌∙◌, arith}
+use Rattle.std.specs.Prelude.{IfOk}
 use Rattle.std.proofs.lemmas.List.{map_push}
 use Rattle.std.proofs.lemmas.List.Elements.{All-cons}
 use Rattle.cops_cluster.specs.Close.{AreAll, holders}
 use Rattle.cops_core.specs.World.{Setting, IsSetting}
 use Rattle.cops_cluster.specs.Opening.{AreClientsAt, AreReceivers}
 use Rattle.cops_cluster.specs.declared.client.Client.{Client}
+use Rattle.cops_cluster.specs.declared.cluster.Cluster.{Cluster}
 use Rattle.cops_cluster.specs.declared.share.Holder.{Holder}
 use Rattle.cops_cluster.specs.declared.share.Holder.TheVariants.{Client as HeldByClient, Receiver as HeldByReceiver}
 use Rattle.cops_cluster.specs.declared.share.Share.{Share}
@@ -13,6 +15,8 @@ use Rattle.cops_replication.specs.Wiring.{numbers, AreReceivers as AreWired}
 use Rattle.cops_replication.specs.declared.receiver.Receiver.{Receiver}
 use Rattle.cops_replication.proofs.Seats.{all_seated, map_twice, numbered_from, placed_from}
 use Rattle.cops_run.specs.declared.clients.Job.{Job}
+use Rattle.cops_run.specs.declared.fault.RunFault.{RunFault}
+use Rattle.cops_run.specs.declared.gathering.Gathered.{Gathered}
 use Rattle.cops_run.specs.Callers.{AreJobsOf, AreReceiversOf, IsClientOf, callers}
 
 -- each client's and each receiver's share is there
@@ -23,6 +27,14 @@ all_there clients dcs jobs receivers shares numbered placed are =
     all_seated clients dcs shares
     (are ∙ ap (λ (l : List Holder). l ++ map (λ (r : Receiver). HeldByReceiver r.dc) receivers) (map_twice (λ (j : Job). j.client.number) HeldByClient jobs ∙ ap (map HeldByClient) numbered)
     ∙ ap (λ (l : List Holder). map HeldByClient (numbers clients) ++ l) (map_twice (λ (r : Receiver). r.dc) HeldByReceiver receivers ∙ ap (map HeldByReceiver) placed))
+
+-- and so where the threads left shares
+pub all_driven : (s : Setting) (jobs : List Job) (receivers : List Receiver) (c : Cluster) (r : Result Gathered RunFault) → AreJobsOf s jobs → AreReceiversOf s receivers
+    → c.place ≡ s.place → c.clients ≡ length s.homes → IfOk r (λ g. holders g.shares.items ≡ callers jobs receivers) → IfOk r (λ g. AreAll c.clients c.place.dcs g.shares.items)
+all_driven s jobs receivers c (Ok g) numbered placed place clients are =
+    let all = all_there (length s.homes) s.place.dcs jobs receivers g.shares.items numbered.0 placed.0 are in
+    subst (λ (n : ℕ). AreAll n c.place.dcs g.shares.items) (sym clients) (subst (λ (p : _). AreAll (length s.homes) p.dcs g.shares.items) (sym place) all)
+all_driven s jobs receivers c (Err e) numbered placed place clients are = tt
 
 -- what holds of each client holds of each job
 of_jobs : (P : Client → Type 0) (jobs : List Job) → All P (map (λ (j : Job). j.client) jobs) → All (λ (j : Job). P j.client) jobs

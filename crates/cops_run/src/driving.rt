@@ -1,5 +1,5 @@
 //! The threads of a run: they are started, and joined in the order of the end.
-ghost use Rattle.std.specs.Prelude.{◌≡◌, ◌⊎◌, ◌+◌, [], ◌++◌, All, Err, IfOk, IsErrOf, IsTrue, OnOk, length, map};
+ghost use Rattle.std.specs.Prelude.{◌≡◌, ◌⊎◌, ◌+◌, ℕ, [], ◌++◌, All, Err, IfOk, IsErrOf, IsTrue, OnOk, length, map};
 ghost use Rattle.cops_cluster.specs.declared.share.Holder.TheVariants.{Client as HeldByClient, Receiver as HeldByReceiver};
 ghost use Rattle.cops_run.specs.Gates.{MayHold, MayHoldIn, MayHoldReceiving};
 ghost use Rattle.cops_cluster.specs.Close.{holders};
@@ -43,6 +43,7 @@ pub(crate) fn drive<R: Threads + Wait + Sync, G: Gate>(
     requires receivers { AreReceiversOf setting.now replicas.receivers.items }
     ensures shares { IfOk result (λ g. holders g.shares.items ≡ callers jobs.entry.items replicas.receivers.items) }
     ensures held { IsErrOf result RunFault.Held → MayHold setting.now (G.may_hold gate.now) }
+    ensures unwritten { (n : ℕ) → result ≡ Err (RunFault.WriteFailed n) → ⊥ }
 {
     thread::scope(
         thread::scope_env(),
@@ -53,6 +54,7 @@ pub(crate) fn drive<R: Threads + Wait + Sync, G: Gate>(
             requires receivers { AreReceiversOf setting.now replicas.receivers.items }
             ensures shares { IfOk result (λ g. holders g.shares.items ≡ callers jobs.entry.items replicas.receivers.items) }
             ensures held { IsErrOf result RunFault.Held → MayHold setting.entry.now (G.may_hold gate.entry.now) }
+            ensures unwritten { (n : ℕ) → result ≡ Err (RunFault.WriteFailed n) → ⊥ }
         {
             let mut started = Started {
                 clients: Vec::new(alloc),
@@ -101,6 +103,7 @@ fn start<'s, E, R: Threads + Wait + Sync, G: Gate>(
     ensures receivers { All (λ (h : _). (h.promise.gate.value ≡ gate.now) × (h.promise.setting.value ≡ setting.now)) started.new.receivers.items }
     ensures all { OnOk result (map (λ (h : _). h.promise.who) started.new.clients.items ++ map (λ (h : _). h.promise.who) started.new.receivers.items ≡ callers jobs.entry.items replicas.receivers.items) }
     ensures fault { result ≡ Err RunFault.Held → ⊥ }
+    ensures unwritten { (n : ℕ) → result ≡ Err (RunFault.WriteFailed n) → ⊥ }
 {
     let Replicas { senders, receivers } = replicas;
     match start_receivers(
@@ -166,6 +169,7 @@ fn start_clients<'s, E, R: Threads + Wait + Sync, G: Gate>(
     ensures all { OnOk result (map (λ (h : _). h.promise.who) handles.new.items ≡ map (λ j. HeldByClient j.client.number) jobs.entry.items) }
     ensures promised { All (λ (h : _). (h.promise.gate.value ≡ gate.now) × (h.promise.setting.value ≡ setting.now)) handles.new.items }
     ensures fault { result ≡ Err RunFault.Held → ⊥ }
+    ensures unwritten { (n : ℕ) → result ≡ Err (RunFault.WriteFailed n) → ⊥ }
 {
     for job in jobs {
         let Job { client, script } = job;
@@ -195,7 +199,8 @@ fn start_senders<'s, E, R: Threads + Wait + Sync>(
     senders: Vec<Sender>,
     handles: &mut Vec<JoinHandle<bool>>,
 ) -> Result<(), RunFault>
-    ensures { result ≡ Err RunFault.Held → ⊥ }
+    ensures fault { result ≡ Err RunFault.Held → ⊥ }
+    ensures unwritten { (n : ℕ) → result ≡ Err (RunFault.WriteFailed n) → ⊥ }
 {
     for sender in senders {
         let Ok(handle) = scope.spawn(move || send(rt, stage, sender)) else {
@@ -225,6 +230,7 @@ fn start_receivers<'s, E, R: Threads + Wait + Sync, G: Gate>(
     ensures all { OnOk result (map (λ (h : _). h.promise.who) handles.new.items ≡ map (λ r. HeldByReceiver r.dc) receivers.items) }
     ensures promised { All (λ (h : _). (h.promise.gate.value ≡ gate.now) × (h.promise.setting.value ≡ setting.now)) handles.new.items }
     ensures fault { result ≡ Err RunFault.Held → ⊥ }
+    ensures unwritten { (n : ℕ) → result ≡ Err (RunFault.WriteFailed n) → ⊥ }
 {
     for receiver in receivers {
         let started = scope.spawn_with(

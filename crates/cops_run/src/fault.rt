@@ -1,7 +1,8 @@
 //! Why there is no run.
 use thiserror::Error;
 
-/// Why there is no run. The numbers are the faults' codes. Where several apply, the order is `NoThread`, `Held`, `TurnLimit`, `Untied`.
+/// Why there is no run. The numbers are the faults' codes. Where several apply, the order is `NoThread`, `Held`, `TurnLimit`,
+/// `WriteFailed`, `Untied`.
 #[derive(Clone, Copy, Debug, PartialEq, Eq, Error)]
 pub enum RunFault {
     /// 0: out of memory.
@@ -20,6 +21,9 @@ pub enum RunFault {
     /// back, or more was still to come.
     #[error("turn limit")]
     TurnLimit,
+    /// 4: of a run whose trace is written: a write failed, after exactly so many bytes.
+    #[error("write")]
+    WriteFailed { written: usize },
     /// 5: the system refused a thread. Those that were made were ended and joined.
     #[error("no thread")]
     NoThread,

@@ -22,7 +22,7 @@ pub(crate) struct Gathered {
 }
 
 impl Gathered {
-    ghost use Rattle.std.specs.Prelude.{◌≡◌, ◌⊎◌, ◌↔◌, [], ◌∷◌, ◌++◌, All, IfOk, IsErrOf, IsTrue, OnOk, map};
+    ghost use Rattle.std.specs.Prelude.{◌≡◌, ◌⊎◌, ◌↔◌, ℕ, Err, [], ◌∷◌, ◌++◌, All, IfOk, IsErrOf, IsTrue, OnOk, map};
     ghost use Rattle.cops_run.specs.Gates.{MayHold};
     ghost use Rattle.cops_cluster.specs.Close.{holders};
 
@@ -100,6 +100,7 @@ impl Gathered {
         ensures kept { OnOk result (¬ IsTrue self.lost) }
         ensures held { IsErrOf result RunFault.Held ↔ IsTrue self.held }
         ensures limit { IsErrOf result RunFault.TurnLimit ↔ (¬ IsTrue self.held × IsTrue self.limit) }
+        ensures unwritten { (n : ℕ) → result ≡ Err (RunFault.WriteFailed n) → ⊥ }
         ensures lost { IsErrOf result RunFault.Memory ↔ (¬ IsTrue self.held × (¬ IsTrue self.limit × IsTrue self.lost)) }
     {
         if self.held {

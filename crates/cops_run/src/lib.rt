@@ -8,7 +8,9 @@ mod clients;
 mod driving;
 mod ends;
 mod fault;
+mod following;
 mod gathering;
+mod live;
 mod opening;
 mod ran;
 mod replicas;
@@ -16,5 +18,6 @@ mod running;
 mod stage;
 
 pub use fault::RunFault;
+pub use live::{Live, run_live};
 pub use ran::Run;
 pub use running::run;

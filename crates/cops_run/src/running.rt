@@ -1,4 +1,4 @@
-ghost use Rattle.std.specs.Prelude.{◌≡◌, ◌<◌, ◌≤◌, ◌+◌, ◌*◌, ◌⊎◌, Err, IfErr, IfOk, IsErrOf, OnErr, OnOk, length, map};
+ghost use Rattle.std.specs.Prelude.{◌≡◌, ◌<◌, ◌≤◌, ◌+◌, ◌*◌, ◌⊎◌, ℕ, Err, IfErr, IfOk, IsErrOf, OnErr, OnOk, length, map};
 ghost use Rattle.std.specs.List.Sorted.{IsPermutation};
 ghost use Rattle.cops_types.specs.declared.limits.TheConstants.{NODES, PLACES};
 ghost use Rattle.cops_types.specs.Verdicts.{HasAcceptedVerdict};
@@ -16,6 +16,7 @@ use crate::fault::RunFault;
 use crate::gathering::Gathered;
 use crate::opening::{Opening, opened};
 use crate::ran::Run;
+use crate::stage::Stage;
 use cops_book::Entry;
 use cops_cluster::{CloseFault, Closed, Cluster, Share, Uncompared, difference_of_lists};
 use cops_core::{Event, ScriptedClient, Setting};
@@ -89,21 +90,33 @@ fn ran_in<R: Threads + Wait + Sync, G: Gate>(
         jobs,
         replicas,
     } = opening;
-    let gathered = match drive(rt, alloc, setting, &stage, gate, jobs, replicas) {
-        Ok(gathered) => gathered,
+    let driven = drive(rt, alloc, setting, &stage, gate, jobs, replicas);
+    ended(rt, alloc, setting, scenario.clients(), stage, driven)
+}
+
+/// The run that is over on this stage, of which the threads left this.
+pub(crate) fn ended<R: Threads + Sync>(
+    rt: &R,
+    alloc: Global,
+    setting: &Setting,
+    clients: &[ScriptedClient],
+    stage: Stage,
+    driven: Result<Gathered, RunFault>,
+) -> Result<Run, RunFault>
+    requires place { stage.cluster.place ≡ setting.now.place }
+    requires all { IfOk driven (λ g. AreAll stage.cluster.clients stage.cluster.place.dcs g.shares.items) }
+    ensures ok { IfOk result (λ r. IsRun setting.now clients.now (map (λ b. b.items) r.entries.items) (sessions_of r.trace) r.events.items r.outcomes.items) }
+    ensures accepted { IfOk result (λ r. HasAcceptedVerdict (sessions_of r.trace)) }
+    ensures fault { IsErrOf result RunFault.Held → IsErrOf driven RunFault.Held }
+    ensures unwritten { (n : ℕ) → result ≡ Err (RunFault.WriteFailed n) → driven ≡ Err (RunFault.WriteFailed n) }
+{
+    match driven {
+        Ok(gathered) => tied(rt, alloc, setting, clients, stage.into_cluster(), gathered),
         Err(fault) => {
             drop(stage);
-            return Err(fault);
+            Err(fault)
         }
-    };
-    tied(
-        rt,
-        alloc,
-        setting,
-        scenario.clients(),
-        stage.into_cluster(),
-        gathered,
-    )
+    }
 }
 
 /// The run of which the threads left this. Its books are compared with the shares beside the check that they are a run.
@@ -121,6 +134,7 @@ fn tied<R: Threads + Sync>(
     ensures accepted { IfOk result (λ r. HasAcceptedVerdict (sessions_of r.trace)) }
     ensures told { IfOk result (λ r. IsPermutation (made_in (length setting.now.place.splits + 1) 0 r.entries.items) (told gathered.shares.items)) }
     ensures fault { result ≡ Err RunFault.Held → ⊥ }
+    ensures unwritten { (n : ℕ) → result ≡ Err (RunFault.WriteFailed n) → ⊥ }
 {
     let Gathered {
         shares,
@@ -165,6 +179,7 @@ fn examined<R: Threads + Sync>(
     ensures accepted { OnOk result (HasAcceptedVerdict (sessions_of trace.now)) }
     ensures told { OnOk result (IsPermutation (made_in (length setting.now.place.splits + 1) 0 books.now) (told shares.items)) }
     ensures fault { result ≡ Err RunFault.Held → ⊥ }
+    ensures unwritten { (n : ℕ) → result ≡ Err (RunFault.WriteFailed n) → ⊥ }
     ensures untied { IfErr result (WhereUntied (λ ticket.
         IsLeastDifference (made_in (length setting.now.place.splits + 1) 0 books.now) (told shares.items) ticket
         ⊎ IsNoRun setting.now clients.now (map (λ b. b.items) books.now) (sessions_of trace.now) outcomes.now ticket)) }
@@ -177,6 +192,7 @@ fn examined<R: Threads + Sync>(
             requires few { length books.now ≤ NODES }
             ensures told { OnOk result (IsPermutation (made_in places 0 books.entry.now) (told shares.items)) }
             ensures fault { result ≡ Err RunFault.Held → ⊥ }
+            ensures unwritten { (n : ℕ) → result ≡ Err (RunFault.WriteFailed n) → ⊥ }
             ensures untied { IfErr result (WhereUntied (IsLeastDifference (made_in places 0 books.entry.now) (told shares.items))) }
         { compare(alloc, places, books, shares) },
         || -> Result<Vec<Event>, CheckFault>
@@ -208,6 +224,7 @@ fn compare(
     requires few { length books.now ≤ NODES }
     ensures told { OnOk result (IsPermutation (made_in places 0 books.now) (told shares.items)) }
     ensures fault { result ≡ Err RunFault.Held → ⊥ }
+    ensures unwritten { (n : ℕ) → result ≡ Err (RunFault.WriteFailed n) → ⊥ }
     ensures untied { IfErr result (WhereUntied (IsLeastDifference (made_in places 0 books.now) (told shares.items))) }
 {
     match difference_of_lists(alloc, places, books, &shares) {

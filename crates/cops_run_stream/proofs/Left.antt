@@ -58,6 +58,10 @@ event_run s events outcomes lines t n (end, ran, accepted) count trace told =
       subst HasAcceptedVerdict saw_these accepted,
     )
 
+pub if_ok_both : {X E : Type 0} {P Q R : X → Type 0} (r : Result X E) → ((x : X) → P x → Q x → R x) → IfOk r P → IfOk r Q → IfOk r R
+if_ok_both (Ok x) both p q = both x p q
+if_ok_both (Err e) both p q = tt
+
 -- what a run left, once its report was appended to its lines
 pub left_of : (s : AScenario) (left : Left) (t : ATrace) (lines : List ℕ) → IsRunOf s s.events lines t → HasAcceptedVerdict (sessions_of t) → (left.trace ≡ t) × IsTrace t
     → ((verdict : Verdict) × (report : List ℕ) × IsReportOf (sessions_of t) verdict report × (left.text.items ≡ lines ++ report)) → IsRunLeft s left

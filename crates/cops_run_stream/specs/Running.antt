@@ -9,6 +9,7 @@ use Rattle.cops_core.specs.declared.event.Event.TheVariants.{Put as PutBy, Get a
 use Rattle.cops_core.specs.World.{Setting, World, opening, Run}
 use Rattle.cops_types.specs.Verdicts.{HasAcceptedVerdict}
 use Rattle.cops_trace.specs.declared.record.Record.{Record}
+use Rattle.cops_trace.specs.Live.{IsCutShort}
 use Rattle.cops_trace.specs.Text.{ATrace, IsTrace, sessions_of, text}
 use Rattle.cops_audit.specs.declared.verdict.Verdict.{Verdict}
 use Rattle.cops_scenario.specs.Scenario.{AScenario, setting_of}
@@ -83,3 +84,7 @@ abbrev pub EndsAs : List ℕ → ℕ → Option (List ℕ) → Option (List ℕ)
 EndsAs bytes status trace_old trace_new old new =
     ((status ≡ number Accepted) × EndsWell bytes trace_old trace_new old new)
     ⊎ ((status ≡ number Faulty) × TellsNone bytes × Keeps trace_old trace_new)
+
+-- some first bytes of a trace's text went out, fewer than all
+abbrev pub IsCut : Option (List ℕ) → Option (List ℕ) → Type 0
+IsCut old new = (written : ℕ) × IsCutShort old new written

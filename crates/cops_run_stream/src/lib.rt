@@ -7,4 +7,4 @@ mod leaving;
 mod scripts;
 mod streaming;
 
-pub use streaming::run_stream;
+pub use streaming::{Streamed, run_stream};

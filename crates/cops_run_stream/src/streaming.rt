@@ -1,18 +1,22 @@
-ghost use Rattle.std.specs.Prelude.{◌≡◌, ◌⊎◌, Ok, IfOk, IfSome};
+ghost use Rattle.std.specs.Prelude.{◌≡◌, ◌≢◌, ◌⊎◌, ℕ, Some, Ok, Err, IfErr, IfOk, IfSome, OnErr};
 ghost use Rattle.std.specs.Io.KnownBytes.{Appends, Keeps};
 ghost use Rattle.cops_types.specs.Failures.{Failed};
 ghost use Rattle.cops_types.specs.Counted.{failures, inner};
 ghost use Rattle.cops_trace.specs.Text.{text};
 ghost use Rattle.cops_command.specs.Status.{number};
 ghost use Rattle.cops_command.specs.declared.status.Status.TheVariants.{Accepted, Failed as EndsFailed};
+ghost use Rattle.cops_run.specs.Live.{IsHeardFor};
+ghost use Rattle.cops_run.specs.declared.fault.RunFault.{RunFault as AFault};
+ghost use Rattle.cops_run.specs.declared.fault.RunFault.TheVariants.{Memory as NoMemory};
 ghost use Rattle.cops_run_stream.specs.Parts.{IsRunLeft};
-ghost use Rattle.cops_run_stream.specs.Running.{EndsAs};
+ghost use Rattle.cops_run_stream.specs.Running.{EndsAs, IsCut};
 ghost use Rattle.cops_run_stream.specs.declared.leaving.Left.{Left as ALeft};
 
 use crate::events::run_events;
 use crate::leaving::Left;
-use crate::scripts::run_scripts;
+use crate::scripts::{Scripted, run_scripts};
 use cops_command::{Status, failed, print, read_scenario};
+use cops_core::Event;
 use cops_run::RunFault;
 use cops_scenario::Scenario;
 use cops_trace::{WriteFault, write_trace};
@@ -22,83 +26,115 @@ use std::io::{Read, Write};
 use std::sync::Wait;
 use std::thread::Threads;
 
+/// A command's status, and the writer that a trace was written to, which comes back in any case.
+#[derive(Drop)]
+pub struct Streamed<T: Write> {
+    pub status: Result<u8, Memory>,
+    pub trace: Counted<T>,
+}
+
 /// Runs a scenario: its events in a world, or the scripts of its clients on threads. It writes the trace of what the clients saw,
-/// and prints a line for each event, or for each client, and then the report. The answer is the status: 0 for a run, whose history
-/// is accepted; 2 for a faulty scenario, which a line on `out` tells; and 4 where a read or a write failed, or the run on threads
-/// did, which a line on `errors` tells. Where a run failed nothing was written but that line.
+/// and prints a line for each event, or for each client, and then the report. The trace of scripts is written while they run. The
+/// answer is the status: 0 for a run, whose history is accepted; 2 for a faulty scenario, which a line on `out` tells; and 4 where a
+/// read or a write failed, or the run on threads did, which a line on `errors` tells. Where a run failed nothing was written but
+/// that line and some first bytes of a trace's text, fewer than all.
 pub fn run_stream<S, R, T, W, E, G>(
     rt: &S,
     alloc: Global,
     reader: &mut Counted<R>,
-    trace: &mut Counted<T>,
+    trace: Counted<T>,
     out: &mut Counted<W>,
     errors: &mut Counted<E>,
     gate: &G,
-) -> Result<u8, Memory>
+) -> Streamed<T>
 where
     S: Threads + Wait + Sync,
     R: Read,
-    T: Write,
+    T: Write + Send + Drop,
     W: Write,
     E: Write,
     G: Gate,
     // The status is that of the reader's bytes and of what was written, unless something failed: never 1.
-    ensures ended { IfOk result (λ status. (status ≡ number EndsFailed) ⊎ IfSome (R.remaining (inner reader.old)) (λ bytes.
-        EndsAs bytes status (T.contents (inner trace.old)) (T.contents (inner trace.new)) (W.contents (inner out.old)) (W.contents (inner out.new)))) }
+    ensures ended { IfOk result.status (λ status. (status ≡ number EndsFailed) ⊎ IfSome (R.remaining (inner reader.old)) (λ bytes.
+        EndsAs bytes status (T.contents (inner trace)) (T.contents (inner result.trace)) (W.contents (inner out.old)) (W.contents (inner out.new)))) }
 
-    // What failed was a device, or a run before anything was written.
-    ensures failed { result ≡ Ok (number EndsFailed) → Failed (failures reader.old) (failures reader.new) ⊎ (Failed (failures trace.old) (failures trace.new)
-        ⊎ (Failed (failures out.old) (failures out.new) ⊎ (Keeps (T.contents (inner trace.old)) (T.contents (inner trace.new)) × Keeps (W.contents (inner out.old)) (W.contents (inner out.new))))) }
-    ensures heard { (result ≡ Ok (number EndsFailed)) ⊎ ((failures reader.new ≡ failures reader.old) × ((failures trace.new ≡ failures trace.old) × (failures out.new ≡ failures out.old))) }
+    // What failed was a device, or a run, of whose trace a front was written, not all, and nothing else.
+    ensures failed { result.status ≡ Ok (number EndsFailed) → Failed (failures reader.old) (failures reader.new) ⊎ (Failed (failures trace) (failures result.trace)
+        ⊎ (Failed (failures out.old) (failures out.new) ⊎ (IsCut (T.contents (inner trace)) (T.contents (inner result.trace)) × Keeps (W.contents (inner out.old)) (W.contents (inner out.new))))) }
+    ensures heard { (result.status ≡ Ok (number EndsFailed)) ⊎ ((failures reader.new ≡ failures reader.old) × ((failures result.trace ≡ failures trace) × (failures out.new ≡ failures out.old))) }
 {
-    let scenario = match read_scenario(alloc, reader, out, errors)? {
-        Ok(scenario) => scenario,
-        Err(status) => return Ok(status),
+    let scenario = match read_scenario(alloc, reader, out, errors) {
+        Ok(Ok(scenario)) => scenario,
+        Ok(Err(status)) => {
+            let status = Ok(status);
+            return Streamed { status, trace };
+        }
+        Err(Memory) => {
+            let status = Err(Memory);
+            return Streamed { status, trace };
+        }
     };
-    let ran = run_scenario(rt, alloc, scenario, gate);
-    Ok(told(alloc, ran, trace, out, errors)?)
-}
-
-/// Runs the events, where the scenario has them, or the scripts.
-fn run_scenario<S: Threads + Wait + Sync, G: Gate>(
-    rt: &S,
-    alloc: Global,
-    scenario: Scenario,
-    gate: &G,
-) -> Result<Left, RunFault>
-    ensures { IfOk result (IsRunLeft scenario) }
-{
     if let Some(events) = scenario.events() {
-        return match run_events(alloc, &scenario, events) {
-            Ok(left) => Ok(left),
-            Err(Memory) => Err(RunFault::Memory),
-        };
+        let mut trace = trace;
+        let status = tell_events(alloc, &scenario, events, &mut trace, out, errors);
+        return Streamed { status, trace };
     }
-    run_scripts(rt, alloc, scenario, gate)
+    let Scripted { ran, trace } = run_scripts(rt, alloc, scenario, gate, trace);
+    let status = tell_scripts(alloc, ran, out, errors);
+    Streamed { status, trace }
 }
 
-/// Writes what a run left, or tells why there is none, and gives the status.
-fn told<T: Write, W: Write, E: Write>(
+/// Runs the events, writes the trace of what the clients saw, prints the lines, and gives the status.
+fn tell_events<T: Write, W: Write, E: Write>(
     alloc: Global,
-    ran: Result<Left, RunFault>,
+    scenario: &Scenario,
+    events: &[Event],
     trace: &mut Counted<T>,
     out: &mut Counted<W>,
     errors: &mut Counted<E>,
 ) -> Result<u8, Memory>
-    ensures whole { IfOk result (λ status. (status ≡ number EndsFailed) ⊎ ((left : ALeft) × (ran ≡ Ok left) × (status ≡ number Accepted)
+    requires { scenario.now.events ≡ Some events.now }
+    ensures whole { IfOk result (λ status. (status ≡ number EndsFailed) ⊎ ((left : ALeft) × IsRunLeft scenario.now left × (status ≡ number Accepted)
         × Appends (T.contents (inner trace.old)) (T.contents (inner trace.new)) (text left.trace)
         × Appends (W.contents (inner out.old)) (W.contents (inner out.new)) left.text.items)) }
-    ensures failed { result ≡ Ok (number EndsFailed) → Failed (failures trace.old) (failures trace.new)
-        ⊎ (Failed (failures out.old) (failures out.new) ⊎ (Keeps (T.contents (inner trace.old)) (T.contents (inner trace.new)) × Keeps (W.contents (inner out.old)) (W.contents (inner out.new)))) }
+    ensures failed { result ≡ Ok (number EndsFailed) → Failed (failures trace.old) (failures trace.new) ⊎ Failed (failures out.old) (failures out.new) }
     ensures heard { (result ≡ Ok (number EndsFailed)) ⊎ ((failures trace.new ≡ failures trace.old) × (failures out.new ≡ failures out.old)) }
 {
-    match ran {
+    match run_events(alloc, scenario, events) {
         Ok(left) => Ok(write(alloc, &left, trace, out, errors)?),
-        Err(RunFault::Memory) => Err(Memory),
-        Err(fault) => {
+        Err(Memory) => Err(Memory),
+    }
+}
+
+/// Prints the lines of a run whose trace is written, or tells why there is none, and gives the status. Only where the writer of the
+/// trace did not fail may memory be refused.
+fn tell_scripts<W: Write, E: Write>(
+    alloc: Global,
+    ran: Result<Left, RunFault>,
+    out: &mut Counted<W>,
+    errors: &mut Counted<E>,
+) -> Result<u8, Memory>
+    ensures whole { IfOk result (λ status. (status ≡ number EndsFailed) ⊎ ((left : ALeft) × (ran ≡ Ok left) × (status ≡ number Accepted)
+        × Appends (W.contents (inner out.old)) (W.contents (inner out.new)) left.text.items)) }
+    ensures failed { result ≡ Ok (number EndsFailed) → Failed (failures out.old) (failures out.new)
+        ⊎ ((fault : AFault) × (ran ≡ Err fault) × (fault ≢ NoMemory) × Keeps (W.contents (inner out.old)) (W.contents (inner out.new))) }
+    ensures memory { OnErr result (IfErr ran (λ e. (old new : ℕ) → IsHeardFor e old new → new ≡ old)) }
+    ensures heard { (result ≡ Ok (number EndsFailed)) ⊎ (failures out.new ≡ failures out.old) }
+{
+    let fault = match ran {
+        Ok(left) => return Ok(print(&left.text, Status::Accepted, out, errors)),
+        Err(fault) => fault,
+    };
+    match fault {
+        RunFault::Memory => Err(Memory),
+        RunFault::Untied { .. } => {
             let line = format!(in alloc; "failed: {fault}\n")?;
             Ok(failed(errors, line.as_bytes()))
         }
+        RunFault::Held => Ok(failed(errors, b"failed: held\n")),
+        RunFault::TurnLimit => Ok(failed(errors, b"failed: turn limit\n")),
+        RunFault::WriteFailed { .. } => Ok(failed(errors, b"failed: write\n")),
+        RunFault::NoThread => Ok(failed(errors, b"failed: no thread\n")),
     }
 }
 

@@ -6,6 +6,8 @@
 #[cfg(test)]
 mod ending;
 #[cfg(test)]
+mod live;
+#[cfg(test)]
 mod record;
 #[cfg(test)]
 mod running;

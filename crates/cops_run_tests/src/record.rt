@@ -1,6 +1,6 @@
 use cops_record::*;
 use cops_trace::Trace;
-use cops_types::{Key, Memory, Op, TypeFault, Value, Version};
+use cops_types::{Key, Memory, Op, OpName, TypeFault, Value, Version};
 use std::alloc::Global;
 use std::sync::Wait;
 use std::test::Fail;
@@ -46,8 +46,14 @@ fn copies<R: Wait>(rt: &R, recorder: &Recorder, from: usize) -> Result<(usize, u
 
 /// How many operations the client has, and whether the last of them is this one.
 fn ends(trace: &Trace, client: u16, op: &Op) -> (usize, bool) {
-    let session = trace.history().session(client);
-    (session.len(), session.last() == Some(op))
+    let history = trace.history();
+    let operations = history.session_len(client);
+    let index = operations.saturating_sub(1) as u32;
+    let is_last = match history.op(OpName { client, index }) {
+        Some(last) => last.is(&op.as_ref()),
+        None => false,
+    };
+    (operations, is_last)
 }
 
 /// Fills the slot of client 0, which was reserved first, after that of client 1.

@@ -8,3 +8,4 @@ pub mod Founds
 pub mod Readings
 pub mod Feeding
 pub mod Underway
+pub mod Begun

@@ -61,10 +61,10 @@ nothing_there zero i = refl
 nothing_there (suc n) zero = refl
 nothing_there (suc n) (suc i) = nothing_there n i
 
-counts_none : (clients : ℕ) → AreCountsOf (with_records clients []) (nothing clients)
+pub counts_none : (clients : ℕ) → AreCountsOf (with_records clients []) (nothing clients)
 counts_none clients = record { clients = length-replicate clients 0; next = nothing_there clients; total = refl }
 
-counts_grown : (t : ATrace) (c : ACounts) (r : Record) → AreCountsOf t c → r.client < length c.next → AreCountsOf (grown t r) (counted c r.client)
+pub counts_grown : (t : ATrace) (c : ACounts) (r : Record) → AreCountsOf t c → r.client < length c.next → AreCountsOf (grown t r) (counted c r.client)
 counts_grown t c r h inside = record {
   clients = length-set c.next r.client (next_of c r.client + 1) ∙ h.clients;
   next = λ d. elim (same_or_other r.client d) [

@@ -4,6 +4,7 @@ pub mod Next
 pub mod Counts
 pub mod Reading
 pub mod Writing
+pub mod Live
 pub mod Answer
 pub mod Kept
 pub mod Parsing

@@ -1,7 +1,7 @@
 //! How many records a trace has so far.
 ghost use Rattle.std.specs.Prelude.{◌≡◌};
 
-use cops_types::Memory;
+use cops_types::{MAX_CLIENT_OPS, MAX_OPS, Memory};
 use std::alloc::Global;
 use std::marker::Model;
 
@@ -24,7 +24,7 @@ impl Model for Counts {
 }
 
 impl Counts {
-    ghost use Rattle.std.specs.Prelude.{◌≡◌, ◌<◌, ◌^◌, length, IfOk};
+    ghost use Rattle.std.specs.Prelude.{◌≡◌, ◌<◌, ◌^◌, ◌↔◌, length, IfOk, IsTrue};
     ghost use Rattle.cops_trace.specs.Counts.{HasTurn, counted, next_of, nothing};
 
     /// No record of any of so many clients.
@@ -50,6 +50,15 @@ impl Counts {
             Some(next) => *next,
             None => 0,
         }
+    }
+
+    /// Whether the client is there, and it and all may have one record more.
+    pub(crate) fn has_turn(&self, client: u16) -> bool
+        ensures { IsTrue result ↔ HasTurn self.now client }
+    {
+        client < self.clients()
+            && (self.next(client) as usize) < MAX_CLIENT_OPS
+            && (self.total as usize) < MAX_OPS
     }
 
     /// How many records there are in all.

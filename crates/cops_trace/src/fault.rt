@@ -78,3 +78,17 @@ pub enum WriteFault {
     #[error("the writer failed after {written} bytes")]
     WriteFailed { written: usize },
 }
+
+/// Why the rest of a trace's text was not written.
+#[derive(Clone, Copy, Debug, PartialEq, Eq, Error)]
+pub enum FinishFault {
+    /// 0: out of memory.
+    #[error("out of memory")]
+    Memory,
+    /// 1: the writer failed, after exactly so many of the text's first bytes, those among them that went out before.
+    #[error("the writer failed after {written} bytes")]
+    WriteFailed { written: usize },
+    /// 2: what was written before is not the front of the trace's text.
+    #[error("what was written is of another trace")]
+    OfAnother,
+}

@@ -1,11 +1,12 @@
 ghost use Rattle.std.specs.Prelude.{◌≡◌, ◌++◌, IfOk, OnOk};
 ghost use Rattle.cops_types.specs.declared.format.Format.TheVariants.{One};
+ghost use Rattle.cops_types.specs.OpRefs.{seen};
 ghost use Rattle.cops_wire.specs.Grammar.{grammar};
 ghost use Rattle.cops_wire.specs.Legal.{IsMessage};
 ghost use Rattle.cops_wire.specs.Message.{parts, spelled};
 ghost use Rattle.cops_trace.specs.Text.{IsOp, op_message};
 
-use cops_types::{History, Memory, Op, OpName, TypeFault};
+use cops_types::{History, Memory, Op, OpName, OpRef, TypeFault};
 use cops_wire::{Message, encode};
 use std::alloc::Global;
 use std::marker::Model;
@@ -57,7 +58,7 @@ impl Trace {
     {
         self.history.reserve(client)?;
         self.arrivals.reserve(1)?;
-        legal(&op);
+        legal(&op.as_ref());
         self.history.push(client, op)?;
         self.arrivals.push_reserved(client);
         Ok(())
@@ -103,7 +104,7 @@ impl Trace {
             let client = self.arrivals[at];
             let index = turns[client as usize];
             match self.history.op(OpName { client, index }) {
-                Some(op) => append_record(client, index, op, out)?,
+                Some(op) => append_record(client, index, &op, out)?,
                 None => unreachable!(),
             }
             turns[client as usize] = index + 1;
@@ -116,7 +117,7 @@ impl Trace {
     pub(crate) fn turn(&self, client: u16) -> usize
         ensures { result ≡ turn client self.now.records }
     {
-        self.history.session(client).len()
+        self.history.session_len(client)
     }
 }
 
@@ -132,10 +133,10 @@ pub struct Partial {
 pub(crate) fn append_record(
     client: u16,
     index: u32,
-    op: &Op,
+    op: &OpRef<'_>,
     out: &mut Vec<u8>,
 ) -> Result<(), Memory>
-    ensures { OnOk result (out.new.items ≡ out.old.items ++ spelled (op_message client index op.now)) }
+    ensures { OnOk result (out.new.items ≡ out.old.items ++ spelled (op_message client index (seen op.now))) }
 {
     let message = message(client, index, op)?;
     let appended = encode(&message, out);
@@ -144,12 +145,12 @@ pub(crate) fn append_record(
 }
 
 /// An operation's record, with this index in the client's session.
-fn message(client: u16, index: u32, op: &Op) -> Result<Message, Memory>
-    ensures value { IfOk result (λ m. m ≡ op_message client index op.now) }
-    ensures legal { IsMessage (grammar One) (parts (op_message client index op.now)) }
+fn message(client: u16, index: u32, op: &OpRef<'_>) -> Result<Message, Memory>
+    ensures value { IfOk result (λ m. m ≡ op_message client index (seen op.now)) }
+    ensures legal { IsMessage (grammar One) (parts (op_message client index (seen op.now))) }
 {
     legal(op);
-    match op.clone()? {
+    match op.to_op()? {
         Op::Put {
             key,
             value,
@@ -177,16 +178,16 @@ fn message(client: u16, index: u32, op: &Op) -> Result<Message, Memory>
 }
 
 /// An operation has a spelling: its key, value and version are within their ranges.
-fn legal(op: &Op)
-    ensures { IsOp op.now }
+pub(crate) fn legal(op: &OpRef<'_>)
+    ensures { IsOp (seen op.now) }
 {
     match op {
-        Op::Put {
+        OpRef::Put {
             key,
             value,
             version,
         }
-        | Op::Got {
+        | OpRef::Got {
             key,
             value,
             version,
@@ -195,7 +196,7 @@ fn legal(op: &Op)
             let _value = value.as_bytes();
             let _version = version.as_u64();
         }
-        Op::Missed { key } => {
+        OpRef::Missed { key } => {
             let _key = key.as_bytes();
         }
     }

@@ -27,7 +27,7 @@ pub struct Unwritten<W: Write> {
 }
 
 impl<W: Write> TraceWriter<W> {
-    ghost use Rattle.std.specs.Prelude.{◌≡◌, ◌≢◌, IfErr, IfOk, OnErr, OnOk, length};
+    ghost use Rattle.std.specs.Prelude.{◌≡◌, ◌≢◌, ◌↔◌, IfErr, IfOk, IsErrOf, IsTrue, OnErr, OnOk, length};
     ghost use Rattle.std.specs.Io.KnownBytes.{Appends};
     ghost use Rattle.cops_types.specs.Failures.{Failed};
     ghost use Rattle.cops_types.specs.Counted.{failures, inner};
@@ -44,6 +44,8 @@ impl<W: Write> TraceWriter<W> {
         ensures counts { IfOk result (λ w. (w.counts ≡ nothing clients) × (w.written ≡ more_written 0 (length (head_frame clients)))) }
         ensures failed { IfErr result (λ u. u.fault ≢ WriteFault.Memory → Failed (failures writer) (failures u.writer)) }
         ensures heard { IfOk result (λ w. failures w.writer ≡ failures writer) }
+        ensures quiet { IfErr result (λ u. u.fault ≡ WriteFault.Memory → failures u.writer ≡ failures writer) }
+        ensures frame { IfOk result (λ w. w.frame.items ≡ head_frame clients) }
         ensures err { IfErr result (λ u. IsUnwritten (head_frame clients) 0 (W.contents (inner writer)) (W.contents (inner u.writer)) u.fault) }
     {
         let Ok(counts) = Counts::new(alloc, clients) else {
@@ -62,10 +64,7 @@ impl<W: Write> TraceWriter<W> {
         };
         match begun.write(head) {
             Ok(()) => Ok(begun),
-            Err(fault) => {
-                let writer = begun.into_writer();
-                Err(Unwritten { writer, fault })
-            }
+            Err(fault) => Err(begun.give_up(fault)),
         }
     }
 
@@ -78,13 +77,43 @@ impl<W: Write> TraceWriter<W> {
         ensures err { IfErr result (IsUnwritten (record_frame self.old.counts client op.now) self.old.written (W.contents (inner self.old.writer)) (W.contents (inner self.new.writer))) }
         ensures failed { IfErr result (λ e. e ≢ WriteFault.Memory → Failed (failures self.old.writer) (failures self.new.writer)) }
         ensures heard { OnOk result (failures self.new.writer ≡ failures self.old.writer) }
+        ensures quiet { IsErrOf result WriteFault.Memory → failures self.new.writer ≡ failures self.old.writer }
+        ensures frame { OnOk result (self.new.frame.items ≡ record_frame self.old.counts client op.now) }
     {
         self.frame.clear();
         let index = self.counts.next(client);
-        append_record(client, index, op, &mut self.frame).or(Err(WriteFault::Memory))?;
+        append_record(client, index, &op.as_ref(), &mut self.frame).or(Err(WriteFault::Memory))?;
         self.send()?;
         self.counts.add(client);
         Ok(())
+    }
+
+    /// Whether the client is there, and it and all may have one record more.
+    pub fn has_turn(&self, client: u16) -> bool
+        ensures { IsTrue result ↔ HasTurn self.now.counts client }
+    {
+        self.counts.has_turn(client)
+    }
+
+    /// How many records were written.
+    pub(crate) fn len(&self) -> usize {
+        self.counts.total() as usize
+    }
+
+    /// The frame that was written last.
+    pub(crate) fn frame(&self) -> &[u8]
+        ensures { result.now ≡ self.now.frame.items }
+    {
+        &self.frame
+    }
+
+    /// The writer comes back for this fault.
+    pub(crate) fn give_up(self, fault: WriteFault) -> Unwritten<W>
+        ensures writer { result.writer ≡ self.writer }
+        ensures fault { result.fault ≡ fault }
+    {
+        let writer = self.into_writer();
+        Unwritten { writer, fault }
     }
 
     /// Writes the end, and gives the writer back.
@@ -122,6 +151,8 @@ impl<W: Write> TraceWriter<W> {
         ensures counts { self.new.counts ≡ self.old.counts }
         ensures failed { IfErr result (λ e. e ≢ WriteFault.Memory → Failed (failures self.old.writer) (failures self.new.writer)) }
         ensures heard { OnOk result (failures self.new.writer ≡ failures self.old.writer) }
+        ensures quiet { IsErrOf result WriteFault.Memory → failures self.new.writer ≡ failures self.old.writer }
+        ensures frame { OnOk result (self.new.frame.items ≡ spelled message) }
     {
         self.frame.clear();
         append(message, &mut self.frame).or(Err(WriteFault::Memory))?;
@@ -136,6 +167,7 @@ impl<W: Write> TraceWriter<W> {
         ensures counts { self.new.counts ≡ self.old.counts }
         ensures failed { OnErr result (Failed (failures self.old.writer) (failures self.new.writer)) }
         ensures heard { OnOk result (failures self.new.writer ≡ failures self.old.writer) }
+        ensures frame { self.new.frame ≡ self.old.frame }
     {
         match write_text(&mut self.writer, &self.frame) {
             Ok(()) => {

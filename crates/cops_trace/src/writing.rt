@@ -29,7 +29,7 @@ pub(crate) fn append(message: Message, out: &mut Vec<u8>) -> Result<(), Memory>
 }
 
 /// A trace's text: the head, the records in order of arrival, and the end.
-fn text_of(alloc: Global, trace: &Trace) -> Result<Vec<u8>, Memory>
+pub(crate) fn text_of(alloc: Global, trace: &Trace) -> Result<Vec<u8>, Memory>
     ensures { IfOk result (λ out. out.items ≡ text trace.now) }
 {
     let mut out = Vec::new(alloc);

@@ -2,6 +2,7 @@ use Rattle.std.proofs.Common.{◌≡◌, suc, ◌+◌, ◌<◌, [], ◌++◌, le
 use Rattle.std.proofs.Math.ListN.{set, length-set}
 use Rattle.cops_types.specs.Histories.{op_at}
 use Rattle.cops_wire.specs.Message.{spelled}
+use Rattle.cops_types.specs.OpRefs.{seen}
 use Rattle.cops_trace.specs.Text.{records_text, op_message}
 use Rattle.cops_trace.specs.Kept.{records_from, op_in}
 use Rattle.cops_trace.proofs.Lists.{times}
@@ -49,13 +50,13 @@ loop-at-preserved c =
     let client = a.client_is in
     let inside = a.inside in
     let index = a.index_is in
-    let some : Some c.in-Some.op.now ≡ op_at h (record { client = d; index = n }) = c.in-Some.ensures.operation in
-    let both : Some c.in-Some.op.now ≡ Some (op_in h d (times d (take at cs))) = some ∙ a.is_there ∙ ap (λ x. Some (op_in h d x)) index in
-    let op : c.in-Some.op.now ≡ op_in h d (times d (take at cs)) = cc in
-    let e : c.append_record.new.out.items ≡ c.loop-at.out.items ++ spelled (op_message d n c.in-Some.op.now) = c.in_ok-append_record-in-Some.ensures in
+    let some : Some (seen c.in-Some.op) ≡ op_at h (record { client = d; index = n }) = c.in-Some.ensures.operation in
+    let both : Some (seen c.in-Some.op) ≡ Some (op_in h d (times d (take at cs))) = some ∙ a.is_there ∙ ap (λ x. Some (op_in h d x)) index in
+    let op : (seen c.in-Some.op) ≡ op_in h d (times d (take at cs)) = cc in
+    let e : c.append_record.new.out.items ≡ c.loop-at.out.items ++ spelled (op_message d n (seen c.in-Some.op)) = c.in_ok-append_record-in-Some.ensures in
     let next : suc at ≡ at + 1 = omega arith in
     let more : c.append_record.new.out.items ≡ c.args.out.now.items ++ records_text [] (records_from h [] (take (suc at) cs)) =
-    e ∙ ap (λ x. c.loop-at.out.items ++ spelled x) (ap (λ x. op_message d x c.in-Some.op.now) index ∙ ap (op_message d (times d (take at cs))) op)
+    e ∙ ap (λ x. c.loop-at.out.items ++ spelled x) (ap (λ x. op_message d x (seen c.in-Some.op)) index ∙ ap (op_message d (times d (take at cs))) op)
     ∙ ap (λ x. x ++ spelled (op_message d (times d (take at cs)) (op_in h d (times d (take at cs))))) k.3
     ∙ append_assoc c.args.out.now.items (records_text [] (records_from h [] (take at cs))) (spelled (op_message d (times d (take at cs)) (op_in h d (times d (take at cs)))))
     ∙ ap (λ x. c.args.out.now.items ++ (records_text [] (records_from h [] (take at cs)) ++ spelled (op_message x (times x (take at cs)) (op_in h x (times x (take at cs)))))) client

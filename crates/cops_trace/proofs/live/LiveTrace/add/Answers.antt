@@ -1,0 +1,12 @@
+use Rattle.std.proofs.Common.{subst}
+use Rattle.cops_trace.specs.Text.{IsOp}
+use Rattle.cops_trace.proofs.Begun.{add_begun, add_cut}
+use Rattle.cops_trace.proofs.live.LiveTrace.add.Goals as goal
+
+pub kept-requires-clause-wrote : goal.kept-requires-clause-wrote
+kept-requires-clause-wrote g c =
+    rw c.in-Ok.ensures.frame (rw c.in-Ok.ensures.counts (rw c.in-Ok.ensures.written (add_begun _ _ _ _ _ _ _ _ c.requires.live.wrote c.requires.turn (subst IsOp c.as_ref.ensures c.legal.ensures) c.in-Ok.ensures.ok)))
+
+pub returns-in-Err-clause-err : goal.returns-in-Err-clause-err
+returns-in-Err-clause-err g c =
+    rw c.give_up.ensures.writer (rw c.give_up.ensures.fault (add_cut _ _ _ _ _ _ _ _ _ c.requires.live.wrote c.requires.turn (subst IsOp c.as_ref.ensures c.legal.ensures) c.in-Err.ensures.err))
