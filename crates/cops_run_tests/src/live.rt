@@ -97,6 +97,8 @@ struct Telling<'a> {
 }
 
 impl Write for Telling<'_> {
+    ghost use Rattle.std.specs.Prelude.{None};
+
     ghost contents = { λ _. None };
 
     fn write(&mut self, buf: &[u8]) -> io::Result<usize> {
