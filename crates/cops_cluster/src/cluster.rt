@@ -7,11 +7,11 @@ use crate::client::Client;
 use crate::fault::OpenFault;
 use crate::share::{Holder, Share};
 use crate::spot::Spot;
+use crate::tail::Tail;
 use cops_book::{Book, Puts};
 use cops_context::Context;
 use cops_place::{Place, Setting};
 use cops_record::Recorder;
-use cops_trace::Record;
 use cops_types::{Key, Memory, NodeStatus};
 use std::alloc::{AllocError, Global};
 use std::sync::atomic::AtomicU64;
@@ -135,8 +135,11 @@ impl Cluster {
     }
 
     /// Copies of the records of what clients saw so far, in order of arrival, from a place on.
-    pub fn records_from<R: Wait>(&self, rt: &R, place: usize) -> Result<Vec<Record>, Memory> {
-        self.recorder.copy_from(rt, place)
+    pub fn records_from<R: Wait>(&self, rt: &R, place: usize) -> Result<Tail, Memory>
+        ensures place { IfOk result (λ tail. tail.place ≡ place) }
+    {
+        let records = self.recorder.copy_from(rt, place)?;
+        Ok(Tail { place, records })
     }
 
     /// The node at a place of a data centre, where it is there.

@@ -14,6 +14,7 @@ mod refusal;
 mod share;
 mod spot;
 mod stepping;
+mod tail;
 
 pub use client::Client;
 pub use closing::{CloseFault, Closed, Uncompared};
@@ -22,3 +23,4 @@ pub use differing::difference_of_lists;
 pub use fault::OpenFault;
 pub use receiving::{Asked, RECEIVER, Yes};
 pub use share::{Holder, Made, Share};
+pub use tail::Tail;

@@ -1,3 +1,4 @@
+pub mod Gaining
 pub mod Holding
 pub mod Seats
 pub mod Tickets

@@ -2,9 +2,11 @@
 ghost use Rattle.std.specs.Prelude.{◌≡◌, IfErr, IfOk};
 ghost use Rattle.cops_types.specs.Counted.{failures, inner};
 ghost use Rattle.cops_trace.specs.Live.{IsCutBy, IsHeardBy, IsLive};
+ghost use Rattle.cops_run.specs.Live.{Follows};
 
 use crate::stage::Stage;
-use cops_trace::{LiveTrace, Record, Unwritten};
+use cops_cluster::Tail;
+use cops_trace::{LiveTrace, Unwritten};
 use std::io::Write;
 use std::sync::Wait;
 
@@ -45,31 +47,34 @@ fn turn<R: Wait, W: Write>(
     ensures cut { IfErr result (λ u. IsCutBy u.fault (W.contents (inner live.begun.value)) (W.contents (inner u.writer))) }
     ensures heard { IfErr result (λ u. IsHeardBy u.fault (failures live.begun.value) (failures u.writer)) }
 {
-    let records = match stage.cluster().records_from(rt, live.len()) {
-        Ok(records) => records,
+    let tail = match stage.cluster().records_from(rt, live.len()) {
+        Ok(tail) => tail,
         Err(_) => {
             stage.rest(rt);
             return Ok(live);
         }
     };
-    if records.is_empty() {
+    if tail.records().is_empty() {
         stage.rest(rt);
     }
-    add(live, &records)
+    add(live, &tail)
 }
 
-/// Writes these records, up to the first whose client may have no more.
-fn add<W: Write>(live: LiveTrace<W>, records: &[Record]) -> Result<LiveTrace<W>, Unwritten<W>>
-    requires { IsLive W.contents live }
+/// Writes the records that come next, each once and in their order, up to the first whose client may have no more.
+fn add<W: Write>(live: LiveTrace<W>, tail: &Tail) -> Result<LiveTrace<W>, Unwritten<W>>
+    requires live { IsLive W.contents live }
+    requires place { tail.now.place ≡ live.writer.counts.total }
     ensures begun { IfOk result (λ l. l.begun ≡ live.begun) }
     ensures live { IfOk result (IsLive W.contents) }
+    ensures follows { IfOk result (Follows tail.now.records.items live) }
     ensures cut { IfErr result (λ u. IsCutBy u.fault (W.contents (inner live.begun.value)) (W.contents (inner u.writer))) }
     ensures heard { IfErr result (λ u. IsHeardBy u.fault (failures live.begun.value) (failures u.writer)) }
 {
     let mut live = live;
+    let records = tail.records();
     for record in records {
         if !live.has_turn(record.client) {
-            break;
+            return Ok(live);
         }
         live = match live.add(record) {
             Ok(live) => live,

@@ -13,11 +13,12 @@ use Rattle.cops_wire.specs.declared.message.Message.TheVariants.{TraceEnd}
 use Rattle.cops_wire.proofs.Codec.{spelling_bounds}
 use Rattle.cops_trace.specs.Counts.{ACounts, AreCountsOf, HasTurn, counted, nothing}
 use Rattle.cops_trace.specs.Kept.{grown}
-use Rattle.cops_trace.specs.Live.{HasBegun, IsCutBy, IsCutShort}
+use Rattle.cops_trace.specs.Live.{Gains, HasBegun, IsCutBy, IsCutShort}
 use Rattle.cops_trace.specs.Text.{ATrace, IsOp, IsTrace, beginning, op_message, record_text, text}
 use Rattle.cops_trace.specs.Writing.{IsUnwritten, head_frame, more_written, record_frame}
 use Rattle.cops_trace.specs.declared.fault.WriteFault.{WriteFault}
 use Rattle.cops_trace.specs.declared.fault.WriteFault.TheVariants.{Memory, WriteFailed}
+use Rattle.cops_trace.specs.declared.live.LiveTrace.{LiveTrace}
 use Rattle.cops_trace.specs.declared.record.Record.{Record}
 use Rattle.cops_trace.proofs.Ends.{end_text}
 use Rattle.cops_trace.proofs.Growth.{IsTrace-grown, IsTrace-none, beginning-grown, beginning-none, with_records}
@@ -131,6 +132,13 @@ grown_is : (t : ATrace) (c : ACounts) (bytes : List ℕ) (client : ℕ) (op : Op
 grown_is t c bytes client op counts is =
     beginning-grown t (record { client = client; op = op })
     ∙ ap (λ (l : List ℕ). beginning t ++ l) (sym (frame_is t c client op counts)) ∙ ap (λ (l : List ℕ). l ++ record_frame c client op) (sym is)
+
+pub add_gains : {W : Type 0} (old new : LiveTrace W) (r : Record) → HasTurn old.writer.counts r.client → new.writer.counts ≡ counted old.writer.counts r.client
+    → new.text.items ≡ old.text.items ++ record_frame old.writer.counts r.client r.op → Gains (r ∷ []) old new
+add_gains old new r turn counts longer t b = record {
+  counts = subst (AreCountsOf (grown t r)) (sym counts) (counts_grown t old.writer.counts r b.counts turn.0);
+  bytes_are = longer ∙ sym (grown_is t old.writer.counts old.text.items r.client r.op b.counts b.bytes_are);
+}
 
 pub add_begun : (old mid new : Option (List ℕ)) (bytes : List ℕ) (c : ACounts) (written client : ℕ) (op : Op) → HasBegun old mid bytes c written → HasTurn c client → IsOp op
     → Appends mid new (record_frame c client op)

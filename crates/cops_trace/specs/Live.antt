@@ -10,6 +10,7 @@ use Rattle.cops_trace.specs.declared.fault.FinishFault.TheVariants.{WriteFailed 
 use Rattle.cops_trace.specs.declared.fault.WriteFault.{WriteFault}
 use Rattle.cops_trace.specs.declared.fault.WriteFault.TheVariants.{Memory, WriteFailed}
 use Rattle.cops_trace.specs.declared.live.LiveTrace.{LiveTrace}
+use Rattle.cops_trace.specs.declared.record.Record.{Record}
 
 -- these bytes, head and records of some trace of which these are the counts, went out, and so many bytes in all
 pub record HasBegun (old new : Option (List ℕ)) (bytes : List ℕ) (c : ACounts) (written : ℕ) : Type 0 where
@@ -24,6 +25,15 @@ pub record HasBegun (old new : Option (List ℕ)) (bytes : List ℕ) (c : ACount
 pub record IsLive {W : Type 0} (contents : W → Option (List ℕ)) (l : LiveTrace W) : Type 0 where
   pub wrote : HasBegun (contents (inner l.begun.value)) (contents (inner l.writer.writer)) l.text.items l.writer.counts l.writer.written
   pub heard : failures l.writer.writer ≡ failures l.begun.value
+
+-- the text that it keeps is this trace's, without the end
+pub record IsBegun {W : Type 0} (t : ATrace) (l : LiveTrace W) : Type 0 where
+  pub counts : AreCountsOf t l.writer.counts
+  pub bytes_are : l.text.items ≡ beginning t
+
+-- it has these records more, in their order
+abbrev pub Gains : {W : Type 0} → List Record → LiveTrace W → LiveTrace W → Type 0
+Gains records old new = (t : ATrace) → IsBegun t old → IsBegun (record { clients = t.clients; records = t.records ++ records }) new
 
 -- the first so many bytes of some trace's text went out, fewer than all
 pub record IsCutShort (old new : Option (List ℕ)) (written : ℕ) : Type 0 where

@@ -26,11 +26,11 @@ pub struct Unfinished<W: Write> {
 }
 
 impl<W: Write> LiveTrace<W> {
-    ghost use Rattle.std.specs.Prelude.{◌≡◌, ◌↔◌, ◌++◌, ℕ, IfErr, IfOk, IsTrue};
+    ghost use Rattle.std.specs.Prelude.{◌≡◌, ◌↔◌, ◌++◌, ℕ, [], ◌∷◌, IfErr, IfOk, IsTrue};
     ghost use Rattle.std.specs.Io.KnownBytes.{Appends};
     ghost use Rattle.cops_types.specs.Counted.{failures, inner};
     ghost use Rattle.cops_trace.specs.Counts.{HasTurn};
-    ghost use Rattle.cops_trace.specs.Live.{HasBegun, IsCutBy, IsCutShort, IsEndedBy, IsFrontOf, IsHeardBy, IsLeftBy, IsLive};
+    ghost use Rattle.cops_trace.specs.Live.{Gains, HasBegun, IsCutBy, IsCutShort, IsEndedBy, IsFrontOf, IsHeardBy, IsLeftBy, IsLive};
     ghost use Rattle.cops_trace.specs.Text.{text};
 
     /// Writes the head of so many clients. Where it is not written, the writer comes back.
@@ -57,6 +57,7 @@ impl<W: Write> LiveTrace<W> {
         requires heard { failures writer.writer ≡ failures begun.value }
         ensures begun { IfOk result (λ l. l.begun ≡ begun) }
         ensures live { IfOk result (IsLive W.contents) }
+        ensures kept { IfOk result (λ l. (l.writer ≡ writer) × (l.text.items ≡ text.items ++ writer.frame.items)) }
         ensures err { IfErr result (λ u. (u.fault ≡ WriteFault.Memory) × (failures u.writer ≡ failures begun.value)) }
         ensures cut { IfErr result (λ u. (written : ℕ) × IsCutShort (W.contents (inner begun.value)) (W.contents (inner u.writer)) written) }
     {
@@ -71,7 +72,9 @@ impl<W: Write> LiveTrace<W> {
     }
 
     /// How many records were written.
-    pub fn len(&self) -> usize {
+    pub fn len(&self) -> usize
+        ensures { result ≡ self.now.writer.counts.total }
+    {
         self.writer.len()
     }
 
@@ -88,6 +91,7 @@ impl<W: Write> LiveTrace<W> {
         requires turn { HasTurn self.writer.counts record.now.client }
         ensures begun { IfOk result (λ l. l.begun ≡ self.begun) }
         ensures live { IfOk result (IsLive W.contents) }
+        ensures gains { IfOk result (Gains (record.now ∷ []) self) }
         ensures err { IfErr result (λ u. IsCutBy u.fault (W.contents (inner self.begun.value)) (W.contents (inner u.writer))) }
         ensures heard { IfErr result (λ u. IsHeardBy u.fault (failures self.begun.value) (failures u.writer)) }
     {

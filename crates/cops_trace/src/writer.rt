@@ -96,7 +96,9 @@ impl<W: Write> TraceWriter<W> {
     }
 
     /// How many records were written.
-    pub(crate) fn len(&self) -> usize {
+    pub(crate) fn len(&self) -> usize
+        ensures { result ≡ self.now.counts.total }
+    {
         self.counts.total() as usize
     }
 
