@@ -2,7 +2,8 @@
 use Rattle.std.proofs.Common.{◌≡◌, ◌↔◌, ℕ, List, Some, sym, ◌∙◌, subst, inl, inr}
 use Rattle.cops_types.specs.declared.op.Op.TheVariants.{Put, Got}
 use Rattle.cops_types.specs.declared.op.OpName.{OpName}
-use Rattle.cops_types.specs.Histories.{Sessions, PutsVersion, SourceStep, GetsVersion}
+use Rattle.cops_types.specs.Histories.{Sessions, PutsVersion, SourceStep}
+use Rattle.cops_types.specs.Operations.{GetsVersion}
 use Rattle.cops_types.specs.Past.{Step, Past, step, more}
 use Rattle.cops_types.specs.Faults.{HasNoSource, IsNewer, IsNotAbove, IsNotBelow, IsStale}
 use Rattle.cops_types.specs.VersionOrder.{IsDoubled}

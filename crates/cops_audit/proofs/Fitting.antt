@@ -20,7 +20,8 @@ sum_less (x ∷ xs) [] len each = absurd (omega (arith, len))
 sum_less (x ∷ xs) (y ∷ ys) len each = omega (arith, each 0, sum_less xs ys (omega (arith, len)) (λ i. each (suc i)), sum_by-cons (λ (n : ℕ). n) x xs, sum_by-cons (λ (n : ℕ). n) y ys)
 
 -- a count that is raised, within the lengths
-module _ (lengths : List ℕ) (old : Sweep) (client to : ℕ) (inside : client < length old.counts) (less : get_or old.counts client 0 < to) (fits : to ≤ get_or lengths client 0) (room : HasRoom lengths old) where
+module _ (space : ℕ) (lengths : List ℕ) (old : Sweep) (client to : ℕ) (inside : client < length old.counts) (less : get_or old.counts client 0 < to)
+    (fits : to ≤ get_or lengths client 0) (room : HasRoom space lengths old) where
   still_within : (c : ℕ) → get_or (slice_set old.counts client to) c 0 ≤ get_or lengths c 0
   still_within c = elim (cases_order c client) [
     | inl same ↦
@@ -42,38 +43,44 @@ module _ (lengths : List ℕ) (old : Sweep) (client to : ℕ) (inside : client <
   room_left = omega (arith, room.left, sum_rises, sum_less (slice_set old.counts client to) lengths (omega (arith, length-set old.counts client to, room.width)) still_within)
 
   -- and then there is room still
-  pub room_kept : (new : Sweep) → new.counts ≡ slice_set old.counts client to → length new.newest ≡ length old.newest → vec_len new.pending ≡ vec_len old.pending + 1 → vec_capacity old.pending ≤ vec_capacity new.pending → HasRoom lengths new
+  pub room_kept : (new : Sweep) → new.counts ≡ slice_set old.counts client to → length new.newest ≡ length old.newest
+      → vec_len new.pending ≡ vec_len old.pending + 1 → vec_capacity old.pending ≤ vec_capacity new.pending → HasRoom space lengths new
   room_kept new counts newest len capacity =
       let sum : sum_by (λ n. n) new.counts ≡ sum_by (λ n. n) (slice_set old.counts client to) = ap (sum_by (λ n. n)) counts in
       record {
         width = ap length counts ∙ length-set old.counts client to ∙ room.width;
         within = λ c. let e : get_or new.counts c 0 ≡ get_or (slice_set old.counts client to) c 0 = ap (λ (l : List ℕ). get_or l c 0) counts in omega (arith, e, still_within c);
+        few = room.few;
         whole = omega (arith, room.whole, capacity);
         places = omega (arith, room.places, newest);
         left = omega (arith, room.left, sum, sum_rises, len, capacity);
       }
 
 -- the same counts, and the same ranges that are still to be looked at
-pub room_same : (lengths : List ℕ) (old new : Sweep) → new.counts ≡ old.counts → length new.newest ≡ length old.newest → new.pending ≡ old.pending → HasRoom lengths old → HasRoom lengths new
-room_same lengths old new counts newest pending room =
+pub room_same : (space : ℕ) (lengths : List ℕ) (old new : Sweep) → new.counts ≡ old.counts → length new.newest ≡ length old.newest → new.pending ≡ old.pending
+    → HasRoom space lengths old → HasRoom space lengths new
+room_same space lengths old new counts newest pending room =
     let sum : sum_by (λ n. n) new.counts ≡ sum_by (λ n. n) old.counts = ap (sum_by (λ n. n)) counts in
     let len : vec_len new.pending ≡ vec_len old.pending = ap (λ (v : Vec Range Global). vec_len v) pending in
     let capacity : vec_capacity new.pending ≡ vec_capacity old.pending = ap (λ (v : Vec Range Global). vec_capacity v) pending in
     record {
       width = ap length counts ∙ room.width;
       within = λ c. let e : get_or new.counts c 0 ≡ get_or old.counts c 0 = ap (λ (l : List ℕ). get_or l c 0) counts in omega (arith, e, room.within c);
+      few = room.few;
       whole = omega (arith, room.whole, capacity);
       places = omega (arith, room.places, newest);
       left = omega (arith, room.left, sum, len, capacity);
     }
 
 -- a range is taken from those that are still to be looked at
-pub room_popped : (lengths : List ℕ) (old new : Sweep) → new.counts ≡ old.counts → length new.newest ≡ length old.newest → vec_len new.pending ≤ vec_len old.pending → vec_capacity new.pending ≡ vec_capacity old.pending → HasRoom lengths old → HasRoom lengths new
-room_popped lengths old new counts newest len capacity room =
+pub room_popped : (space : ℕ) (lengths : List ℕ) (old new : Sweep) → new.counts ≡ old.counts → length new.newest ≡ length old.newest
+    → vec_len new.pending ≤ vec_len old.pending → vec_capacity new.pending ≡ vec_capacity old.pending → HasRoom space lengths old → HasRoom space lengths new
+room_popped space lengths old new counts newest len capacity room =
     let sum : sum_by (λ n. n) new.counts ≡ sum_by (λ n. n) old.counts = ap (sum_by (λ n. n)) counts in
     record {
       width = ap length counts ∙ room.width;
       within = λ c. let e : get_or new.counts c 0 ≡ get_or old.counts c 0 = ap (λ (l : List ℕ). get_or l c 0) counts in omega (arith, e, room.within c);
+      few = room.few;
       whole = omega (arith, room.whole, capacity);
       places = omega (arith, room.places, newest);
       left = omega (arith, room.left, sum, len, capacity);

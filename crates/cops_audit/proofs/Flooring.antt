@@ -140,14 +140,16 @@ none_at P None e p = p
 none_at P (Some y) e p = absurd cc
 
 -- a sweep that forgot all it knew has room
-pub room_again : (lengths : List ℕ) (clients puts : ℕ) (old new : Sweep) → clients ≡ length old.counts → puts ≡ length old.newest → IsFresh clients puts new → new.pending ≡ old.pending → HasRoom lengths old → HasRoom lengths new
-room_again lengths clients puts old new same width fresh pending room =
+pub room_again : (space : ℕ) (lengths : List ℕ) (clients puts : ℕ) (old new : Sweep) → clients ≡ length old.counts → puts ≡ length old.newest
+    → IsFresh clients puts new → new.pending ≡ old.pending → HasRoom space lengths old → HasRoom space lengths new
+room_again space lengths clients puts old new same width fresh pending room =
     let none : length new.pending.items ≡ 0 = ap length fresh.pending in
     let capacity : vec_capacity new.pending ≡ vec_capacity old.pending = ap (λ (v : Vec Range Global). vec_capacity v) pending in
     record {
       width = ap length fresh.counts ∙ length-replicate {A = ℕ} clients 0 ∙ same ∙ room.width;
       within = λ c. let e : get_or new.counts c 0 ≡ get_or (replicate clients 0) c 0 = ap (λ (l : List ℕ). get_or l c 0) fresh.counts in omega (arith, e, zero_at clients c);
+      few = room.few;
       whole = omega (arith, room.whole, capacity);
       places = let e : length new.newest ≡ length (replicate {A = ℕ} puts 0) = ap length fresh.newest in omega (arith, e, length-replicate {A = ℕ} puts 0, width, room.places);
-      left = omega (arith, room.whole, capacity, none, new.pending.ok.0);
+      left = omega (arith, room.few, room.whole, capacity, none, new.pending.ok.0);
     }

@@ -81,12 +81,15 @@ waiting_listed h gets lists sources = record {
 pub not_true : {b : Bool} → b ≡ false → ¬ (b ≡ true)
 not_true f t = let e : true ≡ false = sym t ∙ f in cc
 
--- names, or a table, that are seen as another list
+-- names, or a table, or the notes by it, that are seen as another list
 pub seen_names : {seen names : List OpName} (h : Sessions) → seen ≡ names → Lists (λ n. n) (IsNamed h) names → Lists (λ n. n) (IsNamed h) seen
 seen_names h e all = subst (Lists (λ n. n) (IsNamed h)) (sym e) all
 
 pub seen_table : {h : Sessions} {seen table : List VersionedPut} → seen ≡ table → IsVersionTable h table → IsVersionTable h seen
 seen_table {h} e t = subst (IsVersionTable h) (sym e) t
+
+pub seen_notes : {h : Sessions} {seen table : List VersionedPut} {notes : List (List Note)} → seen ≡ table → IsNoted h table notes → IsNoted h seen notes
+seen_notes {h} {notes = notes} e noted = subst (λ (t : List VersionedPut). IsNoted h t notes) (sym e) noted
 
 -- no fault lasts, and these gets wait
 pub record Waits (h : Sessions) (gets : List OpName) : Type 0 where

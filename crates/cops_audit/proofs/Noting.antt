@@ -11,7 +11,7 @@ use Rattle.cops_audit.specs.declared.notes.Note.{Note}
 use Rattle.cops_audit.specs.declared.notes.Seen.{Seen}
 use Rattle.cops_audit.specs.declared.notes.Seen.TheVariants.{Put, Got, Missed, Sourceless}
 use Rattle.cops_audit.specs.Tables.{IsVersionTable}
-use Rattle.cops_audit.specs.Notes.{above, AreAsLong, AreFrontsNoted, AreLongEnough, AreMarks, AreNoted, IsFrontNoted, IsMark, IsNoted, IsSeen, IsSessionNoted, LengthensBy, note_at}
+use Rattle.cops_audit.specs.Notes.{above, AreFrontsNoted, AreLongEnough, AreMarks, AreNoted, HasRoomFor, IsFrontNoted, IsMark, IsNoted, IsSeen, IsSessionNoted, KeepsRoom, note_at}
 use Rattle.cops_audit.proofs.Listing.{named_client, named_index, slice_get_there}
 use Rattle.cops_audit.proofs.Places.{inside_table}
 use Rattle.cops_audit.proofs.Unique.{stands}
@@ -83,24 +83,6 @@ front_noted h table client session count mark front len up_to = record { whole =
 pub front_of_none : (h : Sessions) (table : List VersionedPut) (client : ℕ) (session : List Note) → session ≡ [] → IsFrontNoted h table client session
 front_of_none h table client session e = subst (IsFrontNoted h table client) (sym e) (record { within = omega arith; seen = λ i x at. absurd cc; marks = λ i x at. absurd cc })
 
-pushed_old : {A B : Type 0} (f : A → B) (d : B) (xs : List A) (x : A) (c : ℕ) → c < length xs → get_or (map f (xs ++ x ∷ [])) c d ≡ get_or (map f xs) c d
-pushed_old f d [] x c inside = absurd (omega (arith, inside))
-pushed_old f d (y ∷ ys) x zero inside = refl
-pushed_old f d (y ∷ ys) x (suc c) inside = pushed_old f d ys x c (omega (arith, inside))
-
-pushed_new : {A B : Type 0} (f : A → B) (d : B) (xs : List A) (x : A) → get_or (map f (xs ++ x ∷ [])) (length xs) d ≡ f x
-pushed_new f d [] x = refl
-pushed_new f d (y ∷ ys) x = pushed_new f d ys x
-
--- what holds of each element so far and of the next
-pub each_pushed : {A B : Type 0} (f : A → B) (d : B) (P : ℕ → B → Type 0) (xs : List A) (x : A) (count : ℕ) → length xs ≡ count
-    → ((c : ℕ) → c < count → P c (get_or (map f xs) c d)) → P count (f x) → (c : ℕ) → c < count + 1 → P c (get_or (map f (xs ++ x ∷ [])) c d)
-each_pushed f d P xs x count len old new c less = elim (eq-or-lt_of_le (let le : c ≤ count = omega (arith, less) in le)) [
-  | inl same ↦ subst (λ (k : ℕ). P k (get_or (map f (xs ++ x ∷ [])) k d)) (sym same)
-      (subst (P count) (sym (ap (λ (k : ℕ). get_or (map f (xs ++ x ∷ [])) k d) (sym len) ∙ pushed_new f d xs x)) new)
-  | inr before ↦ subst (P c) (sym (pushed_old f d xs x c (omega (arith, before, len)))) (old c before)
-]
-
 -- the note on an operation, and the session that it is in
 pub session_of : (h : Sessions) (table : List VersionedPut) (notes : List (List Note)) → IsNoted h table notes → (name : OpName) (note : Note) → note_at notes name ≡ Some note
     → IsSessionNoted h table name.client (slice_index_or notes name.client [])
@@ -118,7 +100,7 @@ note_there h table notes noted name named =
     slice_get_there (slice_index_or notes name.client []) name.index (omega (arith, session.whole, named_index h name named))
 
 -- a list with one element written
-set_here : {A B : Type 0} (f : A → B) (d : B) (xs : List A) (k : ℕ) (x : A) → k < length xs → get_or (map f (slice_set xs k x)) k d ≡ f x
+pub set_here : {A B : Type 0} (f : A → B) (d : B) (xs : List A) (k : ℕ) (x : A) → k < length xs → get_or (map f (slice_set xs k x)) k d ≡ f x
 set_here f d [] k x inside = absurd (omega (arith, inside))
 set_here f d (y ∷ ys) zero x inside = refl
 set_here f d (y ∷ ys) (suc k) x inside = set_here f d ys k x (omega (arith, inside))
@@ -214,32 +196,49 @@ noted_joined h table mid low high a b = record {
         subst (IsSessionNoted h table c) (sym (get_high low high k c [] (omega (arith, le, a.clients))))
         (subst (λ (n : ℕ). IsSessionNoted h table n (get_or high k [])) client (b.sessions k (omega (arith, less, le, b.clients))))
 
--- one more note in a session
-pub lengthened : {A : Type 0} (f : A → List Note) (xs : List A) (k : ℕ) (old new : A) (note : Note) → k < length xs → old ≡ get_or xs k old → f new ≡ f old ++ note ∷ [] → LengthensBy (map f xs) (map f (slice_set xs k new)) k
-lengthened f xs k old new note inside at more =
-    let here : get_or (map f (slice_set xs k new)) k [] ≡ f old ++ note ∷ [] = set_here f [] xs k new inside ∙ more in
-    let before : get_or (map f xs) k [] ≡ f old = get_or-map f xs k old [] inside ∙ ap f (sym at) in
-    record {
-      clients = omega (arith, length-map (slice_set xs k new) f, length-set xs k new, length-map xs f);
-      here = omega (arith, ap length here, ap length before, length-append (f old) (note ∷ []));
-      others = λ other differs. set_other f [] xs k other new differs;
-    }
+-- the room of one client, no less than before
+pub keeps_set : {A : Type 0} (f : A → ℕ) (xs : List A) (k : ℕ) (old new : A) → k < length xs → old ≡ get_or xs k old → f old ≤ f new
+    → KeepsRoom (map f xs) (map f (slice_set xs k new))
+keeps_set f xs k old new inside at more = record {
+  clients = omega (arith, length-map (slice_set xs k new) f, length-set xs k new, length-map xs f);
+  each = λ c. elim (cases_order c k) [
+    | inl same ↦ subst (λ (n : ℕ). get_or (map f xs) n 0 ≤ get_or (map f (slice_set xs k new)) n 0) (sym same)
+        (omega (arith, set_here f 0 xs k new inside, get_or-map f xs k old 0 inside, ap f (sym at), more))
+    | inr other ↦
+        let differs : c ≢ k = λ e. elim other [ inl l ↦ omega (arith, l, e) | inr m ↦ omega (arith, m, e) ] in
+        omega (arith, set_other f 0 xs k c new differs)
+  ];
+}
 
--- the notes on a session in place of as many
-module _ {A : Type 0} (f : A → List Note) (h : Sessions) (table : List VersionedPut) (xs : List A) (k : ℕ) (x : A) (inside : k < length xs) (noted : IsSessionNoted h table k (f x)) where
-  pub as_long : AreAsLong h (map f xs) → AreAsLong h (map f (slice_set xs k x))
-  as_long long = record {
-    clients = omega (arith, length-map (slice_set xs k x) f, length-set xs k x, length-map xs f, long.clients);
-    each = λ c. elim (cases_order c k) [
-      | inl same ↦ subst (λ (n : ℕ). length (get_or (map f (slice_set xs k x)) n []) ≡ length (slice_index_or h n [])) (sym same) (ap length (set_here f [] xs k x inside) ∙ noted.whole)
-      | inr other ↦
-          let differs : c ≢ k = λ e. elim other [ inl l ↦ omega (arith, l, e) | inr m ↦ omega (arith, m, e) ] in
-          ap length (set_other f [] xs k c x differs) ∙ long.each c
-    ];
-  }
+-- the room of one client, enough for its list
+pub room_set : {A B : Type 0} (f : A → ℕ) (lists : List (List B)) (xs : List A) (k : ℕ) (x : A) → k < length xs → length (get_or lists k []) ≤ f x
+    → HasRoomFor lists (map f xs) → HasRoomFor lists (map f (slice_set xs k x))
+room_set f lists xs k x inside enough room = record {
+  clients = omega (arith, length-map (slice_set xs k x) f, length-set xs k x, length-map xs f, room.clients);
+  each = λ c. elim (cases_order c k) [
+    | inl same ↦ subst (λ (n : ℕ). length (get_or lists n []) ≤ get_or (map f (slice_set xs k x)) n 0) (sym same)
+        (omega (arith, set_here f 0 xs k x inside, enough))
+    | inr other ↦
+        let differs : c ≢ k = λ e. elim other [ inl l ↦ omega (arith, l, e) | inr m ↦ omega (arith, m, e) ] in
+        omega (arith, set_other f 0 xs k c x differs, room.each c)
+  ];
+}
 
-  pub noted_to : ((c : ℕ) → c < k → IsSessionNoted h table c (slice_index_or (map f xs) c [])) → (c : ℕ) → c < k + 1 → IsSessionNoted h table c (slice_index_or (map f (slice_set xs k x)) c [])
-  noted_to before c less = elim (eq-or-lt_of_le (let l : c ≤ k = omega (arith, less) in l)) [
-    | inl same ↦ subst (λ (n : ℕ). IsSessionNoted h table n (get_or (map f (slice_set xs k x)) n [])) (sym same) (subst (IsSessionNoted h table k) (sym (set_here f [] xs k x inside)) noted)
-    | inr lower ↦ subst (IsSessionNoted h table c) (sym (set_other f [] xs k c x (λ e. omega (arith, lower, e)))) (before c lower)
-  ]
+-- room for what stands there
+pub room_of : {A B : Type 0} (f : A → List B) (g : A → ℕ) → ((x : A) → length (f x) ≤ g x) → (xs : List A) → HasRoomFor (map f xs) (map g xs)
+room_of {A} {B} f g enough xs = record { clients = omega (arith, length-map xs g, length-map xs f); each = here xs }
+  where
+    here : (ys : List A) (c : ℕ) → length (get_or (map f ys) c []) ≤ get_or (map g ys) c 0
+    here [] c = omega arith
+    here (y ∷ ys) zero = enough y
+    here (y ∷ ys) (suc c) = here ys c
+
+-- the notes on one more session
+pub noted_to : {A : Type 0} (f : A → List Note) (h : Sessions) (table : List VersionedPut) (xs : List A) (k : ℕ) (x : A) → k < length xs
+    → IsSessionNoted h table k (f x) → ((c : ℕ) → c < k → IsSessionNoted h table c (slice_index_or (map f xs) c []))
+    → (c : ℕ) → c < k + 1 → IsSessionNoted h table c (slice_index_or (map f (slice_set xs k x)) c [])
+noted_to f h table xs k x inside noted before c less = elim (eq-or-lt_of_le (let l : c ≤ k = omega (arith, less) in l)) [
+  | inl same ↦ subst (λ (n : ℕ). IsSessionNoted h table n (get_or (map f (slice_set xs k x)) n [])) (sym same)
+      (subst (IsSessionNoted h table k) (sym (set_here f [] xs k x inside)) noted)
+  | inr lower ↦ subst (IsSessionNoted h table c) (sym (set_other f [] xs k c x (λ e. omega (arith, lower, e)))) (before c lower)
+]

@@ -2,7 +2,8 @@
 use Rattle.std.proofs.Common.{◌≡◌, ◌≢◌, ◌<◌, ◌≤◌, ◌↔◌, ◌⊎◌, ℕ, List, Some, refl, sym, ◌∙◌, ap, subst, inl, inr, arith}
 use Rattle.cops_types.specs.declared.op.Op.TheVariants as op
 use Rattle.cops_types.specs.declared.op.OpName.{OpName}
-use Rattle.cops_types.specs.Histories.{Sessions, IsMissed, IsNamed, PutsVersion, SourceStep, GetsVersion}
+use Rattle.cops_types.specs.Histories.{Sessions, IsMissed, IsNamed, PutsVersion, SourceStep}
+use Rattle.cops_types.specs.Operations.{GetsVersion}
 use Rattle.cops_types.specs.Faults.{HasNoSource, HasVersion, IsNotAbove, IsNotBelow}
 use Rattle.cops_audit.specs.SoFar.{HaveSourcesOrWait}
 use Rattle.cops_audit.specs.declared.table.VersionedPut.{VersionedPut}

@@ -3,7 +3,8 @@ use Rattle.std.proofs.Common.{◌≡◌, ◌<◌, ◌≤◌, ◌+◌, ℕ, List,
 use Rattle.std.proofs.Math.Nat.{eq-or-lt_of_le}
 use Rattle.std.proofs.lemmas.Bool.{cases_lt}
 use Rattle.cops_types.specs.declared.op.OpName.{OpName}
-use Rattle.cops_types.specs.Histories.{Sessions, PutsVersion, SourceStep, GetsVersion}
+use Rattle.cops_types.specs.Histories.{Sessions, PutsVersion, SourceStep}
+use Rattle.cops_types.specs.Operations.{GetsVersion}
 use Rattle.cops_types.specs.Past.{Past, step, more}
 use Rattle.cops_audit.specs.declared.table.VersionedPut.{VersionedPut}
 use Rattle.cops_audit.specs.declared.sweep.Range.{Range}

@@ -1,5 +1,5 @@
 -- A past that is learned by walking notes backward.
-use Rattle.std.proofs.Common.{◌≡◌, ◌<◌, ◌≤◌, ◌+◌, ◌⊎◌, ℕ, List, [], ◌∷◌, ◌++◌, length, get_or, Some, None, refl, sym, ◌∙◌, ap, subst, inl, inr, arith, slice_get, slice_index_or}
+use Rattle.std.proofs.Common.{◌≡◌, ◌<◌, ◌≤◌, ◌+◌, ◌⊎◌, ℕ, List, [], ◌∷◌, ◌++◌, length, get_or, Some, None, refl, sym, ◌∙◌, ap, subst, inl, inr, arith, slice_get, slice_index_or, append-nil, Vec, Global}
 use Rattle.std.proofs.Math.Nat.{eq-or-lt_of_le}
 use Rattle.cops_types.specs.declared.op.OpName.{OpName}
 use Rattle.cops_audit.specs.declared.table.VersionedPut.{VersionedPut}
@@ -181,3 +181,23 @@ module _ (table : List VersionedPut) (notes : List (List Note)) (rising : AreRis
     where
       now : (n : OpName) → Counted old.counts n → Counted new.counts n
       now n there = subst (λ cs. Counted cs n) (sym counts) there
+
+  -- where there is none to take, all stays
+  pub none_popped : (old : Sweep) (pending : Vec Range Global) → old.pending.items ≡ pending.items ++ [] → IsSweeping table notes firsts floor old (λ _. ⊥)
+      → IsSweeping table notes firsts floor (record old { pending = pending }) (λ _. ⊥)
+  none_popped old pending same was =
+      let items : old.pending.items ≡ pending.items = same ∙ append-nil pending.items in
+      record {
+        clients = was.clients;
+        places = was.places;
+        newest = was.newest;
+        open_counted = was.open_counted;
+        pending_counted = subst (λ (rs : List Range). (n : OpName) → InSome rs n → Counted old.counts n) items was.pending_counted;
+        learned = λ n x counted at high. elim (was.learned n x counted at high) [
+          | inl learned ↦ inl (record { put = learned.put; got = learned.got })
+          | inr left ↦ elim left [
+            | inl there ↦ inr (inl (subst (λ (rs : List Range). InSome rs n) items there))
+            | inr none ↦ absurd none
+          ]
+        ];
+      }

@@ -2,7 +2,8 @@
 use Rattle.std.specs.Prelude.{◌≡◌, ◌<◌, ◌≤◌, ℕ, List, length, slice_get, slice_index_or, Option, Some, None}
 use Rattle.std.specs.Option.{option_map}
 use Rattle.cops_types.specs.declared.op.OpName.{OpName}
-use Rattle.cops_types.specs.Histories.{Sessions, PutsKey, key_of, op_at}
+use Rattle.cops_types.specs.Histories.{Sessions, PutsKey, op_at}
+use Rattle.cops_types.specs.Operations.{key_of}
 use Rattle.cops_types.specs.Recorded.{Recorded}
 use Rattle.cops_audit.specs.declared.table.VersionedPut.{VersionedPut}
 use Rattle.cops_audit.specs.Notes.{StandsAt}

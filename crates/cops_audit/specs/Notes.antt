@@ -1,7 +1,8 @@
 -- What each operation did, by places in the table of puts in order of versions.
-use Rattle.std.specs.Prelude.{◌≡◌, ◌≢◌, ◌<◌, ◌≤◌, ◌+◌, ◌⊎◌, ℕ, List, [], length, slice_index_or, slice_get, Option, Some}
+use Rattle.std.specs.Prelude.{◌≡◌, ◌<◌, ◌≤◌, ◌+◌, ◌⊎◌, ℕ, List, [], length, slice_index, slice_index_or, slice_get, Option, Some}
 use Rattle.cops_types.specs.declared.op.OpName.{OpName}
-use Rattle.cops_types.specs.Histories.{Sessions, IsMissed, PutsVersion, SourceStep, GetsVersion}
+use Rattle.cops_types.specs.Histories.{Sessions, IsMissed, PutsVersion, SourceStep}
+use Rattle.cops_types.specs.Operations.{GetsVersion}
 use Rattle.cops_types.specs.Faults.{HasNoSource}
 use Rattle.cops_audit.specs.declared.table.VersionedPut.{VersionedPut}
 use Rattle.cops_audit.specs.declared.notes.Note.{Note}
@@ -96,13 +97,12 @@ pub record SeesNotAbove (notes : List (List Note)) (name earlier : OpName) : Typ
   pub not_below : SeesNotBelow notes earlier name
   pub first : (e : OpName) → SeesNotBelow notes e name → earlier.index ≤ e.index
 
--- a note for each operation
-pub record AreAsLong (h : Sessions) (notes : List (List Note)) : Type 0 where
-  pub clients : length notes ≡ length h
-  pub each : (client : ℕ) → length (slice_index_or notes client []) ≡ length (slice_index_or h client [])
+-- of each client, room for as many as its list has
+pub record HasRoomFor {A : Type 0} (lists : List (List A)) (room : List ℕ) : Type 0 where
+  pub clients : length room ≡ length lists
+  pub each : (client : ℕ) → length (slice_index_or lists client []) ≤ slice_index room client
 
--- one more note on the client
-pub record LengthensBy (old new : List (List Note)) (client : ℕ) : Type 0 where
+-- no client's room is less
+pub record KeepsRoom (old new : List ℕ) : Type 0 where
   pub clients : length new ≡ length old
-  pub here : length (slice_index_or new client []) ≡ length (slice_index_or old client []) + 1
-  pub others : (other : ℕ) → other ≢ client → slice_index_or new other [] ≡ slice_index_or old other []
+  pub each : (client : ℕ) → slice_index old client ≤ slice_index new client

@@ -7,7 +7,7 @@ use Rattle.cops_types.specs.Recorded.{IsWithinLimits}
 use Rattle.cops_audit.specs.declared.room.Room.{Room}
 use Rattle.cops_audit.specs.Floors.{AreFloors}
 use Rattle.cops_audit.specs.Keys.{AreFirsts}
-use Rattle.cops_audit.specs.Notes.{AreAsLong, IsNoted}
+use Rattle.cops_audit.specs.Notes.{HasRoomFor, IsNoted}
 use Rattle.cops_audit.specs.Sweeps.{HasRoom, IsIdle}
 use Rattle.cops_audit.specs.Tables.{IsVersionTable}
 use Rattle.cops_audit.specs.Windows.{AreSuspects}
@@ -31,22 +31,27 @@ pub record IsFilled (h : Sessions) (room : Room) : Type 0 where
   pub table : IsVersionTable h room.table.items
   pub few : length room.table.items ≤ count_of h
 
--- the same notes and counts, and nothing left to look at
+-- the same room for notes and the same counts, and nothing left to look at
 pub record IsSameButSpace (old new : Room) : Type 0 where
-  pub notes : new.notes ≡ old.notes
+  pub note_room : new.note_room ≡ old.note_room
   pub counts : new.sweep.counts ≡ old.sweep.counts
   pub empty : old.sweep.pending.items ≡ [] → new.sweep.pending.items ≡ []
 
--- space for all operations, a note for each, and a count for each client; nothing is left to look at
-pub record Fits (h : Sessions) (room : Room) : Type 0 where
-  pub space : HasSpace (count_of h) room
-  pub notes : AreAsLong h room.notes
+-- space for all operations, and a count for each client; nothing is left to look at
+pub record IsReady (h : Sessions) (room : Room) : Type 0 where
+  pub space : HasSpace room.space room
+  pub enough : count_of h ≤ room.space
   pub counts : length room.sweep.counts ≡ length h
   pub empty : room.sweep.pending.items ≡ []
 
+-- that, and room for the notes on all operations
+pub record Fits (h : Sessions) (room : Room) : Type 0 where
+  pub ready : IsReady h room
+  pub notes : HasRoomFor h room.note_room
+
 -- room for a history, with its names, its puts and the notes on its operations
 pub record IsNotedIn (h : Sessions) (room : Room) : Type 0 where
-  pub fits : Fits h room
+  pub ready : IsReady h room
   pub limits : IsWithinLimits h
   pub filled : IsFilled h room
   pub notes : IsNoted h room.table.items room.notes
@@ -57,4 +62,4 @@ pub record IsSuspected (h : Sessions) (room : Room) : Type 0 where
   pub firsts : AreFirsts h room.table.items room.firsts.items
   pub floors : AreFloors room.suspects.items room.floors.items
   pub idle : IsIdle (length h) (length room.table.items) room.sweep
-  pub space : HasRoom (map length room.notes) room.sweep
+  pub space : HasRoom room.space (map length room.notes) room.sweep

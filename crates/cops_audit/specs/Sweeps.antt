@@ -138,10 +138,11 @@ pub record IsIdle (sessions puts : ℕ) (sweep : Sweep) : Type 0 where
 abbrev pub Covers : List ℕ → List VersionedPut → Type 0
 Covers lengths table = (place : ℕ) (put : OpName) (version : ℕ) → StandsAt table place put version → put.index < slice_index lengths put.client
 
--- what is still to be looked at has room, whatever else of sessions of these lengths is counted, and each operation a place
-pub record HasRoom (lengths : List ℕ) (sweep : Sweep) : Type 0 where
+-- what is still to be looked at has room, whatever else of sessions of these lengths is counted, and there is space for so many ranges and places
+pub record HasRoom (space : ℕ) (lengths : List ℕ) (sweep : Sweep) : Type 0 where
   pub width : length sweep.counts ≡ length lengths
   pub within : (client : ℕ) → slice_index sweep.counts client ≤ slice_index lengths client
-  pub whole : sum_by (λ n. n) lengths ≤ vec_capacity sweep.pending
-  pub places : sum_by (λ n. n) lengths ≤ length sweep.newest
+  pub few : sum_by (λ n. n) lengths ≤ space
+  pub whole : space ≤ vec_capacity sweep.pending
+  pub places : space ≤ length sweep.newest
   pub left : vec_len sweep.pending + sum_by (λ n. n) lengths ≤ vec_capacity sweep.pending + sum_by (λ n. n) sweep.counts

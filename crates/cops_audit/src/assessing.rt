@@ -4,7 +4,7 @@ ghost use Rattle.cops_types.specs.Faults.{HasNoSource, IsStale};
 ghost use Rattle.cops_types.specs.Recorded.{IsWithinLimits};
 ghost use Rattle.cops_types.specs.Verdicts.{AllAbove, NoneStale};
 ghost use Rattle.cops_audit.specs.Notes.{IsNoted};
-ghost use Rattle.cops_audit.specs.Rooms.{Fits, IsFilled, IsNotedIn, IsSuspected};
+ghost use Rattle.cops_audit.specs.Rooms.{Fits, IsFilled, IsNotedIn, IsReady, IsSuspected};
 ghost use Rattle.cops_audit.specs.SoFar.{HaveSourcesOrWait, IsMismatched, IsSoFar, IsWaiting};
 ghost use Rattle.cops_audit.specs.Tables.{IsVersionTable};
 
@@ -68,7 +68,7 @@ impl Room {
         requires above { AllAbove history.now.sessions }
         ensures ok { IsOk result }
         ensures suspected { OnOk result (IsSuspected history.now.sessions self.new) }
-        ensures fits { OnOk result (Fits history.now.sessions self.new) }
+        ensures ready { OnOk result (IsReady history.now.sessions self.new) }
         ensures names { OnOk result (self.new.names ≡ self.old.names) }
         ensures table { OnOk result (self.new.table ≡ self.old.table) }
         ensures notes { OnOk result (self.new.notes ≡ self.old.notes) }
@@ -102,7 +102,7 @@ impl Room {
         ensures ok { IsOk result }
         ensures stale { IfOk result (λ found. IsTrue found → (name : OpName) × (newer : OpName) × IsStale history.now.sessions name newer) }
         ensures none { IfOk result (λ found. ¬ IsTrue found → NoneStale history.now.sessions) }
-        ensures fits { OnOk result (Fits history.now.sessions self.new) }
+        ensures ready { OnOk result (IsReady history.now.sessions self.new) }
         ensures names { OnOk result (self.new.names ≡ self.old.names) }
         ensures notes { OnOk result (self.new.notes ≡ self.old.notes) }
     {
@@ -124,18 +124,16 @@ impl Room {
         Ok(found)
     }
 
-    /// What is said so far of a history in which no version is borne by two puts.
-    fn assess_gets(&mut self, history: &History) -> Result<SoFar, AllocError>
-        requires fits { Fits history.now.sessions self.old }
-        requires limits { IsWithinLimits history.now.sessions }
-        requires filled { IsFilled history.now.sessions self.old }
+    /// What is said so far of a history in which no version is borne by two puts, and whose operations are noted.
+    fn assess_notes(&mut self, history: &History) -> Result<SoFar, AllocError>
+        requires { IsNotedIn history.now.sessions self.old }
         ensures ok { IsOk result }
         ensures so_far { IfOk result (IsSoFar history.now.sessions) }
-        ensures fits { OnOk result (Fits history.now.sessions self.new) }
+        ensures ready { OnOk result (IsReady history.now.sessions self.new) }
+        ensures notes { OnOk result (self.new.notes ≡ self.old.notes) }
     {
         let table = self.table.as_slice();
         let names = self.names.as_slice();
-        self.notes.renew(history, table);
         if has_mismatched(history, table, &self.notes, names) {
             return Ok(SoFar::Refused);
         }
@@ -151,6 +149,22 @@ impl Room {
             return Ok(SoFar::Clean);
         }
         Ok(SoFar::Waiting(waiting))
+    }
+
+    /// What is said so far of a history in which no version is borne by two puts.
+    fn assess_gets(&mut self, history: &History) -> Result<SoFar, AllocError>
+        requires fits { Fits history.now.sessions self.old }
+        requires limits { IsWithinLimits history.now.sessions }
+        requires filled { IsFilled history.now.sessions self.old }
+        ensures ok { IsOk result }
+        ensures so_far { IfOk result (IsSoFar history.now.sessions) }
+        ensures fits { OnOk result (Fits history.now.sessions self.new) }
+    {
+        let table = self.table.as_slice();
+        self.notes.renew(&mut self.note_room, history, table);
+        let so_far = self.assess_notes(history)?;
+        self.notes.give_back(&mut self.note_room);
+        Ok(so_far)
     }
 
     /// What is said so far of a history that goes on. It takes no memory.

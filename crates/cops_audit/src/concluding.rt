@@ -7,7 +7,7 @@ ghost use Rattle.cops_audit.specs.Rooms.{Fits, IsFilled, IsNotedIn};
 ghost use Rattle.cops_audit.specs.Verdicts.{IsVerdict};
 
 use crate::names::set_names;
-use crate::notes::{Notes, without_source};
+use crate::notes::{NoteRoom, Notes, without_source};
 use crate::rising::not_above;
 use crate::room::Room;
 use crate::stale::stale_suspects;
@@ -72,8 +72,8 @@ impl Room {
         requires filled { IsFilled history.now.sessions self.old }
         ensures { IfOk result (IsVerdict history.now.sessions) }
     {
-        // The notes that are kept were made one by one: they are given back, and made for all at once, which is sooner done.
-        self.notes = Notes::empty(alloc, 0)?;
+        // The room for notes is given back before they are made for all at once, in rounds, which is sooner done.
+        self.note_room = NoteRoom::new(alloc, 0)?;
         self.notes = Notes::new(alloc, history, self.table.as_slice())?;
         if let Some(verdict) = self.judge_notes(alloc, history)? {
             return Ok(verdict);

@@ -77,7 +77,8 @@ pub fn judge_next(
     ensures after { OnOk result (IsAfter table.now notes.now firsts.now suspects.now floors.now (k + 1) sweep.new) }
     ensures found { IfOk result (λ found. IfSome found (λ place. (d : Suspect) → ((slice_index_or suspects.now k d).from ≤ place) × IsNewestIn table.now notes.now firsts.now (slice_index_or suspects.now k d).op (slice_index_or suspects.now k d).first place)) }
     ensures none { IfOk result (λ found. IfNone found ((d : Suspect) → NoneFrom table.now notes.now firsts.now (slice_index_or suspects.now k d).op (slice_index_or suspects.now k d).first (slice_index_or suspects.now k d).from)) }
-    ensures room { HasRoom (map length notes.now) sweep.old → IsOk result × HasRoom (map length notes.now) sweep.new }
+    ensures room { (space : ℕ) → HasRoom space (map length notes.now) sweep.old
+        → IsOk result × HasRoom space (map length notes.now) sweep.new }
 {
     if !follows(suspects, k) {
         sweep.restart();

@@ -1,7 +1,8 @@
-ghost use Rattle.std.specs.Prelude.{◌≡◌, ◌<◌, ◌≤◌, ◌+◌, ◌^◌, ◌↔◌, List, IfOk, OnOk, IsTrue, length, map, vec_len, All, AllPairs, slice_index_or, []};
+ghost use Rattle.std.specs.Prelude.{◌≡◌, ◌<◌, ◌≤◌, ◌+◌, ◌^◌, ◌↔◌, List, IfOk, OnOk, IsTrue, length, map, vec_len, vec_capacity, All, AllPairs, slice_index_or, []};
 ghost use Rattle.cops_types.specs.declared.limits.TheConstants.{MAX_CLIENTS};
 ghost use Rattle.cops_types.specs.declared.op.OpName.{OpName};
-ghost use Rattle.cops_types.specs.Histories.{IsNamed, GetsVersion};
+ghost use Rattle.cops_types.specs.Histories.{IsNamed};
+ghost use Rattle.cops_types.specs.Operations.{GetsVersion};
 ghost use Rattle.cops_types.specs.Faults.{IsBefore};
 ghost use Rattle.cops_audit.specs.Names.{ListsAmong};
 ghost use Rattle.cops_audit.specs.Notes.{above as above_of, AreFrontsNoted, AreLongEnough, AreMarks, IsFrontNoted, IsMark, IsSeen, IsSessionNoted, IsSourceless};
@@ -174,18 +175,13 @@ fn no_notes(
     Ok(sessions)
 }
 
-/// A note that says nothing yet.
-const BLANK: Note = Note {
-    seen: Seen::Missed,
-    mark: 0,
-};
-
-/// Notes the operations of a session: there is a note for each.
+/// Notes the operations of a session anew, for which there is room.
 fn renew_session(notes: &mut Vec<Note>, history: &History, table: &[VersionedPut], client: u16)
     requires table { IsVersionTable history.now.sessions table.now }
-    requires len { vec_len notes.old ≡ length (slice_index_or history.now.sessions client []) }
+    requires room { length (slice_index_or history.now.sessions client []) ≤ vec_capacity notes.old }
     ensures { IsSessionNoted history.now.sessions table.now client notes.new.items }
 {
+    notes.clear();
     let mut mark = 0;
     for index in 0..history.session_len(client) {
         let name = OpName {
@@ -198,7 +194,53 @@ fn renew_session(notes: &mut Vec<Note>, history: &History, table: &[VersionedPut
         if mark < above {
             mark = above;
         }
-        notes[index] = Note { seen, mark };
+        notes.push_reserved(Note { seen, mark });
+    }
+}
+
+/// Room for the notes on the operations of a history that goes on.
+#[derive(Drop)]
+pub struct NoteRoom {
+    sessions: Vec<Vec<Note>>,
+}
+
+impl Model for NoteRoom {
+    ghost use Rattle.std.specs.Prelude.{List, ℕ, map, vec_capacity};
+
+    // Of each client, for how many notes there is room.
+    ghost Value = { List ℕ };
+
+    ghost view = { λ a. map (λ s. vec_capacity s) a.sessions.items };
+}
+
+impl NoteRoom {
+    ghost use Rattle.std.specs.Prelude.{◌≡◌, ◌<◌, ◌≤◌, IfOk, OnOk, length, slice_index};
+    ghost use Rattle.cops_audit.specs.Notes.{KeepsRoom};
+
+    /// Room for no notes, of so many clients.
+    pub fn new(alloc: Global, clients: u16) -> Result<Self, AllocError>
+        ensures { IfOk result (λ room. length room ≡ clients) }
+    {
+        let mut sessions = Vec::new(alloc);
+        for _ in 0..clients {
+            sessions.push(Vec::new(alloc))?;
+        }
+        Ok(NoteRoom { sessions })
+    }
+
+    /// Makes room for so many notes of a client.
+    pub fn grow(&mut self, client: u16, count: usize) -> Result<(), AllocError>
+        requires { client < length self.old }
+        ensures ok { OnOk result (count ≤ slice_index self.new client) }
+        ensures kept { KeepsRoom self.old self.new }
+    {
+        let session = &mut self.sessions[client as usize];
+        if session.capacity() >= count {
+            return Ok(());
+        }
+        session.clear();
+        session.reserve(count)?;
+        Ok(())
     }
 }
 
@@ -220,9 +262,9 @@ impl Model for Notes {
 impl Notes {
     ghost use Rattle.cops_types.specs.Histories.{Sessions};
     ghost use Rattle.cops_audit.specs.declared.table.VersionedPut.{VersionedPut};
-    ghost use Rattle.std.specs.Prelude.{◌≡◌, ◌<◌, ◌≤◌, ℕ, List, IfOk, OnOk, OnErr, length, replicate, slice_index_or, []};
+    ghost use Rattle.std.specs.Prelude.{◌≡◌, ◌≤◌, ℕ, List, IfOk, length, slice_index_or, []};
     ghost use Rattle.std.specs.Option.{option_copied};
-    ghost use Rattle.cops_audit.specs.Notes.{note_at, AreAsLong, AreNoted, IsNoted, LengthensBy};
+    ghost use Rattle.cops_audit.specs.Notes.{note_at, AreNoted, HasRoomFor, IsNoted};
     ghost use Rattle.cops_audit.specs.Tables.{IsVersionTable};
 
     /// The notes on all operations.
@@ -273,38 +315,33 @@ impl Notes {
         Ok(Notes { sessions })
     }
 
-    /// No notes, on so many clients.
-    pub fn empty(alloc: Global, clients: u16) -> Result<Self, AllocError>
-        ensures { IfOk result (λ notes. notes ≡ replicate clients []) }
+    /// No notes, on no clients. They take no memory.
+    pub fn none(alloc: Global) -> Self
+        ensures { result ≡ [] }
     {
-        let mut sessions = Vec::new(alloc);
-        for _ in 0..clients {
-            sessions.push(Vec::new(alloc))?;
+        Notes {
+            sessions: Vec::new(alloc),
         }
-        Ok(Notes { sessions })
     }
 
-    /// Adds a note on a client's next operation, which says nothing yet.
-    pub fn grow(&mut self, client: u16) -> Result<(), AllocError>
-        requires { client < length self.old }
-        ensures ok { OnOk result (LengthensBy self.old self.new client) }
-        ensures err { OnErr result (self.new ≡ self.old) }
-    {
-        let session = &mut self.sessions[client as usize];
-        session.push(BLANK)?;
-        Ok(())
-    }
-
-    /// Notes all operations anew: there is a note on each.
-    pub fn renew(&mut self, history: &History, table: &[VersionedPut])
+    /// Notes all operations anew, in the room that is given. It takes no memory.
+    pub fn renew(&mut self, room: &mut NoteRoom, history: &History, table: &[VersionedPut])
         requires table { IsVersionTable history.now.sessions table.now }
-        requires fits { AreAsLong history.now.sessions self.old }
+        requires room { HasRoomFor history.now.sessions room.old }
         ensures { IsNoted history.now.sessions table.now self.new }
     {
+        std::mem::swap(&mut self.sessions, &mut room.sessions);
         for client in 0..history.clients() {
             let session = &mut self.sessions[client];
             renew_session(session, history, table, client as u16);
         }
+    }
+
+    /// Gives the room back that the notes stand in.
+    pub fn give_back(&mut self, room: &mut NoteRoom)
+        ensures { HasRoomFor self.old room.new }
+    {
+        std::mem::swap(&mut self.sessions, &mut room.sessions);
     }
 
     /// The notes on a client's operations, in their order.

@@ -69,6 +69,14 @@ impl Online {
         }
     }
 
+    /// Fetches from memory what will be needed for operations that come, where these are fed next and in this order. Nothing that is
+    /// said of what was fed changes.
+    pub fn foresee(&mut self, ops: &[(u16, Op)])
+        ensures { self.new ≡ self.old }
+    {
+        self.history.foresee(ops);
+    }
+
     /// What is said so far of what was fed. It takes no memory, and about the time of a judge.
     pub fn so_far(&mut self) -> SoFar
         ensures so_far { IsSoFar self.old result }

@@ -1,7 +1,8 @@
+ghost use Rattle.cops_types.specs.declared.limits.TheConstants.{MAX_OPS};
 ghost use Rattle.std.specs.Prelude.{◌≤◌, IfOk, OnOk, replicate, vec_capacity, [], ◌≡◌};
 ghost use Rattle.cops_audit.specs.Rooms.{Fits};
 
-use crate::notes::Notes;
+use crate::notes::{NoteRoom, Notes};
 use crate::sweep::{Range, Sweep};
 use crate::table::VersionedPut;
 use crate::window::Suspect;
@@ -12,8 +13,12 @@ use std::alloc::{AllocError, Global};
 /// grows, so that up to twice as much may be held.
 #[derive(Drop)]
 pub struct Room {
+    /// For how many operations there is space.
+    pub space: usize,
     pub names: Vec<OpName>,
     pub table: Vec<VersionedPut>,
+    /// Room for the notes, and the notes while a look goes on.
+    pub note_room: NoteRoom,
     pub notes: Notes,
     pub nexts: Vec<Option<u32>>,
     pub by_key: Vec<Option<u32>>,
@@ -34,7 +39,7 @@ fn make_room<T: Drop>(items: &mut Vec<T>, count: usize) -> Result<(), AllocError
 }
 
 impl Room {
-    ghost use Rattle.std.specs.Prelude.{◌<◌, ◌-◌, OnErr, OnOk, length};
+    ghost use Rattle.std.specs.Prelude.{◌<◌, ◌+◌, OnErr, OnOk, length};
     ghost use Rattle.cops_types.specs.Histories.{with_op};
     ghost use Rattle.cops_types.specs.declared.op.Op.{Op as AnOp};
     ghost use Rattle.cops_audit.specs.Rooms.{Fits, HasSpace, IsSameButSpace};
@@ -43,12 +48,14 @@ impl Room {
     pub fn new(alloc: Global, clients: u16) -> Result<Self, AllocError>
         ensures { IfOk result (Fits (replicate clients [])) }
     {
-        let notes = Notes::empty(alloc, clients)?;
+        let note_room = NoteRoom::new(alloc, clients)?;
         let sweep = Sweep::new(alloc, clients as usize, 0)?;
         Ok(Room {
+            space: 0,
             names: Vec::new(alloc),
             table: Vec::new(alloc),
-            notes,
+            note_room,
+            notes: Notes::none(alloc),
             nexts: Vec::new(alloc),
             by_key: Vec::new(alloc),
             firsts: Vec::new(alloc),
@@ -58,24 +65,29 @@ impl Room {
         })
     }
 
-    /// Makes space for so many operations, at most one more than there was space for.
+    /// Makes space for a quarter more than so many operations, which are more than there is space for.
     fn reserve(&mut self, count: usize) -> Result<(), AllocError>
-        requires { HasSpace (count - 1) self.old }
-        ensures ok { OnOk result (HasSpace count self.new) }
-        ensures kept { HasSpace (count - 1) self.new }
+        requires more { self.old.space < count }
+        requires few { count ≤ MAX_OPS + 1 }
+        requires space { HasSpace self.old.space self.old }
+        ensures ok { OnOk result (count ≤ self.new.space) }
+        ensures space { HasSpace self.new.space self.new }
+        ensures kept { self.old.space ≤ self.new.space }
         ensures same { IsSameButSpace self.old self.new }
     {
-        make_room(&mut self.names, count)?;
-        make_room(&mut self.table, count)?;
-        make_room(&mut self.nexts, count)?;
-        make_room(&mut self.by_key, count)?;
-        make_room(&mut self.firsts, count)?;
-        make_room(&mut self.suspects, count)?;
-        make_room(&mut self.floors, count)?;
-        make_room(&mut self.sweep.pending, count)?;
-        if self.sweep.newest.len() < count {
-            self.sweep.newest.grow()?;
+        let space = count + count / 4;
+        make_room(&mut self.names, space)?;
+        make_room(&mut self.table, space)?;
+        make_room(&mut self.nexts, space)?;
+        make_room(&mut self.by_key, space)?;
+        make_room(&mut self.firsts, space)?;
+        make_room(&mut self.suspects, space)?;
+        make_room(&mut self.floors, space)?;
+        make_room(&mut self.sweep.pending, space)?;
+        if self.sweep.newest.len() < space {
+            self.sweep.newest.extend(space)?;
         }
+        self.space = space;
         Ok(())
     }
 
@@ -86,8 +98,12 @@ impl Room {
         ensures ok { (op : AnOp) → OnOk result (Fits (with_op history.now.sessions client op) self.new) }
         ensures err { OnErr result (Fits history.now.sessions self.new) }
     {
-        self.reserve(history.len() + 1)?;
-        self.notes.grow(client)?;
+        let count = history.len() + 1;
+        if self.space < count {
+            self.reserve(count)?;
+        }
+        self.note_room
+            .grow(client, history.session_len(client) + 1)?;
         Ok(())
     }
 }

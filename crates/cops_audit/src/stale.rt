@@ -156,7 +156,8 @@ pub fn has_stale(
     ensures stale { IfOk result (λ found. IsTrue found → (name : OpName) × (newer : OpName) × IsStale history.now.sessions name newer) }
     ensures none { IfOk result (λ found. ¬ IsTrue found → (k : ℕ) (d : Suspect) → k < length suspects.now → (newer : OpName) (version : ℕ) → ¬ IsNewer history.now.sessions (slice_index_or suspects.now k d).op newer version) }
     ensures idle { OnOk result (IsIdle (length history.now.sessions) (length table.now) sweep.new) }
-    ensures room { HasRoom (map length notes.now) sweep.old → IsOk result × HasRoom (map length notes.now) sweep.new }
+    ensures room { (space : ℕ) → HasRoom space (map length notes.now) sweep.old
+        → IsOk result × HasRoom space (map length notes.now) sweep.new }
 {
     for k in 0..suspects.len() {
         let found = judge_next(sweep, table, notes, firsts, suspects, floors, k)?;

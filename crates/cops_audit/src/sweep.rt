@@ -56,7 +56,8 @@ impl Sweep {
     pub fn raise(&mut self, client: u16, to: u32) -> Result<(), AllocError>
         requires { client < length self.old.counts }
         ensures raises { OnOk result (Raises self.old self.new client to) }
-        ensures room { (lengths : List ℕ) → to ≤ slice_index lengths client → HasRoom lengths self.old → IsOk result × HasRoom lengths self.new }
+        ensures room { (space : ℕ) (lengths : List ℕ) → to ≤ slice_index lengths client → HasRoom space lengths self.old
+            → IsOk result × HasRoom space lengths self.new }
     {
         let from = self.counts.get(client as usize);
         if from < to {
@@ -94,7 +95,8 @@ impl Sweep {
         requires puts { (place : ℕ) (put : OpName) (version : ℕ) → StandsAt table.now place put version → (put.client < length self.old.counts) × (put.index < MAX_CLIENT_OPS) }
         requires seen { above seen ≤ length table.now }
         ensures learns { OnOk result (Learns table.now firsts.now self.old self.new seen) }
-        ensures room { (lengths : List ℕ) → Covers lengths table.now → HasRoom lengths self.old → IsOk result × HasRoom lengths self.new }
+        ensures room { (space : ℕ) (lengths : List ℕ) → Covers lengths table.now → HasRoom space lengths self.old
+            → IsOk result × HasRoom space lengths self.new }
     {
         match seen {
             Seen::Put(place) => {
@@ -129,7 +131,8 @@ impl Sweep {
         ensures done { IfOk result (λ on. ¬ IsTrue on → IsSweeping table.now notes.now firsts.now floor self.new (λ _. ⊥)) }
         ensures grows { OnOk result (Grows table.now notes.now self.old self.new) }
         ensures work { OnOk result (work_left self.new ≤ work_left self.old) }
-        ensures room { HasRoom (map length notes.now) self.old → IsOk result × HasRoom (map length notes.now) self.new }
+        ensures room { (space : ℕ) → HasRoom space (map length notes.now) self.old
+            → IsOk result × HasRoom space (map length notes.now) self.new }
     {
         let Some(note) = notes.get(name) else {
             return Ok(true);
@@ -156,7 +159,8 @@ impl Sweep {
         ensures sweeping { OnOk result (IsSweeping table.now notes.now firsts.now floor self.new (λ _. ⊥)) }
         ensures grows { OnOk result (Grows table.now notes.now self.old self.new) }
         ensures work { OnOk result (work_left self.new ≤ work_left self.old) }
-        ensures room { HasRoom (map length notes.now) self.old → IsOk result × HasRoom (map length notes.now) self.new }
+        ensures room { (space : ℕ) → HasRoom space (map length notes.now) self.old
+            → IsOk result × HasRoom space (map length notes.now) self.new }
     {
         for index in (range.from..range.to).rev() {
             let name = OpName {
@@ -185,7 +189,8 @@ impl Sweep {
         ensures sweeping { OnOk result (IsSweeping table.now notes.now firsts.now floor self.new (λ _. ⊥)) }
         ensures grows { OnOk result (Grows table.now notes.now self.old self.new) }
         ensures empty { OnOk result (self.new.pending.items ≡ []) }
-        ensures room { HasRoom (map length notes.now) self.old → IsOk result × HasRoom (map length notes.now) self.new }
+        ensures room { (space : ℕ) → HasRoom space (map length notes.now) self.old
+            → IsOk result × HasRoom space (map length notes.now) self.new }
     {
         while let Some(range) = self.pending.pop() {
             self.look(table, notes, firsts, floor, range)?;
@@ -215,7 +220,8 @@ impl Sweep {
         ensures about { OnOk result (IsAbout table.now notes.now self.new suspect.op) }
         ensures found { IfOk result (λ found. IfSome found (λ place. (suspect.from ≤ place) × IsNewestIn table.now notes.now firsts.now suspect.op suspect.first place)) }
         ensures none { IfOk result (λ found. IfNone found (NoneFrom table.now notes.now firsts.now suspect.op suspect.first suspect.from)) }
-        ensures room { HasRoom (map length notes.now) self.old → IsOk result × HasRoom (map length notes.now) self.new }
+        ensures room { (space : ℕ) → HasRoom space (map length notes.now) self.old
+            → IsOk result × HasRoom space (map length notes.now) self.new }
     {
         self.raise(suspect.op.client, suspect.op.index)?;
         self.drain(table, notes, firsts, floor)?;

@@ -38,7 +38,7 @@ impl Model for Tally {
 }
 
 impl Tally {
-    ghost use Rattle.std.specs.Prelude.{◌≡◌, ◌<◌, ◌+◌, IfOk, OnErr, OnOk, length, slice_index, slice_set, max, replicate};
+    ghost use Rattle.std.specs.Prelude.{◌≡◌, ◌<◌, ◌≤◌, ◌-◌, ◌++◌, IfOk, OnErr, OnOk, length, slice_index, slice_set, max, replicate};
 
     /// So many zeros.
     pub fn new(alloc: Global, len: usize) -> Result<Self, AllocError>
@@ -87,12 +87,13 @@ impl Tally {
         self.entries.len()
     }
 
-    /// Adds a number, which is 0.
-    pub fn grow(&mut self) -> Result<(), AllocError>
-        ensures ok { OnOk result (length self.new ≡ length self.old + 1) }
+    /// Adds zeros, up to so many numbers. A refusal changes nothing.
+    pub fn extend(&mut self, len: usize) -> Result<(), AllocError>
+        requires { length self.old ≤ len }
+        ensures ok { OnOk result (self.new ≡ self.old ++ replicate (len - length self.old) 0) }
         ensures err { OnErr result (self.new ≡ self.old) }
     {
-        self.entries.push(Entry { age: 0, number: 0 })?;
+        self.entries.resize(len, Entry { age: 0, number: 0 })?;
         Ok(())
     }
 }

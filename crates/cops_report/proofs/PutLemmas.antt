@@ -6,7 +6,8 @@ use Rattle.std.proofs.lemmas.List.{get_or_past, get_or_default, get_or-drop, len
 use Rattle.std.proofs.lemmas.List.Sorted.{Contains-permutation}
 use Rattle.cops_types.specs.declared.op.Op.TheVariants.{Got}
 use Rattle.cops_types.specs.declared.op.OpName.{OpName}
-use Rattle.cops_types.specs.Histories.{Sessions, IsNamed, PutsVersion, SourceStep, GetsVersion}
+use Rattle.cops_types.specs.Histories.{Sessions, IsNamed, PutsVersion, SourceStep}
+use Rattle.cops_types.specs.Operations.{GetsVersion}
 use Rattle.cops_report.specs.declared.marks.Mark.{Mark}
 use Rattle.cops_audit.specs.declared.table.VersionedPut.{VersionedPut}
 use Rattle.cops_report.specs.Marks.{Table, Gains, IsMarked}

@@ -1,3 +1,4 @@
+pub mod Feeding
 pub mod Frames
 pub mod OneText
 pub mod Shown

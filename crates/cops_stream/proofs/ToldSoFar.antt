@@ -43,13 +43,13 @@ accepted_sound (Some u) read answer told agrees says is = accepted_is_sound u to
 -- ---- what an auditor says that was fed what was read
 
 -- the records before a cut
-pub told_cut : {E : Type 0} (bytes : List ℕ) (taken : Taken Fed) (offset : ℕ) (result : Result (Answer × Vec ℕ Global) E) → TakesFrom WasFed bytes taken → taken.cut ≡ Some offset
-    → IfOk result (λ told. (so_far : SoFar) × IsSoFar taken.sink.online so_far × (told.0 ≡ answer_so_far so_far) × (told.1.items ≡ cut_text offset so_far))
+pub told_cut : {E : Type 0} (bytes : List ℕ) (taken : Taken Fed) (offset : ℕ) (result : Result (Answer × Vec ℕ Global) E) → (takes : TakesFrom WasFed bytes taken) → taken.cut ≡ Some offset
+    → IfOk result (λ told. (so_far : SoFar) × IsSoFar (sessions_of takes.trace) so_far × (told.0 ≡ answer_so_far so_far) × (told.1.items ≡ cut_text offset so_far))
     → IfOk result (λ told. SaysSoFar bytes told.0 told.1.items)
 told_cut bytes taken offset (Err e) takes place says = tt
 told_cut bytes taken offset (Ok told) takes place (so_far, is, answer, text) =
     let cut = subst (BeginsAs bytes takes.trace) place takes.begins in
-    inl (offset, so_far, record { trace = takes.trace; is_cut = cut; is_so_far = subst (λ (h : Sessions). IsSoFar h so_far) takes.took_it is }, answer, text)
+    inl (offset, so_far, record { trace = takes.trace; is_cut = cut; is_so_far = is }, answer, text)
 
 -- a whole trace
 pub told_whole : {E : Type 0} (bytes : List ℕ) (taken : Taken Fed) (result : Result (Answer × Vec ℕ Global) E) → (takes : TakesFrom WasFed bytes taken) → taken.cut ≡ None

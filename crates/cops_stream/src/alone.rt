@@ -1,14 +1,13 @@
 //! The audit of a trace's bytes by one worker, an auditor that is fed them as they come.
 ghost use Rattle.std.specs.Prelude.{◌≡◌, ◌⊎◌, ℕ, List, Err, IfErr, IfOk, IsErrOf};
 ghost use Rattle.cops_trace.specs.Answer.{AgreesInto, TakesFrom};
-ghost use Rattle.cops_trace.specs.Text.{ATrace, sessions_of};
+ghost use Rattle.cops_trace.specs.Text.{ATrace};
 ghost use Rattle.cops_batch.specs.Pieces.{MayHoldPiece};
 ghost use Rattle.cops_stream.specs.Audit.{AuditSays, IsTold};
 ghost use Rattle.cops_stream.specs.Fed.{WasFed};
 
 use crate::audit::{Answer, StreamFault, answer_of, faulty};
 use crate::fed::Fed;
-use cops_audit::Online;
 use cops_report::report_judged;
 use cops_trace::{Taken, TraceFault};
 use cops_types::{Gate, Memory, Point};
@@ -16,9 +15,10 @@ use std::alloc::Global;
 use std::sync::Wait;
 
 /// The answer for a whole trace, with its report, by an auditor that was fed it.
-pub(crate) fn whole(alloc: Global, online: Online) -> Result<(Answer, Vec<u8>), Memory>
-    ensures { (t : ATrace) → online ≡ sessions_of t → IfOk result (λ told. IsTold t told.0 told.1.items) }
+pub(crate) fn whole(alloc: Global, fed: Fed) -> Result<(Answer, Vec<u8>), Memory>
+    ensures { (t : ATrace) → WasFed fed t → IfOk result (λ told. IsTold t told.0 told.1.items) }
 {
+    let online = fed.into_online()?;
     let judged = online.close()?;
     let text = report_judged(alloc, &judged)?;
     Ok((answer_of(judged.verdict()), text))
@@ -28,17 +28,17 @@ pub(crate) fn whole(alloc: Global, online: Online) -> Result<(Answer, Vec<u8>), 
 fn judged<T: Wait, G: Gate>(
     rt: &T,
     alloc: Global,
-    online: Online,
+    fed: Fed,
     gate: &G,
 ) -> Result<(Answer, Vec<u8>), StreamFault>
-    ensures told { (t : ATrace) → online ≡ sessions_of t → IfOk result (λ told. IsTold t told.0 told.1.items) }
+    ensures told { (t : ATrace) → WasFed fed t → IfOk result (λ told. IsTold t told.0 told.1.items) }
     ensures held { IsErrOf result StreamFault.Held → MayHoldPiece (G.may_hold gate.now) 0 }
     ensures faults { IfErr result (λ e. (e ≡ StreamFault.Memory) ⊎ (e ≡ StreamFault.Held)) }
 {
     if gate.pass(rt, Point::PieceStart(0)).is_err() {
         return Err(StreamFault::Held);
     }
-    let told = match whole(alloc, online) {
+    let told = match whole(alloc, fed) {
         Ok(told) => told,
         Err(Memory) => return Err(StreamFault::Memory),
     };
@@ -60,10 +60,9 @@ fn told_of<T: Wait, G: Gate>(
     ensures faults { IfErr result (λ e. (e ≡ StreamFault.Memory) ⊎ (e ≡ StreamFault.Held)) }
 {
     let Taken { sink, cut } = taken;
-    let Fed { online } = sink;
     match cut {
         Some(offset) => faulty(alloc, &TraceFault::Cut { offset }),
-        None => judged(rt, alloc, online, gate),
+        None => judged(rt, alloc, sink, gate),
     }
 }
 

@@ -1,13 +1,56 @@
 //! An auditor that a trace is fed to while it is read.
+ghost use Rattle.std.specs.Prelude.{◌≡◌};
+
 use cops_audit::Online;
 use cops_trace::Sink;
 use cops_types::{Memory, Op};
 use std::alloc::Global;
+use std::mem;
 
-/// An auditor of a trace.
+/// How many operations are fed at a time.
+const TOGETHER: usize = 64;
+
+/// An auditor of a trace, and the operations that come next, which are fed some at a time: what one of them needs is fetched from
+/// memory while others are looked at.
 #[derive(Drop)]
 pub(crate) struct Fed {
-    pub(crate) online: Online,
+    alloc: Global,
+    online: Online,
+    waiting: Vec<(u16, Op)>,
+}
+
+impl Fed {
+    ghost use Rattle.std.specs.Prelude.{◌≡◌, [], IfOk, OnOk};
+    ghost use Rattle.cops_trace.specs.Text.{ATrace, sessions_of};
+    ghost use Rattle.cops_stream.specs.Fed.{WasFed, with_ops};
+
+    /// The auditor, once it was fed all.
+    pub(crate) fn into_online(self) -> Result<Online, Memory>
+        ensures { (t : ATrace) → WasFed self t → IfOk result (λ online. online ≡ sessions_of t) }
+    {
+        let mut fed = self;
+        fed.feed()?;
+        let Fed { online, .. } = fed;
+        Ok(online)
+    }
+
+    /// Feeds the operations that wait.
+    fn feed(&mut self) -> Result<(), Memory>
+        ensures fed { OnOk result (self.new.online ≡ with_ops self.old.online self.old.waiting.items) }
+        ensures empty { OnOk result (self.new.waiting.items ≡ []) }
+    {
+        let empty = Vec::with_capacity(self.alloc, TOGETHER)?;
+        let waiting = mem::replace(&mut self.waiting, empty);
+        self.online.foresee(&waiting);
+        for (client, op) in waiting {
+            match self.online.feed(client, op) {
+                Ok(()) => {}
+                // An auditor takes as many operations as a trace has, so that memory alone is refused, though not proved so.
+                Err(_) => return Err(Memory),
+            }
+        }
+        Ok(())
+    }
 }
 
 impl Sink for Fed {
@@ -16,15 +59,19 @@ impl Sink for Fed {
     ghost took = { WasFed };
 
     fn begin(alloc: Global, clients: u16) -> Result<Fed, Memory> {
-        let online = Online::new(alloc, clients)?;
-        Ok(Fed { online })
+        Ok(Fed {
+            alloc,
+            online: Online::new(alloc, clients)?,
+            waiting: Vec::with_capacity(alloc, TOGETHER)?,
+        })
     }
 
     fn take(&mut self, client: u16, op: Op) -> Result<(), Memory> {
-        match self.online.feed(client, op) {
-            Ok(()) => Ok(()),
-            // An auditor takes as many operations as a trace has, so that memory alone is refused, though not proved so.
-            Err(_) => Err(Memory),
+        self.waiting.push((client, op))?;
+        if self.waiting.len() < TOGETHER {
+            return Ok(());
         }
+        self.feed()?;
+        Ok(())
     }
 }

@@ -4,6 +4,7 @@ ghost use Rattle.std.specs.Io.KnownBytes.{Keeps};
 ghost use Rattle.cops_types.specs.Counted.{failures, inner};
 ghost use Rattle.cops_types.specs.Failures.{Failed};
 ghost use Rattle.cops_trace.specs.Answer.{AgreesInto, TakesFrom};
+ghost use Rattle.cops_trace.specs.Text.{ATrace, sessions_of};
 ghost use Rattle.cops_audit.specs.SoFar.{IsSoFar};
 ghost use Rattle.cops_audit.specs.declared.verdict.SoFar.{SoFar as ASoFar};
 ghost use Rattle.cops_stream.specs.Fed.{WasFed};
@@ -12,7 +13,7 @@ ghost use Rattle.cops_stream.specs.SoFar.{IsSoundSoFar, SaysSoFar, WritesFrontSo
 use crate::alone::whole;
 use crate::audit::{Answer, StreamFault, faulty};
 use crate::fed::Fed;
-use cops_audit::{Online, SoFar};
+use cops_audit::SoFar;
 use cops_trace::{Taken, TraceFault, read_into};
 use cops_types::{Counted, Memory, write_text};
 use std::alloc::Global;
@@ -41,10 +42,11 @@ fn cut_text(alloc: Global, offset: u64, so_far: SoFar) -> Result<Vec<u8>, Memory
 }
 
 /// The answer for the whole records before a cut, with its text, by an auditor that was fed them.
-fn cut(alloc: Global, online: &mut Online, offset: u64) -> Result<(Answer, Vec<u8>), Memory>
-    ensures { IfOk result (λ told. (so_far : ASoFar) × IsSoFar online.old so_far
+fn cut(alloc: Global, fed: Fed, offset: u64) -> Result<(Answer, Vec<u8>), Memory>
+    ensures { (t : ATrace) → WasFed fed t → IfOk result (λ told. (so_far : ASoFar) × IsSoFar (sessions_of t) so_far
         × (told.0 ≡ answer_so_far so_far) × (told.1.items ≡ cut_text offset so_far)) }
 {
+    let mut online = fed.into_online()?;
     let so_far = online.so_far();
     let text = cut_text(alloc, offset, so_far)?;
     Ok((answer_so_far(so_far), text))
@@ -55,10 +57,9 @@ fn told_of(alloc: Global, taken: Taken<Fed>) -> Result<(Answer, Vec<u8>), Memory
     ensures { (bytes : List ℕ) → TakesFrom WasFed bytes taken → IfOk result (λ told. SaysSoFar bytes told.0 told.1.items) }
 {
     let Taken { sink, cut: place } = taken;
-    let Fed { mut online } = sink;
     match place {
-        Some(offset) => cut(alloc, &mut online, offset),
-        None => whole(alloc, online),
+        Some(offset) => cut(alloc, sink, offset),
+        None => whole(alloc, sink),
     }
 }
 

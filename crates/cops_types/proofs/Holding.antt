@@ -8,7 +8,8 @@ use Rattle.cops_types.specs.declared.op.Op.{Op}
 use Rattle.cops_types.specs.declared.entry.Entry.{Entry}
 use Rattle.cops_types.specs.Counts.{count_of}
 use Rattle.cops_types.specs.Entries.{EntryLists, KeptEntries, IsSound, AreSound, told, told_by}
-use Rattle.cops_types.specs.Histories.{item_at, with_item, with_op}
+use Rattle.cops_types.specs.Lists.{item_at, with_item}
+use Rattle.cops_types.specs.Histories.{with_op}
 use Rattle.cops_types.specs.Keeping.{IsKept, flag_count}
 use Rattle.cops_types.specs.KeySets.{AreDistinct, GainsKey, KeptKeys}
 use Rattle.cops_types.specs.Recorded.{IsWithinLimits}

@@ -3,5 +3,6 @@ pub mod Sessions
 pub mod Keys
 pub mod Telling
 pub mod Sources
+mod Joining
 pub mod Holding
 pub mod Devices

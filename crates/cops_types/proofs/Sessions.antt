@@ -1,14 +1,15 @@
 -- Lists of which a client's gains an item, and vectors that keep them.
-use Rattle.std.proofs.Common.{◌≡◌, ◌≢◌, ℕ, zero, suc, ◌+◌, ◌<◌, ◌≤◌, Bool, true, false, ltb, eqb, List, [], ◌∷◌, ◌++◌, map, length, get_or, replicate, Vec, Global, vec_len, vec_capacity, refl, sym, ap, ◌∙◌, subst, arith, get_or-set_same, get_or-set_other, inl, inr}
+use Rattle.std.proofs.Common.{◌≡◌, ◌≢◌, ℕ, zero, suc, ◌+◌, ◌<◌, ◌≤◌, Bool, true, false, eqb, List, [], ◌∷◌, ◌++◌, map, length, get_or, replicate, refl, sym, ap, ◌∙◌, subst, arith, get_or-set_same, get_or-set_other, inl, inr}
 use Rattle.std.specs.Prelude.{◌⊎◌, Result, Ok, Err, OnErr}
 use Rattle.std.proofs.Math.ListN.{set, length-set}
 use Rattle.std.proofs.Math.Seq.{map-set_same}
-use Rattle.std.proofs.lemmas.Bool.{cases_Bool, eqb-true, eqb-false, lt-ltb, ltb-true}
+use Rattle.std.proofs.lemmas.Bool.{cases_Bool, eqb-true, eqb-false}
 use Rattle.std.proofs.lemmas.List.{map-set, get_or-map, length-append, length-replicate, length-map}
 use Rattle.std.proofs.lemmas.List.Sums.{sum_by-set}
 use Rattle.std.proofs.lemmas.List.Folds.{sum_by-replicate}
 use Rattle.cops_types.specs.declared.op.Op.{Op}
-use Rattle.cops_types.specs.Histories.{Sessions, with_item, with_op}
+use Rattle.cops_types.specs.Lists.{with_item}
+use Rattle.cops_types.specs.Histories.{Sessions, with_op}
 use Rattle.cops_types.specs.Recorded.{IsWithinLimits}
 use Rattle.cops_types.specs.Counts.{count_of}
 
@@ -55,49 +56,43 @@ within_with_op h i op ok w =
       all = omega (arith, count-with_op h i op inside);
     }
 
--- ---- lists as vectors
+-- ---- lists as they are kept
 
-module _ {X : Type 0} where
-  abbrev pub items : Vec X Global → List X
-  items s = s.items
-
-  abbrev pub has_room : Vec X Global → Bool
-  has_room s = ltb (vec_len s) (vec_capacity s)
-
-  -- a vector in whose place another with the same items stands
-  pub same_items : (xs : List (Vec X Global)) (i : ℕ) (old new : Vec X Global) → old ≡ get_or xs i old → new.items ≡ old.items → map items (set xs i new) ≡ map items xs
+module _ {V X : Type 0} (items : V → List X) (has_room : V → Bool) where
+  -- one in whose place another with the same items stands
+  pub same_items : (xs : List V) (i : ℕ) (old new : V) → old ≡ get_or xs i old → items new ≡ items old → map items (set xs i new) ≡ map items xs
   same_items xs i old new at same = map-set_same items xs i new old (same ∙ ap items at)
 
-  -- a vector in whose place another with one more item stands
-  pub more_items : (xs : List (Vec X Global)) (i : ℕ) (old new : Vec X Global) (x : X) → i < length xs → old ≡ get_or xs i old → new.items ≡ old.items ++ x ∷ []
+  -- one in whose place another with one more item stands
+  pub more_items : (xs : List V) (i : ℕ) (old new : V) (x : X) → i < length xs → old ≡ get_or xs i old → items new ≡ items old ++ x ∷ []
       → map items (set xs i new) ≡ with_item (map items xs) i x
   more_items xs i old new x inside at more =
       map-set items xs i new
       ∙ ap (set (map items xs) i) (more ∙ ap (λ (s : List X). s ++ x ∷ []) (ap items at ∙ sym (get_or-map items xs i old [] inside)))
 
   -- the others' room stays
-  pub others_room : (xs : List (Vec X Global)) (i c : ℕ) (new : Vec X Global) → c ≢ i → get_or (map has_room xs) c false ≡ true → get_or (map has_room (set xs i new)) c false ≡ true
+  pub others_room : (xs : List V) (i c : ℕ) (new : V) → c ≢ i → get_or (map has_room xs) c false ≡ true → get_or (map has_room (set xs i new)) c false ≡ true
   others_room xs i c new other room = ap (λ (l : List Bool). get_or l c false) (map-set has_room xs i new) ∙ get_or-set_other (map has_room xs) i c (has_room new) false other ∙ room
 
-  -- the room of the vector that stands there
-  pub own_room : (xs : List (Vec X Global)) (i : ℕ) (new : Vec X Global) → i < length xs → vec_len new < vec_capacity new → get_or (map has_room (set xs i new)) i false ≡ true
-  own_room xs i new inside lt =
+  -- the room of the one that stands there
+  pub own_room : (xs : List V) (i : ℕ) (new : V) → i < length xs → has_room new ≡ true → get_or (map has_room (set xs i new)) i false ≡ true
+  own_room xs i new inside has =
       let there : i < length (map has_room xs) = omega (arith, length-map xs has_room) in
-      ap (λ (l : List Bool). get_or l i false) (map-set has_room xs i new) ∙ get_or-set_same (map has_room xs) i (has_room new) false there ∙ lt-ltb _ _ lt
+      ap (λ (l : List Bool). get_or l i false) (map-set has_room xs i new) ∙ get_or-set_same (map has_room xs) i (has_room new) false there ∙ has
 
-  -- what room says of the vector
-  pub room_says : (xs : List (Vec X Global)) (i : ℕ) (old : Vec X Global) → i < length xs → old ≡ get_or xs i old → get_or (map has_room xs) i false ≡ true → vec_len old < vec_capacity old
-  room_says xs i old inside at room = ltb-true _ _ (ap has_room at ∙ sym (get_or-map has_room xs i old false inside) ∙ room)
+  -- what room says of it
+  pub room_says : (xs : List V) (i : ℕ) (old : V) → i < length xs → old ≡ get_or xs i old → get_or (map has_room xs) i false ≡ true → has_room old ≡ true
+  room_says xs i old inside at room = ap has_room at ∙ sym (get_or-map has_room xs i old false inside) ∙ room
 
-  -- no room is lost where the vector keeps its length, and its capacity does not shrink
-  pub kept_room : (xs : List (Vec X Global)) (i c : ℕ) (old new : Vec X Global) → i < length xs → old ≡ get_or xs i old → vec_len new ≡ vec_len old → vec_capacity old ≤ vec_capacity new
+  -- no room is lost where the one in its place has room if it had
+  pub kept_room : (xs : List V) (i c : ℕ) (old new : V) → i < length xs → old ≡ get_or xs i old → (has_room old ≡ true → has_room new ≡ true)
       → get_or (map has_room xs) c false ≡ true → get_or (map has_room (set xs i new)) c false ≡ true
-  kept_room xs i c old new inside at len capacity room =
+  kept_room xs i c old new inside at keeps room =
       elim (at_or_other i c) [
         | inl p ↦
             let was : get_or (map has_room xs) i false ≡ true = subst (λ (d : ℕ). get_or (map has_room xs) d false ≡ true) (sym p) room in
-            let lt : vec_len new < vec_capacity new = omega (arith, room_says xs i old inside at was) in
-            subst (λ (d : ℕ). get_or (map has_room (set xs i new)) d false ≡ true) p (own_room xs i new inside lt)
+            let has : has_room new ≡ true = keeps (room_says xs i old inside at was) in
+            subst (λ (d : ℕ). get_or (map has_room (set xs i new)) d false ≡ true) p (own_room xs i new inside has)
         | inr p ↦ others_room xs i c new p room
       ]
 

@@ -8,7 +8,9 @@ use Rattle.cops_types.specs.declared.op.Op.TheVariants.{Put as PutOp, Got as Got
 use Rattle.cops_types.specs.declared.op.OpName.{OpName}
 use Rattle.cops_types.specs.declared.entry.Entry.{Entry}
 use Rattle.cops_types.specs.declared.entry.Entry.TheVariants.{Put, Got, Sourced, Missed}
-use Rattle.cops_types.specs.Histories.{GetsVersion, PutsVersion, SourceStep, item_at, op_at, key_of}
+use Rattle.cops_types.specs.Lists.{item_at}
+use Rattle.cops_types.specs.Histories.{PutsVersion, SourceStep, op_at}
+use Rattle.cops_types.specs.Operations.{GetsVersion, key_of}
 use Rattle.cops_types.specs.Entries.{EntryLists, AreSound, IsSound, value_in, told, told_by, key_number_of}
 use Rattle.cops_types.specs.KeySets.{AreDistinct}
 use Rattle.cops_types.proofs.Telling.{op_at-told}

@@ -10,7 +10,8 @@ use Rattle.cops_types.specs.declared.op.Op.TheVariants.{Put as PutOp, Got as Got
 use Rattle.cops_types.specs.declared.op.OpName.{OpName}
 use Rattle.cops_types.specs.declared.entry.Entry.{Entry}
 use Rattle.cops_types.specs.declared.entry.Entry.TheVariants.{Put, Got, Sourced, Missed}
-use Rattle.cops_types.specs.Histories.{Sessions, item_at, with_item, op_at, with_op}
+use Rattle.cops_types.specs.Lists.{item_at, with_item}
+use Rattle.cops_types.specs.Histories.{Sessions, op_at, with_op}
 use Rattle.cops_types.specs.Entries.{EntryLists, HasSource, IsSound, AreSound, told, told_by, value_in, value_put}
 use Rattle.cops_types.specs.KeySets.{KeepsPlaces}
 use Rattle.cops_types.specs.Recorded.{IsWithinLimits}

@@ -5,7 +5,8 @@ use Rattle.cops_types.specs.declared.entry.Entry.TheVariants.{Put, Got, Sourced,
 use Rattle.cops_types.specs.declared.op.Op.{Op}
 use Rattle.cops_types.specs.declared.op.Op.TheVariants.{Put as PutOp, Got as GotOp, Missed as MissedOp}
 use Rattle.cops_types.specs.declared.op.OpName.{OpName}
-use Rattle.cops_types.specs.Histories.{Sessions, item_at}
+use Rattle.cops_types.specs.Lists.{item_at}
+use Rattle.cops_types.specs.Histories.{Sessions}
 
 -- the entries of each client, in their order
 abbrev pub EntryLists : Type 0

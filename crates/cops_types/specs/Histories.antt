@@ -8,27 +8,13 @@ use Rattle.cops_types.specs.declared.op.OpName.{OpName}
 abbrev pub Sessions : Type 0
 Sessions = List (List Op)
 
--- the key that an operation is on
-abbrev pub key_of : Op → List ℕ
-key_of (Put key value version) = key
-key_of (Got key value version) = key
-key_of (Missed key) = key
-
--- what stands in the client's list at an index, if there is something
-abbrev pub item_at : {X : Type 0} → List (List X) → OpName → Option X
-item_at lists name = slice_get (slice_index_or lists name.client []) name.index
-
--- the lists, of which the client's has one more item
-abbrev pub with_item : {X : Type 0} → List (List X) → ℕ → X → List (List X)
-with_item lists client item = slice_set lists client (slice_index_or lists client [] ++ item ∷ [])
-
 -- the operation of that name, if there is one
 abbrev pub op_at : Sessions → OpName → Option Op
-op_at h name = item_at h name
+op_at h name = slice_get (slice_index_or h name.client []) name.index
 
 -- the client's session with one more operation
 abbrev pub with_op : Sessions → ℕ → Op → Sessions
-with_op h client op = with_item h client op
+with_op h client op = slice_set h client (slice_index_or h client [] ++ op ∷ [])
 
 -- an operation has that name
 abbrev pub IsNamed : Sessions → OpName → Type 0
@@ -46,10 +32,6 @@ IsMissed h name key = op_at h name ≡ Some (Missed key)
 -- a put bears this version
 abbrev pub PutsVersion : Sessions → OpName → ℕ → Type 0
 PutsVersion h name version = (key value : List ℕ) × IsPut h name key value version
-
--- a get returned this version
-abbrev pub GetsVersion : Sessions → OpName → ℕ → Type 0
-GetsVersion h name version = (key value : List ℕ) × IsGot h name key value version
 
 -- a put on this key
 abbrev pub PutsKey : Sessions → OpName → List ℕ → ℕ → Type 0

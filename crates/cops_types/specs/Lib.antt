@@ -8,7 +8,9 @@ pub mod Dep
 pub mod Deps
 pub mod Clock
 pub mod Texts
+pub mod Lists
 pub mod Histories
+pub mod Operations
 pub mod OpRefs
 pub mod Past
 pub mod Convergence
@@ -18,6 +20,7 @@ pub mod Verdicts
 pub mod Counts
 pub mod Recorded
 pub mod KeySets
+pub mod Blocks
 pub mod Entries
 pub mod Keeping
 pub mod Failures

@@ -1,5 +1,4 @@
 -- Operations that are seen where their parts lie.
-use Rattle.std.specs.Prelude.{◌≡◌}
 use Rattle.cops_types.specs.declared.op.Op.{Op}
 use Rattle.cops_types.specs.declared.op.Op.TheVariants.{Put, Got, Missed}
 use Rattle.cops_types.specs.declared.op_ref.OpRef.{OpRef}
@@ -10,8 +9,3 @@ abbrev pub seen : OpRef → Op
 seen (SeenPut key value version) = Put key.now value.now version.now
 seen (SeenGot key value version) = Got key.now value.now version.now
 seen (SeenMissed key) = Missed key.now
-
--- a put, and a get that returned its key, value and version
-abbrev pub IsSourceOf : Op → Op → Type 0
-IsSourceOf (Put key value version) (Got k v w) = (key ≡ k) × (value ≡ v) × (version ≡ w)
-IsSourceOf _ _ = ⊥

@@ -1,3 +1,4 @@
+use crate::blocks::Blocks;
 use crate::entry::Entry;
 use crate::fault::Memory;
 use crate::op::OpName;
@@ -9,26 +10,27 @@ use std::marker::Model;
 /// The entries of each client, in their order.
 #[derive(Debug, Drop)]
 pub(crate) struct Entries {
-    sessions: Vec<Vec<Entry>>,
+    sessions: Vec<Blocks>,
 }
 
 impl Model for Entries {
-    ghost use Rattle.std.specs.Prelude.{map, vec_len, vec_capacity, nat_lt};
+    ghost use Rattle.std.specs.Prelude.{map};
     ghost use Rattle.cops_types.specs.Entries.{KeptEntries};
 
     ghost Value = { KeptEntries };
 
     ghost view = { λ a. record {
       all = map (λ s. s.items) a.sessions.items;
-      room = map (λ s. nat_lt (vec_len s) (vec_capacity s)) a.sessions.items;
+      room = map (λ s. s.room) a.sessions.items;
     } };
 }
 
 impl Entries {
     ghost use Rattle.std.specs.Prelude.{◌≡◌, ◌≢◌, ◌<◌, ◌↔◌, ℕ, length, slice_index_or, [], Some, OnOk, IfOk, IfSome, IsSome, IsTrue, replicate, true, false, option_copied};
-    ghost use Rattle.cops_types.specs.Histories.{item_at, with_item};
+    ghost use Rattle.cops_types.specs.Lists.{item_at, with_item};
     ghost use Rattle.cops_types.specs.Entries.{value_put};
     ghost use Rattle.cops_types.specs.declared.entry.Entry.TheVariants.{Put};
+    ghost use Rattle.cops_types.specs.declared.limits.TheConstants.{MAX_CLIENT_OPS};
 
     /// No entry of so many clients.
     pub(crate) fn new(alloc: Global, clients: u16) -> Result<Self, Memory>
@@ -36,7 +38,7 @@ impl Entries {
     {
         let mut sessions = Vec::new(alloc);
         for _ in 0..clients {
-            sessions.push(Vec::new(alloc))?;
+            sessions.push(Blocks::new(alloc))?;
         }
         Ok(Entries { sessions })
     }
@@ -52,14 +54,19 @@ impl Entries {
     pub(crate) fn session_len(&self, client: u16) -> usize
         ensures { result ≡ length (slice_index_or self.now.all client []) }
     {
-        self.session(client).len()
+        match self.sessions.get(client as usize) {
+            Some(session) => session.len(),
+            None => 0,
+        }
     }
 
     /// The entry of that name, if there is one.
     pub(crate) fn get(&self, name: OpName) -> Option<&Entry>
         ensures { option_copied result ≡ item_at self.now.all name }
     {
-        self.session(name.client).get(name.index as usize)
+        self.sessions
+            .get(name.client as usize)?
+            .get(name.index as usize)
     }
 
     /// The value that the put of that name wrote.
@@ -69,6 +76,14 @@ impl Entries {
     {
         match self.get(put)? {
             Entry::Put { value, .. } => Some(value),
+            _ => None,
+        }
+    }
+
+    /// The version of the put of that name, if there is one.
+    pub(crate) fn put_version(&self, put: OpName) -> Option<Version> {
+        match self.get(put)? {
+            Entry::Put { version, .. } => Some(*version),
             _ => None,
         }
     }
@@ -119,7 +134,7 @@ impl Entries {
         ensures others { (c : ℕ) → slice_index_or self.old.room c false ≡ true → slice_index_or self.new.room c false ≡ true }
     {
         let session = &mut self.sessions[client as usize];
-        session.reserve(1)?;
+        session.reserve()?;
         Ok(())
     }
 
@@ -127,20 +142,11 @@ impl Entries {
     pub(crate) fn push(&mut self, client: u16, entry: Entry)
         requires inside { client < length self.old.all }
         requires room { slice_index_or self.old.room client false ≡ true }
+        requires few { length (slice_index_or self.old.all client []) < MAX_CLIENT_OPS }
         ensures all { self.new.all ≡ with_item self.old.all client entry }
         ensures others { (c : ℕ) → c ≢ client → slice_index_or self.old.room c false ≡ true → slice_index_or self.new.room c false ≡ true }
     {
         let session = &mut self.sessions[client as usize];
-        session.push(entry).unwrap();
-    }
-
-    /// The entries of a client, in their order: none for a client that is not there.
-    fn session(&self, client: u16) -> &[Entry]
-        ensures { result.now ≡ slice_index_or self.now.all client [] }
-    {
-        match self.sessions.get(client as usize) {
-            Some(session) => session.as_slice(),
-            None => &[],
-        }
+        session.push(entry);
     }
 }

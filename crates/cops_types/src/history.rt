@@ -1,18 +1,18 @@
-ghost use Rattle.std.specs.Prelude.{◌≡◌, ◌<◌, length, IfSome};
+ghost use Rattle.std.specs.Prelude.{◌≡◌, ◌<◌, ℕ, List, [], Some, length, slice_get, slice_index_or};
 ghost use Rattle.cops_types.specs.declared.limits.TheConstants.{MAX_CLIENT_OPS, MAX_OPS};
 ghost use Rattle.cops_types.specs.declared.op.Op.TheVariants.{Got};
-ghost use Rattle.cops_types.specs.Entries.{AreSound, IsSound, told};
+ghost use Rattle.cops_types.specs.Entries.{AreSound, HasSource, IsSound, key_number_of, told};
 ghost use Rattle.cops_types.specs.KeySets.{AreDistinct, GainsKey};
 
 use crate::entries::Entries;
 use crate::entry::Entry;
 use crate::fault::{Memory, TypeFault};
+use crate::foresight::{Foresight, Guess};
 use crate::key::Key;
 use crate::key_set::KeySet;
 use crate::limits::{MAX_CLIENT_OPS, MAX_OPS};
 use crate::op::{Op, OpName};
 use crate::op_ref::OpRef;
-use crate::recent::Recent;
 use crate::value::Value;
 use crate::version::Version;
 use std::alloc::Global;
@@ -28,7 +28,7 @@ pub struct History {
     reserved: Vec<bool>,
     reservations: usize,
     len: usize,
-    recent: Recent,
+    foresight: Foresight,
 }
 
 impl Model for History {
@@ -50,7 +50,8 @@ impl Model for History {
 impl History {
     ghost use Rattle.std.specs.Prelude.{◌≡◌, ◌≢◌, ◌≤◌, ◌<◌, ◌↔◌, ℕ, length, slice_index_or, slice_get, [], Some, OnOk, OnErr, OnSome, IfOk, IfErr, IfSome, IfNone, IsOk, IsErrOf, IsTrue, replicate, false, ◌==◌};
     ghost use Rattle.std.specs.Option.{option_map, option_and_then};
-    ghost use Rattle.cops_types.specs.Histories.{GetsVersion, PutsVersion, SourceStep, key_of, op_at, with_op};
+    ghost use Rattle.cops_types.specs.Histories.{PutsVersion, SourceStep, op_at, with_op};
+    ghost use Rattle.cops_types.specs.Operations.{GetsVersion, key_of};
     ghost use Rattle.cops_types.specs.OpRefs.{seen};
     ghost use Rattle.cops_types.specs.Counts.{count_of};
     ghost use Rattle.cops_types.specs.Recorded.{IsFull, IsWithinLimits, HasRoom};
@@ -68,7 +69,7 @@ impl History {
             reserved,
             reservations: 0,
             len: 0,
-            recent: Recent::new(alloc),
+            foresight: Foresight::new(alloc),
         })
     }
 
@@ -104,6 +105,14 @@ impl History {
         Ok(())
     }
 
+    /// Fetches from memory what will be needed for operations that come, where these come next and in this order. Nothing that is
+    /// said of the history changes.
+    pub fn foresee(&mut self, ops: &[(u16, Op)])
+        ensures { self.new ≡ self.old }
+    {
+        self.foresight.foresee(&self.keys, &self.entries, ops);
+    }
+
     /// Whether the client may have one more operation.
     fn admit(&self, client: u16) -> Result<(), TypeFault>
         ensures ok { OnOk result (client < length self.now.sessions
@@ -135,7 +144,7 @@ impl History {
         }
         self.entries.reserve(client)?;
         self.keys.reserve(self.reservations + 1)?;
-        self.recent.grow(self.len);
+        self.foresight.grow(self.keys.len(), self.len);
         self.reserved[client as usize] = true;
         self.reservations += 1;
         Ok(())
@@ -154,7 +163,7 @@ impl History {
             client,
             index: self.entries.session_len(client) as u32,
         };
-        let entry = entry_of(&mut self.keys, &mut self.recent, &self.entries, name, op);
+        let entry = entry_of(&mut self.keys, &mut self.foresight, &self.entries, name, op);
         self.entries.push(client, entry);
         self.reserved[client as usize] = false;
         self.reservations -= 1;
@@ -287,7 +296,7 @@ impl History {
 /// The entry of an operation of that name, whose key is added where it is not there.
 fn entry_of(
     keys: &mut KeySet,
-    recent: &mut Recent,
+    foresight: &mut Foresight,
     entries: &Entries,
     name: OpName,
     op: Op,
@@ -300,15 +309,16 @@ fn entry_of(
     ensures sound { IsSound keys.new.keys entries.now.all result }
     ensures gains { GainsKey keys.old keys.new }
 {
+    let guess = foresight.next();
     match op {
         Op::Put {
             key,
             value,
             version,
         } => {
-            recent.note(version, name);
+            foresight.note_put(version, name);
             Entry::Put {
-                key: keys.number(key),
+                key: number_of(keys, foresight, key, guess),
                 value,
                 version,
             }
@@ -317,63 +327,55 @@ fn entry_of(
             key,
             value,
             version,
-        } => got_entry(keys, recent, entries, key, value, version),
+        } => {
+            let put = guess.put.or(foresight.put_of(version));
+            let key = number_of(keys, foresight, key, guess);
+            got_entry(entries, put, key, value, version)
+        }
         Op::Missed { key } => Entry::Missed {
-            key: keys.number(key),
+            key: number_of(keys, foresight, key, guess),
         },
     }
 }
 
-/// The entry of a get. Where the put that wrote its value is found among the recent ones, the entry names it, and its
-/// key and its value are let go.
+/// The number of a key, which is added where it is not there, and kept for further guesses.
+fn number_of(keys: &mut KeySet, foresight: &mut Foresight, key: Key, guess: Guess) -> u32
+    requires few { length keys.old.keys < MAX_OPS }
+    requires room { 0 < keys.old.spare }
+    requires distinct { AreDistinct keys.old.keys }
+    ensures found { slice_get keys.new.keys result ≡ Some key }
+    ensures gains { GainsKey keys.old keys.new }
+{
+    let number = keys.number(key, guess.key);
+    if guess.key != Some(number) {
+        foresight.note_key(keys.key(number), number);
+    }
+    number
+}
+
+/// The entry of a get of the key of that number. Where the put that is guessed wrote the key and the value with this version, the
+/// entry names it, and the value is let go.
 fn got_entry(
-    keys: &mut KeySet,
-    recent: &Recent,
     entries: &Entries,
-    key: Key,
+    put: Option<OpName>,
+    key: u32,
     value: Value,
     version: Version,
 ) -> Entry
-    requires sound { AreSound keys.old.keys entries.now.all }
-    requires distinct { AreDistinct keys.old.keys }
-    requires few { length keys.old.keys < MAX_OPS }
-    requires room { 0 < keys.old.spare }
-    ensures told { told keys.new.keys entries.now.all result ≡ Got key value version }
-    ensures sound { IsSound keys.new.keys entries.now.all result }
-    ensures gains { GainsKey keys.old keys.new }
+    ensures told { (keys : List (List ℕ)) → told keys entries.now.all result ≡ Got (slice_index_or keys key []) value version }
+    ensures key { key_number_of result ≡ key }
+    ensures source { HasSource entries.now.all result }
 {
-    match sourced(keys, recent, entries, &key, &value, version) {
-        Some(entry) => entry,
-        None => Entry::Got {
-            key: keys.number(key),
+    match put {
+        Some(put) if entries.is_put(put, key, &value, version) => Entry::Sourced {
+            key,
+            put,
+            version,
+        },
+        _ => Entry::Got {
+            key,
             value,
             version,
         },
-    }
-}
-
-/// The entry of a get that names the put of that version, where it is found among the recent ones and wrote the value.
-fn sourced(
-    keys: &KeySet,
-    recent: &Recent,
-    entries: &Entries,
-    key: &Key,
-    value: &Value,
-    version: Version,
-) -> Option<Entry>
-    requires { AreSound keys.now.keys entries.now.all }
-    ensures told { IfSome result (λ entry. told keys.now.keys entries.now.all entry ≡ Got key.now value.now version) }
-    ensures sound { IfSome result (IsSound keys.now.keys entries.now.all) }
-{
-    let put = recent.find(version)?;
-    let number = entries.put_key(put, value, version)?;
-    if keys.key(number).is(key) {
-        Some(Entry::Sourced {
-            key: number,
-            put,
-            version,
-        })
-    } else {
-        None
     }
 }

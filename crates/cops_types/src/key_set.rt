@@ -20,8 +20,8 @@ impl Model for KeySet {
 }
 
 impl KeySet {
-    ghost use Rattle.std.specs.Prelude.{◌≡◌, ◌<◌, ◌≤◌, [], length, slice_index_or, slice_get, Some, OnOk};
-    ghost use Rattle.cops_types.specs.KeySets.{GainsKey};
+    ghost use Rattle.std.specs.Prelude.{◌≡◌, ◌↔◌, ◌<◌, ◌≤◌, [], length, slice_index_or, slice_get, Some, IsTrue, OnOk};
+    ghost use Rattle.cops_types.specs.KeySets.{AreDistinct, GainsKey};
     ghost use Rattle.cops_types.specs.declared.limits.TheConstants.{MAX_OPS};
 
     /// No key. It takes no memory.
@@ -58,13 +58,31 @@ impl KeySet {
         Ok(())
     }
 
-    /// The number of a key, which is added where it is not there. It takes no memory.
-    pub(crate) fn number(&mut self, key: Key) -> u32
+    /// Whether the key of that number is there and is this one.
+    pub(crate) fn is_at(&self, number: u32, key: &Key) -> bool
+        ensures { IsTrue result ↔ (slice_get self.now.keys number ≡ Some key.now) }
+    {
+        match self.keys.as_slice().get(number as usize) {
+            Some(there) => there.is(key),
+            None => false,
+        }
+    }
+
+    /// The number of a key, which is added where it is not there. It takes no memory. Where the number is guessed right, nothing is
+    /// searched.
+    pub(crate) fn number(&mut self, key: Key, guess: Option<u32>) -> u32
         requires few { length self.old.keys < MAX_OPS }
         requires room { 0 < self.old.spare }
+        requires distinct { AreDistinct self.old.keys }
         ensures found { slice_get self.new.keys result ≡ Some key }
         ensures gains { GainsKey self.old self.new }
     {
+        if let Some(number) = guess {
+            if self.is_at(number, &key) {
+                drop(key);
+                return number;
+            }
+        }
         let (number, _) = self.keys.insert_full(key).unwrap();
         number as u32
     }

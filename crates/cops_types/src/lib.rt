@@ -4,6 +4,7 @@
 //! convergence, faults and verdicts in `specs/`.
 #![tactic(auto)]
 
+mod blocks;
 mod clock;
 mod counted;
 mod dep;
@@ -11,8 +12,10 @@ mod entries;
 mod entry;
 mod failing;
 mod fault;
+mod foresight;
 mod format;
 mod gate;
+mod guesses;
 mod history;
 mod key;
 mod key_set;
@@ -20,7 +23,6 @@ mod limits;
 mod op;
 mod op_ref;
 mod put_record;
-mod recent;
 mod refusal;
 mod value;
 mod version;

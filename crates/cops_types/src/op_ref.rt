@@ -1,6 +1,5 @@
 ghost use Rattle.std.specs.Prelude.{◌≡◌, ◌↔◌, IfOk, IsTrue};
-ghost use Rattle.cops_types.specs.OpRefs.{seen, IsSourceOf};
-ghost use Rattle.cops_types.specs.Histories.{key_of};
+ghost use Rattle.cops_types.specs.OpRefs.{seen};
 
 use crate::key::Key;
 use crate::op::Op;
@@ -30,15 +29,6 @@ pub enum OpRef<'a> {
 }
 
 impl OpRef<'_> {
-    /// The key that it is on.
-    pub fn key(&self) -> &Key
-        ensures { result.now ≡ key_of (seen self.now) }
-    {
-        match self {
-            OpRef::Put { key, .. } | OpRef::Got { key, .. } | OpRef::Missed { key } => key,
-        }
-    }
-
     /// A copy of the operation.
     pub fn to_op(&self) -> Result<Op, AllocError>
         ensures { IfOk result (λ op. op ≡ seen self.now) }
@@ -98,27 +88,6 @@ impl OpRef<'_> {
                 },
             ) => **version == **other_version && key.is(other_key) && value.is(other_value),
             (OpRef::Missed { key }, OpRef::Missed { key: other_key }) => key.is(other_key),
-            _ => false,
-        }
-    }
-
-    /// Whether it is a put, and the other a get that returned its key, value and version.
-    pub fn is_source_of(&self, got: &OpRef<'_>) -> bool
-        ensures { IsTrue result ↔ IsSourceOf (seen self.now) (seen got.now) }
-    {
-        match (self, got) {
-            (
-                OpRef::Put {
-                    key,
-                    value,
-                    version,
-                },
-                OpRef::Got {
-                    key: got_key,
-                    value: got_value,
-                    version: got_version,
-                },
-            ) => **version == **got_version && key.is(got_key) && value.is(got_value),
             _ => false,
         }
     }

@@ -67,21 +67,23 @@ returns-clause-after c =
     }
 
 pub returns-clause-room : goal.returns-clause-room
-returns-clause-room c = λ room.
+returns-clause-room c = λ space room.
     let lengths = map length c.args.notes.now in
-    let then : HasRoom lengths c.if-not-follows.sweep = elim c.if-not-follows.branch [
-      | then-not-follows w ↦ subst (HasRoom lengths) (sym w.sweep-is)
-          (room_again lengths _ _ c.args.sweep.now w.restart.new.self refl refl (w.restart.ensures.fresh c.requires.after.empty) w.restart.ensures.pending room)
-      | else-not-follows w ↦ subst (HasRoom lengths) (sym w.sweep-is) room
+    let then : HasRoom space lengths c.if-not-follows.sweep = elim c.if-not-follows.branch [
+      | then-not-follows w ↦ subst (HasRoom space lengths) (sym w.sweep-is)
+          (room_again space lengths _ _ c.args.sweep.now w.restart.new.self refl refl
+          (w.restart.ensures.fresh c.requires.after.empty) w.restart.ensures.pending room)
+      | else-not-follows w ↦ subst (HasRoom space lengths) (sym w.sweep-is) room
     ] in
-    (search rules, (c.in_ok-found.ensures.room then).1)
+    (search rules, (c.in_ok-found.ensures.room space then).1)
 
 pub returns-in_err-found-clause-room : goal.returns-in_err-found-clause-room
-returns-in_err-found-clause-room c = λ room.
+returns-in_err-found-clause-room c = λ space room.
     let lengths = map length c.args.notes.now in
-    let then : HasRoom lengths c.if-not-follows.sweep = elim c.if-not-follows.branch [
-      | then-not-follows w ↦ subst (HasRoom lengths) (sym w.sweep-is)
-          (room_again lengths _ _ c.args.sweep.now w.restart.new.self refl refl (w.restart.ensures.fresh c.requires.after.empty) w.restart.ensures.pending room)
-      | else-not-follows w ↦ subst (HasRoom lengths) (sym w.sweep-is) room
+    let then : HasRoom space lengths c.if-not-follows.sweep = elim c.if-not-follows.branch [
+      | then-not-follows w ↦ subst (HasRoom space lengths) (sym w.sweep-is)
+          (room_again space lengths _ _ c.args.sweep.now w.restart.new.self refl refl
+          (w.restart.ensures.fresh c.requires.after.empty) w.restart.ensures.pending room)
+      | else-not-follows w ↦ subst (HasRoom space lengths) (sym w.sweep-is) room
     ] in
-    no_ok (c.in_err-found.ensures.room then).0
+    no_ok (c.in_err-found.ensures.room space then).0

@@ -3,7 +3,7 @@ use Rattle.std.proofs.Math.ListN.{length-set}
 use Rattle.std.specs.Option.{option_map}
 use Rattle.std.proofs.lemmas.Bool.{cases_Bool, eqb-true, eqb-false}
 use Rattle.cops_types.specs.declared.op.Op.TheVariants.{Put}
-use Rattle.cops_types.specs.Histories.{key_of}
+use Rattle.cops_types.specs.Operations.{key_of}
 use Rattle.cops_audit.specs.Keys.{IsFirstFrom, IsNext, OnKey}
 use Rattle.cops_audit.proofs.Collect.{get_or-default}
 use Rattle.cops_audit.proofs.Linking.{next_is, on_key, first_here, first_kept, none_past_end, written}

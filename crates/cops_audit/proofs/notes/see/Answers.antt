@@ -2,7 +2,8 @@ use Rattle.std.proofs.Common.{◌≡◌, ℕ, List, Some, ap}
 use Rattle.cops_types.specs.declared.op.Op.{Op}
 use Rattle.cops_types.specs.declared.op.Op.TheVariants.{Put, Got, Missed}
 use Rattle.cops_types.specs.declared.op.OpName.{OpName}
-use Rattle.cops_types.specs.Histories.{GetsVersion, IsMissed, PutsVersion, Sessions, op_at}
+use Rattle.cops_types.specs.Histories.{IsMissed, PutsVersion, Sessions, op_at}
+use Rattle.cops_types.specs.Operations.{GetsVersion}
 use Rattle.cops_audit.specs.declared.table.VersionedPut.{VersionedPut}
 use Rattle.cops_audit.proofs.Places.{place_for, place_of_put}
 use Rattle.cops_audit.proofs.Gets.{divides_found, sourceless_at}

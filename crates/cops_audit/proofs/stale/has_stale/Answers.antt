@@ -26,7 +26,7 @@ loop-k-init c = record {
     sweeping = λ j e. absurd (omega (arith, e));
     about = λ j d e. absurd (omega (arith, e));
   };
-  room = λ room. room;
+  room = λ space room. room;
 }
 
 pub loop-k-preserved : goal.loop-k-preserved
@@ -39,7 +39,7 @@ loop-k-preserved c =
           (none_told h table c.requires.table c.args.firsts.now c.requires.firsts c.args.notes.now c.requires.notes c.requires.sources _ (c.requires.suspects c.loop-k.k none (omega arith))
           (none_at _ c.in_ok-found.found c.in_default.is c.in_ok-found.ensures.none none));
       after = c.in_ok-found.ensures.after;
-      room = λ room. (c.in_ok-found.ensures.room (c.loop-k.invariant.room room)).1;
+      room = λ space room. (c.in_ok-found.ensures.room space (c.loop-k.invariant.room space room)).1;
     }
 
 pub returns-in-Some-clause-stale : goal.returns-in-Some-clause-stale

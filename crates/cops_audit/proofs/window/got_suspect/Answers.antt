@@ -1,6 +1,6 @@
 use Rattle.std.proofs.Common.{◌≡◌, ◌<◌, ℕ, List, Option, Some, None, get_or, length, refl, ap, arith}
 use Rattle.std.specs.Option.{option_map}
-use Rattle.cops_types.specs.Histories.{key_of}
+use Rattle.cops_types.specs.Operations.{key_of}
 use Rattle.cops_audit.specs.Keys.{IsFirstFrom}
 use Rattle.cops_audit.proofs.Collect.{get_or-default}
 use Rattle.cops_audit.proofs.Linking.{next_at}

@@ -1,6 +1,6 @@
 use Rattle.std.proofs.Common.{refl, ap}
 use Rattle.std.specs.Option.{option_map}
-use Rattle.cops_types.specs.Histories.{key_of}
+use Rattle.cops_types.specs.Operations.{key_of}
 use Rattle.cops_audit.proofs.Suspecting.{missed_clear, missed_far, missed_is}
 use Rattle.cops_audit.proofs.window.missed_suspect.Goals as goal
 

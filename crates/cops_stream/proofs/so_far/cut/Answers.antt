@@ -1,4 +1,9 @@
+use Rattle.std.proofs.Common.{subst}
+use Rattle.cops_types.specs.Histories.{Sessions}
+use Rattle.cops_audit.specs.SoFar.{IsSoFar}
 use Rattle.cops_stream.proofs.so_far.cut.Goals as goal
 
 pub returns : goal.returns
-returns c = (c.so_far-so_far.result, c.so_far-so_far.ensures.so_far, c.answer_so_far.ensures, c.in_ok-text.ensures)
+returns c = λ t fed.
+    let so_far = c.so_far-so_far.result in
+    (so_far, subst (λ (h : Sessions). IsSoFar h so_far) (c.in_ok-online.ensures t fed) c.so_far-so_far.ensures.so_far, c.answer_so_far.ensures, c.in_ok-text.ensures)

@@ -1,4 +1,4 @@
-use Rattle.std.proofs.Common.{◌≡◌, ◌+◌, ◌∙◌, List, length, map, sym, ap, subst}
+use Rattle.std.proofs.Common.{◌≡◌, ◌+◌, ◌∙◌, List, length, map, sym, ap, subst, inr, true≢false}
 use Rattle.std.specs.List.Sorted.{IsPermutation}
 use Rattle.cops_types.specs.Histories.{Sessions}
 use Rattle.cops_types.specs.Verdicts.{HasAcceptedVerdict}
@@ -33,3 +33,18 @@ pub returns-then-is_same-clause-accepted : goal.returns-then-is_same-clause-acce
 returns-then-is_same-clause-accepted c =
     let saw : c.history.result.now.sessions ≡ sessions_of c.args.trace.now = c.is_same.ensures.0 c.if-is_same.true ∙ c.history-2.ensures.sessions in
     subst (λ (h : Sessions). HasAcceptedVerdict h) saw c.history.ensures.accepted
+
+pub returns-clause-untied : goal.returns-clause-untied
+returns-clause-untied c =
+    let s = c.args.setting.now in
+    let run = c.in_ok-run.run' in
+    let turns = c.deref.ensures.value in
+    let order = map shown c.in_ok-order.order.items in
+    let follows : Follows s (opening s) order run.world.world =
+    subst (λ (ts : List Ticketed). Follows s (opening s) (map shown ts) run.world.world) turns c.in_ok-run.ensures.follows in
+    let differ : run.world.world.sessions ≡ sessions_of c.args.trace.now → ⊥ = λ same.
+    absurd (true≢false (sym (c.is_same.ensures.1 (c.history.ensures.sessions ∙ same ∙ sym c.history-2.ensures.sessions)) ∙ c.if-is_same.false)) in
+    let nodes : c.nodes.result ≡ length c.args.setting.now.place.splits + 1 = c.nodes.ensures.count in
+    let all : IsOrder s (map (λ b. b.items) c.args.books.now) order = subst (λ n. IsPermutation (placed n 0 (map (λ b. b.items) c.args.books.now)) order) nodes c.in_ok-order.ensures.all in
+    let next : run.next ≡ ticket_after order = c.in_ok-run.ensures.next ∙ ap (λ (ts : List Ticketed). ticket_after (map shown ts)) turns in
+    record { order = order; all = all; never_falls = c.in_ok-order.ensures.never_falls; at = inr (run.world.world, (follows, (differ, next))) }

@@ -1,7 +1,7 @@
 use Rattle.std.proofs.Common.{ℕ, List, [], length, ap, sym, ◌∙◌, arith}
 use Rattle.std.proofs.lemmas.List.{length-replicate}
 use Rattle.cops_types.specs.declared.op.Op.{Op}
-use Rattle.cops_audit.proofs.Growing.{count_empty, empty_as_long}
+use Rattle.cops_audit.proofs.Growing.{count_empty, empty_room}
 use Rattle.cops_audit.proofs.room.Room.new.Goals as goal
 
 pub returns : goal.returns
@@ -10,18 +10,21 @@ returns c =
     let none = count_empty n in
     let fresh = c.in_ok-sweep.ensures in
     record {
-      space = record {
-        names = omega (arith, none);
-        table = omega (arith, none);
-        nexts = omega (arith, none);
-        by_key = omega (arith, none);
-        firsts = omega (arith, none);
-        suspects = omega (arith, none);
-        floors = omega (arith, none);
-        pending = omega (arith, none);
-        newest = omega (arith, none);
+      ready = record {
+        space = record {
+          names = omega arith;
+          table = omega arith;
+          nexts = omega arith;
+          by_key = omega arith;
+          firsts = omega arith;
+          suspects = omega arith;
+          floors = omega arith;
+          pending = omega arith;
+          newest = omega arith;
+        };
+        enough = omega (arith, none);
+        counts = ap length fresh.counts ∙ length-replicate {A = ℕ} n 0 ∙ sym (length-replicate {A = List Op} n []);
+        empty = fresh.pending;
       };
-      notes = empty_as_long n c.in_ok-notes.notes c.in_ok-notes.ensures;
-      counts = ap length fresh.counts ∙ length-replicate {A = ℕ} n 0 ∙ sym (length-replicate {A = List Op} n []);
-      empty = fresh.pending;
+      notes = empty_room n c.in_ok-note_room.note_room c.in_ok-note_room.ensures;
     }

@@ -7,25 +7,31 @@ use Rattle.cops_audit.specs.Keys.{AreFirsts, AreNexts}
 use Rattle.cops_audit.specs.Tables.{IsVersionTable}
 use Rattle.cops_audit.specs.Windows.{AreSuspects}
 use Rattle.cops_audit.proofs.Fitting.{no_ok}
-use Rattle.cops_audit.proofs.Growing.{count_notes, fresh_idle, fresh_room}
+use Rattle.cops_audit.proofs.Growing.{fresh_idle, fresh_room}
 use Rattle.cops_audit.proofs.room.Room.suspect.Goals as goal
 
 pub returns-in_err-link-clause-ok : goal.returns-in_err-link-clause-ok
 returns-in_err-link-clause-ok c = no_ok (c.in_err-link.ensures.succeeds
-    (omega (arith, c.requires.noted.filled.few, c.requires.noted.fits.space.nexts, ap length c.as_slice-table.ensures.value))
-    c.requires.noted.fits.space.by_key)
+    (omega (arith, c.requires.noted.filled.few, c.requires.noted.ready.space.nexts, c.requires.noted.ready.enough, ap length c.as_slice-table.ensures.value))
+    (omega (arith, c.requires.noted.ready.space.by_key, c.requires.noted.ready.enough)))
 
 pub returns-in_err-set_firsts-clause-ok : goal.returns-in_err-set_firsts-clause-ok
-returns-in_err-set_firsts-clause-ok c = no_ok (c.in_err-set_firsts.ensures.succeeds (omega (arith, c.requires.noted.filled.few, c.requires.noted.fits.space.firsts, ap length c.as_slice-table.ensures.value)))
+returns-in_err-set_firsts-clause-ok c =
+    let ready = c.requires.noted.ready in
+    no_ok (c.in_err-set_firsts.ensures.succeeds (omega (arith, c.requires.noted.filled.few, ready.space.firsts, ready.enough, ap length c.as_slice-table.ensures.value)))
 
 pub returns-in_err-push_suspects-clause-ok : goal.returns-in_err-push_suspects-clause-ok
-returns-in_err-push_suspects-clause-ok c = no_ok (c.in_err-push_suspects.ensures.succeeds (omega (arith, c.requires.noted.filled.count, c.requires.noted.fits.space.suspects, c.clear.ensures.capacity, ap length c.as_slice-names.ensures.value)))
+returns-in_err-push_suspects-clause-ok c =
+    let ready = c.requires.noted.ready in
+    no_ok (c.in_err-push_suspects.ensures.succeeds
+    (omega (arith, c.requires.noted.filled.count, ready.space.suspects, ready.enough, c.clear.ensures.capacity, ap length c.as_slice-names.ensures.value)))
 
 pub returns-in_err-set_floors-clause-ok : goal.returns-in_err-set_floors-clause-ok
 returns-in_err-set_floors-clause-ok c = no_ok (c.in_err-set_floors.ensures.succeeds (omega (
   arith,
   c.requires.noted.filled.count,
-  c.requires.noted.fits.space.floors,
+  c.requires.noted.ready.space.floors,
+  c.requires.noted.ready.enough,
   c.in_ok-push_suspects.ensures.count,
   c.push_suspects.new.suspects.ok.0,
   ap length c.as_slice.ensures.value,
@@ -35,6 +41,8 @@ returns-in_err-set_floors-clause-ok c = no_ok (c.in_err-set_floors.ensures.succe
 pub returns-clause-suspected : goal.returns-clause-suspected
 returns-clause-suspected c =
     let h = c.args.history.now.sessions in
+    let ready = c.requires.noted.ready in
+    let fresh = c.restart.ensures.fresh ready.empty in
     let seen = c.as_slice-table.ensures.value in
     let table = subst (IsVersionTable h) (sym seen) c.requires.noted.filled.table in
     let nexts = subst (AreNexts h c.as_slice-table.result.now) (sym c.as_slice-nexts.ensures.value) c.in_ok-link.ensures.nexts in
@@ -43,31 +51,30 @@ returns-clause-suspected c =
           (subst (λ (n : List OpName). AreSuspects h c.as_slice-table.result.now n c.push_suspects.new.suspects.items) c.as_slice-names.ensures.value c.in_ok-push_suspects.ensures.suspects);
       firsts = subst (λ (t : List VersionedPut). AreFirsts h t c.set_firsts.new.places.items) seen (c.in_ok-set_firsts.ensures.firsts h table nexts);
       floors = subst (λ (s : List Suspect). AreFloors s c.set_floors.new.floors.items) c.as_slice.ensures.value c.in_ok-set_floors.ensures.floors;
-      idle = fresh_idle h c.args.self.now c.requires.noted.fits c.restart.new.self (c.restart.ensures.fresh c.requires.noted.fits.empty) c.restart.ensures.pending (length c.args.self.now.table.items) c.requires.noted.filled.few;
-      space = fresh_room h c.args.self.now c.requires.noted.fits c.restart.new.self (c.restart.ensures.fresh c.requires.noted.fits.empty) c.restart.ensures.pending;
+      idle = fresh_idle h c.args.self.now ready c.restart.new.self fresh c.restart.ensures.pending (length c.args.self.now.table.items) c.requires.noted.filled.few;
+      space = fresh_room h c.args.self.now ready c.restart.new.self fresh c.restart.ensures.pending c.requires.noted.notes;
     }
 
-pub returns-clause-fits : goal.returns-clause-fits
-returns-clause-fits c =
+pub returns-clause-ready : goal.returns-clause-ready
+returns-clause-ready c =
     let h = c.args.history.now.sessions in
-    let fits = c.requires.noted.fits in
-    let fresh = c.restart.ensures.fresh fits.empty in
-    let room = fresh_room h c.args.self.now fits c.restart.new.self fresh c.restart.ensures.pending in
-    let idle = fresh_idle h c.args.self.now fits c.restart.new.self fresh c.restart.ensures.pending 0 (omega arith) in
-    let sum = count_notes h c.args.self.now.notes fits.notes in
+    let ready = c.requires.noted.ready in
+    let fresh = c.restart.ensures.fresh ready.empty in
+    let room = fresh_room h c.args.self.now ready c.restart.new.self fresh c.restart.ensures.pending c.requires.noted.notes in
+    let idle = fresh_idle h c.args.self.now ready c.restart.new.self fresh c.restart.ensures.pending 0 (omega arith) in
     record {
       space = record {
-        names = fits.space.names;
-        table = fits.space.table;
-        nexts = omega (arith, fits.space.nexts, c.in_ok-link.ensures.nexts_capacity);
-        by_key = omega (arith, fits.space.by_key, c.in_ok-link.ensures.firsts_capacity);
-        firsts = omega (arith, fits.space.firsts, c.in_ok-set_firsts.ensures.capacity);
-        suspects = omega (arith, fits.space.suspects, c.clear.ensures.capacity, c.in_ok-push_suspects.ensures.capacity);
-        floors = omega (arith, fits.space.floors, c.in_ok-set_floors.ensures.capacity);
-        pending = omega (arith, room.whole, sum);
-        newest = omega (arith, room.places, sum);
+        names = ready.space.names;
+        table = ready.space.table;
+        nexts = omega (arith, ready.space.nexts, c.in_ok-link.ensures.nexts_capacity);
+        by_key = omega (arith, ready.space.by_key, c.in_ok-link.ensures.firsts_capacity);
+        firsts = omega (arith, ready.space.firsts, c.in_ok-set_firsts.ensures.capacity);
+        suspects = omega (arith, ready.space.suspects, c.clear.ensures.capacity, c.in_ok-push_suspects.ensures.capacity);
+        floors = omega (arith, ready.space.floors, c.in_ok-set_floors.ensures.capacity);
+        pending = room.whole;
+        newest = room.places;
       };
-      notes = fits.notes;
+      enough = ready.enough;
       counts = idle.clients;
       empty = idle.empty;
     }

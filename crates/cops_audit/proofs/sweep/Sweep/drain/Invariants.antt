@@ -1,4 +1,4 @@
-use Rattle.std.proofs.Common.{map, length}
+use Rattle.std.proofs.Common.{ℕ, map, length}
 use Rattle.cops_audit.specs.Sweeps.{Grows, HasRoom, IsSweeping, work_left}
 use Rattle.cops_audit.proofs.sweep.Sweep.drain.Given as goal
 
@@ -6,7 +6,7 @@ abbrev pub invariant-loop-range : goal.invariant-loop-range
 invariant-loop-range l = record {
   sweeping : IsSweeping l.table l.notes l.firsts l.floor l.self (λ _. ⊥);
   grows : Grows l.table l.notes l.fn.self l.self;
-  room : HasRoom (map length l.notes) l.fn.self → HasRoom (map length l.notes) l.self;
+  room : (space : ℕ) → HasRoom space (map length l.notes) l.fn.self → HasRoom space (map length l.notes) l.self;
 }
 
 abbrev pub decreases-loop-range : goal.decreases-loop-range

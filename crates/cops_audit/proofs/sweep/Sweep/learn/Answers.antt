@@ -22,18 +22,20 @@ returns-in_ok-raise-in-Got-clause-learns c =
     (here c.args.table.now c.args.seen c.in-Got.place put c.in-Got.is c.requires.seen c.index-table-place.is) c.in_ok-raise-in-Got.ensures.raises
 
 pub returns-in-Put-clause-room : goal.returns-in-Put-clause-room
-returns-in-Put-clause-room c = λ lengths covers room. (search rules, room_same lengths c.args.self.now c.take_put.new.self c.take_put.ensures.counts c.take_put.ensures.newest.width c.take_put.ensures.pending room)
+returns-in-Put-clause-room c = λ space lengths covers room.
+    let put = c.take_put.ensures in
+    (search rules, room_same space lengths c.args.self.now c.take_put.new.self put.counts put.newest.width put.pending room)
 
 pub returns-in_ok-raise-in-Got-clause-room : goal.returns-in_ok-raise-in-Got-clause-room
-returns-in_ok-raise-in-Got-clause-room c = λ lengths covers room.
+returns-in_ok-raise-in-Got-clause-room c = λ space lengths covers room.
     let put = c.index-table-place.result in
     let less = covers c.in-Got.place put.name put.version (here c.args.table.now c.args.seen c.in-Got.place put c.in-Got.is c.requires.seen c.index-table-place.is) in (
       search rules,
-      (c.in_ok-raise-in-Got.ensures.room lengths (omega (arith, less)) room).1,
+      (c.in_ok-raise-in-Got.ensures.room space lengths (omega (arith, less)) room).1,
     )
 
 pub returns-in_err-raise-in-Got-clause-room : goal.returns-in_err-raise-in-Got-clause-room
-returns-in_err-raise-in-Got-clause-room c = λ lengths covers room.
+returns-in_err-raise-in-Got-clause-room c = λ space lengths covers room.
     let put = c.index-table-place.result in
     let less = covers c.in-Got.place put.name put.version (here c.args.table.now c.args.seen c.in-Got.place put c.in-Got.is c.requires.seen c.index-table-place.is) in
-    no_ok (c.in_err-raise-in-Got.ensures.room lengths (omega (arith, less)) room).0
+    no_ok (c.in_err-raise-in-Got.ensures.room space lengths (omega (arith, less)) room).0

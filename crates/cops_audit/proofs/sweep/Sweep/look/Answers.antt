@@ -11,14 +11,14 @@ loop-index-preserved c = record {
   sweeping = c.in_ok-on.ensures.on (let t : c.in_ok-on.on ≡ true = cc in t);
   grows = grows_on c.args.table.now c.args.notes.now c.args.self.now c.loop-index.self c.look_at.new.self c.loop-index.invariant.grows c.in_ok-on.ensures.grows;
   work = omega (arith, c.in_ok-on.ensures.work, c.loop-index.invariant.work);
-  room = λ room. (c.in_ok-on.ensures.room (c.loop-index.invariant.room room)).1;
+  room = λ space room. (c.in_ok-on.ensures.room space (c.loop-index.invariant.room space room)).1;
 }
 
 pub returns-clause-room : goal.returns-clause-room
-returns-clause-room c = λ room. (search rules, c.loop-index.invariant.room room)
+returns-clause-room c = λ space room. (search rules, c.loop-index.invariant.room space room)
 
 pub returns-then-not-on-clause-room : goal.returns-then-not-on-clause-room
-returns-then-not-on-clause-room c = λ room. (search rules, (c.in_ok-on.ensures.room (c.loop-index.invariant.room room)).1)
+returns-then-not-on-clause-room c = λ space room. (search rules, (c.in_ok-on.ensures.room space (c.loop-index.invariant.room space room)).1)
 
 pub returns-in_err-on-clause-room : goal.returns-in_err-on-clause-room
-returns-in_err-on-clause-room c = λ room. no_ok (c.in_err-on.ensures.room (c.loop-index.invariant.room room)).0
+returns-in_err-on-clause-room c = λ space room. no_ok (c.in_err-on.ensures.room space (c.loop-index.invariant.room space room)).0

@@ -1,4 +1,4 @@
-use Rattle.std.proofs.Common.{◌≤◌, map, length}
+use Rattle.std.proofs.Common.{◌≤◌, ℕ, map, length}
 use Rattle.cops_audit.specs.Sweeps.{Grows, HasRoom, InRange, IsSweeping, work_left}
 use Rattle.cops_audit.proofs.sweep.Sweep.look.Given as goal
 
@@ -7,5 +7,5 @@ invariant-loop-index l = record {
   sweeping : IsSweeping l.table l.notes l.firsts l.floor l.self (InRange (record { client = l.range.client; from = l.range.from; to = l.index }));
   grows : Grows l.table l.notes l.fn.self l.self;
   work : work_left l.self ≤ work_left l.fn.self;
-  room : HasRoom (map length l.notes) l.fn.self → HasRoom (map length l.notes) l.self;
+  room : (space : ℕ) → HasRoom space (map length l.notes) l.fn.self → HasRoom space (map length l.notes) l.self;
 }

@@ -21,7 +21,11 @@ pub returns-in_default-clause-on : goal.returns-in_default-clause-on
 returns-in_default-clause-on c = λ _. sweep_past c.args.table.now c.args.notes.now c.requires.rising c.args.firsts.now c.args.floor c.args.self.now c.args.name c.args.from (sym c.in_default.ensures) c.requires.sweeping
 
 pub returns-clause-room : goal.returns-clause-room
-returns-clause-room c = λ room. (search rules, (c.in_ok-learn.ensures.room (map length c.args.notes.now) (covered c.args.table.now c.args.notes.now c.requires.rising) room).1)
+returns-clause-room c = λ space room. (
+  search rules,
+  (c.in_ok-learn.ensures.room space (map length c.args.notes.now) (covered c.args.table.now c.args.notes.now c.requires.rising) room).1,
+)
 
 pub returns-in_err-learn-clause-room : goal.returns-in_err-learn-clause-room
-returns-in_err-learn-clause-room c = λ room. no_ok (c.in_err-learn.ensures.room (map length c.args.notes.now) (covered c.args.table.now c.args.notes.now c.requires.rising) room).0
+returns-in_err-learn-clause-room c = λ space room.
+    no_ok (c.in_err-learn.ensures.room space (map length c.args.notes.now) (covered c.args.table.now c.args.notes.now c.requires.rising) room).0

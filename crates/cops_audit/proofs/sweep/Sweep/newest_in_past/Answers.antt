@@ -38,13 +38,21 @@ returns-else-newest-suspect-clause-none c =
     c.args.suspect.op c.args.suspect.from c.requires.low (λ n client less. c.in_ok-drain.ensures.grows.kept n (c.in_ok-raise.ensures.raises.raised n client less)) c.requires.source c.args.suspect.first (omega (arith, c.get-newest.ensures, c.if-newest-suspect.false))
 
 pub returns-then-newest-suspect-clause-room : goal.returns-then-newest-suspect-clause-room
-returns-then-newest-suspect-clause-room c = λ room. (search rules, (c.in_ok-drain.ensures.room (c.in_ok-raise.ensures.room (map length c.args.notes.now) (within c.args.notes.now c.args.suspect.op c.requires.noted.0 c.requires.noted.1) room).1).1)
+returns-then-newest-suspect-clause-room c = λ space room.
+    let op = within c.args.notes.now c.args.suspect.op c.requires.noted.0 c.requires.noted.1 in
+    (search rules, (c.in_ok-drain.ensures.room space (c.in_ok-raise.ensures.room space (map length c.args.notes.now) op room).1).1)
 
 pub returns-else-newest-suspect-clause-room : goal.returns-else-newest-suspect-clause-room
-returns-else-newest-suspect-clause-room c = λ room. (search rules, (c.in_ok-drain.ensures.room (c.in_ok-raise.ensures.room (map length c.args.notes.now) (within c.args.notes.now c.args.suspect.op c.requires.noted.0 c.requires.noted.1) room).1).1)
+returns-else-newest-suspect-clause-room c = λ space room.
+    let op = within c.args.notes.now c.args.suspect.op c.requires.noted.0 c.requires.noted.1 in
+    (search rules, (c.in_ok-drain.ensures.room space (c.in_ok-raise.ensures.room space (map length c.args.notes.now) op room).1).1)
 
 pub returns-in_err-raise-clause-room : goal.returns-in_err-raise-clause-room
-returns-in_err-raise-clause-room c = λ room. no_ok (c.in_err-raise.ensures.room (map length c.args.notes.now) (within c.args.notes.now c.args.suspect.op c.requires.noted.0 c.requires.noted.1) room).0
+returns-in_err-raise-clause-room c = λ space room.
+    let op = within c.args.notes.now c.args.suspect.op c.requires.noted.0 c.requires.noted.1 in
+    no_ok (c.in_err-raise.ensures.room space (map length c.args.notes.now) op room).0
 
 pub returns-in_err-drain-clause-room : goal.returns-in_err-drain-clause-room
-returns-in_err-drain-clause-room c = λ room. no_ok (c.in_err-drain.ensures.room (c.in_ok-raise.ensures.room (map length c.args.notes.now) (within c.args.notes.now c.args.suspect.op c.requires.noted.0 c.requires.noted.1) room).1).0
+returns-in_err-drain-clause-room c = λ space room.
+    let op = within c.args.notes.now c.args.suspect.op c.requires.noted.0 c.requires.noted.1 in
+    no_ok (c.in_err-drain.ensures.room space (c.in_ok-raise.ensures.room space (map length c.args.notes.now) op room).1).0

@@ -36,12 +36,13 @@ returns-in_ok-push-clause-raises c =
     }
 
 pub returns-in_ok-push-clause-room : goal.returns-in_ok-push-clause-room
-returns-in_ok-push-clause-room c = λ lengths fits room. (
+returns-in_ok-push-clause-room c = λ space lengths fits room. (
   search rules,
-  room_kept lengths c.args.self.now c.args.client c.args.to c.requires (omega (arith, c.get-from.ensures, c.if-from-to.true)) fits room _ c.set.ensures refl c.in_ok-push.ensures.len c.in_ok-push.ensures.capacity,
+  room_kept space lengths c.args.self.now c.args.client c.args.to c.requires (omega (arith, c.get-from.ensures, c.if-from-to.true)) fits room
+      _ c.set.ensures refl c.in_ok-push.ensures.len c.in_ok-push.ensures.capacity,
 )
 
 pub returns-in_err-push-clause-room : goal.returns-in_err-push-clause-room
-returns-in_err-push-clause-room c = λ lengths fits room.
-    let l = room_left lengths c.args.self.now c.args.client c.args.to c.requires (omega (arith, c.get-from.ensures, c.if-from-to.true)) fits room in
+returns-in_err-push-clause-room c = λ space lengths fits room.
+    let l = room_left space lengths c.args.self.now c.args.client c.args.to c.requires (omega (arith, c.get-from.ensures, c.if-from-to.true)) fits room in
     absurd (omega (arith, l, c.in_err-push.ensures.full))

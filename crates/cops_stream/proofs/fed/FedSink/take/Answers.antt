@@ -1,10 +1,17 @@
-use Rattle.std.proofs.Common.{List, [], ap, replicate, sym, ◌∙◌}
-use Rattle.cops_types.specs.declared.op.Op.{Op}
-use Rattle.cops_types.specs.Histories.{Sessions, with_op}
-use Rattle.cops_trace.proofs.Keeping.{after_push}
+use Rattle.std.proofs.Common.{ap, ◌∙◌}
+use Rattle.cops_stream.specs.Fed.{with_ops}
+use Rattle.cops_stream.proofs.Feeding.{fed_more, with_ops_push}
 use Rattle.cops_stream.proofs.fed.FedSink.take.Goals as goal
 
-pub returns-in-Ok : goal.returns-in-Ok
-returns-in-Ok c = λ t fed.
-    c.in-Ok.ensures.ok ∙ ap (λ (h : Sessions). with_op h c.args.client c.args.op) fed
-    ∙ sym (after_push (replicate {A = List Op} t.clients []) t.records (record { client = c.args.client; op = c.args.op }))
+pub returns-then-len-lt-TOGETHER : goal.returns-then-len-lt-TOGETHER
+returns-then-len-lt-TOGETHER c = λ t fed.
+    let online = c.args.self.now.online in
+    let waiting = c.args.self.now.waiting.items in
+    ap (with_ops online) c.in_ok-push.ensures.items ∙ with_ops_push online waiting (c.args.client, c.args.op) ∙ fed_more (with_ops online waiting) t c.args.client c.args.op fed
+
+pub returns : goal.returns
+returns c = λ t fed.
+    let online = c.args.self.now.online in
+    let waiting = c.args.self.now.waiting.items in
+    ap (with_ops c.feed.new.self.online) c.in_ok-feed.ensures.empty ∙ c.in_ok-feed.ensures.fed
+    ∙ ap (with_ops online) c.in_ok-push.ensures.items ∙ with_ops_push online waiting (c.args.client, c.args.op) ∙ fed_more (with_ops online waiting) t c.args.client c.args.op fed

@@ -1,6 +1,6 @@
 use Rattle.std.proofs.Common.{ap}
 use Rattle.std.specs.Option.{option_map}
-use Rattle.cops_types.specs.Histories.{key_of}
+use Rattle.cops_types.specs.Operations.{key_of}
 use Rattle.cops_types.proofs.Sources.{none_told, key_numbered}
 use Rattle.cops_types.proofs.history.History.key_number.Goals as goal
 

@@ -1,5 +1,0 @@
-use Rattle.std.proofs.Common.{◌≡◌, replicate, map, []}
-use Rattle.cops_audit.proofs.notes.Notes.empty.Given as goal
-
-abbrev pub invariant-loop : goal.invariant-loop
-invariant-loop l = map (λ s. s.items) l.sessions.items ≡ replicate l.counter []

@@ -1,0 +1,161 @@
+use crate::entries::Entries;
+use crate::guesses::Guesses;
+use crate::key::Key;
+use crate::key_set::KeySet;
+use crate::op::{Op, OpName};
+use crate::version::Version;
+use std::alloc::Global;
+
+/// How far the places of two nodes' puts at one clock lie apart.
+const NODE_STEP: usize = 40_503;
+
+/// An odd number whose multiples spread over all bits.
+const SPREAD: u64 = 0x9E37_79B9_7F4A_7C15;
+
+/// What a place has that guesses no put: there is no such client.
+const NO_PUT: OpName = OpName {
+    client: u16::MAX,
+    index: u32::MAX,
+};
+
+/// What a place has that guesses no key: there are fewer.
+const NO_KEY: u32 = u32::MAX;
+
+/// What is guessed of an operation: the number of its key, and which put it returned.
+#[derive(Clone, Copy, Debug)]
+pub(crate) struct Guess {
+    pub(crate) key: Option<u32>,
+    pub(crate) put: Option<OpName>,
+}
+
+/// Guesses, which no clause speaks of: whoever asks looks whether they are right. What is needed for operations that come is
+/// fetched from memory for many of them at once, where one after the other would wait for each.
+#[derive(Debug, Drop)]
+pub(crate) struct Foresight {
+    keys: Guesses<u32>,
+    puts: Guesses<OpName>,
+    /// Of the operations that come, in their order.
+    coming: Vec<Guess>,
+    /// How many of those came.
+    come: usize,
+}
+
+impl Foresight {
+    /// No guess. It takes no memory.
+    pub(crate) fn new(alloc: Global) -> Self {
+        Foresight {
+            keys: Guesses::new(alloc),
+            puts: Guesses::new(alloc),
+            coming: Vec::new(alloc),
+            come: 0,
+        }
+    }
+
+    /// Makes room for guesses of so many keys and operations, as far as there is memory.
+    pub(crate) fn grow(&mut self, keys: usize, ops: usize) {
+        self.keys.grow(keys.saturating_mul(2), NO_KEY);
+        self.puts.grow(ops, NO_PUT);
+    }
+
+    /// Guesses what is needed for operations that come.
+    pub(crate) fn foresee(&mut self, keys: &KeySet, entries: &Entries, ops: &[(u16, Op)]) {
+        self.coming.clear();
+        self.come = 0;
+        for coming in ops {
+            let guess = self.guess(&coming.1);
+            if self.coming.push(guess).is_err() {
+                return;
+            }
+        }
+        for (i, coming) in ops.iter().enumerate() {
+            if let Some(guess) = self.coming.get_mut(i) {
+                *guess = right(*guess, keys, entries, &coming.1);
+            }
+        }
+    }
+
+    /// What the tables guess of an operation.
+    fn guess(&self, op: &Op) -> Guess {
+        match op {
+            Op::Put { key, .. } | Op::Missed { key } => Guess {
+                key: self.keys.find(spread(key)),
+                put: None,
+            },
+            Op::Got { key, version, .. } => Guess {
+                key: self.keys.find(spread(key)),
+                put: self.put_of(*version),
+            },
+        }
+    }
+
+    /// What was guessed of the operation that comes now.
+    pub(crate) fn next(&mut self) -> Guess {
+        let guess = self.coming.get(self.come).copied();
+        self.come = self.come.saturating_add(1);
+        guess.unwrap_or(Guess {
+            key: None,
+            put: None,
+        })
+    }
+
+    /// Keeps the number of a key.
+    pub(crate) fn note_key(&mut self, key: &Key, number: u32) {
+        self.keys.note(spread(key), number);
+    }
+
+    /// Keeps the name of a put of that version.
+    pub(crate) fn note_put(&mut self, version: Version, put: OpName) {
+        self.puts.note(place(version), put);
+    }
+
+    /// Where the put of that version may be.
+    pub(crate) fn put_of(&self, version: Version) -> Option<OpName> {
+        self.puts.find(place(version))
+    }
+}
+
+/// The guess, without what is wrong of it.
+fn right(guess: Guess, keys: &KeySet, entries: &Entries, op: &Op) -> Guess {
+    let key = match (guess.key, op) {
+        (Some(number), Op::Put { key, .. } | Op::Got { key, .. } | Op::Missed { key })
+            if keys.is_at(number, key) => { Some(number) }
+        _ => None,
+    };
+    let put = match (guess.put, op) {
+        (Some(put), Op::Got { version, .. }) if entries.put_version(put) == Some(*version) => {
+            Some(put)
+        }
+        _ => None,
+    };
+    Guess { key, put }
+}
+
+/// Spreads keys over places, by their first and their last bytes.
+fn spread(key: &Key) -> usize {
+    let bytes = key.as_bytes();
+    let word = if let (Some(first), Some(last)) = (
+        bytes.first_chunk::<8>(),
+        bytes.last_chunk::<8>(),
+    ) {
+        u64::from_le_bytes(*first) ^ u64::from_le_bytes(*last).rotate_left(32)
+    } else if let (Some(first), Some(last)) = (bytes.first_chunk::<4>(), bytes.last_chunk::<4>()) {
+        u64::from(u32::from_le_bytes(*first)) << 32 | u64::from(u32::from_le_bytes(*last))
+    } else {
+        short_word(bytes)
+    };
+    (word.wrapping_mul(SPREAD) >> 32) as usize
+}
+
+/// The bytes of a short key.
+fn short_word(bytes: &[u8]) -> u64 {
+    let mut word = 0u64;
+    for byte in bytes {
+        word = word << 8 | u64::from(*byte);
+    }
+    word
+}
+
+/// The place of a version. The places of a node's puts follow one another, and those of different nodes lie apart.
+fn place(version: Version) -> usize {
+    version.clock() as usize + usize::from(version.node()) * NODE_STEP
+}

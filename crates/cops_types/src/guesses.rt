@@ -1,0 +1,56 @@
+use std::alloc::Global;
+
+/// The fewest places that a table has, once it has any.
+const FEWEST: usize = 16;
+
+/// The most places that a table has.
+const MOST: usize = 262_144;
+
+/// A table of guesses: each stands at the place that the low bits of a number name, where a later one takes the place of an
+/// earlier one. Whoever asks looks whether what was guessed is so.
+#[derive(Debug, Drop)]
+pub(crate) struct Guesses<T: Copy> {
+    places: Vec<T>,
+}
+
+impl<T: Copy> Guesses<T> {
+    /// A table with no place. It takes no memory.
+    pub(crate) fn new(alloc: Global) -> Self {
+        Guesses {
+            places: Vec::new(alloc),
+        }
+    }
+
+    /// Lets the table have more places than so many, up to 262,144, of which those that are new guess nothing. Where memory is
+    /// refused it stays as it is.
+    pub(crate) fn grow(&mut self, count: usize, nothing: T) {
+        let len = self.places.len();
+        let more = len.max(FEWEST);
+        if len > count || len >= MOST || self.places.reserve(more).is_err() {
+            return;
+        }
+        for i in 0..more {
+            // Each guess stands in both halves, so that it is found as before.
+            let guess = self.places.get(i).copied().unwrap_or(nothing);
+            let _pushed = self.places.push(guess);
+        }
+    }
+
+    /// Keeps a guess, where the table has a place.
+    pub(crate) fn note(&mut self, number: usize, guess: T) {
+        let place = self.place(number);
+        if let Some(kept) = self.places.get_mut(place) {
+            *kept = guess;
+        }
+    }
+
+    /// What is guessed, where the table has a place.
+    pub(crate) fn find(&self, number: usize) -> Option<T> {
+        self.places.get(self.place(number)).copied()
+    }
+
+    /// The place that a number's low bits name: the number of places is a power of two.
+    fn place(&self, number: usize) -> usize {
+        number & self.places.len().wrapping_sub(1)
+    }
+}
