@@ -66,13 +66,13 @@ get_or-default (x ∷ xs) (suc i) d e inside = get_or-default xs i d e (omega (a
 pub item_at : {A : Type 0} (xs : List A) (i : ℕ) (x d : A) → i < length xs → x ≡ get_or xs i x → get_or xs i d ≡ x
 item_at xs i x d inside at = get_or-default xs i d x inside ∙ sym at
 
--- the names so far come before the next one
-pub earlier_names : (names : List OpName) (i : ℕ) (d : OpName) → AllPairs IsBefore names → i < length names → (m : OpName) → Contains (take i names) m → IsBefore m (get_or names i d)
-earlier_names names i d in_order inside m at =
-    let short : length (take i names) ≤ i = omega (arith, length-take i names) in
-    let same : get_or names at.0 m ≡ m = sym (get_or-take i names at.0 m (omega (arith, at.1, short))) ∙ at.2 in
-    let same_d : get_or names i m ≡ get_or names i d = get_or-default names i m d inside in
-    subst (λ x. IsBefore x (get_or names i d)) same (subst (λ x. IsBefore (get_or names at.0 m) x) same_d (in_order at.0 i m (omega (arith, at.1, short)) inside))
+-- the elements so far come before the next one
+pub earlier : {A : Type 0} (Before : A → A → Type 0) (xs : List A) (i : ℕ) (d : A) → AllPairs Before xs → i < length xs → (m : A) → Contains (take i xs) m → Before m (get_or xs i d)
+earlier Before xs i d in_order inside m at =
+    let short : length (take i xs) ≤ i = omega (arith, length-take i xs) in
+    let same : get_or xs at.0 m ≡ m = sym (get_or-take i xs at.0 m (omega (arith, at.1, short))) ∙ at.2 in
+    let same_d : get_or xs i m ≡ get_or xs i d = get_or-default xs i m d inside in
+    subst (λ x. Before x (get_or xs i d)) same (subst (λ x. Before (get_or xs at.0 m) x) same_d (in_order at.0 i m (omega (arith, at.1, short)) inside))
 
 -- the list so far with the next name
 module _ {A : Type 0} (name_of : A → OpName) (IsFault : A → Type 0) (names : List OpName) (in_order : AllPairs IsBefore names) (i : ℕ) (inside : i < length names) where
@@ -88,7 +88,7 @@ module _ {A : Type 0} (name_of : A → OpName) (IsFault : A → Type 0) (names :
   push_next faults d y same lists fault one =
       subst (λ ns. ListsAmong name_of IsFault ns (faults ++ y ∷ [])) (ap (λ m. take i names ++ m ∷ []) same ∙ sym (take_more names i d inside))
       (among_push name_of IsFault (take i names) faults y lists fault one
-      (λ m there. subst (IsBefore m) (sym same) (earlier_names names i d in_order inside m there)))
+      (λ m there. subst (IsBefore m) (sym same) (earlier IsBefore names i d in_order inside m there)))
 
 -- the list so far, at the end
 pub among_here : {A : Type 0} (name_of : A → OpName) (IsFault : A → Type 0) (names : List OpName) (i : ℕ) (faults : List A)

@@ -9,7 +9,7 @@ use Rattle.cops_types.specs.Faults.{IsBefore, IsNewer}
 use Rattle.cops_audit.specs.declared.table.VersionedPut.{VersionedPut}
 use Rattle.cops_audit.specs.declared.window.Suspect.{Suspect}
 use Rattle.cops_audit.specs.Windows.{AreSuspects, IsSuspect}
-use Rattle.cops_audit.proofs.Collect.{earlier_names}
+use Rattle.cops_audit.proofs.Collect.{earlier}
 
 module _ (h : Sessions) (table : List VersionedPut) where
   skipped : (names : List OpName) (n : OpName) (suspects : List Suspect) → AreSuspects h table names suspects → ((newer : OpName) (version : ℕ) → ¬ IsNewer h n newer version) → AreSuspects h table (names ++ n ∷ []) suspects
@@ -45,7 +45,7 @@ module _ (h : Sessions) (table : List VersionedPut) where
     pub push_suspect : (y : Suspect) → y.op ≡ get_or names i d → IsSuspect h table y → AreSuspects h table (take (i + 1) names) (suspects ++ y ∷ [])
     push_suspect y same is =
         subst (λ ns. AreSuspects h table ns (suspects ++ y ∷ [])) (sym (take_more names i d inside))
-        (pushed (take i names) (get_or names i d) suspects y are same is (λ m there. earlier_names names i d in_order inside m there))
+        (pushed (take i names) (get_or names i d) suspects y are same is (λ m there. earlier IsBefore names i d in_order inside m there))
 
 pub all_gathered : (h : Sessions) (table : List VersionedPut) (names : List OpName) (i : ℕ) (suspects : List Suspect) → length names ≤ i → AreSuspects h table (take i names) suspects → AreSuspects h table names suspects
 all_gathered h table names i suspects enough are = subst (λ ns. AreSuspects h table ns suspects) (take_all i names enough) are

@@ -6,6 +6,7 @@ pub mod PastOrder
 pub mod Exact
 pub mod Listing
 pub mod Collect
+pub mod Filtering
 pub mod Ranges
 pub mod Sorting
 pub mod Emptiness

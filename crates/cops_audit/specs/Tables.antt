@@ -2,6 +2,7 @@
 use Rattle.std.specs.Prelude.{◌≢◌, ◌<◌, ◌≤◌, ◌+◌, ◌↔◌, ℕ, List, length, slice_index_or, Contains, AllPairs}
 use Rattle.cops_types.specs.declared.limits.TheConstants.{MAX_OPS}
 use Rattle.cops_types.specs.Histories.{Sessions, PutsVersion}
+use Rattle.cops_types.specs.VersionOrder.{IsDoubled}
 use Rattle.cops_audit.specs.declared.table.VersionedPut.{VersionedPut}
 
 -- in order of versions, where one may stand twice
@@ -27,3 +28,8 @@ pub record IsPutTable (h : Sessions) (puts : List VersionedPut) : Type 0 where
 pub record IsVersionTable (h : Sessions) (puts : List VersionedPut) : Type 0 where
   pub table : IsPutTable h puts
   pub rising : Rises puts
+
+-- exactly the puts whose versions other puts bear, in order of versions
+pub record AreDoubledPuts (h : Sessions) (puts : List VersionedPut) : Type 0 where
+  pub members : (p : VersionedPut) → Contains puts p ↔ (PutsVersion h p.name p.version × IsDoubled h p.name)
+  pub in_order : VersionsNeverFall puts

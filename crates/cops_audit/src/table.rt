@@ -1,12 +1,12 @@
 ghost use Rattle.cops_types.specs.declared.limits.TheConstants.{MAX_OPS};
 ghost use Rattle.std.specs.Prelude.{◌≡◌, ◌≢◌, ◌⊎◌, ◌<◌, ◌≤◌, ◌+◌, ◌↔◌, ℕ, IfOk, IfSome, IfNone, IsOk, IsTrue, OnOk, [], length, map, AllPairs, vec_len, vec_capacity, slice_index_or};
 ghost use Rattle.cops_types.specs.declared.op.OpName.{OpName};
-ghost use Rattle.cops_types.specs.Histories.{IsNamed, PutsVersion};
+ghost use Rattle.cops_types.specs.Histories.{IsNamed, PutsVersion, Sessions};
 ghost use Rattle.cops_types.specs.Faults.{IsBefore, Lists};
 ghost use Rattle.cops_types.specs.VersionOrder.{IsDoubled};
 ghost use Rattle.cops_audit.specs.Names.{ListsAmong};
 ghost use Rattle.cops_audit.specs.declared.table.VersionedPut.{VersionedPut};
-ghost use Rattle.cops_audit.specs.Tables.{IsPutTable, Repeats, Rises, VersionsNeverFall};
+ghost use Rattle.cops_audit.specs.Tables.{AreDoubledPuts, IsPutTable, Repeats, Rises, VersionsNeverFall};
 
 use cops_types::{History, OpName, Version};
 use std::alloc::{AllocError, Global};
@@ -137,18 +137,32 @@ fn has_equal_neighbour(table: &[VersionedPut], place: usize) -> bool
     false
 }
 
+/// The puts whose versions other puts bear, in order of versions: those that stand next to one of their version.
+fn doubled_puts(alloc: Global, table: &[VersionedPut]) -> Result<Vec<VersionedPut>, AllocError>
+    requires { (h : Sessions) × IsPutTable h table.now }
+    ensures { (h : Sessions) → IsPutTable h table.now → IfOk result (λ v. AreDoubledPuts h v.items) }
+{
+    let mut puts = Vec::new(alloc);
+    for place in 0..table.len() {
+        if has_equal_neighbour(table, place) {
+            puts.push(table[place])?;
+        }
+    }
+    Ok(puts)
+}
+
 /// Whether another put bears the put's version.
-fn is_doubled(history: &History, table: &[VersionedPut], name: OpName) -> bool
-    requires { IsPutTable history.now.sessions table.now }
+fn is_doubled(history: &History, puts: &[VersionedPut], name: OpName) -> bool
+    requires { AreDoubledPuts history.now.sessions puts.now }
     ensures { IsTrue result ↔ IsDoubled history.now.sessions name }
 {
     let Some(version) = history.put_version(name) else {
         return false;
     };
-    let Some(place) = place_of(table, version) else {
-        return false;
-    };
-    has_equal_neighbour(table, place)
+    match place_of(puts, version) {
+        Some(_) => true,
+        None => false,
+    }
 }
 
 /// The puts among these names whose versions other puts bear.
@@ -162,9 +176,11 @@ pub fn doubled(
     requires table { IsPutTable history.now.sessions table.now }
     ensures { IfOk result (λ v. ListsAmong (λ n. n) (IsDoubled history.now.sessions) names.now v.items) }
 {
+    let doubled = doubled_puts(alloc, table)?;
+    let puts = doubled.as_slice();
     let mut faults = Vec::new(alloc);
     for name in names {
-        if is_doubled(history, table, *name) {
+        if is_doubled(history, puts, *name) {
             faults.push(*name)?;
         }
     }

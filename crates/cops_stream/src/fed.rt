@@ -5,7 +5,7 @@ use cops_audit::Online;
 use cops_trace::Sink;
 use cops_types::{Memory, Op};
 use std::alloc::Global;
-use std::mem;
+use std::collections::VecDeque;
 
 /// How many operations are fed at a time.
 const TOGETHER: usize = 64;
@@ -14,9 +14,8 @@ const TOGETHER: usize = 64;
 /// memory while others are looked at.
 #[derive(Drop)]
 pub(crate) struct Fed {
-    alloc: Global,
     online: Online,
-    waiting: Vec<(u16, Op)>,
+    waiting: VecDeque<(u16, Op)>,
 }
 
 impl Fed {
@@ -39,10 +38,9 @@ impl Fed {
         ensures fed { OnOk result (self.new.online ≡ with_ops self.old.online self.old.waiting.items) }
         ensures empty { OnOk result (self.new.waiting.items ≡ []) }
     {
-        let empty = Vec::with_capacity(self.alloc, TOGETHER)?;
-        let waiting = mem::replace(&mut self.waiting, empty);
-        self.online.foresee(&waiting);
-        for (client, op) in waiting {
+        let (first, _) = self.waiting.as_slices();
+        self.online.foresee(first);
+        while let Some((client, op)) = self.waiting.pop_front() {
             match self.online.feed(client, op) {
                 Ok(()) => {}
                 // An auditor takes as many operations as a trace has, so that memory alone is refused, though not proved so.
@@ -60,14 +58,13 @@ impl Sink for Fed {
 
     fn begin(alloc: Global, clients: u16) -> Result<Fed, Memory> {
         Ok(Fed {
-            alloc,
             online: Online::new(alloc, clients)?,
-            waiting: Vec::with_capacity(alloc, TOGETHER)?,
+            waiting: VecDeque::with_capacity(alloc, TOGETHER)?,
         })
     }
 
     fn take(&mut self, client: u16, op: Op) -> Result<(), Memory> {
-        self.waiting.push((client, op))?;
+        self.waiting.push_back((client, op))?;
         if self.waiting.len() < TOGETHER {
             return Ok(());
         }

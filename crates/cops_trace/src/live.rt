@@ -86,12 +86,12 @@ impl<W: Write> LiveTrace<W> {
     }
 
     /// Writes the next record, whose client may have one more. Where it is not written, the writer comes back.
-    pub fn add(self, record: &Record) -> Result<Self, Unwritten<W>>
+    pub fn add(self, next: &Record) -> Result<Self, Unwritten<W>>
         requires live { IsLive W.contents self }
-        requires turn { HasTurn self.writer.counts record.now.client }
+        requires turn { HasTurn self.writer.counts next.now.client }
         ensures begun { IfOk result (λ l. l.begun ≡ self.begun) }
         ensures live { IfOk result (IsLive W.contents) }
-        ensures gains { IfOk result (Gains (record.now ∷ []) self) }
+        ensures gains { IfOk result (Gains (next.now ∷ []) self) }
         ensures err { IfErr result (λ u. IsCutBy u.fault (W.contents (inner self.begun.value)) (W.contents (inner u.writer))) }
         ensures heard { IfErr result (λ u. IsHeardBy u.fault (failures self.begun.value) (failures u.writer)) }
     {
@@ -100,8 +100,8 @@ impl<W: Write> LiveTrace<W> {
             text,
             begun,
         } = self;
-        legal(&record.op.as_ref());
-        match writer.op(record.client, &record.op) {
+        legal(&next.op.as_ref());
+        match writer.op(next.client, &next.op) {
             Ok(()) => LiveTrace::kept(writer, text, begun),
             Err(fault) => Err(writer.give_up(fault)),
         }

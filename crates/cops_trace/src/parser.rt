@@ -107,14 +107,22 @@ fn take<S: Sink>(alloc: Global, begun: &mut Option<S>, item: Item) -> Result<(),
     ensures { (t : Option ATrace) → IsTakenAs S.took begun.old t → OnOk result (IsTakenAs S.took begun.new (with_item item t)) }
 {
     match item {
-        Item::Head { clients } => {
-            let sink = S::begin(alloc, clients)?;
-            drop(begun.replace(sink));
-            Ok(())
-        }
+        Item::Head { clients } => begin(alloc, begun, clients),
         Item::Op { client, op } => push(begun, client, op),
         Item::End => Ok(()),
     }
+}
+
+/// Begins a sink. It is kept apart from what each record takes, since the room for a sink is made, and cleared, wherever one may be begun.
+#[cold]
+#[inline(never)]
+fn begin<S: Sink>(alloc: Global, begun: &mut Option<S>, clients: u16) -> Result<(), Memory>
+    requires { (t : Option ATrace) × IsTakenAs S.took begun.old t × ItemHasRoom (Item.Head clients) t }
+    ensures { (t : Option ATrace) → IsTakenAs S.took begun.old t → OnOk result (IsTakenAs S.took begun.new (with_item (Item.Head clients) t)) }
+{
+    let sink = S::begin(alloc, clients)?;
+    drop(begun.replace(sink));
+    Ok(())
 }
 
 /// Gives a record to the sink that was begun.

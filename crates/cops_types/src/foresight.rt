@@ -21,6 +21,12 @@ const NO_PUT: OpName = OpName {
 /// What a place has that guesses no key: there are fewer.
 const NO_KEY: u32 = u32::MAX;
 
+/// After how many operations the tables may grow.
+const GROWN_AFTER: usize = 32;
+
+/// So many keys, with what they are found by, lie in a processor's caches: what is needed for operations on fewer is at hand.
+const FEW_KEYS: usize = 8_192;
+
 /// What is guessed of an operation: the number of its key, and which put it returned.
 #[derive(Clone, Copy, Debug)]
 pub(crate) struct Guess {
@@ -51,16 +57,27 @@ impl Foresight {
         }
     }
 
-    /// Makes room for guesses of so many keys and operations, as far as there is memory.
+    /// Makes room for guesses of so many keys and operations, as far as there is memory, and now and then.
     pub(crate) fn grow(&mut self, keys: usize, ops: usize) {
-        self.keys.grow(keys.saturating_mul(2), NO_KEY);
-        self.puts.grow(ops, NO_PUT);
+        if ops % GROWN_AFTER == 0 {
+            self.keys.grow(keys.saturating_mul(8), NO_KEY);
+            self.puts.grow(ops, NO_PUT);
+        }
     }
 
-    /// Guesses what is needed for operations that come.
+    /// Forgets all guesses, and gives their memory back.
+    pub(crate) fn forget(&mut self) {
+        self.keys.forget();
+        self.puts.forget();
+    }
+
+    /// Guesses what is needed for operations that come, and fetches it, unless it is at hand anyway.
     pub(crate) fn foresee(&mut self, keys: &KeySet, entries: &Entries, ops: &[(u16, Op)]) {
         self.coming.clear();
         self.come = 0;
+        if keys.len() < FEW_KEYS {
+            return;
+        }
         for coming in ops {
             let guess = self.guess(&coming.1);
             if self.coming.push(guess).is_err() {
@@ -78,11 +95,11 @@ impl Foresight {
     fn guess(&self, op: &Op) -> Guess {
         match op {
             Op::Put { key, .. } | Op::Missed { key } => Guess {
-                key: self.keys.find(spread(key)),
+                key: self.number_of(key),
                 put: None,
             },
             Op::Got { key, version, .. } => Guess {
-                key: self.keys.find(spread(key)),
+                key: self.number_of(key),
                 put: self.put_of(*version),
             },
         }
@@ -96,6 +113,11 @@ impl Foresight {
             key: None,
             put: None,
         })
+    }
+
+    /// The number that the key may have.
+    pub(crate) fn number_of(&self, key: &Key) -> Option<u32> {
+        self.keys.find(spread(key))
     }
 
     /// Keeps the number of a key.
@@ -114,11 +136,11 @@ impl Foresight {
     }
 }
 
-/// The guess, without what is wrong of it.
+/// The guess, without what is seen to be wrong of it.
 fn right(guess: Guess, keys: &KeySet, entries: &Entries, op: &Op) -> Guess {
     let key = match (guess.key, op) {
         (Some(number), Op::Put { key, .. } | Op::Got { key, .. } | Op::Missed { key })
-            if keys.is_at(number, key) => { Some(number) }
+            if keys.may_be_at(number, key) => { Some(number) }
         _ => None,
     };
     let put = match (guess.put, op) {

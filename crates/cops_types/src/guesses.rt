@@ -36,6 +36,11 @@ impl<T: Copy> Guesses<T> {
         }
     }
 
+    /// Lets go of all guesses and places.
+    pub(crate) fn forget(&mut self) {
+        self.places = Vec::new(*self.places.allocator());
+    }
+
     /// Keeps a guess, where the table has a place.
     pub(crate) fn note(&mut self, number: usize, guess: T) {
         let place = self.place(number);

@@ -113,6 +113,13 @@ impl History {
         self.foresight.foresee(&self.keys, &self.entries, ops);
     }
 
+    /// Lets go of guesses that only find sooner what operations that come need. Nothing that is said of the history changes.
+    pub fn forget_guesses(&mut self)
+        ensures { self.new ≡ self.old }
+    {
+        self.foresight.forget();
+    }
+
     /// Whether the client may have one more operation.
     fn admit(&self, client: u16) -> Result<(), TypeFault>
         ensures ok { OnOk result (client < length self.now.sessions
@@ -142,6 +149,17 @@ impl History {
         if self.reserved[client as usize] {
             return Ok(());
         }
+        self.hold_anew(client)
+    }
+
+    /// The same where none is held.
+    fn hold_anew(&mut self, client: u16) -> Result<(), Memory>
+        requires inside { client < length self.old.sessions }
+        requires none { slice_index_or self.old.room client false ≡ false }
+        ensures same { self.new.sessions ≡ self.old.sessions }
+        ensures room { OnOk result (HasRoom self.new client) }
+        ensures others { (c : ℕ) → HasRoom self.old c → HasRoom self.new c }
+    {
         self.entries.reserve(client)?;
         self.keys.reserve(self.reservations + 1)?;
         self.foresight.grow(self.keys.len(), self.len);
@@ -346,8 +364,9 @@ fn number_of(keys: &mut KeySet, foresight: &mut Foresight, key: Key, guess: Gues
     ensures found { slice_get keys.new.keys result ≡ Some key }
     ensures gains { GainsKey keys.old keys.new }
 {
-    let number = keys.number(key, guess.key);
-    if guess.key != Some(number) {
+    let guess = guess.key.or(foresight.number_of(&key));
+    let number = keys.number(key, guess);
+    if guess != Some(number) {
         foresight.note_key(keys.key(number), number);
     }
     number

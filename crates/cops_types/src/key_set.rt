@@ -58,8 +58,16 @@ impl KeySet {
         Ok(())
     }
 
+    /// Whether the key of that number is there and as long as this one, which a look at its length tells.
+    pub(crate) fn may_be_at(&self, number: u32, key: &Key) -> bool {
+        match self.keys.as_slice().get(number as usize) {
+            Some(there) => there.as_bytes().len() == key.as_bytes().len(),
+            None => false,
+        }
+    }
+
     /// Whether the key of that number is there and is this one.
-    pub(crate) fn is_at(&self, number: u32, key: &Key) -> bool
+    fn is_at(&self, number: u32, key: &Key) -> bool
         ensures { IsTrue result ↔ (slice_get self.now.keys number ≡ Some key.now) }
     {
         match self.keys.as_slice().get(number as usize) {

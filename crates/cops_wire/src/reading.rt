@@ -272,29 +272,46 @@ impl<'a> Rest<'a> {
         ensures contents { GivesContents (grammar self.old.format) kind self.old.bytes.now result self.new.bytes.now }
         ensures kind { IfOk result (λ m. kind_of m ≡ kind) }
     {
-        if kind < 3 {
-            self.greeting_message(kind)
-        } else if kind < 5 {
-            self.asking_message(kind)
-        } else if kind < 7 {
-            self.found_message(kind)
-        } else if kind < 9 {
-            self.refused_message(kind)
-        } else if kind < 10 {
-            self.put_after_message(kind)
-        } else if kind < 13 {
-            self.checking_message(kind)
-        } else if kind < 17 {
-            self.session_message(kind)
-        } else if kind < 18 {
-            self.trace_head_message(kind)
-        } else if kind < 19 {
-            self.trace_put_message(kind)
-        } else if kind < 20 {
-            self.trace_got_message(kind)
-        } else {
-            self.trace_end_message(kind)
+        if kind < 17 {
+            return self.cluster_message(kind);
         }
+        if kind < 18 {
+            return self.trace_head_message(kind);
+        }
+        if kind < 19 {
+            return self.trace_put_message(kind);
+        }
+        if kind < 20 {
+            return self.trace_got_message(kind);
+        }
+        self.trace_end_message(kind)
+    }
+
+    /// The same for what is sent, and not for what a trace holds.
+    fn cluster_message(&mut self, kind: u8) -> Result<Message, ReadFault>
+        requires { kind < 17 }
+        ensures contents { GivesContents (grammar self.old.format) kind self.old.bytes.now result self.new.bytes.now }
+        ensures kind { IfOk result (λ m. kind_of m ≡ kind) }
+    {
+        if kind < 3 {
+            return self.greeting_message(kind);
+        }
+        if kind < 5 {
+            return self.asking_message(kind);
+        }
+        if kind < 7 {
+            return self.found_message(kind);
+        }
+        if kind < 9 {
+            return self.refused_message(kind);
+        }
+        if kind < 10 {
+            return self.put_after_message(kind);
+        }
+        if kind < 13 {
+            return self.checking_message(kind);
+        }
+        self.session_message(kind)
     }
 
     fn greeting_message(&mut self, kind: u8) -> Result<Message, ReadFault>

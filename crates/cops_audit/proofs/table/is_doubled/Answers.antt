@@ -1,24 +1,43 @@
-use Rattle.std.proofs.Common.{ap}
+use Rattle.std.proofs.Common.{◌≡◌, ℕ, inl, inr, refl, ap, subst, get_or}
+use Rattle.std.proofs.lemmas.List.Elements.{Contains-get_or}
+use Rattle.cops_types.specs.declared.op.OpName.{OpName}
+use Rattle.cops_types.specs.Histories.{Sessions, PutsVersion}
+use Rattle.cops_types.specs.VersionOrder.{IsDoubled}
 use Rattle.cops_audit.specs.declared.table.VersionedPut.{VersionedPut}
-use Rattle.cops_audit.proofs.Places.{place_of_put, doubled_by_neighbour, neighbour_of_doubled}
+use Rattle.cops_audit.proofs.Differing.{name_cases}
 use Rattle.cops_audit.proofs.table.is_doubled.Goals as goal
 
 pub returns-in_default : goal.returns-in_default
 returns-in_default c = (λ e. absurd cc, λ d. absurd (c.in_default.ensures.none d.version d.put))
 
-pub returns-in_default-place_of : goal.returns-in_default-place_of
-returns-in_default-place_of c =
-    let at = place_of_put c.args.history.now.sessions c.args.table.now c.requires c.args.name c.in-Some.version c.in-Some.ensures.put in
-    let d : VersionedPut = record { version = c.in-Some.version; name = c.args.name } in
-    absurd (c.in_default-place_of.ensures.none at.0 d at.1 (ap (λ (q : VersionedPut). q.version) (at.2 d)))
+-- a put of the version of one that is doubled
+also_doubled : (h : Sessions) (p : VersionedPut) (name : OpName) (v : ℕ) → p.version ≡ v → PutsVersion h p.name p.version → IsDoubled h p.name → PutsVersion h name v → IsDoubled h name
+also_doubled h p name v same there f put = elim (name_cases p.name name) [
+  | inl is ↦ subst (IsDoubled h) is f
+  | inr differs ↦ record {
+    version = v;
+    put = put;
+    other = p.name;
+    other_put = subst (PutsVersion h p.name) same there;
+    differs = differs;
+  }
+]
 
-pub returns : goal.returns
-returns c =
-    let h = c.args.history.now.sessions in
-    let v = c.in-Some.version in
-    let place = c.in-Some-place_of.place in (
-      λ yes'.
-          let w = c.has_equal_neighbour.ensures.0 yes' in
-          doubled_by_neighbour h c.args.table.now c.requires c.args.name v c.in-Some.ensures.put w.0 place w.1 c.in-Some-place_of.ensures.inside w.2 c.in-Some-place_of.ensures.found w.3,
-      λ f. c.has_equal_neighbour.ensures.1 (neighbour_of_doubled h c.args.table.now c.requires c.args.name v place c.in-Some-place_of.ensures.inside c.in-Some-place_of.ensures.found c.in-Some.ensures.put f),
+pub returns-in-Some-place_of : goal.returns-in-Some-place_of
+returns-in-Some-place_of c =
+    let d : VersionedPut = record { version = c.in-Some.version; name = c.args.name } in
+    let at = c.in-Some-place_of.field-0 in
+    let p = get_or c.args.puts.now at d in
+    let known = (c.requires.members p).0 (Contains-get_or c.args.puts.now at d c.in-Some-place_of.ensures.inside) in
+    (
+      (λ _. also_doubled c.args.history.now.sessions p c.args.name c.in-Some.version (c.in-Some-place_of.ensures.found d) known.0 known.1 c.in-Some.ensures.put),
+      (λ _. refl),
     )
+
+pub returns-in-None : goal.returns-in-None
+returns-in-None c = (
+  (λ e. absurd cc),
+  (λ f. let d : VersionedPut = record { version = c.in-Some.version; name = c.args.name } in
+  let at = (c.requires.members d).1 (c.in-Some.ensures.put, f) in
+  absurd (c.in-None.ensures.none at.0 d at.1 (ap (λ (q : VersionedPut). q.version) at.2))),
+)

@@ -15,6 +15,6 @@ returns-in-Err-clause-err g c =
 
 pub returns-in-Ok-clause-gains : goal.returns-in-Ok-clause-gains
 returns-in-Ok-clause-gains g c =
-    IfOk-weaker c.kept.result _ (Gains (c.args.record.now ∷ []) c.args.self)
-    (λ l h. add_gains c.args.self l c.args.record.now c.requires.turn (ap (λ w. w.counts) h.0 ∙ c.in-Ok.ensures.counts) (h.1 ∙ ap (λ f. c.args.self.text.items ++ f) c.in-Ok.ensures.frame))
+    IfOk-weaker c.kept.result _ (Gains (c.args.next.now ∷ []) c.args.self)
+    (λ l h. add_gains c.args.self l c.args.next.now c.requires.turn (ap (λ w. w.counts) h.0 ∙ c.in-Ok.ensures.counts) (h.1 ∙ ap (λ f. c.args.self.text.items ++ f) c.in-Ok.ensures.frame))
     c.kept.ensures.kept

@@ -2,7 +2,7 @@ use Rattle.std.proofs.Common.{◌<◌, length, map, refl, sym, arith}
 use Rattle.std.proofs.lemmas.List.{length-map}
 use Rattle.cops_types.specs.Entries.{told}
 use Rattle.cops_types.proofs.Holding.{flags-le, room_kept, flag_kept}
-use Rattle.cops_types.proofs.history.History.hold.Goals as goal
+use Rattle.cops_types.proofs.history.History.hold_anew.Goals as goal
 
 pub invariant_of-self : goal.invariant_of-self
 invariant_of-self c =
@@ -27,8 +27,8 @@ overflow_add-self c =
 pub invariant_of-self-2 : goal.invariant_of-self-2
 invariant_of-self-2 c =
     let all = c.self.inside.entries.all in
-    let inside : c.args.client < length all = omega (arith, rw (← c.self.view_is) at c.requires, length-map all (map (told c.self.inside.keys.keys all))) in
-    let was = sym (rw c.if-index.false at c.index.ensures) in
+    let inside : c.args.client < length all = omega (arith, rw (← c.self.view_is) at c.requires.inside, length-map all (map (told c.self.inside.keys.keys all))) in
+    let was = rw (← c.self.view_is) at c.requires.none in
     flag_kept c.self.inside.keys c.reserve-2.new.self c.self.inside.entries c.reserve.new.self c.self.inside.reserved.items c.self.inside.reservations c.self.inside.len
     c.in_ok-reserve-2.ensures.same c.in_ok-reserve-2.ensures.kept c.in_ok-reserve.ensures.same c.in_ok-reserve.ensures.others c.self.invariant
     c.args.client inside was c.in_ok-reserve.ensures.room c.in_ok-reserve-2.ensures.ok
