@@ -20,14 +20,14 @@ loop-place-preserved c = λ h t.
           let near = c.has_equal_neighbour.ensures.0 w.if-has_equal_neighbour.true in
           let is : get_or table i x ≡ x = item_at table i x x inside w.index-table-place.is in
           let doubled = doubled_by_neighbour h table t (get_or table i x).name (get_or table i x).version (put_at h table t i x inside) near.0 i near.1 inside near.2
-              (λ e. ap (λ (p : VersionedPut). p.version) (get_or-default table i e x inside)) near.3 in
+          (λ e. ap (λ (p : VersionedPut). p.version) (get_or-default table i e x inside)) near.3 in
           subst (λ (y : VersionedPut). HasThose (λ p. IsDoubled h p.name) (λ p q. p.version ≤ q.version) (take (i + 1) table) (out ++ y ∷ [])) is
           (those_push (λ p. IsDoubled h p.name) (λ p q. p.version ≤ q.version) table t.in_order i inside out x those doubled))
       | else-has_equal_neighbour w ↦ rw w.puts-is
           (let d : VersionedPut = record { version = 0; name = record { client = 0; index = 0 } } in
           those_skip (λ p. IsDoubled h p.name) (λ p q. p.version ≤ q.version) table t.in_order i inside out d those
           (λ f. let near = neighbour_of_doubled h table t (get_or table i d).name (get_or table i d).version i inside
-              (λ e. ap (λ (p : VersionedPut). p.version) (get_or-default table i e d inside)) (put_at h table t i d inside) f in
+          (λ e. ap (λ (p : VersionedPut). p.version) (get_or-default table i e d inside)) (put_at h table t i d inside) f in
           let is = c.has_equal_neighbour.ensures.1 near in cc))
     ]
 

@@ -28,8 +28,7 @@ returns-in-Some-place_of c =
     let d : VersionedPut = record { version = c.in-Some.version; name = c.args.name } in
     let at = c.in-Some-place_of.field-0 in
     let p = get_or c.args.puts.now at d in
-    let known = (c.requires.members p).0 (Contains-get_or c.args.puts.now at d c.in-Some-place_of.ensures.inside) in
-    (
+    let known = (c.requires.members p).0 (Contains-get_or c.args.puts.now at d c.in-Some-place_of.ensures.inside) in (
       (λ _. also_doubled c.args.history.now.sessions p c.args.name c.in-Some.version (c.in-Some-place_of.ensures.found d) known.0 known.1 c.in-Some.ensures.put),
       (λ _. refl),
     )
@@ -38,6 +37,6 @@ pub returns-in-None : goal.returns-in-None
 returns-in-None c = (
   (λ e. absurd cc),
   (λ f. let d : VersionedPut = record { version = c.in-Some.version; name = c.args.name } in
-  let at = (c.requires.members d).1 (c.in-Some.ensures.put, f) in
-  absurd (c.in-None.ensures.none at.0 d at.1 (ap (λ (q : VersionedPut). q.version) at.2))),
+      let at = (c.requires.members d).1 (c.in-Some.ensures.put, f) in
+      absurd (c.in-None.ensures.none at.0 d at.1 (ap (λ (q : VersionedPut). q.version) at.2))),
 )
