@@ -11,7 +11,7 @@ use crate::notes::{NoteRoom, Notes, without_source};
 use crate::rising::not_above;
 use crate::room::Room;
 use crate::stale::stale_suspects;
-use crate::table::{doubled, is_rising, put_names, set_puts};
+use crate::table::{doubled, is_rising, set_put_names, set_puts};
 use crate::verdict::{Faults, Stale, Verdict};
 use cops_types::History;
 use std::alloc::{AllocError, Global};
@@ -25,6 +25,7 @@ impl Room {
         requires above { AllAbove history.now.sessions }
         ensures stale { IfOk result (λ v. Lists (λ f. f.op) (λ f. IsStale history.now.sessions f.op f.newer) v.items) }
         ensures table { OnOk result (self.new.table ≡ self.old.table) }
+        ensures names { OnOk result (self.new.names ≡ self.old.names) }
     {
         self.suspect(history)?;
         let table = self.table.as_slice();
@@ -82,12 +83,13 @@ impl Room {
         if !stale.is_empty() {
             return Ok(Verdict::Refused(Faults::Stale(stale)));
         }
-        let puts = put_names(alloc, self.table.as_slice())?;
+        let mut puts = std::mem::replace(&mut self.names, Vec::new(alloc));
+        set_put_names(&mut puts, self.table.as_slice());
         Ok(Verdict::Accepted(puts))
     }
 
-    /// The verdict on a history. Beside the room it takes memory for the faults alone, or for the names of the puts, and while it
-    /// notes what the operations did for hints of where versions stand.
+    /// The verdict on a history. Beside the room it takes memory for the faults alone, and while it notes what the operations did
+    /// for hints of where versions stand. The names of the puts come in the room that the names of all operations took.
     pub fn judge(&mut self, alloc: Global, history: &History) -> Result<Verdict, AllocError>
         requires { Fits history.now.sessions self.old }
         ensures { IfOk result (IsVerdict history.now.sessions) }
