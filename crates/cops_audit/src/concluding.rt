@@ -28,6 +28,9 @@ impl Room {
         ensures names { OnOk result (self.new.names ≡ self.old.names) }
     {
         self.suspect(history)?;
+        // The links are let go before the sweep takes memory.
+        self.nexts = Vec::new(alloc);
+        self.by_key = Vec::new(alloc);
         let table = self.table.as_slice();
         let firsts = self.firsts.as_slice();
         let suspects = self.suspects.as_slice();
