@@ -97,14 +97,13 @@ pub record Waits (h : Sessions) (gets : List OpName) : Type 0 where
   pub waiting : Lists (λ n. n) (IsWaiting h) gets
 
 -- what is known where no class that lasts has a fault among the names, and those without a source are listed
-pub waits : {h : Sessions} {table : List VersionedPut} {notes later : List (List Note)} {names same_names gets : List OpName} → Lists (λ n. n) (IsNamed h) names → IsVersionTable h table → IsNoted h table notes
+pub waits : {h : Sessions} {table : List VersionedPut} {notes : List (List Note)} {names same_names gets : List OpName} → Lists (λ n. n) (IsNamed h) names → IsVersionTable h table → IsNoted h table notes
     → ((k : ℕ) (d : OpName) → k < length names → HasNoSource h (get_or names k d) → IsWaiting h (get_or names k d))
     → ((k : ℕ) (d : OpName) → k < length names → (earlier : OpName) → ¬ SeesNotBelow notes earlier (get_or names k d))
-    → NoneStale h → Lists (λ n. n) (IsNamed h) same_names → later ≡ notes → ListsAmong (λ n. n) (IsSourceless later) same_names gets → Waits h gets
-waits {h} {table} {notes} {later} {names} {same_names} {gets} all t noted waiting none_below stale same_all same listed =
+    → NoneStale h → Lists (λ n. n) (IsNamed h) same_names → ListsAmong (λ n. n) (IsSourceless notes) same_names gets → Waits h gets
+waits {h} {table} {notes} {names} {same_names} {gets} all t noted waiting none_below stale same_all listed =
     let sources = all_wait all waiting in
-    let still = subst (IsNoted h table) (sym same) noted in
     record {
       lasting = no_lasting_fault h (none_doubled h table t) sources (all_above all t noted sources none_below) stale;
-      waiting = waiting_listed h gets (sourceless_listed h same_names same_all table t later still gets listed) sources;
+      waiting = waiting_listed h gets (sourceless_listed h same_names same_all table t notes noted gets listed) sources;
     }

@@ -17,6 +17,7 @@ pub mod Places
 pub mod Gets
 pub mod Marks
 pub mod Noting
+pub mod Flattening
 pub mod Crossing
 pub mod Reading
 pub mod TallyLemmas

@@ -3,7 +3,7 @@ use Rattle.std.proofs.Common.{◌≡◌, ◌≢◌, ◌<◌, ◌≤◌, ◌+◌,
 use Rattle.std.proofs.Math.ListN.{length-set}
 use Rattle.std.proofs.Math.Nat.{eq-or-lt_of_le}
 use Rattle.std.proofs.lemmas.Bool.{cases_order}
-use Rattle.std.proofs.lemmas.List.{get_or-map, length-map}
+use Rattle.std.proofs.lemmas.List.{length-map}
 use Rattle.cops_types.specs.declared.op.OpName.{OpName}
 use Rattle.cops_types.specs.Histories.{Sessions, IsNamed}
 use Rattle.cops_audit.specs.declared.table.VersionedPut.{VersionedPut}
@@ -11,7 +11,7 @@ use Rattle.cops_audit.specs.declared.notes.Note.{Note}
 use Rattle.cops_audit.specs.declared.notes.Seen.{Seen}
 use Rattle.cops_audit.specs.declared.notes.Seen.TheVariants.{Put, Got, Missed, Sourceless}
 use Rattle.cops_audit.specs.Tables.{IsVersionTable}
-use Rattle.cops_audit.specs.Notes.{above, AreFrontsNoted, AreLongEnough, AreMarks, AreNoted, HasRoomFor, IsFrontNoted, IsMark, IsNoted, IsSeen, IsSessionNoted, KeepsRoom, note_at}
+use Rattle.cops_audit.specs.Notes.{above, AreFrontsNoted, AreLongEnough, AreMarks, AreNoted, IsFrontNoted, IsMark, IsNoted, IsSeen, IsSessionNoted, note_at}
 use Rattle.cops_audit.proofs.Listing.{named_client, named_index, slice_get_there}
 use Rattle.cops_audit.proofs.Places.{inside_table}
 use Rattle.cops_audit.proofs.Unique.{stands}
@@ -100,7 +100,7 @@ note_there h table notes noted name named =
     slice_get_there (slice_index_or notes name.client []) name.index (omega (arith, session.whole, named_index h name named))
 
 -- a list with one element written
-pub set_here : {A B : Type 0} (f : A → B) (d : B) (xs : List A) (k : ℕ) (x : A) → k < length xs → get_or (map f (slice_set xs k x)) k d ≡ f x
+set_here : {A B : Type 0} (f : A → B) (d : B) (xs : List A) (k : ℕ) (x : A) → k < length xs → get_or (map f (slice_set xs k x)) k d ≡ f x
 set_here f d [] k x inside = absurd (omega (arith, inside))
 set_here f d (y ∷ ys) zero x inside = refl
 set_here f d (y ∷ ys) (suc k) x inside = set_here f d ys k x (omega (arith, inside))
@@ -165,12 +165,12 @@ noted_all h table first end notes from to n = record {
   sessions = λ client less. subst (λ (c : ℕ). IsSessionNoted h table c (slice_index_or notes client [])) (let e : first + client ≡ client = omega (arith, from) in e) (n.sessions client (omega (arith, less, n.clients, from, to)));
 }
 
-get_low : {A : Type 0} (xs ys : List A) (k : ℕ) (d : A) → k < length xs → get_or (xs ++ ys) k d ≡ get_or xs k d
+pub get_low : {A : Type 0} (xs ys : List A) (k : ℕ) (d : A) → k < length xs → get_or (xs ++ ys) k d ≡ get_or xs k d
 get_low [] ys k d inside = absurd (omega (arith, inside))
 get_low (x ∷ xs) ys zero d inside = refl
 get_low (x ∷ xs) ys (suc k) d inside = get_low xs ys k d (omega (arith, inside))
 
-get_high : {A : Type 0} (xs ys : List A) (k n : ℕ) (d : A) → n ≡ length xs + k → get_or (xs ++ ys) n d ≡ get_or ys k d
+pub get_high : {A : Type 0} (xs ys : List A) (k n : ℕ) (d : A) → n ≡ length xs + k → get_or (xs ++ ys) n d ≡ get_or ys k d
 get_high [] ys k n d e = ap (λ (m : ℕ). get_or ys m d) (let s : n ≡ k = omega (arith, e) in s)
 get_high (x ∷ xs) ys k zero d e = absurd (omega (arith, e))
 get_high (x ∷ xs) ys k (suc n) d e = get_high xs ys k n d (omega (arith, e))
@@ -195,50 +195,3 @@ noted_joined h table mid low high a b = record {
         let client : mid + k ≡ c = omega (arith, le) in
         subst (IsSessionNoted h table c) (sym (get_high low high k c [] (omega (arith, le, a.clients))))
         (subst (λ (n : ℕ). IsSessionNoted h table n (get_or high k [])) client (b.sessions k (omega (arith, less, le, b.clients))))
-
--- the room of one client, no less than before
-pub keeps_set : {A : Type 0} (f : A → ℕ) (xs : List A) (k : ℕ) (old new : A) → k < length xs → old ≡ get_or xs k old → f old ≤ f new
-    → KeepsRoom (map f xs) (map f (slice_set xs k new))
-keeps_set f xs k old new inside at more = record {
-  clients = omega (arith, length-map (slice_set xs k new) f, length-set xs k new, length-map xs f);
-  each = λ c. elim (cases_order c k) [
-    | inl same ↦ subst (λ (n : ℕ). get_or (map f xs) n 0 ≤ get_or (map f (slice_set xs k new)) n 0) (sym same)
-        (omega (arith, set_here f 0 xs k new inside, get_or-map f xs k old 0 inside, ap f (sym at), more))
-    | inr other ↦
-        let differs : c ≢ k = λ e. elim other [ inl l ↦ omega (arith, l, e) | inr m ↦ omega (arith, m, e) ] in
-        omega (arith, set_other f 0 xs k c new differs)
-  ];
-}
-
--- the room of one client, enough for its list
-pub room_set : {A B : Type 0} (f : A → ℕ) (lists : List (List B)) (xs : List A) (k : ℕ) (x : A) → k < length xs → length (get_or lists k []) ≤ f x
-    → HasRoomFor lists (map f xs) → HasRoomFor lists (map f (slice_set xs k x))
-room_set f lists xs k x inside enough room = record {
-  clients = omega (arith, length-map (slice_set xs k x) f, length-set xs k x, length-map xs f, room.clients);
-  each = λ c. elim (cases_order c k) [
-    | inl same ↦ subst (λ (n : ℕ). length (get_or lists n []) ≤ get_or (map f (slice_set xs k x)) n 0) (sym same)
-        (omega (arith, set_here f 0 xs k x inside, enough))
-    | inr other ↦
-        let differs : c ≢ k = λ e. elim other [ inl l ↦ omega (arith, l, e) | inr m ↦ omega (arith, m, e) ] in
-        omega (arith, set_other f 0 xs k c x differs, room.each c)
-  ];
-}
-
--- room for what stands there
-pub room_of : {A B : Type 0} (f : A → List B) (g : A → ℕ) → ((x : A) → length (f x) ≤ g x) → (xs : List A) → HasRoomFor (map f xs) (map g xs)
-room_of {A} {B} f g enough xs = record { clients = omega (arith, length-map xs g, length-map xs f); each = here xs }
-  where
-    here : (ys : List A) (c : ℕ) → length (get_or (map f ys) c []) ≤ get_or (map g ys) c 0
-    here [] c = omega arith
-    here (y ∷ ys) zero = enough y
-    here (y ∷ ys) (suc c) = here ys c
-
--- the notes on one more session
-pub noted_to : {A : Type 0} (f : A → List Note) (h : Sessions) (table : List VersionedPut) (xs : List A) (k : ℕ) (x : A) → k < length xs
-    → IsSessionNoted h table k (f x) → ((c : ℕ) → c < k → IsSessionNoted h table c (slice_index_or (map f xs) c []))
-    → (c : ℕ) → c < k + 1 → IsSessionNoted h table c (slice_index_or (map f (slice_set xs k x)) c [])
-noted_to f h table xs k x inside noted before c less = elim (eq-or-lt_of_le (let l : c ≤ k = omega (arith, less) in l)) [
-  | inl same ↦ subst (λ (n : ℕ). IsSessionNoted h table n (get_or (map f (slice_set xs k x)) n [])) (sym same)
-      (subst (IsSessionNoted h table k) (sym (set_here f [] xs k x inside)) noted)
-  | inr lower ↦ subst (IsSessionNoted h table c) (sym (set_other f [] xs k c x (λ e. omega (arith, lower, e)))) (before c lower)
-]

@@ -1,9 +1,10 @@
 -- What each operation did, by places in the table of puts in order of versions.
-use Rattle.std.specs.Prelude.{◌≡◌, ◌<◌, ◌≤◌, ◌+◌, ◌⊎◌, ℕ, List, [], length, slice_index, slice_index_or, slice_get, Option, Some}
+use Rattle.std.specs.Prelude.{◌≡◌, ◌<◌, ◌≤◌, ◌+◌, ◌⊎◌, ℕ, List, [], length, slice_index_or, slice_get, slice_range, Option, Some}
 use Rattle.cops_types.specs.declared.op.OpName.{OpName}
 use Rattle.cops_types.specs.Histories.{Sessions, IsMissed, PutsVersion, SourceStep}
 use Rattle.cops_types.specs.Operations.{GetsVersion}
 use Rattle.cops_types.specs.Faults.{HasNoSource}
+use Rattle.cops_audit.specs.declared.flat.Span.{Span}
 use Rattle.cops_audit.specs.declared.table.VersionedPut.{VersionedPut}
 use Rattle.cops_audit.specs.declared.notes.Note.{Note}
 use Rattle.cops_audit.specs.declared.notes.Seen.{Seen}
@@ -97,12 +98,15 @@ pub record SeesNotAbove (notes : List (List Note)) (name earlier : OpName) : Typ
   pub not_below : SeesNotBelow notes earlier name
   pub first : (e : OpName) → SeesNotBelow notes e name → earlier.index ≤ e.index
 
--- of each client, room for as many as its list has
-pub record HasRoomFor {A : Type 0} (lists : List (List A)) (room : List ℕ) : Type 0 where
-  pub clients : length room ≡ length lists
-  pub each : (client : ℕ) → length (slice_index_or lists client []) ≤ slice_index room client
+-- the notes that stand from one place up to another
+abbrev pub span_of : List Note → Span → List Note
+span_of notes span = slice_range notes span.from span.to
 
--- no client's room is less
-pub record KeepsRoom (old new : List ℕ) : Type 0 where
-  pub clients : length new ≡ length old
-  pub each : (client : ℕ) → slice_index old client ≤ slice_index new client
+abbrev pub IsWithin : List Note → Span → Type 0
+IsWithin notes span = (span.from ≤ span.to) × (span.to ≤ length notes)
+
+-- notes on sessions, and for how many notes and sessions there is room
+pub record Flat : Type 0 where
+  pub sessions : List (List Note)
+  pub note_room : ℕ
+  pub session_room : ℕ

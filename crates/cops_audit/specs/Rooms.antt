@@ -1,13 +1,14 @@
 -- What a look for faults fills, with room for a history.
-use Rattle.std.specs.Prelude.{◌≡◌, ◌≤◌, ℕ, [], length, map, vec_capacity}
+use Rattle.std.specs.Prelude.{◌≡◌, ◌≤◌, ℕ, List, [], length, map, vec_capacity}
 use Rattle.cops_types.specs.Histories.{Sessions, IsNamed}
 use Rattle.cops_types.specs.Faults.{Lists}
 use Rattle.cops_types.specs.Counts.{count_of}
 use Rattle.cops_types.specs.Recorded.{IsWithinLimits}
+use Rattle.cops_audit.specs.declared.notes.Note.{Note}
 use Rattle.cops_audit.specs.declared.room.Room.{Room}
 use Rattle.cops_audit.specs.Floors.{AreFloors}
 use Rattle.cops_audit.specs.Keys.{AreFirsts}
-use Rattle.cops_audit.specs.Notes.{HasRoomFor, IsNoted}
+use Rattle.cops_audit.specs.Notes.{Flat, IsNoted}
 use Rattle.cops_audit.specs.Sweeps.{HasRoom, IsIdle}
 use Rattle.cops_audit.specs.Tables.{IsVersionTable}
 use Rattle.cops_audit.specs.Windows.{AreSuspects}
@@ -31,9 +32,8 @@ pub record IsFilled (h : Sessions) (room : Room) : Type 0 where
   pub table : IsVersionTable h room.table.items
   pub few : length room.table.items ≤ count_of h
 
--- the same room for notes and the same counts, and nothing left to look at
+-- the same counts, and nothing left to look at
 pub record IsSameButSpace (old new : Room) : Type 0 where
-  pub note_room : new.note_room ≡ old.note_room
   pub counts : new.sweep.counts ≡ old.sweep.counts
   pub empty : old.sweep.pending.items ≡ [] → new.sweep.pending.items ≡ []
 
@@ -44,22 +44,23 @@ pub record IsReady (h : Sessions) (room : Room) : Type 0 where
   pub counts : length room.sweep.counts ≡ length h
   pub empty : room.sweep.pending.items ≡ []
 
--- that, and room for the notes on all operations
-pub record Fits (h : Sessions) (room : Room) : Type 0 where
+-- that, and room for the notes on as many operations
+pub record Fits (h : Sessions) (room : Room) (flat : Flat) : Type 0 where
   pub ready : IsReady h room
-  pub notes : HasRoomFor h room.note_room
+  pub sessions : length h ≤ flat.session_room
+  pub notes : room.space ≤ flat.note_room
 
--- room for a history, with its names, its puts and the notes on its operations
-pub record IsNotedIn (h : Sessions) (room : Room) : Type 0 where
+-- room for a history, with its names and its puts, and the notes on its operations
+pub record IsNotedIn (h : Sessions) (room : Room) (sessions : List (List Note)) : Type 0 where
   pub ready : IsReady h room
   pub limits : IsWithinLimits h
   pub filled : IsFilled h room
-  pub notes : IsNoted h room.table.items room.notes
+  pub notes : IsNoted h room.table.items sessions
 
 -- the gets that may be stale are found, with what tells whether they are, and the sweep begins anew
-pub record IsSuspected (h : Sessions) (room : Room) : Type 0 where
+pub record IsSuspected (h : Sessions) (room : Room) (notes : List (List Note)) : Type 0 where
   pub suspects : AreSuspects h room.table.items room.names.items room.suspects.items
   pub firsts : AreFirsts h room.table.items room.firsts.items
   pub floors : AreFloors room.suspects.items room.floors.items
   pub idle : IsIdle (length h) (length room.table.items) room.sweep
-  pub space : HasRoom room.space (map length room.notes) room.sweep
+  pub space : HasRoom room.space (map length notes) room.sweep

@@ -8,6 +8,7 @@ ghost use Rattle.cops_audit.specs.Rooms.{Fits, IsFilled, IsNotedIn, IsReady, IsS
 ghost use Rattle.cops_audit.specs.SoFar.{HaveSourcesOrWait, IsMismatched, IsSoFar, IsWaiting};
 ghost use Rattle.cops_audit.specs.Tables.{IsVersionTable};
 
+use crate::flat::FlatNotes;
 use crate::floors::set_floors;
 use crate::keys::{link, set_firsts};
 use crate::names::set_names;
@@ -62,16 +63,16 @@ fn has_mismatched(
 impl Room {
     /// Finds the gets that may be stale, in a history where each get has its source or waits for it, and each put is above what its
     /// session saw. It takes no memory.
-    pub fn suspect(&mut self, history: &History) -> Result<(), AllocError>
-        requires noted { IsNotedIn history.now.sessions self.old }
+    pub fn suspect(&mut self, history: &History, notes: &Notes) -> Result<(), AllocError>
+        requires noted { IsNotedIn history.now.sessions self.old notes.now }
         requires sources { HaveSourcesOrWait history.now.sessions }
         requires above { AllAbove history.now.sessions }
         ensures ok { IsOk result }
-        ensures suspected { OnOk result (IsSuspected history.now.sessions self.new) }
+        ensures suspected { OnOk result (IsSuspected history.now.sessions self.new notes.now) }
         ensures ready { OnOk result (IsReady history.now.sessions self.new) }
+        ensures space { OnOk result (self.new.space ≡ self.old.space) }
         ensures names { OnOk result (self.new.names ≡ self.old.names) }
         ensures table { OnOk result (self.new.table ≡ self.old.table) }
-        ensures notes { OnOk result (self.new.notes ≡ self.old.notes) }
     {
         let table = self.table.as_slice();
         let names = self.names.as_slice();
@@ -84,7 +85,7 @@ impl Room {
             &mut self.suspects,
             history,
             table,
-            &self.notes,
+            notes,
             nexts,
             by_key,
             names,
@@ -95,23 +96,22 @@ impl Room {
     }
 
     /// Whether a get is stale in such a history.
-    fn has_stale(&mut self, history: &History) -> Result<bool, AllocError>
-        requires noted { IsNotedIn history.now.sessions self.old }
+    fn has_stale(&mut self, history: &History, notes: &Notes) -> Result<bool, AllocError>
+        requires noted { IsNotedIn history.now.sessions self.old notes.now }
         requires sources { HaveSourcesOrWait history.now.sessions }
         requires above { AllAbove history.now.sessions }
         ensures ok { IsOk result }
         ensures stale { IfOk result (λ found. IsTrue found → (name : OpName) × (newer : OpName) × IsStale history.now.sessions name newer) }
         ensures none { IfOk result (λ found. ¬ IsTrue found → NoneStale history.now.sessions) }
         ensures ready { OnOk result (IsReady history.now.sessions self.new) }
+        ensures space { OnOk result (self.new.space ≡ self.old.space) }
         ensures names { OnOk result (self.new.names ≡ self.old.names) }
-        ensures notes { OnOk result (self.new.notes ≡ self.old.notes) }
     {
-        self.suspect(history)?;
+        self.suspect(history, notes)?;
         let table = self.table.as_slice();
         let firsts = self.firsts.as_slice();
         let suspects = self.suspects.as_slice();
         let floors = self.floors.as_slice();
-        let notes = &self.notes;
         let found = has_stale(
             &mut self.sweep,
             history,
@@ -125,26 +125,26 @@ impl Room {
     }
 
     /// What is said so far of a history in which no version is borne by two puts, and whose operations are noted.
-    fn assess_notes(&mut self, history: &History) -> Result<SoFar, AllocError>
-        requires { IsNotedIn history.now.sessions self.old }
+    fn assess_notes(&mut self, history: &History, notes: &Notes) -> Result<SoFar, AllocError>
+        requires { IsNotedIn history.now.sessions self.old notes.now }
         ensures ok { IsOk result }
         ensures so_far { IfOk result (IsSoFar history.now.sessions) }
         ensures ready { OnOk result (IsReady history.now.sessions self.new) }
-        ensures notes { OnOk result (self.new.notes ≡ self.old.notes) }
+        ensures space { OnOk result (self.new.space ≡ self.old.space) }
     {
         let table = self.table.as_slice();
         let names = self.names.as_slice();
-        if has_mismatched(history, table, &self.notes, names) {
+        if has_mismatched(history, table, notes, names) {
             return Ok(SoFar::Refused);
         }
-        if has_not_above(&self.notes, names) {
+        if has_not_above(notes, names) {
             return Ok(SoFar::Refused);
         }
-        let stale = self.has_stale(history)?;
+        let stale = self.has_stale(history, notes)?;
         if stale {
             return Ok(SoFar::Refused);
         }
-        let waiting = count_sourceless(&self.notes, self.names.as_slice());
+        let waiting = count_sourceless(notes, self.names.as_slice());
         if waiting == 0 {
             return Ok(SoFar::Clean);
         }
@@ -152,34 +152,33 @@ impl Room {
     }
 
     /// What is said so far of a history in which no version is borne by two puts.
-    fn assess_gets(&mut self, history: &History) -> Result<SoFar, AllocError>
-        requires fits { Fits history.now.sessions self.old }
+    fn assess_gets(&mut self, flat: &mut FlatNotes, history: &History) -> Result<SoFar, AllocError>
+        requires fits { Fits history.now.sessions self.old flat.old }
         requires limits { IsWithinLimits history.now.sessions }
         requires filled { IsFilled history.now.sessions self.old }
         ensures ok { IsOk result }
         ensures so_far { IfOk result (IsSoFar history.now.sessions) }
-        ensures fits { OnOk result (Fits history.now.sessions self.new) }
+        ensures fits { OnOk result (Fits history.now.sessions self.new flat.new) }
     {
-        let table = self.table.as_slice();
-        self.notes.renew(&mut self.note_room, history, table);
-        let so_far = self.assess_notes(history)?;
-        self.notes.give_back(&mut self.note_room);
+        flat.renew(history, self.table.as_slice());
+        let notes = flat.look();
+        let so_far = self.assess_notes(history, &notes)?;
         Ok(so_far)
     }
 
     /// What is said so far of a history that goes on. It takes no memory.
-    pub fn assess(&mut self, history: &History) -> Result<SoFar, AllocError>
-        requires { Fits history.now.sessions self.old }
+    pub fn assess(&mut self, flat: &mut FlatNotes, history: &History) -> Result<SoFar, AllocError>
+        requires { Fits history.now.sessions self.old flat.old }
         ensures ok { IsOk result }
         ensures so_far { IfOk result (IsSoFar history.now.sessions) }
-        ensures fits { OnOk result (Fits history.now.sessions self.new) }
+        ensures fits { OnOk result (Fits history.now.sessions self.new flat.new) }
     {
         set_names(&mut self.names, history);
         set_puts(&mut self.table, history, self.names.as_slice())?;
         if !is_rising(self.table.as_slice()) {
             return Ok(SoFar::Refused);
         }
-        let so_far = self.assess_gets(history)?;
+        let so_far = self.assess_gets(flat, history)?;
         Ok(so_far)
     }
 }

@@ -5,7 +5,7 @@ ghost use Rattle.cops_audit.specs.Tables.{IsVersionTable};
 
 use crate::hints::Hints;
 use crate::links::Links;
-use crate::notes::Notes;
+use crate::notes::SessionNotes;
 use crate::table::VersionedPut;
 use cops_types::History;
 use std::alloc::{AllocError, Global};
@@ -18,7 +18,7 @@ fn notes_in_halves<R: Threads + Sync>(
     alloc: Global,
     history: &History,
     table: &[VersionedPut],
-) -> Result<Notes, AllocError>
+) -> Result<SessionNotes, AllocError>
     requires { IsVersionTable history.now.sessions table.now }
     ensures { IfOk result (λ notes. IsNoted history.now.sessions table.now notes) }
 {
@@ -27,18 +27,18 @@ fn notes_in_halves<R: Threads + Sync>(
     let mid = clients / 2;
     let (low, high) = thread::join(
         rt,
-        || -> Result<Notes, AllocError>
+        || -> Result<SessionNotes, AllocError>
             requires table { IsVersionTable history.now.sessions table.now }
             requires inside { mid ≤ length history.now.sessions }
             ensures { IfOk result (AreNoted history.entry.now.sessions table.entry.now 0 mid) }
-        { Notes::on_clients(alloc, history, table, &hints, 0, mid) },
-        || -> Result<Notes, AllocError>
+        { SessionNotes::on_clients(alloc, history, table, &hints, 0, mid) },
+        || -> Result<SessionNotes, AllocError>
             requires table { IsVersionTable history.now.sessions table.now }
             requires inside { (mid ≤ clients) × (clients ≤ length history.now.sessions) }
             ensures { IfOk result (AreNoted history.entry.now.sessions table.entry.now mid clients) }
-        { Notes::on_clients(alloc, history, table, &hints, mid, clients) },
+        { SessionNotes::on_clients(alloc, history, table, &hints, mid, clients) },
     );
-    let notes = Notes::joined(low?, high?)?;
+    let notes = SessionNotes::joined(low?, high?)?;
     Ok(notes)
 }
 
@@ -49,12 +49,12 @@ fn notes_by<R: Threads + Sync>(
     history: &History,
     table: &[VersionedPut],
     threads: u8,
-) -> Result<Notes, AllocError>
+) -> Result<SessionNotes, AllocError>
     requires { IsVersionTable history.now.sessions table.now }
     ensures { IfOk result (λ notes. IsNoted history.now.sessions table.now notes) }
 {
     if threads < 2 {
-        Notes::new(alloc, history, table)
+        SessionNotes::new(alloc, history, table)
     } else {
         notes_in_halves(rt, alloc, history, table)
     }
@@ -67,20 +67,20 @@ pub fn notes_and_links<R: Threads + Sync>(
     history: &History,
     table: &[VersionedPut],
     threads: u8,
-) -> Result<(Notes, Links), AllocError>
+) -> Result<(SessionNotes, Links), AllocError>
     requires { IsVersionTable history.now.sessions table.now }
     ensures notes { IfOk result (λ r. IsNoted history.now.sessions table.now r.0) }
     ensures links { IfOk result (λ r. AreLinks history.now table.now r.1) }
 {
     if threads < 2 {
-        let notes = Notes::new(alloc, history, table)?;
+        let notes = SessionNotes::new(alloc, history, table)?;
         let links = Links::new(alloc, history, table)?;
         return Ok((notes, links));
     }
     let others = threads - 1;
     let (notes, links) = thread::join(
         rt,
-        || -> Result<Notes, AllocError>
+        || -> Result<SessionNotes, AllocError>
             requires { IsVersionTable history.now.sessions table.now }
             ensures { IfOk result (λ notes. IsNoted history.entry.now.sessions table.entry.now notes) }
         { notes_by(rt, alloc, history, table, others) },

@@ -3,15 +3,15 @@ ghost use Rattle.cops_types.specs.Recorded.{IsWithinLimits};
 ghost use Rattle.cops_types.specs.Verdicts.{AllAbove, AllHaveSources};
 ghost use Rattle.cops_types.specs.Faults.{IsStale, Lists};
 ghost use Rattle.cops_audit.specs.Notes.{IsNoted};
-ghost use Rattle.cops_audit.specs.Rooms.{Fits, IsFilled, IsNotedIn};
+ghost use Rattle.cops_audit.specs.Rooms.{IsFilled, IsNotedIn, IsReady};
 ghost use Rattle.cops_audit.specs.Verdicts.{IsVerdict};
 
 use crate::names::set_names;
-use crate::notes::{NoteRoom, Notes, without_source};
+use crate::notes::{Notes, SessionNotes, without_source};
 use crate::rising::not_above;
 use crate::room::Room;
 use crate::stale::stale_suspects;
-use crate::table::{doubled, is_rising, put_names, set_puts};
+use crate::table::{doubled, is_rising, set_put_names, set_puts};
 use crate::verdict::{Faults, Stale, Verdict};
 use cops_types::History;
 use std::alloc::{AllocError, Global};
@@ -19,19 +19,27 @@ use std::alloc::{AllocError, Global};
 impl Room {
     /// The stale gets of a history where each get has its source, and each put is above what its session saw, each with the newest
     /// put on its key in its past.
-    fn stale(&mut self, alloc: Global, history: &History) -> Result<Vec<Stale>, AllocError>
-        requires noted { IsNotedIn history.now.sessions self.old }
+    fn stale(
+        &mut self,
+        alloc: Global,
+        history: &History,
+        notes: &Notes,
+    ) -> Result<Vec<Stale>, AllocError>
+        requires noted { IsNotedIn history.now.sessions self.old notes.now }
         requires sources { AllHaveSources history.now.sessions }
         requires above { AllAbove history.now.sessions }
         ensures stale { IfOk result (λ v. Lists (λ f. f.op) (λ f. IsStale history.now.sessions f.op f.newer) v.items) }
         ensures table { OnOk result (self.new.table ≡ self.old.table) }
+        ensures names { OnOk result (self.new.names ≡ self.old.names) }
     {
-        self.suspect(history)?;
+        self.suspect(history, notes)?;
+        // The links are let go before the sweep takes memory.
+        self.nexts = Vec::new(alloc);
+        self.by_key = Vec::new(alloc);
         let table = self.table.as_slice();
         let firsts = self.firsts.as_slice();
         let suspects = self.suspects.as_slice();
         let floors = self.floors.as_slice();
-        let notes = &self.notes;
         let faults = stale_suspects(
             alloc,
             &mut self.sweep,
@@ -46,19 +54,24 @@ impl Room {
     }
 
     /// The verdict on a history by the classes before the stale gets: none where they are empty.
-    fn judge_notes(&self, alloc: Global, history: &History) -> Result<Option<Verdict>, AllocError>
+    fn judge_notes(
+        &self,
+        alloc: Global,
+        history: &History,
+        notes: &Notes,
+    ) -> Result<Option<Verdict>, AllocError>
         requires filled { IsFilled history.now.sessions self.now }
-        requires notes { IsNoted history.now.sessions self.now.table.items self.now.notes }
+        requires notes { IsNoted history.now.sessions self.now.table.items notes.now }
         ensures refused { IfOk result (λ found. IfSome found (IsVerdict history.now.sessions)) }
         ensures sources { IfOk result (λ found. IfNone found (AllHaveSources history.now.sessions)) }
         ensures above { IfOk result (λ found. IfNone found (AllAbove history.now.sessions)) }
     {
         let names = self.names.as_slice();
-        let sourceless = without_source(alloc, &self.notes, names)?;
+        let sourceless = without_source(alloc, notes, names)?;
         if !sourceless.is_empty() {
             return Ok(Some(Verdict::Refused(Faults::NoSource(sourceless))));
         }
-        let not_above = not_above(alloc, &self.notes, names)?;
+        let not_above = not_above(alloc, notes, names)?;
         if !not_above.is_empty() {
             return Ok(Some(Verdict::Refused(Faults::NotAbove(not_above))));
         }
@@ -67,29 +80,29 @@ impl Room {
 
     /// The verdict on a history in which no version is borne by two puts.
     fn judge_gets(&mut self, alloc: Global, history: &History) -> Result<Verdict, AllocError>
-        requires fits { Fits history.now.sessions self.old }
+        requires ready { IsReady history.now.sessions self.old }
         requires limits { IsWithinLimits history.now.sessions }
         requires filled { IsFilled history.now.sessions self.old }
         ensures { IfOk result (IsVerdict history.now.sessions) }
     {
-        // The room for notes is given back before they are made for all at once, in rounds, which is sooner done.
-        self.note_room = NoteRoom::new(alloc, 0)?;
-        self.notes = Notes::new(alloc, history, self.table.as_slice())?;
-        if let Some(verdict) = self.judge_notes(alloc, history)? {
+        let session_notes = SessionNotes::new(alloc, history, self.table.as_slice())?;
+        let notes = session_notes.look();
+        if let Some(verdict) = self.judge_notes(alloc, history, &notes)? {
             return Ok(verdict);
         }
-        let stale = self.stale(alloc, history)?;
+        let stale = self.stale(alloc, history, &notes)?;
         if !stale.is_empty() {
             return Ok(Verdict::Refused(Faults::Stale(stale)));
         }
-        let puts = put_names(alloc, self.table.as_slice())?;
+        let mut puts = std::mem::replace(&mut self.names, Vec::new(alloc));
+        set_put_names(&mut puts, self.table.as_slice());
         Ok(Verdict::Accepted(puts))
     }
 
-    /// The verdict on a history. Beside the room it takes memory for the faults alone, or for the names of the puts, and while it
-    /// notes what the operations did for hints of where versions stand.
+    /// The verdict on a history. Beside the room it takes memory for the faults alone, and while it notes what the operations did
+    /// for hints of where versions stand. The names of the puts come in the room that the names of all operations took.
     pub fn judge(&mut self, alloc: Global, history: &History) -> Result<Verdict, AllocError>
-        requires { Fits history.now.sessions self.old }
+        requires { IsReady history.now.sessions self.old }
         ensures { IfOk result (IsVerdict history.now.sessions) }
     {
         set_names(&mut self.names, history);

@@ -11,6 +11,7 @@ mod assessing;
 mod beside;
 mod concluding;
 mod feed_fault;
+mod flat;
 mod floors;
 mod hints;
 mod judged;

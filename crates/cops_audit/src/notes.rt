@@ -9,7 +9,8 @@ ghost use Rattle.cops_audit.specs.Notes.{above as above_of, AreFrontsNoted, AreL
 ghost use Rattle.cops_audit.specs.Tables.{IsVersionTable};
 ghost use Rattle.cops_audit.specs.declared.table.VersionedPut.{VersionedPut};
 
-use crate::hints::{Hints, hint_near, hinted_place};
+use crate::flat::Span;
+use crate::hints::{Hints, hinted_place};
 use crate::table::{VersionedPut, first_from};
 use cops_types::{History, OpName};
 use std::alloc::{AllocError, Global};
@@ -40,7 +41,7 @@ pub struct Note {
 const STEP: usize = 4096;
 
 /// What an operation did.
-fn see(history: &History, table: &[VersionedPut], hint: u32, name: OpName) -> Seen
+pub fn see(history: &History, table: &[VersionedPut], hint: u32, name: OpName) -> Seen
     requires table { IsVersionTable history.now.sessions table.now }
     requires named { IsNamed history.now.sessions name }
     ensures { IsSeen history.now.sessions table.now name result }
@@ -77,7 +78,7 @@ fn see_source(history: &History, table: &[VersionedPut], got: OpName, place: usi
 
 impl Seen {
     /// Just above the place of what was seen, 0 where nothing was found.
-    fn above(self) -> u32
+    pub fn above(self) -> u32
         requires { above_of self < 2 ^ 32 }
         ensures { result ≡ above_of self }
     {
@@ -175,82 +176,13 @@ fn no_notes(
     Ok(sessions)
 }
 
-/// Notes the operations of a session anew, for which there is room.
-fn renew_session(notes: &mut Vec<Note>, history: &History, table: &[VersionedPut], client: u16)
-    requires table { IsVersionTable history.now.sessions table.now }
-    requires room { length (slice_index_or history.now.sessions client []) ≤ vec_capacity notes.old }
-    ensures { IsSessionNoted history.now.sessions table.now client notes.new.items }
-{
-    notes.clear();
-    let mut mark = 0;
-    for index in 0..history.session_len(client) {
-        let name = OpName {
-            client,
-            index: index as u32,
-        };
-        let hint = hint_near(history, table, name, mark);
-        let seen = see(history, table, hint, name);
-        let above = seen.above();
-        if mark < above {
-            mark = above;
-        }
-        notes.push_reserved(Note { seen, mark });
-    }
-}
-
-/// Room for the notes on the operations of a history that goes on.
+/// The notes on the operations of a history, each session's in a vector of its own.
 #[derive(Drop)]
-pub struct NoteRoom {
+pub struct SessionNotes {
     sessions: Vec<Vec<Note>>,
 }
 
-impl Model for NoteRoom {
-    ghost use Rattle.std.specs.Prelude.{List, ℕ, map, vec_capacity};
-
-    // Of each client, for how many notes there is room.
-    ghost Value = { List ℕ };
-
-    ghost view = { λ a. map (λ s. vec_capacity s) a.sessions.items };
-}
-
-impl NoteRoom {
-    ghost use Rattle.std.specs.Prelude.{◌≡◌, ◌<◌, ◌≤◌, IfOk, OnOk, length, slice_index};
-    ghost use Rattle.cops_audit.specs.Notes.{KeepsRoom};
-
-    /// Room for no notes, of so many clients.
-    pub fn new(alloc: Global, clients: u16) -> Result<Self, AllocError>
-        ensures { IfOk result (λ room. length room ≡ clients) }
-    {
-        let mut sessions = Vec::new(alloc);
-        for _ in 0..clients {
-            sessions.push(Vec::new(alloc))?;
-        }
-        Ok(NoteRoom { sessions })
-    }
-
-    /// Makes room for so many notes of a client.
-    pub fn grow(&mut self, client: u16, count: usize) -> Result<(), AllocError>
-        requires { client < length self.old }
-        ensures ok { OnOk result (count ≤ slice_index self.new client) }
-        ensures kept { KeepsRoom self.old self.new }
-    {
-        let session = &mut self.sessions[client as usize];
-        if session.capacity() >= count {
-            return Ok(());
-        }
-        session.clear();
-        session.reserve(count)?;
-        Ok(())
-    }
-}
-
-/// The notes on the operations of a history, by client and index.
-#[derive(Drop)]
-pub struct Notes {
-    sessions: Vec<Vec<Note>>,
-}
-
-impl Model for Notes {
+impl Model for SessionNotes {
     ghost use Rattle.std.specs.Prelude.{List, map};
     ghost use Rattle.cops_audit.specs.declared.notes.Note.{Note};
 
@@ -259,12 +191,11 @@ impl Model for Notes {
     ghost view = { λ a. map (λ s. s.items) a.sessions.items };
 }
 
-impl Notes {
+impl SessionNotes {
     ghost use Rattle.cops_types.specs.Histories.{Sessions};
     ghost use Rattle.cops_audit.specs.declared.table.VersionedPut.{VersionedPut};
-    ghost use Rattle.std.specs.Prelude.{◌≡◌, ◌≤◌, ℕ, List, IfOk, length, slice_index_or, []};
-    ghost use Rattle.std.specs.Option.{option_copied};
-    ghost use Rattle.cops_audit.specs.Notes.{note_at, AreNoted, HasRoomFor, IsNoted};
+    ghost use Rattle.std.specs.Prelude.{◌≡◌, ◌≤◌, ℕ, List, IfOk, length};
+    ghost use Rattle.cops_audit.specs.Notes.{AreNoted, IsNoted};
     ghost use Rattle.cops_audit.specs.Tables.{IsVersionTable};
 
     /// The notes on all operations.
@@ -273,7 +204,7 @@ impl Notes {
         ensures { IfOk result (λ notes. IsNoted history.now.sessions table.now notes) }
     {
         let hints = Hints::new(alloc, table)?;
-        let notes = Notes::on_clients(alloc, history, table, &hints, 0, history.clients())?;
+        let notes = SessionNotes::on_clients(alloc, history, table, &hints, 0, history.clients())?;
         Ok(notes)
     }
 
@@ -299,57 +230,70 @@ impl Notes {
             note_all(&mut sessions, history, table, hints, first, step * round)?;
         }
         note_all(&mut sessions, history, table, hints, first, table.len())?;
-        Ok(Notes { sessions })
+        Ok(SessionNotes { sessions })
     }
 
     /// The notes on all operations, of those on the clients below one and those on the others.
-    pub fn joined(low: Notes, high: Notes) -> Result<Self, AllocError>
+    pub fn joined(low: SessionNotes, high: SessionNotes) -> Result<Self, AllocError>
         ensures { (h : Sessions) (table : List VersionedPut) (mid : ℕ) → AreNoted h table 0 mid low → AreNoted h table mid (length h) high
             → IfOk result (λ notes. IsNoted h table notes) }
     {
-        let Notes { mut sessions } = low;
-        let Notes {
+        let SessionNotes { mut sessions } = low;
+        let SessionNotes {
             sessions: mut later,
         } = high;
         sessions.append(&mut later)?;
-        Ok(Notes { sessions })
+        Ok(SessionNotes { sessions })
     }
 
-    /// No notes, on no clients. They take no memory.
-    pub fn none(alloc: Global) -> Self
-        ensures { result ≡ [] }
+    /// The notes, to look in.
+    pub fn look(&self) -> Notes<'_>
+        ensures { result ≡ self.now }
     {
         Notes {
-            sessions: Vec::new(alloc),
+            sessions: self.sessions.as_slice(),
+            flat: &[],
+            spans: &[],
         }
     }
+}
 
-    /// Notes all operations anew, in the room that is given. It takes no memory.
-    pub fn renew(&mut self, room: &mut NoteRoom, history: &History, table: &[VersionedPut])
-        requires table { IsVersionTable history.now.sessions table.now }
-        requires room { HasRoomFor history.now.sessions room.old }
-        ensures { IsNoted history.now.sessions table.now self.new }
-    {
-        std::mem::swap(&mut self.sessions, &mut room.sessions);
-        for client in 0..history.clients() {
-            let session = &mut self.sessions[client];
-            renew_session(session, history, table, client as u16);
-        }
-    }
+/// Notes to look in, by client and index: those of the first sessions each in a vector of its own, then those of the others in
+/// one piece, each from one place up to another.
+#[derive(Drop)]
+pub struct Notes<'a> {
+    pub sessions: &'a [Vec<Note>],
+    pub flat: &'a [Note],
+    pub spans: &'a [Span],
+}
 
-    /// Gives the room back that the notes stand in.
-    pub fn give_back(&mut self, room: &mut NoteRoom)
-        ensures { HasRoomFor self.old room.new }
-    {
-        std::mem::swap(&mut self.sessions, &mut room.sessions);
-    }
+impl<'a> Model for Notes<'a> {
+    ghost use Rattle.std.specs.Prelude.{List, ◌++◌, map, All};
+    ghost use Rattle.cops_audit.specs.declared.notes.Note.{Note};
+    ghost use Rattle.cops_audit.specs.Notes.{IsWithin, span_of};
+
+    ghost Value = { List (List Note) };
+
+    ghost view = { λ a. map (λ s. s.items) a.sessions.now ++ map (span_of a.flat.now) a.spans.now };
+
+    ghost invariant = { λ a. All (IsWithin a.flat.now) a.spans.now };
+}
+
+impl<'a> Notes<'a> {
+    ghost use Rattle.std.specs.Prelude.{◌≡◌, slice_index_or, []};
+    ghost use Rattle.std.specs.Option.{option_copied};
+    ghost use Rattle.cops_audit.specs.Notes.{note_at};
 
     /// The notes on a client's operations, in their order.
     pub fn session(&self, client: u16) -> &[Note]
         ensures { result.now ≡ slice_index_or self.now client [] }
     {
-        match self.sessions.get(client as usize) {
-            Some(session) => session.as_slice(),
+        let client = client as usize;
+        if client < self.sessions.len() {
+            return self.sessions[client].as_slice();
+        }
+        match self.spans.get(client - self.sessions.len()) {
+            Some(span) => &self.flat[span.from..span.to],
             None => &[],
         }
     }

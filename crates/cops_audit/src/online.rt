@@ -1,4 +1,5 @@
 use crate::feed_fault::FeedFault;
+use crate::flat::FlatNotes;
 use crate::judged::Judged;
 use crate::room::Room;
 use crate::verdict::{SoFar, Verdict};
@@ -7,12 +8,14 @@ use std::alloc::Global;
 use std::marker::Model;
 
 /// An auditor that is fed one operation after the other: the clients in any order, and each client's operations in
-/// their own. Beside what was fed it holds the room that an answer takes, some hundred bytes for each operation.
+/// their own. Beside what was fed it holds the room that an answer takes, some hundred bytes for each operation, which are
+/// not touched before.
 #[derive(Drop)]
 pub struct Online {
     alloc: Global,
     history: History,
     room: Room,
+    notes: FlatNotes,
 }
 
 impl Model for Online {
@@ -23,7 +26,7 @@ impl Model for Online {
 
     ghost view = { λ a. a.history.sessions };
 
-    ghost invariant = { λ a. Fits a.history.sessions a.room };
+    ghost invariant = { λ a. Fits a.history.sessions a.room a.notes };
 }
 
 impl Online {
@@ -40,10 +43,12 @@ impl Online {
     {
         let history = History::new(alloc, clients)?;
         let room = Room::new(alloc, clients)?;
+        let notes = FlatNotes::new(alloc, clients)?;
         Ok(Online {
             alloc,
             history,
             room,
+            notes,
         })
     }
 
@@ -59,7 +64,7 @@ impl Online {
             drop(op);
             return Err(FeedFault::of(fault));
         }
-        if self.room.grow(&self.history, client).is_err() {
+        if self.room.grow(&mut self.notes, &self.history).is_err() {
             drop(op);
             return Err(FeedFault::Memory);
         }
@@ -82,7 +87,7 @@ impl Online {
         ensures so_far { IsSoFar self.old result }
         ensures same { self.new ≡ self.old }
     {
-        match self.room.assess(&self.history) {
+        match self.room.assess(&mut self.notes, &self.history) {
             Ok(so_far) => so_far,
             Err(_) => unreachable!(),
         }
@@ -105,7 +110,10 @@ impl Online {
             alloc,
             history,
             mut room,
+            notes,
         } = self;
+        // The room for notes is given back before they are made for all at once, in rounds, which is sooner done.
+        drop(notes);
         let verdict = room.judge(alloc, &history)?;
         Ok(Judged::new(history, verdict))
     }

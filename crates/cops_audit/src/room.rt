@@ -1,25 +1,22 @@
 ghost use Rattle.cops_types.specs.declared.limits.TheConstants.{MAX_OPS};
 ghost use Rattle.std.specs.Prelude.{◌≤◌, IfOk, OnOk, replicate, vec_capacity, [], ◌≡◌};
-ghost use Rattle.cops_audit.specs.Rooms.{Fits};
+ghost use Rattle.cops_audit.specs.Rooms.{IsReady};
 
-use crate::notes::{NoteRoom, Notes};
+use crate::flat::FlatNotes;
 use crate::sweep::{Range, Sweep};
 use crate::table::VersionedPut;
 use crate::window::Suspect;
 use cops_types::{History, OpName};
 use std::alloc::{AllocError, Global};
 
-/// What a look for faults fills, with room for a history as it grows: 96 bytes for each operation. A vector doubles as it
-/// grows, so that up to twice as much may be held.
+/// What a look for faults fills, with room for a history as it grows: with the notes 96 bytes for each operation. A vector
+/// doubles as it grows, so that up to twice as much may be held. The room is not touched until the look.
 #[derive(Drop)]
 pub struct Room {
     /// For how many operations there is space.
     pub space: usize,
     pub names: Vec<OpName>,
     pub table: Vec<VersionedPut>,
-    /// Room for the notes, and the notes while a look goes on.
-    pub note_room: NoteRoom,
-    pub notes: Notes,
     pub nexts: Vec<Option<u32>>,
     pub by_key: Vec<Option<u32>>,
     pub firsts: Vec<u32>,
@@ -39,23 +36,21 @@ fn make_room<T: Drop>(items: &mut Vec<T>, count: usize) -> Result<(), AllocError
 }
 
 impl Room {
-    ghost use Rattle.std.specs.Prelude.{◌<◌, ◌+◌, OnErr, OnOk, length};
+    ghost use Rattle.std.specs.Prelude.{◌<◌, ◌+◌, ℕ, OnErr, OnOk, length};
     ghost use Rattle.cops_types.specs.Histories.{with_op};
     ghost use Rattle.cops_types.specs.declared.op.Op.{Op as AnOp};
     ghost use Rattle.cops_audit.specs.Rooms.{Fits, HasSpace, IsSameButSpace};
 
     /// Room for no operations, of so many clients.
     pub fn new(alloc: Global, clients: u16) -> Result<Self, AllocError>
-        ensures { IfOk result (Fits (replicate clients [])) }
+        ensures ready { IfOk result (IsReady (replicate clients [])) }
+        ensures space { IfOk result (λ room. room.space ≡ 0) }
     {
-        let note_room = NoteRoom::new(alloc, clients)?;
         let sweep = Sweep::new(alloc, clients as usize, 0)?;
         Ok(Room {
             space: 0,
             names: Vec::new(alloc),
             table: Vec::new(alloc),
-            note_room,
-            notes: Notes::none(alloc),
             nexts: Vec::new(alloc),
             by_key: Vec::new(alloc),
             firsts: Vec::new(alloc),
@@ -66,16 +61,20 @@ impl Room {
     }
 
     /// Makes space for a quarter more than so many operations, which are more than there is space for.
-    fn reserve(&mut self, count: usize) -> Result<(), AllocError>
+    fn reserve(&mut self, notes: &mut FlatNotes, count: usize) -> Result<(), AllocError>
         requires more { self.old.space < count }
         requires few { count ≤ MAX_OPS + 1 }
         requires space { HasSpace self.old.space self.old }
+        requires notes { self.old.space ≤ notes.old.note_room }
         ensures ok { OnOk result (count ≤ self.new.space) }
         ensures space { HasSpace self.new.space self.new }
         ensures kept { self.old.space ≤ self.new.space }
         ensures same { IsSameButSpace self.old self.new }
+        ensures notes { self.new.space ≤ notes.new.note_room }
+        ensures sessions { notes.new.session_room ≡ notes.old.session_room }
     {
         let space = count + count / 4;
+        notes.reserve(space)?;
         make_room(&mut self.names, space)?;
         make_room(&mut self.table, space)?;
         make_room(&mut self.nexts, space)?;
@@ -91,19 +90,16 @@ impl Room {
         Ok(())
     }
 
-    /// Makes room for a client's next operation.
-    pub fn grow(&mut self, history: &History, client: u16) -> Result<(), AllocError>
-        requires client { client < length history.now.sessions }
-        requires fits { Fits history.now.sessions self.old }
-        ensures ok { (op : AnOp) → OnOk result (Fits (with_op history.now.sessions client op) self.new) }
-        ensures err { OnErr result (Fits history.now.sessions self.new) }
+    /// Makes room for one more operation, and for the note on it.
+    pub fn grow(&mut self, notes: &mut FlatNotes, history: &History) -> Result<(), AllocError>
+        requires { Fits history.now.sessions self.old notes.old }
+        ensures ok { (client : ℕ) (op : AnOp) → client < length history.now.sessions → OnOk result (Fits (with_op history.now.sessions client op) self.new notes.new) }
+        ensures err { OnErr result (Fits history.now.sessions self.new notes.new) }
     {
         let count = history.len() + 1;
         if self.space < count {
-            self.reserve(count)?;
+            self.reserve(notes, count)?;
         }
-        self.note_room
-            .grow(client, history.session_len(client) + 1)?;
         Ok(())
     }
 }

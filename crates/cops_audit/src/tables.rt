@@ -1,6 +1,6 @@
 use crate::beside::notes_and_links;
 use crate::links::Links;
-use crate::notes::{Notes, without_source};
+use crate::notes::{SessionNotes, without_source};
 use crate::puts::Puts;
 use crate::rising::not_above;
 use crate::stale::stale_among;
@@ -18,7 +18,7 @@ pub struct Tables<'a> {
     history: &'a History,
     names: Vec<OpName>,
     table: Vec<VersionedPut>,
-    notes: Notes,
+    notes: SessionNotes,
     links: Option<Links>,
 }
 
@@ -55,7 +55,7 @@ impl<'a> Tables<'a> {
             names,
             table,
         } = puts;
-        let notes = Notes::new(alloc, history, table.as_slice())?;
+        let notes = SessionNotes::new(alloc, history, table.as_slice())?;
         Ok(Tables {
             history,
             names,
@@ -110,7 +110,7 @@ impl<'a> Tables<'a> {
         ensures { IfOk result (λ v. ListsAmong (λ n. n) (IsSourceless self.now.notes) (slice_range self.now.names start (start + len)) v.items) }
     {
         let names = &self.names[start..start + len];
-        without_source(alloc, &self.notes, names)
+        without_source(alloc, &self.notes.look(), names)
     }
 
     /// The puts among so many names from a place on that are not above what their sessions saw, each with the first such
@@ -125,7 +125,7 @@ impl<'a> Tables<'a> {
         ensures { IfOk result (λ v. ListsAmong (λ f. f.op) (λ f. SeesNotAbove self.now.notes f.op f.earlier) (slice_range self.now.names start (start + len)) v.items) }
     {
         let names = &self.names[start..start + len];
-        not_above(alloc, &self.notes, names)
+        not_above(alloc, &self.notes.look(), names)
     }
 
     /// The verdict by the classes before the stale gets, of the faults among all names: none where they are empty.
@@ -160,11 +160,12 @@ impl<'a> Tables<'a> {
     {
         let names = &self.names[start..start + len];
         let table = self.table.as_slice();
+        let notes = self.notes.look();
         let Some(links) = &self.links else {
             let links = Links::once(alloc, self.history, table)?;
-            return stale_among(alloc, self.history, table, &self.notes, &links, names);
+            return stale_among(alloc, self.history, table, &notes, &links, names);
         };
-        stale_among(alloc, self.history, table, &self.notes, links, names)
+        stale_among(alloc, self.history, table, &notes, links, names)
     }
 
     /// The verdict where the classes before the stale gets are empty: the stale gets among all names, or the puts in order

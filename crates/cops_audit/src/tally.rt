@@ -1,4 +1,5 @@
-ghost use Rattle.std.specs.Prelude.{◌≡◌, All, vec_len};
+ghost use Rattle.std.specs.Prelude.{◌≡◌, ◌≤◌, ◌-◌, ◌++◌, replicate, vec_len, vec_capacity};
+ghost use Rattle.cops_audit.specs.declared.tally.Entry.{Entry};
 
 use std::alloc::{AllocError, Global};
 use std::marker::Model;
@@ -11,41 +12,52 @@ struct Entry {
 }
 
 /// Numbers that only grow, and that all become 0 at once at no cost: those that were written in earlier ages count
-/// as 0.
+/// as 0. So do those past the last one that was ever written: there is room for them, which is not touched before.
 #[derive(Drop)]
 pub struct Tally {
     entries: Vec<Entry>,
+    len: usize,
     age: u32,
 }
 
-/// Makes each the entry of age 0 with the number 0.
-fn clear(entries: &mut Vec<Entry>)
-    ensures all { All (λ e. e.age ≡ 0) entries.new.items }
-    ensures len { vec_len entries.new ≡ vec_len entries.old }
+/// Adds entries that count as 0, up to so many, for which there is room.
+fn fill(entries: &mut Vec<Entry>, len: usize)
+    requires more { vec_len entries.old ≤ len }
+    requires room { len ≤ vec_capacity entries.old }
+    ensures items { entries.new.items ≡ entries.old.items ++ replicate (len - vec_len entries.old) (record { age = 0; number = 0 }) }
+    ensures len { vec_len entries.new ≡ len }
+    ensures capacity { vec_capacity entries.old ≤ vec_capacity entries.new }
 {
-    entries.as_mut_slice().fill(Entry { age: 0, number: 0 });
+    match entries.resize(len, Entry { age: 0, number: 0 }) {
+        Ok(()) => {}
+        Err(_) => unreachable!(),
+    }
 }
 
 impl Model for Tally {
-    ghost use Rattle.std.specs.Prelude.{List, ℕ, ◌≤◌, map, All};
-    ghost use Rattle.cops_audit.specs.Tallies.{number_in};
+    ghost use Rattle.std.specs.Prelude.{List, ℕ, ◌≤◌, ◌-◌, All, vec_len, vec_capacity};
+    ghost use Rattle.cops_audit.specs.Tallies.{numbers_in};
 
     ghost Value = { List ℕ };
 
-    ghost view = { λ a. map (number_in a.age) a.entries.items };
+    ghost view = { λ a. numbers_in a.age a.entries.items (a.len - vec_len a.entries) };
 
-    ghost invariant = { λ a. All (λ e. e.age ≤ a.age) a.entries.items };
+    ghost invariant = { λ a. All (λ e. e.age ≤ a.age) a.entries.items × (vec_len a.entries ≤ a.len) × (a.len ≤ vec_capacity a.entries) };
 }
 
 impl Tally {
-    ghost use Rattle.std.specs.Prelude.{◌≡◌, ◌<◌, ◌≤◌, ◌-◌, ◌++◌, IfOk, OnErr, OnOk, length, slice_index, slice_set, max, replicate};
+    ghost use Rattle.std.specs.Prelude.{◌≡◌, ◌<◌, ◌≤◌, ◌-◌, ◌++◌, IfOk, OnErr, OnOk, length, slice_index, slice_set, replicate};
 
     /// So many zeros.
     pub fn new(alloc: Global, len: usize) -> Result<Self, AllocError>
         ensures { IfOk result (λ tally. tally ≡ replicate len 0) }
     {
-        let entries = vec![in alloc; Entry { age: 0, number: 0 }; len]?;
-        Ok(Tally { entries, age: 0 })
+        let entries = Vec::with_capacity(alloc, len)?;
+        Ok(Tally {
+            entries,
+            len,
+            age: 0,
+        })
     }
 
     /// Makes all numbers 0.
@@ -53,7 +65,7 @@ impl Tally {
         ensures { self.new ≡ replicate (length self.old) 0 }
     {
         if self.age == u32::MAX {
-            clear(&mut self.entries);
+            self.entries.clear();
             self.age = 0;
         }
         self.age += 1;
@@ -74,6 +86,9 @@ impl Tally {
         requires { place < length self.old }
         ensures { self.new ≡ slice_set self.old place number }
     {
+        if self.entries.len() <= place {
+            fill(&mut self.entries, place + 1);
+        }
         self.entries[place] = Entry {
             age: self.age,
             number,
@@ -84,7 +99,7 @@ impl Tally {
     pub fn len(&self) -> usize
         ensures { result ≡ length self.now }
     {
-        self.entries.len()
+        self.len
     }
 
     /// Adds zeros, up to so many numbers. A refusal changes nothing.
@@ -93,7 +108,8 @@ impl Tally {
         ensures ok { OnOk result (self.new ≡ self.old ++ replicate (len - length self.old) 0) }
         ensures err { OnErr result (self.new ≡ self.old) }
     {
-        self.entries.resize(len, Entry { age: 0, number: 0 })?;
+        self.entries.reserve(len - self.entries.len())?;
+        self.len = len;
         Ok(())
     }
 }

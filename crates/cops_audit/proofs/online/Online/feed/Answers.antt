@@ -1,6 +1,7 @@
-use Rattle.std.proofs.Common.{◌≡◌, false, sym, subst}
+use Rattle.std.proofs.Common.{◌≡◌, ◌<◌, false, inl, inr, length, sym, subst}
 use Rattle.std.specs.Prelude.{Result, Ok, Err, OnOk}
 use Rattle.std.specs.Result.{is_err}
+use Rattle.std.proofs.lemmas.Bool.{cases_lt}
 use Rattle.cops_audit.specs.Rooms.{Fits}
 use Rattle.cops_audit.proofs.online.Online.feed.Goals as goal
 
@@ -11,4 +12,6 @@ succeeded (Err x) P p e = absurd cc
 
 pub invariant_of-self-2 : goal.invariant_of-self-2
 invariant_of-self-2 c =
-    subst (λ h. Fits h c.grow.new.self) (sym c.in-Ok.ensures.ok) (succeeded c.grow.result _ (c.grow.ensures.ok c.args.op) c.if-is_err.ensures.value)
+    let sessions = c.reserve.new.self.sessions in
+    let inside : c.args.client < length sessions = elim (cases_lt c.args.client (length sessions)) [ inl less ↦ less | inr le ↦ let unknown = c.in-Ok.ensures.unknown.1 le in absurd cc ] in
+    subst (λ h. Fits h c.grow.new.self c.grow.new.notes) (sym c.in-Ok.ensures.ok) (succeeded c.grow.result _ (c.grow.ensures.ok c.args.client c.args.op inside) c.if-is_err.ensures.value)

@@ -30,5 +30,5 @@ returns c =
       sources = subst (λ (o : Option Verdict). IfNone o (AllHaveSources h)) c.in_default.is c.in_ok-verdict.ensures.sources;
       above = subst (λ (o : Option Verdict). IfNone o (AllAbove h)) c.in_default.is c.in_ok-verdict.ensures.above;
       stale = λ n q fault. none_there {A = Stale} (λ f. f.op) (λ f. IsStale h f.op f.newer) stale.items c.is_empty.result _ c.in_ok-stale.ensures.stale c.if-not-is_empty.false c.is_empty.ensures stale.ok.0 (record { op = n; newer = q }) fault;
-      version_order = subst (IsVersionOrder h) (sym (c.in_ok-puts.ensures ∙ ap (map (λ (p : VersionedPut). p.name)) table)) (order_of_table h c.args.self.now.table.items c.requires.filled.table);
+      version_order = subst (IsVersionOrder h) (sym (c.set_put_names.ensures ∙ ap (map (λ (p : VersionedPut). p.name)) table)) (order_of_table h c.args.self.now.table.items c.requires.filled.table);
     }

@@ -16,7 +16,7 @@ returns-then-not-is_empty-clause-refused c =
     let names = subst (Lists (λ n. n) (IsNamed h)) (sym c.as_slice-names.ensures.value) filled.names in (
       none_doubled h room.table.items filled.table,
       some_there {A = OpName} (λ n. n) (HasNoSource h) c.in_ok-sourceless.sourceless.items c.is_empty.result _ c.if-not-is_empty.true c.is_empty.ensures c.in_ok-sourceless.sourceless.ok.0,
-      sourceless_listed h c.as_slice-names.result.now names room.table.items filled.table room.notes c.requires.notes c.in_ok-sourceless.sourceless.items c.in_ok-sourceless.ensures,
+      sourceless_listed h c.as_slice-names.result.now names room.table.items filled.table c.args.notes.now c.requires.notes c.in_ok-sourceless.sourceless.items c.in_ok-sourceless.ensures,
     )
 
 pub returns-then-not-is_empty-2-clause-refused : goal.returns-then-not-is_empty-2-clause-refused
@@ -25,12 +25,12 @@ returns-then-not-is_empty-2-clause-refused c =
     let room = c.args.self.now in
     let filled = c.requires.filled in
     let names = subst (Lists (λ n. n) (IsNamed h)) (sym c.as_slice-names.ensures.value) filled.names in
-    let lists = sourceless_listed h c.as_slice-names.result.now names room.table.items filled.table room.notes c.requires.notes c.in_ok-sourceless.sourceless.items c.in_ok-sourceless.ensures in
+    let lists = sourceless_listed h c.as_slice-names.result.now names room.table.items filled.table c.args.notes.now c.requires.notes c.in_ok-sourceless.sourceless.items c.in_ok-sourceless.ensures in
     let sources : AllHaveSources h = none_there {A = OpName} (λ n. n) (HasNoSource h) c.in_ok-sourceless.sourceless.items c.is_empty.result _ lists c.if-not-is_empty.false c.is_empty.ensures c.in_ok-sourceless.sourceless.ok.0 in (
       none_doubled h room.table.items filled.table,
       sources,
       some_there {A = NotAbove} (λ f. f.op) (λ f. IsNotAbove h f.op f.earlier) c.in_ok-not_above.not_above.items c.is_empty-2.result _ c.if-not-is_empty-2.true c.is_empty-2.ensures c.in_ok-not_above.not_above.ok.0,
-      above_listed h c.as_slice-names.result.now names room.table.items filled.table room.notes c.requires.notes (sourced_wait h sources) c.in_ok-not_above.not_above.items c.in_ok-not_above.ensures,
+      above_listed h c.as_slice-names.result.now names room.table.items filled.table c.args.notes.now c.requires.notes (sourced_wait h sources) c.in_ok-not_above.not_above.items c.in_ok-not_above.ensures,
     )
 
 pub returns-clause-sources : goal.returns-clause-sources
@@ -39,7 +39,7 @@ returns-clause-sources c =
     let room = c.args.self.now in
     let filled = c.requires.filled in
     let names = subst (Lists (λ n. n) (IsNamed h)) (sym c.as_slice-names.ensures.value) filled.names in
-    let lists = sourceless_listed h c.as_slice-names.result.now names room.table.items filled.table room.notes c.requires.notes c.in_ok-sourceless.sourceless.items c.in_ok-sourceless.ensures in
+    let lists = sourceless_listed h c.as_slice-names.result.now names room.table.items filled.table c.args.notes.now c.requires.notes c.in_ok-sourceless.sourceless.items c.in_ok-sourceless.ensures in
     none_there {A = OpName} (λ n. n) (HasNoSource h) c.in_ok-sourceless.sourceless.items c.is_empty.result _ lists c.if-not-is_empty.false c.is_empty.ensures c.in_ok-sourceless.sourceless.ok.0
 
 pub returns-clause-above : goal.returns-clause-above
@@ -48,5 +48,5 @@ returns-clause-above c =
     let room = c.args.self.now in
     let filled = c.requires.filled in
     let names = subst (Lists (λ n. n) (IsNamed h)) (sym c.as_slice-names.ensures.value) filled.names in
-    let lists = above_listed h c.as_slice-names.result.now names room.table.items filled.table room.notes c.requires.notes (sourced_wait h (returns-clause-sources c)) c.in_ok-not_above.not_above.items c.in_ok-not_above.ensures in
+    let lists = above_listed h c.as_slice-names.result.now names room.table.items filled.table c.args.notes.now c.requires.notes (sourced_wait h (returns-clause-sources c)) c.in_ok-not_above.not_above.items c.in_ok-not_above.ensures in
     λ n e fault. none_there {A = NotAbove} (λ f. f.op) (λ f. IsNotAbove h f.op f.earlier) c.in_ok-not_above.not_above.items c.is_empty-2.result _ lists c.if-not-is_empty-2.false c.is_empty-2.ensures c.in_ok-not_above.not_above.ok.0 (record { op = n; earlier = e }) fault

@@ -52,7 +52,7 @@ returns-clause-suspected c =
       firsts = subst (λ (t : List VersionedPut). AreFirsts h t c.set_firsts.new.places.items) seen (c.in_ok-set_firsts.ensures.firsts h table nexts);
       floors = subst (λ (s : List Suspect). AreFloors s c.set_floors.new.floors.items) c.as_slice.ensures.value c.in_ok-set_floors.ensures.floors;
       idle = fresh_idle h c.args.self.now ready c.restart.new.self fresh c.restart.ensures.pending (length c.args.self.now.table.items) c.requires.noted.filled.few;
-      space = fresh_room h c.args.self.now ready c.restart.new.self fresh c.restart.ensures.pending c.requires.noted.notes;
+      space = fresh_room h c.args.self.now ready c.restart.new.self fresh c.restart.ensures.pending c.args.notes.now c.requires.noted.notes;
     }
 
 pub returns-clause-ready : goal.returns-clause-ready
@@ -60,7 +60,7 @@ returns-clause-ready c =
     let h = c.args.history.now.sessions in
     let ready = c.requires.noted.ready in
     let fresh = c.restart.ensures.fresh ready.empty in
-    let room = fresh_room h c.args.self.now ready c.restart.new.self fresh c.restart.ensures.pending c.requires.noted.notes in
+    let room = fresh_room h c.args.self.now ready c.restart.new.self fresh c.restart.ensures.pending c.args.notes.now c.requires.noted.notes in
     let idle = fresh_idle h c.args.self.now ready c.restart.new.self fresh c.restart.ensures.pending 0 (omega arith) in
     record {
       space = record {

@@ -1,22 +1,23 @@
-use Rattle.std.proofs.Common.{◌≡◌, ◌<◌, ◌+◌, ℕ, length, replicate, All, ap, sym, ◌∙◌, arith}
-use Rattle.std.proofs.lemmas.List.{length-map}
+use Rattle.std.proofs.Common.{◌≡◌, ◌<◌, ◌+◌, ◌-◌, ℕ, length, replicate, All, ap, ◌∙◌, arith}
+use Rattle.std.specs.Prelude.{vec_len}
 use Rattle.cops_audit.specs.declared.tally.Entry.{Entry}
-use Rattle.cops_audit.specs.Tallies.{number_in}
-use Rattle.cops_audit.proofs.TallyLemmas.{all_zero}
+use Rattle.cops_audit.proofs.TallyLemmas.{count_numbers, restarted}
 use Rattle.cops_audit.proofs.tally.Tally.restart.Goals as goal
 use Rattle.cops_audit.proofs.tally.Tally.restart.Goals.{then-self, else-self}
 
 pub returns : goal.returns
 returns c =
-    let t = c.if-self.self-inside.age in
-    let xs = c.if-self.self-inside.entries.items in
-    let old : length c.self.inside.entries.items ≡ length c.args.self.now = sym (length-map c.self.inside.entries.items (number_in c.self.inside.age)) ∙ ap length c.self.view_is in
-    let len : length xs ≡ length c.args.self.now = elim c.if-self.branch [
-      | then-self w ↦ rw w.self-inside-is (omega (arith, w.clear.ensures.len, old))
-      | else-self w ↦ rw w.self-inside-is old
+    let self = c.if-self.self-inside in
+    let xs = self.entries.items in
+    let was = c.self.inside in
+    let old : was.len ≡ length c.args.self.now
+    = omega (arith, ap length c.self.view_is, count_numbers was.age was.entries.items (was.len - vec_len was.entries), was.entries.ok.0, c.self.invariant.1) in
+    let len : length xs + (self.len - vec_len self.entries) ≡ length c.args.self.now = elim c.if-self.branch [
+      | then-self w ↦ rw w.self-inside-is (omega (arith, old, w.clear.ensures.len, ap length w.clear.ensures.items))
+      | else-self w ↦ rw w.self-inside-is (omega (arith, old, was.entries.ok.0, c.self.invariant.1))
     ] in
-    let earlier : All (λ (e : Entry). e.age < t + 1) xs = elim c.if-self.branch [
-      | then-self w ↦ rw w.self-inside-is (λ k d inside. omega (arith, w.clear.ensures.all k d inside))
-      | else-self w ↦ rw w.self-inside-is (λ k d inside. omega (arith, c.self.invariant k d inside))
+    let earlier : All (λ (e : Entry). e.age < self.age + 1) xs = elim c.if-self.branch [
+      | then-self w ↦ rw w.self-inside-is (λ k d inside. omega (arith, inside, ap length w.clear.ensures.items))
+      | else-self w ↦ rw w.self-inside-is (λ k d inside. omega (arith, c.self.invariant.0 k d inside))
     ] in
-    all_zero (t + 1) xs earlier ∙ ap (λ (n : ℕ). replicate n 0) len
+    restarted (self.age + 1) xs (self.len - vec_len self.entries) earlier ∙ ap (λ (n : ℕ). replicate n 0) len

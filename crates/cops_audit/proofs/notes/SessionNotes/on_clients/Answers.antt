@@ -1,7 +1,7 @@
 use Rattle.std.proofs.Common.{◌≡◌, ◌+◌, length, arith, Vec, Global}
 use Rattle.cops_audit.specs.declared.notes.Note.{Note}
 use Rattle.cops_audit.proofs.Noting.{fronts_of_none, noted_all, noted_whole}
-use Rattle.cops_audit.proofs.notes.Notes.on_clients.Goals as goal
+use Rattle.cops_audit.proofs.notes.SessionNotes.on_clients.Goals as goal
 
 pub loop-round-init : goal.loop-round-init
 loop-round-init c =

@@ -1,6 +1,6 @@
 use Rattle.std.proofs.Common.{◌≡◌, ◌+◌, length, map}
 use Rattle.cops_audit.specs.Notes.{AreFrontsNoted}
-use Rattle.cops_audit.proofs.notes.Notes.on_clients.Given as goal
+use Rattle.cops_audit.proofs.notes.SessionNotes.on_clients.Given as goal
 
 abbrev pub invariant-loop-round : goal.invariant-loop-round
 invariant-loop-round l = record {

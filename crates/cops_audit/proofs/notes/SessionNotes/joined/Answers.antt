@@ -3,7 +3,7 @@ use Rattle.std.proofs.lemmas.List.{map-append}
 use Rattle.cops_audit.specs.declared.notes.Note.{Note}
 use Rattle.cops_audit.specs.Notes.{AreNoted, IsNoted}
 use Rattle.cops_audit.proofs.Noting.{noted_joined}
-use Rattle.cops_audit.proofs.notes.Notes.joined.Goals as goal
+use Rattle.cops_audit.proofs.notes.SessionNotes.joined.Goals as goal
 
 pub returns : goal.returns
 returns c = λ h table mid low high.
