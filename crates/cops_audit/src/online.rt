@@ -108,10 +108,11 @@ impl Online {
     {
         let Online {
             alloc,
-            history,
+            mut history,
             mut room,
             notes,
         } = self;
+        history.forget_guesses();
         // The room for notes is given back before they are made for all at once, in rounds, which is sooner done.
         drop(notes);
         let verdict = room.judge(alloc, &history)?;
