@@ -17,7 +17,8 @@ sys.dont_write_bytecode = True
 import plain  # noqa: E402
 import plain_cluster  # noqa: E402
 from cut_traces import cut_traces  # noqa: E402
-from traces import ROOT, by_stalling_pipe, check, cops, ended, example, ran, skip, trace  # noqa: E402
+from large_traces import generated, little_memory, long_chain, many_rounds  # noqa: E402
+from traces import ROOT, audited, by_stalling_pipe, check, cops, ended, example, ran, skip, trace  # noqa: E402
 from client import message, talk  # noqa: E402
 from events import scenario  # noqa: E402
 from named import definition_files, wrong_edits  # noqa: E402
@@ -30,17 +31,6 @@ LISTENS = "0A"
 
 # For how many seconds a client of these tests waits for the front door.
 PATIENCE = 60
-
-
-def audited(name, data, text, status):
-    """The trace is audited the same by standard input, by `-` and by file."""
-    wanted = (status, text.encode(), b"")
-    check(f"{name}, no words", cops(stdin=data), wanted)
-    check(f"{name}, audit -", cops("audit", "-", stdin=data), wanted)
-    with tempfile.NamedTemporaryFile(suffix=".trace") as file:
-        file.write(data)
-        file.flush()
-        check(f"{name}, by file", cops("audit", file.name), wanted)
 
 
 TRACES = [
@@ -79,33 +69,6 @@ def examples():
         check(f"{name}.trace is what the writer makes of {name}.ops", trace(lines), data)
         audited(name, data, text, status)
         check(f"{name}, a byte at a time", by_stalling_pipe(["audit", "-"], [bytes([byte]) for byte in data]), (status, text.encode(), b""))
-
-
-def long_chain():
-    """A chain through a hundred clients."""
-    lines = ["clients 101", "0 put x 1 1.0", "0 put x 2 2.0", "0 put c0 1 3.0"]
-    for client in range(1, 100):
-        lines += [f"{client} got c{client - 1} 1 {client + 2}.0", f"{client} put c{client} 1 {client + 3}.0"]
-    lines += ["100 got c99 1 102.0", "100 got x 1 1.0"]
-    names = ["(0,1)", "(0,2)"] + [f"({client},{index})" for client in range(1, 100) for index in (0, 1)] + ["(100,0)", "(100,1)"]
-    text = "refused: 203 operations, 102 puts, 1 faults\n"
-    text += f"stale (100,1) returned 1.0, newer (0,1) at 2.0, chain {' '.join(names)}\n"
-    audited("long chain", trace(lines), text, 1)
-    check("long chain by 64 workers", cops("audit", "-", "--workers", "64", stdin=trace(lines)), (1, text.encode(), b""))
-
-
-def many_rounds():
-    """Ten clients with a hundred rounds each: a put on the client's own key, and a get of what the next client puts."""
-    lines = ["clients 10"]
-    for client in range(10):
-        other = (client + 1) % 10
-        for clock in range(1, 101):
-            lines.append(f"{client} put k{client} {clock} {clock}.{client}")
-            lines.append(f"{client} got k{other} {clock} {clock}.{other}")
-    audited("many rounds", trace(lines), "accepted: 2000 operations, 1000 puts\n", 0)
-    text = "refused: 2001 operations, 1000 puts, 1 faults\n"
-    text += "stale (0,200) returned 7.1, newer (1,198) at 100.1, chain (1,198) (0,199) (0,200)\n"
-    audited("a stale get after many rounds", trace([*lines, "0 got k1 7 7.1"]), text, 1)
 
 
 def faults():
@@ -741,39 +704,6 @@ def devices():
     check("a trace to a full device", cops("run", events_file, "/dev/full"), (4, b"", b"failed: write\n"))
     with open("/dev/full", "wb") as full:
         check("a run to a full device", cops("run", events_file, "/dev/null", stdout=full), (4, None, b"failed: write\n"))
-
-
-def generated():
-    """The benchmark's traces are accepted, but for the one fault that they are asked for."""
-    command = [sys.executable, os.path.join(ROOT, "bench", "generate.py"), "900", "30", "20", "5"]
-    for violation, status, faults in ((None, 0, 0), ("doubled", 1, 2), ("no_source", 1, 1), ("not_above", 1, 1), ("stale", 1, 1)):
-        made = subprocess.run(command + ([violation] if violation else []), stdout=subprocess.PIPE, check=True).stdout
-        got, out, _ = cops(stdin=made)
-        lines = out.decode().split("\n")
-        check(f"a generated trace, {violation}", (got, len(lines)), (status, 2 + faults))
-        if violation:
-            check(f"its faults, {violation}", all(line.startswith(violation.replace("_", " ")) for line in lines[1:-1]), True)
-
-
-def little_memory():
-    """With too little memory the program says so, and writes nothing else; with enough it answers."""
-    value = "v" * 4000
-    data = trace(["clients 2"] + [f"0 put k{i} {value} {i + 1}.0" for i in range(5000)] + ["1 got k9 " + value + " 10.0"])
-    enough = (0, b"accepted: 5001 operations, 5000 puts\n", b"")
-    refused = (3, b"", b"failed: memory\n")
-    answers = []
-    with tempfile.NamedTemporaryFile(suffix=".trace") as file:
-        file.write(data)
-        file.flush()
-        for megabytes in (16, 20, 24, 28, 32, 40, 64, 256):
-            limit = megabytes << 20
-            answers.append(cops("audit", file.name, limit=limit))
-            shown = cops("show", file.name, limit=limit)
-            check(f"show with {megabytes} MB", shown[0] == 0 or shown == (3, shown[1], b"failed: memory\n"), True)
-    for answer in answers:
-        check("audit with little memory", answer in (enough, refused), True)
-    check("the least memory is too little", answers[0], refused)
-    check("the most memory is enough", answers[-1], enough)
 
 
 def no_thread():

@@ -81,6 +81,17 @@ def check(name, got, wanted):
         print(f"FAILED {name}\n  got    {str(got)[:500]}\n  wanted {str(wanted)[:500]}")
 
 
+def audited(name, data, text, status):
+    """The trace is audited the same by standard input, by `-` and by file."""
+    wanted = (status, text.encode(), b"")
+    check(f"{name}, no words", cops(stdin=data), wanted)
+    check(f"{name}, audit -", cops("audit", "-", stdin=data), wanted)
+    with tempfile.NamedTemporaryFile(suffix=".trace") as file:
+        file.write(data)
+        file.flush()
+        check(f"{name}, by file", cops("audit", file.name), wanted)
+
+
 def skip(name, why):
     """Counts a test that this machine cannot make."""
     counts["skipped"] += 1
