@@ -4,11 +4,19 @@ use Rattle.cops_types.specs.declared.op.OpName.{OpName}
 use Rattle.cops_types.specs.Histories.{Sessions, IsMissed, PutsVersion, SourceStep}
 use Rattle.cops_types.specs.Operations.{GetsVersion}
 use Rattle.cops_types.specs.Faults.{HasNoSource}
+use Rattle.cops_audit.specs.declared.did.Did.{Did}
+use Rattle.cops_audit.specs.declared.did.Did.TheVariants as did
 use Rattle.cops_audit.specs.declared.flat.Span.{Span}
 use Rattle.cops_audit.specs.declared.table.VersionedPut.{VersionedPut}
 use Rattle.cops_audit.specs.declared.notes.Note.{Note}
 use Rattle.cops_audit.specs.declared.notes.Seen.{Seen}
 use Rattle.cops_audit.specs.declared.notes.Seen.TheVariants.{Put, Got, Missed, Sourceless}
+
+-- the version that an operation put or got, or that it found nothing
+abbrev pub HasDone : Sessions → OpName → Did → Type 0
+HasDone h name (did.Put version) = PutsVersion h name version
+HasDone h name (did.Got version) = GetsVersion h name version
+HasDone h name did.Missed = (key : List ℕ) × IsMissed h name key
 
 -- just above the place of what was seen: of a get without a source above the puts of lower versions, 0 where nothing was found
 abbrev pub above : Seen → ℕ

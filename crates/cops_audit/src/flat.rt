@@ -3,6 +3,7 @@ ghost use Rattle.cops_audit.specs.Notes.{IsSessionNoted};
 ghost use Rattle.cops_audit.specs.Tables.{IsVersionTable};
 ghost use Rattle.cops_audit.specs.declared.notes.Note.{Note};
 
+use crate::did::Did;
 use crate::hints::hint_near;
 use crate::notes::{Note, Notes, see};
 use crate::table::VersionedPut;
@@ -49,8 +50,9 @@ fn push_session(notes: &mut Vec<Note>, history: &History, table: &[VersionedPut]
             client,
             index: index as u32,
         };
-        let hint = hint_near(history, table, name, mark);
-        let seen = see(history, table, hint, name);
+        let did = Did::of(history, name);
+        let hint = hint_near(table, &did, mark);
+        let seen = see(history, table, hint, name, &did);
         let above = seen.above();
         if mark < above {
             mark = above;

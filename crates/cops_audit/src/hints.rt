@@ -3,8 +3,9 @@ ghost use Rattle.std.specs.Prelude.{◌≡◌, ◌≢◌, ◌<◌, ◌≤◌, �
 ghost use Rattle.cops_audit.specs.declared.table.VersionedPut.{VersionedPut};
 ghost use Rattle.cops_audit.specs.Tables.{VersionsNeverFall};
 
+use crate::did::Did;
 use crate::table::{VersionedPut, place_of};
-use cops_types::{History, OpName, Version};
+use cops_types::Version;
 use std::alloc::{AllocError, Global};
 
 /// A hint that says nothing: no place of a table.
@@ -18,14 +19,6 @@ fn stands_at(table: &[VersionedPut], place: u32, version: Version) -> bool
     match table.get(place as usize) {
         Some(put) => put.version == version,
         None => false,
-    }
-}
-
-/// The version of what an operation put or got.
-fn version_of(history: &History, name: OpName) -> Option<Version> {
-    match history.put_version(name) {
-        Some(version) => Some(version),
-        None => history.got_version(name),
     }
 }
 
@@ -75,9 +68,9 @@ impl Hints {
         self.offset(version).wrapping_shr(self.shift) as usize
     }
 
-    /// The hint for the version of an operation.
-    pub fn get(&self, history: &History, table: &[VersionedPut], name: OpName) -> u32 {
-        let Some(version) = version_of(history, name) else {
+    /// The hint for the version that was put or got.
+    pub fn get(&self, table: &[VersionedPut], did: &Did) -> u32 {
+        let Some(version) = did.version() else {
             return NONE;
         };
         let stretch = self.stretch(version);
@@ -121,9 +114,9 @@ pub fn hinted_place(table: &[VersionedPut], hint: u32, version: Version) -> Opti
 /// How far from a place a version is looked for, before it is searched for in the whole table.
 const WIDTHS: [usize; 3] = [16, 256, 4096];
 
-/// A hint for the version of an operation, by the puts that stand near a place.
-pub fn hint_near(history: &History, table: &[VersionedPut], name: OpName, place: u32) -> u32 {
-    let Some(version) = version_of(history, name) else {
+/// A hint for the version that was put or got, by the puts that stand near a place.
+pub fn hint_near(table: &[VersionedPut], did: &Did, place: u32) -> u32 {
+    let Some(version) = did.version() else {
         return NONE;
     };
     let version = version.as_u64();

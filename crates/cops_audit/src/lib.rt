@@ -10,6 +10,7 @@
 mod assessing;
 mod beside;
 mod concluding;
+mod did;
 mod feed_fault;
 mod flat;
 mod floors;

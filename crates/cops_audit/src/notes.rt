@@ -1,14 +1,14 @@
 ghost use Rattle.std.specs.Prelude.{◌≡◌, ◌<◌, ◌≤◌, ◌+◌, ◌^◌, ◌↔◌, List, IfOk, OnOk, IsTrue, length, map, vec_len, vec_capacity, All, AllPairs, slice_index_or, []};
 ghost use Rattle.cops_types.specs.declared.limits.TheConstants.{MAX_CLIENTS};
 ghost use Rattle.cops_types.specs.declared.op.OpName.{OpName};
-ghost use Rattle.cops_types.specs.Histories.{IsNamed};
 ghost use Rattle.cops_types.specs.Operations.{GetsVersion};
 ghost use Rattle.cops_types.specs.Faults.{IsBefore};
 ghost use Rattle.cops_audit.specs.Names.{ListsAmong};
-ghost use Rattle.cops_audit.specs.Notes.{above as above_of, AreFrontsNoted, AreLongEnough, AreMarks, IsFrontNoted, IsMark, IsSeen, IsSessionNoted, IsSourceless};
+ghost use Rattle.cops_audit.specs.Notes.{above as above_of, AreFrontsNoted, AreLongEnough, AreMarks, HasDone, IsFrontNoted, IsMark, IsSeen, IsSessionNoted, IsSourceless};
 ghost use Rattle.cops_audit.specs.Tables.{IsVersionTable};
 ghost use Rattle.cops_audit.specs.declared.table.VersionedPut.{VersionedPut};
 
+use crate::did::Did;
 use crate::flat::Span;
 use crate::hints::{Hints, hinted_place};
 use crate::table::{VersionedPut, first_from};
@@ -40,24 +40,22 @@ pub struct Note {
 /// look up what lies near together.
 const STEP: usize = 4096;
 
-/// What an operation did.
-pub fn see(history: &History, table: &[VersionedPut], hint: u32, name: OpName) -> Seen
+/// What an operation did, by the table.
+pub fn see(history: &History, table: &[VersionedPut], hint: u32, name: OpName, did: &Did) -> Seen
     requires table { IsVersionTable history.now.sessions table.now }
-    requires named { IsNamed history.now.sessions name }
+    requires did { HasDone history.now.sessions name did.now }
     ensures { IsSeen history.now.sessions table.now name result }
 {
-    if let Some(version) = history.put_version(name) {
-        return match hinted_place(table, hint, version) {
+    match did {
+        Did::Put(version) => match hinted_place(table, hint, *version) {
             Some(place) => Seen::Put(place as u32),
             None => unreachable!(),
-        };
-    }
-    match history.got_version(name) {
-        Some(version) => match hinted_place(table, hint, version) {
-            Some(place) => see_source(history, table, name, place),
-            None => Seen::Sourceless(first_from(table, version) as u32),
         },
-        None => Seen::Missed,
+        Did::Got(version) => match hinted_place(table, hint, *version) {
+            Some(place) => see_source(history, table, name, place),
+            None => Seen::Sourceless(first_from(table, *version) as u32),
+        },
+        Did::Missed => Seen::Missed,
     }
 }
 
@@ -123,8 +121,9 @@ fn note_on(
             client,
             index: index as u32,
         };
-        let hint = hints.get(history, table, name);
-        let seen = see(history, table, hint, name);
+        let did = Did::of(history, name);
+        let hint = hints.get(table, &did);
+        let seen = see(history, table, hint, name, &did);
         let above = seen.above();
         if mark < above {
             mark = above;

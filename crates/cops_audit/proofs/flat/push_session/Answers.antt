@@ -5,8 +5,8 @@ use Rattle.cops_audit.proofs.Noting.{Noted, few_places, higher_note, lower_note,
 use Rattle.cops_audit.proofs.flat.push_session.Goals as goal
 use Rattle.cops_audit.proofs.flat.push_session.Goals.{then-mark-above, else-mark-above}
 
-pub see-seen-requires-clause-named : goal.see-seen-requires-clause-named
-see-seen-requires-clause-named c = slice_get_there (slice_index_or c.args.history.now.sessions c.args.client []) c.loop-index.index (omega (arith, c.session_len-index-end.ensures.count, c.loop-index-test.true))
+pub of-did-requires : goal.of-did-requires
+of-did-requires c = slice_get_there (slice_index_or c.args.history.now.sessions c.args.client []) c.loop-index.index (omega (arith, c.session_len-index-end.ensures.count, c.loop-index-test.true))
 
 pub above-above-requires : goal.above-above-requires
 above-above-requires c = omega (arith, few_places c.args.history.now.sessions c.args.table.now c.requires.table _ c.see-seen.result c.see-seen.ensures, c.requires.table.table.few)

@@ -1,0 +1,37 @@
+ghost use Rattle.cops_types.specs.Histories.{IsNamed};
+ghost use Rattle.cops_audit.specs.Notes.{HasDone};
+
+use cops_types::{History, OpName, Version};
+
+/// What an operation did: the version that it put or got.
+#[derive(Drop)]
+pub enum Did {
+    Put(Version),
+    Got(Version),
+    /// A get that found nothing.
+    Missed,
+}
+
+impl Did {
+    /// What the operation of that name did.
+    pub fn of(history: &History, name: OpName) -> Self
+        requires { IsNamed history.now.sessions name }
+        ensures { HasDone history.now.sessions name result }
+    {
+        if let Some(version) = history.put_version(name) {
+            return Did::Put(version);
+        }
+        match history.got_version(name) {
+            Some(version) => Did::Got(version),
+            None => Did::Missed,
+        }
+    }
+
+    /// The version that was put or got.
+    pub fn version(&self) -> Option<Version> {
+        match self {
+            Did::Put(version) | Did::Got(version) => Some(*version),
+            Did::Missed => None,
+        }
+    }
+}
