@@ -14,7 +14,7 @@ pub record KeptBlocks : Type 0 where
 abbrev pub joined : List (Vec Entry) → List Entry
 joined blocks = flat_map (λ b. b.items) blocks
 
--- each but the last holds 32 entries, and all of them no more than a client may have
+-- each but the last holds 64 entries, and all of them no more than a client may have
 pub record AreBlocks (full : List (Vec Entry)) (last : List Entry) : Type 0 where
-  pub size : All (λ b. length b.items ≡ 32) full
+  pub size : All (λ b. length b.items ≡ 64) full
   pub few : length (joined full ++ last) ≤ MAX_CLIENT_OPS

@@ -7,7 +7,7 @@ use std::marker::Model;
 use std::mem;
 
 /// How many entries a full block holds.
-const BLOCK: usize = 32;
+const BLOCK: usize = 64;
 
 /// Entries, one after the other, in blocks: those of a full one stay where they are, and no larger room is looked for.
 #[derive(Debug, Drop)]

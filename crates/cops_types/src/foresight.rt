@@ -22,7 +22,7 @@ const NO_PUT: OpName = OpName {
 const NO_KEY: u32 = u32::MAX;
 
 /// After how many operations the tables may grow.
-const GROWN_AFTER: usize = 32;
+const GROWN_AFTER: usize = 64;
 
 /// So many keys, with what they are found by, lie in a processor's caches: what is needed for operations on fewer is at hand.
 const FEW_KEYS: usize = 8_192;
