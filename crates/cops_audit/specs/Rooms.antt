@@ -11,7 +11,7 @@ use Rattle.cops_audit.specs.Keys.{AreFirsts}
 use Rattle.cops_audit.specs.Notes.{Flat, IsNoted}
 use Rattle.cops_audit.specs.Sweeps.{HasRoom, IsIdle}
 use Rattle.cops_audit.specs.Tables.{IsVersionTable}
-use Rattle.cops_audit.specs.Windows.{AreSuspects}
+use Rattle.cops_audit.specs.Windows.{AreAllSuspects}
 
 -- space for so many operations
 pub record HasSpace (count : ℕ) (room : Room) : Type 0 where
@@ -50,16 +50,17 @@ pub record Fits (h : Sessions) (room : Room) (flat : Flat) : Type 0 where
   pub sessions : length h ≤ flat.session_room
   pub notes : room.space ≤ flat.note_room
 
--- room for a history, with its names and its puts, and the notes on its operations
+-- room for a history, with its puts, and the notes on its operations
 pub record IsNotedIn (h : Sessions) (room : Room) (sessions : List (List Note)) : Type 0 where
   pub ready : IsReady h room
   pub limits : IsWithinLimits h
-  pub filled : IsFilled h room
+  pub table : IsVersionTable h room.table.items
+  pub few : length room.table.items ≤ count_of h
   pub notes : IsNoted h room.table.items sessions
 
 -- the gets that may be stale are found, with what tells whether they are, and the sweep begins anew
 pub record IsSuspected (h : Sessions) (room : Room) (notes : List (List Note)) : Type 0 where
-  pub suspects : AreSuspects h room.table.items room.names.items room.suspects.items
+  pub suspects : AreAllSuspects h room.table.items room.suspects.items
   pub firsts : AreFirsts h room.table.items room.firsts.items
   pub floors : AreFloors room.suspects.items room.floors.items
   pub idle : IsIdle (length h) (length room.table.items) room.sweep

@@ -1,11 +1,12 @@
 -- Gets that may be stale.
-use Rattle.std.specs.Prelude.{◌≡◌, ◌<◌, ◌≤◌, ◌⊎◌, ℕ, List, Contains, AllPairs}
+use Rattle.std.specs.Prelude.{◌≡◌, ◌<◌, ◌≤◌, ◌+◌, ◌⊎◌, ℕ, List, Contains, AllPairs, length, sum_by, take}
 use Rattle.cops_types.specs.declared.op.OpName.{OpName}
 use Rattle.cops_types.specs.Histories.{Sessions, IsGot, IsMissed, IsNamed, PutsKey, SourceStep}
-use Rattle.cops_types.specs.Faults.{IsBefore, IsNewer}
+use Rattle.cops_types.specs.Faults.{IsBefore, IsNewer, Lists}
 use Rattle.cops_audit.specs.declared.table.VersionedPut.{VersionedPut}
 use Rattle.cops_audit.specs.declared.window.Suspect.{Suspect}
 use Rattle.cops_audit.specs.Keys.{IsFirstOn, OnKey}
+use Rattle.cops_audit.specs.Names.{ListsBefore}
 use Rattle.cops_audit.specs.Notes.{StandsAt}
 
 -- a put of this version on the key, which is newer than what was returned if it is in the past
@@ -33,3 +34,15 @@ pub record AreSuspects (h : Sessions) (table : List VersionedPut) (names : List 
   pub each : (s : Suspect) → Contains suspects s → IsSuspect h table s × Contains names s.op
   pub others : (name newer : OpName) (version : ℕ) → Contains names name → IsNewer h name newer version → (s : Suspect) × (s.op ≡ name) × Contains suspects s
   pub in_order : AllPairs (λ s t. IsBefore s.op t.op) suspects
+
+-- the suspects among all names
+abbrev pub AreAllSuspects : Sessions → List VersionedPut → List Suspect → Type 0
+AreAllSuspects h table suspects = (names : List OpName) × Lists (λ n. n) (IsNamed h) names × AreSuspects h table names suspects
+
+-- the suspects among the names before this place
+pub record AreSuspectsBefore (h : Sessions) (table : List VersionedPut) (client index : ℕ) (suspects : List Suspect) : Type 0 where
+  pub names : List OpName
+  pub listed : ListsBefore h client index names
+  pub count : length names ≡ sum_by length (take client h) + index
+  pub are : AreSuspects h table names suspects
+  pub few : length suspects ≤ length names

@@ -18,7 +18,7 @@ use crate::room::Room;
 use crate::stale::has_stale;
 use crate::table::{VersionedPut, is_rising, place_of, set_puts};
 use crate::verdict::SoFar;
-use crate::window::push_suspects;
+use crate::window::set_suspects;
 use cops_types::{History, OpName};
 use std::alloc::AllocError;
 
@@ -75,21 +75,18 @@ impl Room {
         ensures table { OnOk result (self.new.table ≡ self.old.table) }
     {
         let table = self.table.as_slice();
-        let names = self.names.as_slice();
         link(&mut self.nexts, &mut self.by_key, history, table)?;
         let nexts = self.nexts.as_slice();
-        set_firsts(&mut self.firsts, table, nexts)?;
         let by_key = self.by_key.as_slice();
-        self.suspects.clear();
-        push_suspects(
+        set_suspects(
             &mut self.suspects,
             history,
             table,
             notes,
             nexts,
             by_key,
-            names,
         )?;
+        set_firsts(&mut self.firsts, table, nexts)?;
         set_floors(&mut self.floors, self.suspects.as_slice())?;
         self.sweep.restart();
         Ok(())
@@ -126,7 +123,8 @@ impl Room {
 
     /// What is said so far of a history in which no version is borne by two puts, and whose operations are noted.
     fn assess_notes(&mut self, history: &History, notes: &Notes) -> Result<SoFar, AllocError>
-        requires { IsNotedIn history.now.sessions self.old notes.now }
+        requires noted { IsNotedIn history.now.sessions self.old notes.now }
+        requires filled { IsFilled history.now.sessions self.old }
         ensures ok { IsOk result }
         ensures so_far { IfOk result (IsSoFar history.now.sessions) }
         ensures ready { OnOk result (IsReady history.now.sessions self.new) }

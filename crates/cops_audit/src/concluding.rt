@@ -1,17 +1,19 @@
-ghost use Rattle.std.specs.Prelude.{◌≡◌, IfOk, IfNone, IfSome, OnOk};
+ghost use Rattle.std.specs.Prelude.{◌≡◌, ◌≤◌, IfOk, IfNone, IfSome, OnOk, length};
+ghost use Rattle.cops_types.specs.Counts.{count_of};
 ghost use Rattle.cops_types.specs.Recorded.{IsWithinLimits};
 ghost use Rattle.cops_types.specs.Verdicts.{AllAbove, AllHaveSources};
 ghost use Rattle.cops_types.specs.Faults.{IsStale, Lists};
 ghost use Rattle.cops_audit.specs.Notes.{IsNoted};
-ghost use Rattle.cops_audit.specs.Rooms.{IsFilled, IsNotedIn, IsReady};
+ghost use Rattle.cops_audit.specs.Rooms.{IsNotedIn, IsReady};
+ghost use Rattle.cops_audit.specs.Tables.{IsVersionTable};
 ghost use Rattle.cops_audit.specs.Verdicts.{IsVerdict};
 
-use crate::names::set_names;
+use crate::names::all_names;
 use crate::notes::{Notes, SessionNotes, without_source};
 use crate::rising::not_above;
 use crate::room::Room;
 use crate::stale::stale_suspects;
-use crate::table::{doubled, is_rising, set_put_names, set_puts};
+use crate::table::{doubled, is_rising, put_names, set_puts};
 use crate::verdict::{Faults, Stale, Verdict};
 use cops_types::History;
 use std::alloc::{AllocError, Global};
@@ -30,7 +32,6 @@ impl Room {
         requires above { AllAbove history.now.sessions }
         ensures stale { IfOk result (λ v. Lists (λ f. f.op) (λ f. IsStale history.now.sessions f.op f.newer) v.items) }
         ensures table { OnOk result (self.new.table ≡ self.old.table) }
-        ensures names { OnOk result (self.new.names ≡ self.old.names) }
     {
         self.suspect(history, notes)?;
         // The links are let go before the sweep takes memory.
@@ -60,13 +61,14 @@ impl Room {
         history: &History,
         notes: &Notes,
     ) -> Result<Option<Verdict>, AllocError>
-        requires filled { IsFilled history.now.sessions self.now }
+        requires table { IsVersionTable history.now.sessions self.now.table.items }
         requires notes { IsNoted history.now.sessions self.now.table.items notes.now }
         ensures refused { IfOk result (λ found. IfSome found (IsVerdict history.now.sessions)) }
         ensures sources { IfOk result (λ found. IfNone found (AllHaveSources history.now.sessions)) }
         ensures above { IfOk result (λ found. IfNone found (AllAbove history.now.sessions)) }
     {
-        let names = self.names.as_slice();
+        let names = all_names(alloc, history)?;
+        let names = names.as_slice();
         let sourceless = without_source(alloc, notes, names)?;
         if !sourceless.is_empty() {
             return Ok(Some(Verdict::Refused(Faults::NoSource(sourceless))));
@@ -82,7 +84,8 @@ impl Room {
     fn judge_gets(&mut self, alloc: Global, history: &History) -> Result<Verdict, AllocError>
         requires ready { IsReady history.now.sessions self.old }
         requires limits { IsWithinLimits history.now.sessions }
-        requires filled { IsFilled history.now.sessions self.old }
+        requires table { IsVersionTable history.now.sessions self.old.table.items }
+        requires few { length self.old.table.items ≤ count_of history.now.sessions }
         ensures { IfOk result (IsVerdict history.now.sessions) }
     {
         let session_notes = SessionNotes::new(alloc, history, self.table.as_slice())?;
@@ -94,25 +97,24 @@ impl Room {
         if !stale.is_empty() {
             return Ok(Verdict::Refused(Faults::Stale(stale)));
         }
-        let mut puts = std::mem::replace(&mut self.names, Vec::new(alloc));
-        set_put_names(&mut puts, self.table.as_slice());
+        let puts = put_names(alloc, self.table.as_slice())?;
         Ok(Verdict::Accepted(puts))
     }
 
-    /// The verdict on a history. Beside the room it takes memory for the faults alone, and while it notes what the operations did
-    /// for hints of where versions stand. The names of the puts come in the room that the names of all operations took.
+    /// The verdict on a history. Beside the room it takes memory for the faults, or for the names of the puts; and as long as they
+    /// are gone through, for the names of all operations, and for hints of where versions stand.
     pub fn judge(&mut self, alloc: Global, history: &History) -> Result<Verdict, AllocError>
         requires { IsReady history.now.sessions self.old }
         ensures { IfOk result (IsVerdict history.now.sessions) }
     {
-        set_names(&mut self.names, history);
-        let names = self.names.as_slice();
-        set_puts(&mut self.table, history, names)?;
+        let names = all_names(alloc, history)?;
+        set_puts(&mut self.table, history, names.as_slice())?;
         let table = self.table.as_slice();
         if !is_rising(table) {
-            let faults = doubled(alloc, history, names, table)?;
+            let faults = doubled(alloc, history, names.as_slice(), table)?;
             return Ok(Verdict::Refused(Faults::Doubled(faults)));
         }
+        drop(names);
         self.judge_gets(alloc, history)
     }
 }

@@ -40,6 +40,8 @@ pub fn set_names(names: &mut Vec<OpName>, history: &History)
 /// The names of all operations, in their order.
 pub fn all_names(alloc: Global, history: &History) -> Result<Vec<OpName>, AllocError>
     ensures names { IfOk result (λ v. Lists (λ n. n) (IsNamed history.now.sessions) v.items) }
+    ensures count { IfOk result (λ v. vec_len v ≡ count_of history.now.sessions) }
+    ensures limits { IfOk result (λ _. IsWithinLimits history.now.sessions) }
     ensures few { IfOk result (λ v. vec_len v ≤ MAX_OPS) }
 {
     let mut names = Vec::with_capacity(alloc, history.len())?;

@@ -193,14 +193,3 @@ pub fn put_names(alloc: Global, table: &[VersionedPut]) -> Result<Vec<OpName>, A
 {
     table.iter().map(|put| put.name).collect(alloc)
 }
-
-/// Makes it the names of the puts in order of versions; there is room for them.
-pub fn set_put_names(names: &mut Vec<OpName>, table: &[VersionedPut])
-    requires { length table.now ≤ vec_capacity names.old }
-    ensures { names.new.items ≡ map (λ p. p.name) table.now }
-{
-    names.clear();
-    for put in table {
-        names.push_reserved(put.name);
-    }
-}

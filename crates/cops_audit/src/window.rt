@@ -1,5 +1,6 @@
-ghost use Rattle.std.specs.Prelude.{◌≡◌, ◌≤◌, ℕ, List, [], IfSome, IfNone, IsOk, OnOk, AllPairs, length, vec_len, vec_capacity};
+ghost use Rattle.std.specs.Prelude.{◌≡◌, ◌<◌, ◌≤◌, ◌+◌, ℕ, List, [], IfSome, IfNone, IsOk, OnOk, AllPairs, length, vec_len, vec_capacity};
 ghost use Rattle.cops_types.specs.declared.op.OpName.{OpName};
+ghost use Rattle.cops_types.specs.Counts.{count_of};
 ghost use Rattle.cops_types.specs.Histories.{IsGot, IsMissed, IsNamed};
 ghost use Rattle.cops_types.specs.Faults.{IsBefore, IsNewer};
 ghost use Rattle.cops_types.specs.Verdicts.{AllAbove};
@@ -7,7 +8,7 @@ ghost use Rattle.cops_audit.specs.SoFar.{HaveSourcesOrWait, IsWaiting};
 ghost use Rattle.cops_audit.specs.Keys.{AreNexts, KnowsFirsts};
 ghost use Rattle.cops_audit.specs.Notes.{IsNoted, IsSeen};
 ghost use Rattle.cops_audit.specs.Tables.{IsVersionTable};
-ghost use Rattle.cops_audit.specs.Windows.{AreSuspects, IsSuspect, NoneWithin};
+ghost use Rattle.cops_audit.specs.Windows.{AreAllSuspects, AreSuspects, AreSuspectsBefore, IsSuspect, NoneWithin};
 
 use crate::keys::first_on;
 use crate::notes::{Notes, Seen};
@@ -165,6 +166,76 @@ pub fn push_suspects(
         if let Some(found) = find_suspect(history, table, notes, nexts, firsts, *name) {
             suspects.push(found)?;
         }
+    }
+    Ok(())
+}
+
+/// Adds the suspects of a session, behind those of the sessions before it. It takes no memory where there is room for as many as
+/// there are operations.
+fn push_session_suspects(
+    suspects: &mut Vec<Suspect>,
+    history: &History,
+    table: &[VersionedPut],
+    notes: &Notes,
+    nexts: &[Option<u32>],
+    firsts: &[Option<u32>],
+    client: u16,
+) -> Result<(), AllocError>
+    requires client { client < length history.now.sessions }
+    requires table { IsVersionTable history.now.sessions table.now }
+    requires notes { IsNoted history.now.sessions table.now notes.now }
+    requires nexts { AreNexts history.now.sessions table.now nexts.now }
+    requires firsts { KnowsFirsts history.now table.now firsts.now }
+    requires sources { HaveSourcesOrWait history.now.sessions }
+    requires above { AllAbove history.now.sessions }
+    requires before { AreSuspectsBefore history.now.sessions table.now client 0 suspects.old.items }
+    ensures suspects { OnOk result (AreSuspectsBefore history.now.sessions table.now (client + 1) 0 suspects.new.items) }
+    ensures capacity { vec_capacity suspects.old ≤ vec_capacity suspects.new }
+    ensures succeeds { count_of history.now.sessions ≤ vec_capacity suspects.old → IsOk result }
+{
+    for index in 0..history.session_len(client) {
+        let name = OpName {
+            client,
+            index: index as u32,
+        };
+        if let Some(found) = find_suspect(history, table, notes, nexts, firsts, name) {
+            suspects.push(found)?;
+        }
+    }
+    Ok(())
+}
+
+/// Makes it all suspects. It takes no memory where there is room for as many as there are operations.
+pub fn set_suspects(
+    suspects: &mut Vec<Suspect>,
+    history: &History,
+    table: &[VersionedPut],
+    notes: &Notes,
+    nexts: &[Option<u32>],
+    firsts: &[Option<u32>],
+) -> Result<(), AllocError>
+    requires table { IsVersionTable history.now.sessions table.now }
+    requires notes { IsNoted history.now.sessions table.now notes.now }
+    requires nexts { AreNexts history.now.sessions table.now nexts.now }
+    requires firsts { KnowsFirsts history.now table.now firsts.now }
+    requires sources { HaveSourcesOrWait history.now.sessions }
+    requires above { AllAbove history.now.sessions }
+    ensures suspects { OnOk result (AreAllSuspects history.now.sessions table.now suspects.new.items) }
+    ensures count { OnOk result (vec_len suspects.new ≤ count_of history.now.sessions) }
+    ensures capacity { vec_capacity suspects.old ≤ vec_capacity suspects.new }
+    ensures succeeds { count_of history.now.sessions ≤ vec_capacity suspects.old → IsOk result }
+{
+    suspects.clear();
+    for client in 0..history.clients() {
+        push_session_suspects(
+            suspects,
+            history,
+            table,
+            notes,
+            nexts,
+            firsts,
+            client as u16,
+        )?;
     }
     Ok(())
 }

@@ -9,15 +9,16 @@ use Rattle.cops_audit.proofs.room.Room.has_stale.Goals as goal
 
 pub has_stale-requires-clause-suspects : goal.has_stale-requires-clause-suspects
 has_stale-requires-clause-suspects c =
-    each_suspect (subst (λ (t : List VersionedPut). AreSuspects c.args.history.now.sessions t c.suspect.new.self.names.items c.as_slice-suspects.result.now) (sym c.as_slice-table.ensures.value)
-    (seen_suspects c.as_slice-suspects.ensures.value c.in_ok-suspect.ensures.suspected.suspects))
+    let all = c.in_ok-suspect.ensures.suspected.suspects in
+    each_suspect (subst (λ (t : List VersionedPut). AreSuspects c.args.history.now.sessions t all.0 c.as_slice-suspects.result.now) (sym c.as_slice-table.ensures.value)
+    (seen_suspects c.as_slice-suspects.ensures.value all.2))
 
 pub returns-clause-none : goal.returns-clause-none
 returns-clause-none c = λ found.
     let h = c.args.history.now.sessions in
-    let names = subst (λ (v : Vec OpName Global). Lists (λ n. n) (IsNamed h) v.items) (sym c.in_ok-suspect.ensures.names) c.requires.noted.filled.names in
-    none_stale h c.suspect.new.self.table.items c.suspect.new.self.names.items c.as_slice-suspects.result.now names
-    (seen_suspects c.as_slice-suspects.ensures.value c.in_ok-suspect.ensures.suspected.suspects) (c.in_ok-found.ensures.none found)
+    let all = c.in_ok-suspect.ensures.suspected.suspects in
+    none_stale h c.suspect.new.self.table.items all.0 c.as_slice-suspects.result.now all.1
+    (seen_suspects c.as_slice-suspects.ensures.value all.2) (c.in_ok-found.ensures.none found)
 
 pub returns-clause-ready : goal.returns-clause-ready
 returns-clause-ready c =

@@ -13,7 +13,7 @@ pub returns-then-not-is_empty : goal.returns-then-not-is_empty
 returns-then-not-is_empty c =
     let h = c.args.history.now.sessions in
     let stale = c.in_ok-stale.stale in (
-      none_doubled h c.args.self.now.table.items c.requires.filled.table,
+      none_doubled h c.args.self.now.table.items c.requires.table,
       subst (λ (o : Option Verdict). IfNone o (AllHaveSources h)) c.in_default.is c.in_ok-verdict.ensures.sources,
       subst (λ (o : Option Verdict). IfNone o (AllAbove h)) c.in_default.is c.in_ok-verdict.ensures.above,
       some_there {A = Stale} (λ f. f.op) (λ f. IsStale h f.op f.newer) stale.items c.is_empty.result _ c.if-not-is_empty.true c.is_empty.ensures stale.ok.0,
@@ -26,9 +26,9 @@ returns c =
     let stale = c.in_ok-stale.stale in
     let table = c.as_slice-2.ensures.value ∙ ap (λ (v : Vec VersionedPut Global). v.items) c.in_ok-stale.ensures.table in
     record {
-      doubled = none_doubled h c.args.self.now.table.items c.requires.filled.table;
+      doubled = none_doubled h c.args.self.now.table.items c.requires.table;
       sources = subst (λ (o : Option Verdict). IfNone o (AllHaveSources h)) c.in_default.is c.in_ok-verdict.ensures.sources;
       above = subst (λ (o : Option Verdict). IfNone o (AllAbove h)) c.in_default.is c.in_ok-verdict.ensures.above;
       stale = λ n q fault. none_there {A = Stale} (λ f. f.op) (λ f. IsStale h f.op f.newer) stale.items c.is_empty.result _ c.in_ok-stale.ensures.stale c.if-not-is_empty.false c.is_empty.ensures stale.ok.0 (record { op = n; newer = q }) fault;
-      version_order = subst (IsVersionOrder h) (sym (c.set_put_names.ensures ∙ ap (map (λ (p : VersionedPut). p.name)) table)) (order_of_table h c.args.self.now.table.items c.requires.filled.table);
+      version_order = subst (IsVersionOrder h) (sym (c.in_ok-puts.ensures ∙ ap (map (λ (p : VersionedPut). p.name)) table)) (order_of_table h c.args.self.now.table.items c.requires.table);
     }

@@ -15,12 +15,13 @@ stale_suspects-requires-clause-sources c = sourced_wait c.args.history.now.sessi
 
 pub stale_suspects-requires-clause-suspects : goal.stale_suspects-requires-clause-suspects
 stale_suspects-requires-clause-suspects c =
-    each_suspect (subst (λ (t : List VersionedPut). AreSuspects c.args.history.now.sessions t c.suspect.new.self.names.items c.as_slice-suspects.result.now) (sym c.as_slice-table.ensures.value)
-    (seen_suspects c.as_slice-suspects.ensures.value c.in_ok-suspect.ensures.suspected.suspects))
+    let all = c.in_ok-suspect.ensures.suspected.suspects in
+    each_suspect (subst (λ (t : List VersionedPut). AreSuspects c.args.history.now.sessions t all.0 c.as_slice-suspects.result.now) (sym c.as_slice-table.ensures.value)
+    (seen_suspects c.as_slice-suspects.ensures.value all.2))
 
 pub returns-clause-stale : goal.returns-clause-stale
 returns-clause-stale c =
     let h = c.args.history.now.sessions in
-    let names = subst (λ (v : Vec OpName Global). Lists (λ n. n) (IsNamed h) v.items) (sym c.in_ok-suspect.ensures.names) c.requires.noted.filled.names in
-    stale_listed h c.suspect.new.self.names.items names c.in_ok-faults.faults.items
-    (of_suspects (seen_suspects c.as_slice-suspects.ensures.value c.in_ok-suspect.ensures.suspected.suspects) c.in_ok-faults.ensures)
+    let all = c.in_ok-suspect.ensures.suspected.suspects in
+    stale_listed h all.0 all.1 c.in_ok-faults.faults.items
+    (of_suspects (seen_suspects c.as_slice-suspects.ensures.value all.2) c.in_ok-faults.ensures)

@@ -5,37 +5,34 @@ use Rattle.cops_audit.specs.declared.window.Suspect.{Suspect}
 use Rattle.cops_audit.specs.Floors.{AreFloors}
 use Rattle.cops_audit.specs.Keys.{AreFirsts, AreNexts}
 use Rattle.cops_audit.specs.Tables.{IsVersionTable}
-use Rattle.cops_audit.specs.Windows.{AreSuspects}
+use Rattle.cops_audit.specs.Windows.{AreAllSuspects}
 use Rattle.cops_audit.proofs.Fitting.{no_ok}
 use Rattle.cops_audit.proofs.Growing.{fresh_idle, fresh_room}
 use Rattle.cops_audit.proofs.room.Room.suspect.Goals as goal
 
 pub returns-in_err-link-clause-ok : goal.returns-in_err-link-clause-ok
 returns-in_err-link-clause-ok c = no_ok (c.in_err-link.ensures.succeeds
-    (omega (arith, c.requires.noted.filled.few, c.requires.noted.ready.space.nexts, c.requires.noted.ready.enough, ap length c.as_slice-table.ensures.value))
+    (omega (arith, c.requires.noted.few, c.requires.noted.ready.space.nexts, c.requires.noted.ready.enough, ap length c.as_slice-table.ensures.value))
     (omega (arith, c.requires.noted.ready.space.by_key, c.requires.noted.ready.enough)))
 
 pub returns-in_err-set_firsts-clause-ok : goal.returns-in_err-set_firsts-clause-ok
 returns-in_err-set_firsts-clause-ok c =
     let ready = c.requires.noted.ready in
-    no_ok (c.in_err-set_firsts.ensures.succeeds (omega (arith, c.requires.noted.filled.few, ready.space.firsts, ready.enough, ap length c.as_slice-table.ensures.value)))
+    no_ok (c.in_err-set_firsts.ensures.succeeds (omega (arith, c.requires.noted.few, ready.space.firsts, ready.enough, ap length c.as_slice-table.ensures.value)))
 
-pub returns-in_err-push_suspects-clause-ok : goal.returns-in_err-push_suspects-clause-ok
-returns-in_err-push_suspects-clause-ok c =
+pub returns-in_err-set_suspects-clause-ok : goal.returns-in_err-set_suspects-clause-ok
+returns-in_err-set_suspects-clause-ok c =
     let ready = c.requires.noted.ready in
-    no_ok (c.in_err-push_suspects.ensures.succeeds
-    (omega (arith, c.requires.noted.filled.count, ready.space.suspects, ready.enough, c.clear.ensures.capacity, ap length c.as_slice-names.ensures.value)))
+    no_ok (c.in_err-set_suspects.ensures.succeeds (omega (arith, ready.space.suspects, ready.enough)))
 
 pub returns-in_err-set_floors-clause-ok : goal.returns-in_err-set_floors-clause-ok
 returns-in_err-set_floors-clause-ok c = no_ok (c.in_err-set_floors.ensures.succeeds (omega (
   arith,
-  c.requires.noted.filled.count,
   c.requires.noted.ready.space.floors,
   c.requires.noted.ready.enough,
-  c.in_ok-push_suspects.ensures.count,
-  c.push_suspects.new.suspects.ok.0,
+  c.in_ok-set_suspects.ensures.count,
+  c.set_suspects.new.suspects.ok.0,
   ap length c.as_slice.ensures.value,
-  ap length c.as_slice-names.ensures.value,
 )))
 
 pub returns-clause-suspected : goal.returns-clause-suspected
@@ -44,14 +41,13 @@ returns-clause-suspected c =
     let ready = c.requires.noted.ready in
     let fresh = c.restart.ensures.fresh ready.empty in
     let seen = c.as_slice-table.ensures.value in
-    let table = subst (IsVersionTable h) (sym seen) c.requires.noted.filled.table in
+    let table = subst (IsVersionTable h) (sym seen) c.requires.noted.table in
     let nexts = subst (AreNexts h c.as_slice-table.result.now) (sym c.as_slice-nexts.ensures.value) c.in_ok-link.ensures.nexts in
     record {
-      suspects = subst (λ (t : List VersionedPut). AreSuspects h t c.args.self.now.names.items c.push_suspects.new.suspects.items) seen
-          (subst (λ (n : List OpName). AreSuspects h c.as_slice-table.result.now n c.push_suspects.new.suspects.items) c.as_slice-names.ensures.value c.in_ok-push_suspects.ensures.suspects);
+      suspects = subst (λ (t : List VersionedPut). AreAllSuspects h t c.set_suspects.new.suspects.items) seen c.in_ok-set_suspects.ensures.suspects;
       firsts = subst (λ (t : List VersionedPut). AreFirsts h t c.set_firsts.new.places.items) seen (c.in_ok-set_firsts.ensures.firsts h table nexts);
       floors = subst (λ (s : List Suspect). AreFloors s c.set_floors.new.floors.items) c.as_slice.ensures.value c.in_ok-set_floors.ensures.floors;
-      idle = fresh_idle h c.args.self.now ready c.restart.new.self fresh c.restart.ensures.pending (length c.args.self.now.table.items) c.requires.noted.filled.few;
+      idle = fresh_idle h c.args.self.now ready c.restart.new.self fresh c.restart.ensures.pending (length c.args.self.now.table.items) c.requires.noted.few;
       space = fresh_room h c.args.self.now ready c.restart.new.self fresh c.restart.ensures.pending c.args.notes.now c.requires.noted.notes;
     }
 
@@ -69,7 +65,7 @@ returns-clause-ready c =
         nexts = omega (arith, ready.space.nexts, c.in_ok-link.ensures.nexts_capacity);
         by_key = omega (arith, ready.space.by_key, c.in_ok-link.ensures.firsts_capacity);
         firsts = omega (arith, ready.space.firsts, c.in_ok-set_firsts.ensures.capacity);
-        suspects = omega (arith, ready.space.suspects, c.clear.ensures.capacity, c.in_ok-push_suspects.ensures.capacity);
+        suspects = omega (arith, ready.space.suspects, c.in_ok-set_suspects.ensures.capacity);
         floors = omega (arith, ready.space.floors, c.in_ok-set_floors.ensures.capacity);
         pending = room.whole;
         newest = room.places;

@@ -1,0 +1,15 @@
+use Rattle.std.proofs.Common.{length, arith, sym, subst, ap, take_all}
+use Rattle.std.specs.Prelude.{sum_by}
+use Rattle.cops_types.specs.declared.op.Op.{Op}
+use Rattle.cops_audit.specs.Windows.{AreSuspectsBefore}
+use Rattle.cops_audit.proofs.Gathering.{none_gathered, sessions_gathered}
+use Rattle.cops_audit.proofs.window.set_suspects.Goals as goal
+
+pub loop-client-init : goal.loop-client-init
+loop-client-init c = record {
+  suspects = subst (AreSuspectsBefore c.args.history.now.sessions c.args.table.now 0 0) (sym c.clear.ensures.items) (none_gathered c.args.history.now.sessions c.args.table.now);
+  capacity = omega (arith, c.clear.ensures.capacity);
+}
+
+pub returns-clause-suspects : goal.returns-clause-suspects
+returns-clause-suspects c = sessions_gathered c.args.history.now.sessions c.args.table.now c.loop-client.client _ (omega arith) c.loop-client.invariant.suspects

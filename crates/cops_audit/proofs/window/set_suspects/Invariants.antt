@@ -1,0 +1,10 @@
+use Rattle.std.proofs.Common.{◌≤◌}
+use Rattle.std.specs.Prelude.{vec_capacity}
+use Rattle.cops_audit.specs.Windows.{AreSuspectsBefore}
+use Rattle.cops_audit.proofs.window.set_suspects.Given as goal
+
+abbrev pub invariant-loop-client : goal.invariant-loop-client
+invariant-loop-client l = record {
+  suspects : AreSuspectsBefore l.history.sessions l.table l.client 0 l.suspects.items;
+  capacity : vec_capacity l.fn.suspects ≤ vec_capacity l.suspects;
+}
