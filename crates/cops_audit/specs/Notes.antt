@@ -110,6 +110,7 @@ pub record SeesNotAbove (notes : List (List Note)) (name earlier : OpName) : Typ
 abbrev pub span_of : List Note → Span → List Note
 span_of notes span = slice_range notes span.from span.to
 
+-- both places are within the notes, in their order
 abbrev pub IsWithin : List Note → Span → Type 0
 IsWithin notes span = (span.from ≤ span.to) × (span.to ≤ length notes)
 
