@@ -55,7 +55,7 @@ pub all_gathered : (h : Sessions) (table : List VersionedPut) (names : List OpNa
 all_gathered h table names i suspects enough are = subst (λ ns. AreSuspects h table ns suspects) (take_all i names enough) are
 
 module _ (h : Sessions) (table : List VersionedPut) (client index : ℕ) (inside : index < length (slice_index_or h client [])) (suspects : List Suspect) (so_far : AreSuspectsBefore h table client index suspects) (n : OpName)
-  (same_c : n.client ≡ client) (same_i : n.index ≡ index) where
+    (same_c : n.client ≡ client) (same_i : n.index ≡ index) where
   before_next : (m : OpName) → Contains so_far.names m → IsBefore m n
   before_next m at = elim ((so_far.listed.members m).0 at).1 [
     | inl less ↦ inl (omega (arith, less, same_c))

@@ -78,14 +78,7 @@ impl Room {
         link(&mut self.nexts, &mut self.by_key, history, table)?;
         let nexts = self.nexts.as_slice();
         let by_key = self.by_key.as_slice();
-        set_suspects(
-            &mut self.suspects,
-            history,
-            table,
-            notes,
-            nexts,
-            by_key,
-        )?;
+        set_suspects(&mut self.suspects, history, table, notes, nexts, by_key)?;
         set_firsts(&mut self.firsts, table, nexts)?;
         set_floors(&mut self.floors, self.suspects.as_slice())?;
         self.sweep.restart();

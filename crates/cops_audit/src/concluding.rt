@@ -88,7 +88,8 @@ impl Room {
         requires few { length self.old.table.items ≤ count_of history.now.sessions }
         ensures { IfOk result (IsVerdict history.now.sessions) }
     {
-        let session_notes = SessionNotes::new(alloc, history, self.table.as_slice())?;
+        let hints = std::mem::replace(&mut self.hints, Vec::new(alloc));
+        let session_notes = SessionNotes::hinted(alloc, history, self.table.as_slice(), hints)?;
         let notes = session_notes.look();
         if let Some(verdict) = self.judge_notes(alloc, history, &notes)? {
             return Ok(verdict);

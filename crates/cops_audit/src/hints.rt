@@ -33,14 +33,15 @@ pub struct Hints {
 }
 
 impl Hints {
-    /// The hints for a table.
-    pub fn new(alloc: Global, table: &[VersionedPut]) -> Result<Self, AllocError>
+    /// The hints for a table, in a vector that may have room for them.
+    pub fn new(mut starts: Vec<u32>, table: &[VersionedPut]) -> Result<Self, AllocError>
         requires { length table.now ≤ MAX_OPS }
     {
+        starts.clear();
         let mut hints = Hints {
             lowest: 0,
             shift: 0,
-            starts: Vec::new(alloc),
+            starts,
         };
         if let (Some(first), Some(last)) = (table.first(), table.last()) {
             hints.lowest = first.version.as_u64();

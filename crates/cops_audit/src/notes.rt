@@ -202,7 +202,20 @@ impl SessionNotes {
         requires { IsVersionTable history.now.sessions table.now }
         ensures { IfOk result (λ notes. IsNoted history.now.sessions table.now notes) }
     {
-        let hints = Hints::new(alloc, table)?;
+        SessionNotes::hinted(alloc, history, table, Vec::new(alloc))
+    }
+
+    /// The same, with the hints in a vector that may have room for them, and that is let go.
+    pub fn hinted(
+        alloc: Global,
+        history: &History,
+        table: &[VersionedPut],
+        hints: Vec<u32>,
+    ) -> Result<Self, AllocError>
+        requires { IsVersionTable history.now.sessions table.now }
+        ensures { IfOk result (λ notes. IsNoted history.now.sessions table.now notes) }
+    {
+        let hints = Hints::new(hints, table)?;
         let notes = SessionNotes::on_clients(alloc, history, table, &hints, 0, history.clients())?;
         Ok(notes)
     }
