@@ -268,25 +268,29 @@ fn settle<R: Wait>(
     told(cluster.settle(rt, share, &OpenGate, dc, of), of)
 }
 
-/// Whether the answer is a Yes. It is let go.
-fn is_yes(asked: Result<Asked, GateHeld>) -> bool {
-    let is_yes = matches!(&asked, Ok(Asked::Yes(_)));
+/// A word for the answer to a question, which is let go.
+fn answered(asked: Result<Asked, GateHeld>) -> &'static str {
+    let answered = match &asked {
+        Ok(Asked::Yes(_)) => "yes",
+        Ok(Asked::Other(_)) => "no yes",
+        Err(GateHeld) => "held",
+    };
     drop(asked);
-    is_yes
+    answered
 }
 
-/// Whether exactly x at this version is settled in data centre 1.
-fn is_settled<R: Wait>(
+/// What is answered where data centre 1 is asked whether exactly x at this version is settled there.
+fn ask<R: Wait>(
     rt: &R,
     alloc: Global,
     cluster: &Cluster,
     share: &mut Share,
     of: Version,
-) -> Result<bool, TypeFault> {
+) -> Result<&'static str, TypeFault> {
     let key = key(alloc, b'x')?;
     let asked = cluster.ask(rt, share, &OpenGate, 1, &key, of);
     drop(key);
-    Ok(is_yes(asked))
+    Ok(answered(asked))
 }
 
 /// The put of x comes into data centre 1 twice, and is settled there.
@@ -299,9 +303,9 @@ fn comes_once<R: Wait + Abort>(
     let of = Version::new(1, 0)?;
     assert!(*rt; deliver(rt, alloc, cluster, share, b'x', of)? == "waits");
     assert!(*rt; deliver(rt, alloc, cluster, share, b'x', of)? == "repeat");
-    assert!(*rt; !is_settled(rt, alloc, cluster, share, of)?);
+    assert!(*rt; ask(rt, alloc, cluster, share, of)? == "no yes");
     assert!(*rt; settle(rt, cluster, share, 1, of) == "settled");
-    assert!(*rt; is_settled(rt, alloc, cluster, share, of)?);
+    assert!(*rt; ask(rt, alloc, cluster, share, of)? == "yes");
     assert!(*rt; settle(rt, cluster, share, 2, of) == "no data centre");
     Ok(())
 }
@@ -356,8 +360,8 @@ fn settled<R: Wait>(
     of: Version,
 ) -> Result<Yes, Fail> {
     let put = put_of(alloc, byte, of, false)?;
-    drop(cluster.deliver(rt, share, &OpenGate, dc, put));
-    drop(cluster.settle(rt, share, &OpenGate, dc, of));
+    drop(cluster.deliver(rt, share, &OpenGate, dc, put)?);
+    drop(cluster.settle(rt, share, &OpenGate, dc, of)?);
     let key = key(alloc, byte)?;
     let asked = cluster.ask(rt, share, &OpenGate, dc, &key, of);
     drop(key);

@@ -54,6 +54,10 @@ fn opened(alloc: Global) -> Result<Opened, Fail> {
 
 /// The receiver takes from these links.
 fn with_receiver(alloc: Global, opened: Opened, links: Vec<LinkOut>) -> Result<Scene, Fail> {
+    if opened.clients.len() != 2 {
+        drop(opened);
+        return Err(Fail::new("a client is not there"));
+    }
     let Opened {
         cluster,
         clients,
