@@ -1,9 +1,9 @@
+use crate::building::*;
 use cops_cluster::*;
 use cops_gates::{HoldsSteps, Meeting};
 use cops_node::Outcome;
-use cops_place::Place;
 use cops_types::{
-    Dep, Deps, Gate, GateHeld, Key, OpenGate, Point, PutRecord, Refusal, TypeFault, Value, Version,
+    Dep, Deps, Gate, GateHeld, OpenGate, Point, PutRecord, Refusal, TypeFault, Version,
 };
 use std::alloc::Global;
 use std::process::Abort;
@@ -11,38 +11,6 @@ use std::sync::Wait;
 use std::test::Fail;
 use std::thread;
 use std::thread::Threads;
-
-fn key(alloc: Global, byte: u8) -> Result<Key, TypeFault> {
-    Key::new(alloc, &[byte])
-}
-
-/// A key and the value 1.
-fn pair(alloc: Global, byte: u8) -> Result<(Key, Value), TypeFault> {
-    let key = key(alloc, byte)?;
-    match Value::new(alloc, b"1") {
-        Ok(value) => Ok((key, value)),
-        Err(fault) => {
-            drop(key);
-            Err(fault)
-        }
-    }
-}
-
-/// A place of so many data centres, each with one node or with two whose ranges meet at `m`.
-fn place(alloc: Global, dcs: u8, is_split: bool) -> Result<Place, Fail> {
-    let mut splits = Vec::new(alloc);
-    if is_split {
-        splits.push(key(alloc, b'm')?)?;
-    }
-    Ok(Place::new(dcs, splits)?)
-}
-
-/// A cluster at such a place, with clients in these data centres.
-fn opened(alloc: Global, dcs: u8, is_split: bool, homes: &[u8]) -> Result<Opened, Fail> {
-    let homes = Vec::from_slice(alloc, homes)?;
-    let place = place(alloc, dcs, is_split)?;
-    Ok(Cluster::open(alloc, place, homes)?)
-}
 
 /// A word for what an outcome tells. A put and a get have theirs where the version is this one, and the value 1.
 fn word(outcome: &Outcome, of: Version) -> &'static str {

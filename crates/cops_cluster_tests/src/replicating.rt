@@ -1,10 +1,10 @@
+use crate::building::{key, opened, pair};
 use cops_cluster::*;
 use cops_gates::{HoldsAnswers, HoldsSteps};
 use cops_link::*;
 use cops_node::{NodeEvent, Outcome};
-use cops_place::Place;
 use cops_replication::*;
-use cops_types::{Gate, GateHeld, Key, Memory, OpenGate, PutRecord, TypeFault, Value};
+use cops_types::{Gate, GateHeld, Memory, OpenGate, PutRecord, TypeFault};
 use std::alloc::Global;
 use std::sync::Wait;
 use std::test::Fail;
@@ -46,12 +46,6 @@ fn turn_number(turn: Turn) -> u32 {
     }
 }
 
-fn opened(alloc: Global) -> Result<Opened, Fail> {
-    let homes = Vec::from_slice(alloc, &[0, 1])?;
-    let place = Place::new(2, Vec::new(alloc))?;
-    Ok(Cluster::open(alloc, place, homes)?)
-}
-
 /// The receiver takes from these links.
 fn with_receiver(alloc: Global, opened: Opened, links: Vec<LinkOut>) -> Result<Scene, Fail> {
     if opened.clients.len() != 2 {
@@ -78,7 +72,7 @@ fn with_receiver(alloc: Global, opened: Opened, links: Vec<LinkOut>) -> Result<S
 fn set_up(alloc: Global, link: LinkOut) -> Result<Scene, Fail> {
     let mut links = Vec::new(alloc);
     links.push(link)?;
-    let opened = opened(alloc)?;
+    let opened = opened(alloc, 2, false, &[0, 1])?;
     with_receiver(alloc, opened, links)
 }
 
@@ -107,18 +101,6 @@ fn joined(alloc: Global, capacity: usize) -> Result<Both, Fail> {
         Ok(scene) => with_sender(alloc, scene, link_in),
         Err(fault) => {
             drop(link_in);
-            Err(fault)
-        }
-    }
-}
-
-/// A key and the value 1.
-fn pair(alloc: Global, byte: u8) -> Result<(Key, Value), TypeFault> {
-    let key = Key::new(alloc, &[byte])?;
-    match Value::new(alloc, b"1") {
-        Ok(value) => Ok((key, value)),
-        Err(fault) => {
-            drop(key);
             Err(fault)
         }
     }
@@ -155,7 +137,7 @@ impl Scene {
         let Some(reader) = self.clients.get_mut(1) else {
             return false;
         };
-        match Key::new(alloc, &[byte]) {
+        match key(alloc, byte) {
             Ok(key) => is_got(self.cluster.get(rt, reader, &OpenGate, key)),
             Err(_) => false,
         }

@@ -1,23 +1,12 @@
+use crate::building::pair;
 use cops_record::*;
 use cops_trace::Trace;
-use cops_types::{Key, Memory, Op, OpName, TypeFault, Value, Version};
+use cops_types::{Key, Memory, Op, OpName, TypeFault, Version};
 use std::alloc::Global;
 use std::sync::Wait;
 use std::test::Fail;
 use std::thread;
 use std::thread::Threads;
-
-/// A key and a value of one byte each.
-fn pair(alloc: Global) -> Result<(Key, Value), TypeFault> {
-    let key = Key::new(alloc, b"x")?;
-    match Value::new(alloc, b"1") {
-        Ok(value) => Ok((key, value)),
-        Err(fault) => {
-            drop(key);
-            Err(fault)
-        }
-    }
-}
 
 fn put(alloc: Global, clock: u64) -> Result<Op, TypeFault> {
     let version = Version::new(clock, 0)?;

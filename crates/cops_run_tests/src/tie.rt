@@ -1,20 +1,9 @@
+use crate::building::pair;
 use cops_node::{NodeEvent, Outcome};
 use cops_tie::Book;
-use cops_types::{Deps, Key, Refusal, TypeFault, Value};
+use cops_types::{Deps, Refusal, TypeFault};
 use std::alloc::Global;
 use std::test::Fail;
-
-/// A key and a value of one byte each.
-fn pair(alloc: Global) -> Result<(Key, Value), TypeFault> {
-    let key = Key::new(alloc, b"x")?;
-    match Value::new(alloc, b"1") {
-        Ok(value) => Ok((key, value)),
-        Err(fault) => {
-            drop(key);
-            Err(fault)
-        }
-    }
-}
 
 fn put(alloc: Global) -> Result<NodeEvent, TypeFault> {
     let deps = Deps::new(Vec::new(alloc))?;
