@@ -1,6 +1,6 @@
 use crate::building::*;
 use cops_audit::*;
-use cops_types::{History, Key, Op, OpName, Value, Version};
+use cops_types::{History, Op, OpName, Version};
 use std::alloc::Global;
 use std::test::Fail;
 
@@ -39,30 +39,13 @@ fn a_refused_history(rt: HostRuntime) -> Result<(), Fail> {
     Ok(())
 }
 
-/// A value of this length.
-fn value(alloc: Global, length: usize) -> Result<Value, Fail> {
-    let bytes = vec![in alloc; 255u8; length]?;
-    let value = Value::new(alloc, bytes.as_slice());
-    drop(bytes);
-    Ok(value?)
-}
-
-/// A key of the greatest length, and a value of this length.
-fn pair(alloc: Global, length: usize) -> Result<(Key, Value), Fail> {
-    let value = value(alloc, length)?;
-    match Key::new(alloc, &[255; 64]) {
-        Ok(key) => Ok((key, value)),
-        Err(fault) => {
-            drop(value);
-            Err(Fail::from(fault))
-        }
-    }
-}
-
 /// An operation with a key of the greatest length, a value of this length and the greatest version.
 fn largest(alloc: Global, length: usize, is_put: bool) -> Result<Op, Fail> {
     let version = Version::new(281_474_976_710_655, 1023)?;
-    let (key, value) = pair(alloc, length)?;
+    let bytes = vec![in alloc; 255u8; length]?;
+    let pair = pair(alloc, &[255; 64], bytes.as_slice());
+    drop(bytes);
+    let (key, value) = pair?;
     if is_put {
         return Ok(Op::Put {
             key,

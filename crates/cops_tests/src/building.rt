@@ -28,6 +28,18 @@ pub const TWO: [u8; 66] = [
     0, 0, 0, 5, 21, 0, 0, 0, 2,
 ];
 
+/// A key and a value of these bytes.
+pub fn pair(alloc: Global, key: &[u8], value: &[u8]) -> Result<(Key, Value), TypeFault> {
+    let key = Key::new(alloc, key)?;
+    match Value::new(alloc, value) {
+        Ok(value) => Ok((key, value)),
+        Err(fault) => {
+            drop(key);
+            Err(fault)
+        }
+    }
+}
+
 /// A key and a value of one byte each, and a version.
 fn versioned(
     alloc: Global,
@@ -37,14 +49,8 @@ fn versioned(
     node: u16,
 ) -> Result<(Key, Value, Version), TypeFault> {
     let version = Version::new(clock, node)?;
-    let key = Key::new(alloc, &[key])?;
-    match Value::new(alloc, &[value]) {
-        Ok(value) => Ok((key, value, version)),
-        Err(fault) => {
-            drop(key);
-            Err(fault)
-        }
-    }
+    let (key, value) = pair(alloc, &[key], &[value])?;
+    Ok((key, value, version))
 }
 
 pub fn op(alloc: Global, did: Did) -> Result<Op, TypeFault> {

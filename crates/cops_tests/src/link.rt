@@ -1,7 +1,8 @@
 ghost use Rattle.cops_link.specs.Link.{IsFinishedOf, SameIn, SameOut};
 
+use crate::building::pair;
 use cops_link::*;
-use cops_types::{Dep, Deps, Key, Memory, PutRecord, TypeFault, Value, Version};
+use cops_types::{Dep, Deps, Key, Memory, PutRecord, TypeFault, Version};
 use cops_wire::Message;
 use std::alloc::Global;
 use std::sync::Wait;
@@ -20,21 +21,10 @@ fn deps(alloc: Global, clock: u64) -> Result<Deps, TypeFault> {
     Deps::new(deps)
 }
 
-fn pair(alloc: Global) -> Result<(Key, Value), TypeFault> {
-    let key = Key::new(alloc, b"p")?;
-    match Value::new(alloc, b"6") {
-        Ok(value) => Ok((key, value)),
-        Err(fault) => {
-            drop(key);
-            Err(fault)
-        }
-    }
-}
-
 fn put(alloc: Global, clock: u64) -> Result<PutRecord, TypeFault> {
     let version = Version::new(clock, 0)?;
     let deps = deps(alloc, clock)?;
-    let (key, value) = pair(alloc)?;
+    let (key, value) = pair(alloc, b"p", b"6")?;
     Ok(PutRecord {
         key,
         value,

@@ -1,23 +1,18 @@
+use crate::building::pair;
 use cops_core::*;
 use cops_node::Outcome;
 use cops_place::Place;
-use cops_types::{Key, Refusal, TypeFault, Value, Version};
+use cops_types::{Key, Refusal, TypeFault, Version};
 use std::alloc::Global;
 use std::test::Fail;
 
 fn put(alloc: Global) -> Result<Event, TypeFault> {
-    let key = Key::new(alloc, b"k")?;
-    match Value::new(alloc, b"1") {
-        Ok(value) => Ok(Event::Put {
-            client: 0,
-            key,
-            value,
-        }),
-        Err(fault) => {
-            drop(key);
-            Err(fault)
-        }
-    }
+    let (key, value) = pair(alloc, b"k", b"1")?;
+    Ok(Event::Put {
+        client: 0,
+        key,
+        value,
+    })
 }
 
 /// A put and one that depends on it, which then come to another data centre, where a client gets the second.
