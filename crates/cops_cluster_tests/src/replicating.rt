@@ -1,20 +1,19 @@
+use crate::building::{key, opened, pair};
 use cops_cluster::*;
 use cops_gates::{HoldsAnswers, HoldsSteps};
 use cops_link::*;
 use cops_node::{NodeEvent, Outcome};
-use cops_place::Place;
 use cops_replication::*;
-use cops_types::{Gate, Key, Memory, OpenGate, TypeFault, Value};
+use cops_types::{Gate, GateHeld, Memory, OpenGate, PutRecord, TypeFault};
 use std::alloc::Global;
 use std::sync::Wait;
 use std::test::Fail;
 
-/// Two data centres of one node each, a client at each, and the receiver of the second one.
+/// Two data centres of one node each, a client at each, the writer and the reader, and the receiver of the second one.
 #[derive(Drop)]
 struct Scene {
     cluster: Cluster,
-    writer: Client,
-    reader: Client,
+    clients: Vec<Client>,
     receiver: Receiver,
 }
 
@@ -47,35 +46,34 @@ fn turn_number(turn: Turn) -> u32 {
     }
 }
 
-fn opened(alloc: Global) -> Result<Opened, Fail> {
-    let place = Place::new(2, Vec::new(alloc))?;
-    Ok(Cluster::open(alloc, place, Vec::from_slice(alloc, &[0, 1])?)?)
+/// The receiver takes from these links.
+fn with_receiver(alloc: Global, opened: Opened, links: Vec<LinkOut>) -> Result<Scene, Fail> {
+    if opened.clients.len() != 2 {
+        drop(opened);
+        return Err(Fail::new("a client is not there"));
+    }
+    let Opened {
+        cluster,
+        clients,
+        mut shares,
+    } = opened;
+    let Some(share) = shares.pop() else {
+        drop(cluster);
+        return Err(Fail::new("a share is not there"));
+    };
+    Ok(Scene {
+        cluster,
+        clients,
+        receiver: Receiver::new(alloc, 1, links, share),
+    })
 }
 
 /// The receiver takes from this link.
 fn set_up(alloc: Global, link: LinkOut) -> Result<Scene, Fail> {
     let mut links = Vec::new(alloc);
     links.push(link)?;
-    let Opened {
-        cluster,
-        mut clients,
-        mut shares,
-    } = opened(alloc)?;
-    let Some(share) = shares.pop() else {
-        return Err(Fail::new("a share is not there"));
-    };
-    let Some(reader) = clients.pop() else {
-        return Err(Fail::new("a client is not there"));
-    };
-    let Some(writer) = clients.pop() else {
-        return Err(Fail::new("a client is not there"));
-    };
-    Ok(Scene {
-        cluster,
-        writer,
-        reader,
-        receiver: Receiver::new(alloc, 1, links, share),
-    })
+    let opened = opened(alloc, 2, false, &[0, 1])?;
+    with_receiver(alloc, opened, links)
 }
 
 /// The sender of the first data centre, into this link.
@@ -108,14 +106,21 @@ fn joined(alloc: Global, capacity: usize) -> Result<Both, Fail> {
     }
 }
 
+/// Whether a get shows a value. The answer is let go.
+fn is_got(answer: Result<Outcome, GateHeld>) -> bool {
+    let is_got = matches!(&answer, Ok(Outcome::Got(_, _)));
+    drop(answer);
+    is_got
+}
+
 impl Scene {
     /// The writer puts `1` at a key.
     fn put<R: Wait>(&mut self, rt: &R, alloc: Global, byte: u8) -> Result<(), TypeFault> {
-        let key = Key::new(alloc, &[byte])?;
-        let value = Value::new(alloc, b"1")?;
-        let _done = self
-            .cluster
-            .put(rt, &mut self.writer, &OpenGate, key, value);
+        let Some(writer) = self.clients.get_mut(0) else {
+            return Ok(());
+        };
+        let (key, value) = pair(alloc, byte)?;
+        drop(self.cluster.put(rt, writer, &OpenGate, key, value));
         Ok(())
     }
 
@@ -129,13 +134,13 @@ impl Scene {
 
     /// Whether the key shows a value to the reader.
     fn shows<R: Wait>(&mut self, rt: &R, alloc: Global, byte: u8) -> bool {
-        let Ok(key) = Key::new(alloc, &[byte]) else {
+        let Some(reader) = self.clients.get_mut(1) else {
             return false;
         };
-        let Ok(got) = self.cluster.get(rt, &mut self.reader, &OpenGate, key) else {
-            return false;
-        };
-        matches!(&got, Outcome::Got(_, _))
+        match key(alloc, byte) {
+            Ok(key) => is_got(self.cluster.get(rt, reader, &OpenGate, key)),
+            Err(_) => false,
+        }
     }
 
     /// A turn of the receiver.
@@ -155,7 +160,8 @@ impl Scene {
         ]
     }
 
-    /// Three turns of the receiver, whether the key then shows a value to the reader, and how many entries the share has.
+    /// Three turns of the receiver, whether the key then shows a value to the reader, and how many entries the share
+    /// has.
     fn told<R: Wait>(&mut self, rt: &R, alloc: Global, byte: u8) -> [u32; 5] {
         let [first, second, third] = self.turns(rt, &OpenGate);
         let shown = u32::from(self.shows(rt, alloc, byte));
@@ -185,10 +191,9 @@ impl Scene {
         let Some(issued) = self.cluster.puts_from(rt, 0, 0, 0)? else {
             return Ok(());
         };
-        for put in issued.puts.iter().rev() {
-            let _sent = link.send(Frame::of(alloc, put)?);
-        }
-        Ok(())
+        let sent = send_backwards(alloc, &issued.puts, link);
+        drop(issued);
+        sent
     }
 
     /// The writer puts at these keys, and the puts are sent, the last one first.
@@ -205,6 +210,15 @@ impl Scene {
     }
 }
 
+/// Sends these puts, the last one first.
+fn send_backwards(alloc: Global, puts: &[PutRecord], link: &mut LinkIn) -> Result<(), Memory> {
+    for put in puts.iter().rev() {
+        let frame = Frame::of(alloc, put)?;
+        drop(link.send(frame));
+    }
+    Ok(())
+}
+
 impl Both {
     /// A turn of the sender.
     fn send<R: Wait>(&mut self, rt: &R) -> u32 {
@@ -219,8 +233,8 @@ impl Both {
         [self.send(rt), self.send(rt)]
     }
 
-    /// Two turns of the sender, a drain of it that finds the link full, and three rounds, each of a drain of the receiver and a
-    /// turn of the sender.
+    /// Two turns of the sender, a drain of it that finds the link full, and three rounds, each of a drain of the
+    /// receiver and a turn of the sender.
     fn one_by_one<R: Wait>(&mut self, rt: &R) -> [u32; 6] {
         let [first, second] = self.sends(rt);
         let mut told = [first, second, self.drain(rt, 2), 0, 0, 0];
@@ -242,10 +256,26 @@ impl Both {
 
 /// The writer has put at these keys, and the receiver's link has the puts, the last one first.
 fn backwards<R: Wait>(rt: &R, alloc: Global, keys: &[u8]) -> Result<Scene, Fail> {
-    let (mut link_in, link_out) = link(alloc, MAX_CAPACITY)?;
-    let mut scene = set_up(alloc, link_out)?;
-    let sent = scene.put_backwards(rt, alloc, keys, &mut link_in);
-    drop(link_in);
+    let (link_in, link_out) = link(alloc, MAX_CAPACITY)?;
+    match set_up(alloc, link_out) {
+        Ok(scene) => sent_backwards(rt, alloc, keys, scene, link_in),
+        Err(fault) => {
+            drop(link_in);
+            Err(fault)
+        }
+    }
+}
+
+/// The same in a scene, through the other end of the receiver's link.
+fn sent_backwards<R: Wait>(
+    rt: &R,
+    alloc: Global,
+    keys: &[u8],
+    mut scene: Scene,
+    mut link: LinkIn,
+) -> Result<Scene, Fail> {
+    let sent = scene.put_backwards(rt, alloc, keys, &mut link);
+    drop(link);
     match sent {
         Ok(()) => Ok(scene),
         Err(fault) => {
@@ -265,7 +295,9 @@ fn come_over<R: Wait>(rt: &R, alloc: Global, joined: &mut Both) -> Result<bool, 
 #[test]
 fn a_put_comes_into_the_other_data_centre(rt: HostRuntime) -> Result<(), Fail> {
     let mut joined = joined(rt.alloc(), 16)?;
-    assert!(rt; come_over(&rt, rt.alloc(), &mut joined)?);
+    let come_over = come_over(&rt, rt.alloc(), &mut joined);
+    drop(joined);
+    assert!(rt; come_over?);
     Ok(())
 }
 
@@ -277,7 +309,9 @@ fn waits<R: Wait>(rt: &R, alloc: Global, scene: &mut Scene) -> bool {
 #[test]
 fn a_put_waits_for_its_dependency(rt: HostRuntime) -> Result<(), Fail> {
     let mut scene = backwards(&rt, rt.alloc(), b"xy")?;
-    assert!(rt; waits(&rt, rt.alloc(), &mut scene));
+    let waits = waits(&rt, rt.alloc(), &mut scene);
+    drop(scene);
+    assert!(rt; waits);
     Ok(())
 }
 
@@ -309,9 +343,10 @@ fn asks_twice<R: Wait>(rt: &R, scene: &mut Scene) -> bool {
 
 #[test]
 fn fifty_puts_backwards_take_two_questions_each(rt: HostRuntime) -> Result<(), Fail> {
-    let alloc = rt.alloc();
-    let mut scene = backwards(&rt, alloc, &fifty())?;
-    assert!(rt; asks_twice(&rt, &mut scene));
+    let mut scene = backwards(&rt, rt.alloc(), &fifty())?;
+    let asks_twice = asks_twice(&rt, &mut scene);
+    drop(scene);
+    assert!(rt; asks_twice);
     Ok(())
 }
 
@@ -341,7 +376,9 @@ fn come_in_order<R: Wait>(rt: &R, alloc: Global, joined: &mut Both) -> Result<bo
 #[test]
 fn a_link_of_one_frame_keeps_the_order(rt: HostRuntime) -> Result<(), Fail> {
     let mut joined = joined(rt.alloc(), 1)?;
-    assert!(rt; come_in_order(&rt, rt.alloc(), &mut joined)?);
+    let in_order = come_in_order(&rt, rt.alloc(), &mut joined);
+    drop(joined);
+    assert!(rt; in_order?);
     Ok(())
 }
 
@@ -364,7 +401,9 @@ fn loses_nothing<R: Wait>(rt: &R, alloc: Global, scene: &mut Scene) -> bool {
 #[test]
 fn a_gate_holds_and_nothing_is_lost(rt: HostRuntime) -> Result<(), Fail> {
     let mut scene = backwards(&rt, rt.alloc(), b"xy")?;
-    assert!(rt; loses_nothing(&rt, rt.alloc(), &mut scene));
+    let loses_nothing = loses_nothing(&rt, rt.alloc(), &mut scene);
+    drop(scene);
+    assert!(rt; loses_nothing);
     Ok(())
 }
 
@@ -385,7 +424,9 @@ fn reaches_limit<R: Wait>(rt: &R, alloc: Global, scene: &mut Scene) -> bool {
 #[test]
 fn a_limit_of_turns(rt: HostRuntime) -> Result<(), Fail> {
     let mut scene = backwards(&rt, rt.alloc(), b"xyz")?;
-    assert!(rt; reaches_limit(&rt, rt.alloc(), &mut scene));
+    let reaches_limit = reaches_limit(&rt, rt.alloc(), &mut scene);
+    drop(scene);
+    assert!(rt; reaches_limit);
     Ok(())
 }
 
@@ -398,12 +439,29 @@ fn nothing<R: Wait>(rt: &R, joined: &mut Both) -> [u32; 3] {
     ]
 }
 
+/// How many entries the receiver's share has once sender and receiver are ended.
+fn left(both: Both) -> usize {
+    let Both { scene, sender } = both;
+    sender.finish();
+    let Scene {
+        cluster,
+        clients,
+        receiver,
+    } = scene;
+    let share = receiver.into_share();
+    drop(cluster);
+    drop(clients);
+    let left = share.entries().len();
+    drop(share);
+    left
+}
+
 #[test]
 fn what_is_not_there_is_drained(rt: HostRuntime) -> Result<(), Fail> {
     let mut joined = joined(rt.alloc(), 1)?;
-    assert!(rt; nothing(&rt, &mut joined) == [0, 0, 0]);
-    let Both { scene, sender } = joined;
-    sender.finish();
-    assert_eq!(rt; scene.receiver.into_share().entries().len(), 0);
+    let told = nothing(&rt, &mut joined);
+    let left = left(joined);
+    assert!(rt; told == [0, 0, 0]);
+    assert!(rt; left == 0);
     Ok(())
 }

@@ -1,38 +1,42 @@
+use crate::building::{DONE, HEAD, TWO, fault_of, operations_of, scenario};
 use cops_clients::*;
 use cops_gates::waits_for;
-use cops_scenario::Scenario;
-use cops_stream::{Answer, audit_stream};
+use cops_stream::{Answer, StreamFault, audit_stream};
 use cops_types::{Counted, FailingWriter, Gate, GateHeld, OpenGate, Point};
+use std::alloc::{AllocGlobal, Global};
 use std::io;
 use std::io::Write;
 use std::sync::Wait;
 use std::sync::atomic::{AtomicBool, AtomicU64, Ordering};
 use std::test::Fail;
+use std::thread::Threads;
 
-/// Two data centres, in each of which a client puts a key and gets it.
-const TWO: &str =
-    "{\"data_centres\":2,\"clients\":[{\"at\":0,\"script\":[{\"put\":[\"a\",\"1\"]},{\"get\":\"a\"}]},{\"at\":1,\"script\":[{\"put\":[\"b\",\"1\"]},{\"get\":\"b\"}]}]}";
-
-/// The head of a trace of two clients.
-const HEAD: [u8; 9] = [0, 0, 0, 5, 0x11, 0, 1, 0, 2];
+/// Whether a text is accepted, and just this is told of it.
+fn is_accepted<R: Threads + Wait + Sync + AllocGlobal>(
+    rt: &R,
+    alloc: Global,
+    text: &[u8],
+    wanted: &[u8],
+) -> Result<bool, StreamFault> {
+    let mut reader = Counted::new(text);
+    let mut told = Counted::new(Vec::new(alloc));
+    let answer = audit_stream(rt, alloc, &mut reader, &mut told, 1, &OpenGate);
+    let is_told = told.into_inner().as_slice() == wanted;
+    Ok(matches!(answer?, Answer::Accepted) && is_told)
+}
 
 #[test]
 fn what_is_written_is_audited(rt: HostRuntime) -> Result<(), Fail> {
-    let alloc = rt.alloc();
-    let scenario = Scenario::from_json(alloc, TWO.as_bytes())?;
-    let writer = Counted::new(Vec::new(alloc));
-    let Live { ran, writer } = run_live(&rt, alloc, scenario, &OpenGate, writer);
-    let run = ran?;
-    assert!(rt; run.outcomes.as_slice() == [ClientOutcome::Done, ClientOutcome::Done].as_slice());
+    let scenario = scenario(rt.alloc(), TWO)?;
+    let writer = Counted::new(Vec::new(rt.alloc()));
+    let Live { ran, writer } = run_live(&rt, rt.alloc(), scenario, &OpenGate, writer);
+    let operations = operations_of(ran, &[DONE, DONE]);
     let text = writer.into_inner();
-    let mut reader = Counted::new(text.as_slice());
-    let mut told = Counted::new(Vec::new(alloc));
-    let answer = audit_stream(&rt, alloc, &mut reader, &mut told, 1, &OpenGate)?;
-    assert!(rt; matches!(answer, Answer::Accepted));
-    assert_eq!(rt;
-        told.into_inner().as_slice(),
-        b"accepted: 4 operations, 2 puts\n".as_slice()
-    );
+    let wanted = b"accepted: 4 operations, 2 puts\n";
+    let is_accepted = is_accepted(&rt, rt.alloc(), &text, wanted);
+    drop(text);
+    assert!(rt; operations == Some(4));
+    assert!(rt; is_accepted?);
     Ok(())
 }
 
@@ -55,20 +59,22 @@ impl Gate for Answers {
 
 #[test]
 fn clients_end_though_a_write_failed(rt: HostRuntime) -> Result<(), Fail> {
-    let alloc = rt.alloc();
-    let scenario = Scenario::from_json(alloc, TWO.as_bytes())?;
+    let scenario = scenario(rt.alloc(), TWO)?;
     let gate = Answers {
         told: AtomicU64::new(0),
     };
-    let failing = FailingWriter::new(Vec::new(alloc), 1, u64::MAX, usize::MAX);
-    let Live { ran, writer } = run_live(&rt, alloc, scenario, &gate, Counted::new(failing));
-    assert!(rt; matches!(ran, Err(RunFault::WriteFailed { written: 9 })));
-    assert_eq!(rt; writer.failures(), 1);
-    assert_eq!(rt;
-        writer.into_inner().into_inner().as_slice(),
-        HEAD.as_slice()
-    );
-    assert_eq!(rt; gate.told.load(Ordering::SeqCst), 4);
+    let failing = FailingWriter::new(Vec::new(rt.alloc()), 1, u64::MAX, usize::MAX);
+    let writer = Counted::new(failing);
+    let Live { ran, writer } = run_live(&rt, rt.alloc(), scenario, &gate, writer);
+    let fault = fault_of(ran);
+    let failures = writer.failures();
+    let text = writer.into_inner().into_inner();
+    let is_head = text.as_slice() == HEAD.as_slice();
+    drop(text);
+    assert!(rt; fault == Some(RunFault::WriteFailed { written: 9 }));
+    assert!(rt; failures == 1);
+    assert!(rt; is_head);
+    assert!(rt; gate.told.load(Ordering::SeqCst) == 4);
     Ok(())
 }
 
@@ -117,15 +123,14 @@ impl Write for Telling<'_> {
 /// A trace that is written at the end alone would be held here.
 #[test]
 fn records_are_written_while_clients_run(rt: HostRuntime) -> Result<(), Fail> {
-    let alloc = rt.alloc();
-    let scenario = Scenario::from_json(alloc, TWO.as_bytes())?;
+    let scenario = scenario(rt.alloc(), TWO)?;
     let written = AtomicBool::new(false);
     let gate = Waits { written: &written };
     let writer = Counted::new(Telling {
         writes: 0,
         written: &written,
     });
-    let Live { ran, .. } = run_live(&rt, alloc, scenario, &gate, writer);
-    assert!(rt; ran.is_ok());
+    let Live { ran, .. } = run_live(&rt, rt.alloc(), scenario, &gate, writer);
+    assert!(rt; fault_of(ran) == None);
     Ok(())
 }

@@ -1,9 +1,8 @@
+use crate::building::{DONE, TWO, fault_of, operations_of, ran, scenario};
 use cops_clients::*;
-use cops_core::World;
+use cops_core::{Event, World};
 use cops_gates::{HoldsAt, Meeting, TURNS, waits_for};
 use cops_node::Outcome;
-use cops_outcomes::*;
-use cops_scenario::{Scenario, ScenarioFault};
 use cops_types::{Gate, GateHeld, OpenGate, Point, Refusal};
 use std::alloc::Global;
 use std::fmt::Write;
@@ -12,10 +11,6 @@ use std::sync::atomic::{AtomicBool, AtomicU64, Ordering};
 use std::test::Fail;
 use std::thread;
 use std::thread::Threads;
-
-/// Two data centres, in each of which a client puts a key and gets it.
-const TWO: &str =
-    "{\"data_centres\":2,\"clients\":[{\"at\":0,\"script\":[{\"put\":[\"a\",\"1\"]},{\"get\":\"a\"}]},{\"at\":1,\"script\":[{\"put\":[\"b\",\"1\"]},{\"get\":\"b\"}]}]}";
 
 /// Two nodes, at each of which a client puts a key, and a client without a script.
 const SPLIT: &str =
@@ -29,54 +24,44 @@ const LIMITED: &str =
 const LATE: &str =
     "{\"data_centres\":2,\"link\":1,\"repeat\":2,\"hold\":5,\"clients\":[{\"at\":0,\"script\":[{\"put\":[\"x\",\"1\"]},{\"put\":[\"y\",\"2\"]}]}]}";
 
-fn scenario(alloc: Global, text: &str) -> Result<Scenario, ScenarioFault> {
-    Scenario::from_json(alloc, text.as_bytes())
+/// How many outcomes a run left, and how many operations. What it left is let go.
+fn sizes(ran: Result<Run, RunFault>) -> Option<(usize, usize)> {
+    let sizes = match &ran {
+        Ok(run) => Some((run.outcomes.len(), run.trace.len())),
+        Err(_) => None,
+    };
+    drop(ran);
+    sizes
 }
 
 /// One thread for both clients, or one lock round both nodes, would be held here.
 #[test]
 fn steps_of_two_nodes_stand_side_by_side(rt: HostRuntime) -> Result<(), Fail> {
-    let alloc = rt.alloc();
     let gate = Meeting::new(
         Point::InStep { node: 0, client: 1 },
         Point::InStep { node: 1, client: 2 },
     );
-    let run = run(&rt, alloc, scenario(alloc, SPLIT)?, &gate)?;
-    assert_eq!(rt; run.outcomes.len(), 3);
-    assert_eq!(rt; run.trace.len(), 2);
+    let ran = ran(&rt, rt.alloc(), SPLIT, &gate)?;
+    assert!(rt; sizes(ran) == Some((3, 2)));
     Ok(())
-}
-
-/// How a run of the two clients ends whose gate holds a step.
-fn held_at<R: Threads + Wait + Sync>(rt: &R, alloc: Global, point: Point) -> Result<bool, Fail> {
-    let ended = run(rt, alloc, scenario(alloc, TWO)?, &HoldsAt { point });
-    Ok(matches!(ended, Err(RunFault::Held)))
 }
 
 #[test]
 fn a_gate_holds_a_run(rt: HostRuntime) -> Result<(), Fail> {
-    let alloc = rt.alloc();
-    assert!(rt; held_at(&rt, alloc, Point::InStep { node: 0, client: 0 })?);
-    assert!(rt;
-        held_at(
-            &rt,
-            alloc,
-            Point::Answered {
-                node: 64,
-                client: 1
-            }
-        )?
-    );
-    assert!(rt;
-        held_at(
-            &rt,
-            alloc,
-            Point::InStep {
-                node: 64,
-                client: 65_535
-            }
-        )?
-    );
+    for point in [
+        Point::InStep { node: 0, client: 0 },
+        Point::Answered {
+            node: 64,
+            client: 1,
+        },
+        Point::InStep {
+            node: 64,
+            client: 65_535,
+        },
+    ] {
+        let ran = ran(&rt, rt.alloc(), TWO, &HoldsAt { point })?;
+        assert!(rt; fault_of(ran) == Some(RunFault::Held), "{point:?}");
+    }
     Ok(())
 }
 
@@ -103,12 +88,11 @@ impl Gate for Slow {
 
 #[test]
 fn a_sender_makes_its_turns(rt: HostRuntime) -> Result<(), Fail> {
-    let alloc = rt.alloc();
     let gate = Slow {
         passed: AtomicU64::new(0),
     };
-    let ended = run(&rt, alloc, scenario(alloc, LIMITED)?, &gate);
-    assert!(rt; matches!(ended, Err(RunFault::TurnLimit)));
+    let ran = ran(&rt, rt.alloc(), LIMITED, &gate)?;
+    assert!(rt; fault_of(ran) == Some(RunFault::TurnLimit));
     Ok(())
 }
 
@@ -138,46 +122,56 @@ impl Gate for Turns {
     }
 }
 
-/// Client 0 puts so many keys, and client 1 gets one that nobody puts, and then them and the first of them again.
-fn many(alloc: Global, keys: u32) -> Result<Scenario, Fail> {
-    let mut text = String::new(alloc);
-    write!(
-        text,
-        "{{\"data_centres\":1,\"clients\":[{{\"at\":0,\"script\":["
-    )?;
+/// Writes a scenario in which client 0 puts so many keys and gets the first of them, and client 1 gets a key that nobody
+/// puts, and then them and the first of them again.
+fn write_many(text: &mut String, keys: u32) -> Result<(), Fail> {
+    text.push_str("{\"data_centres\":1,\"clients\":[{\"at\":0,\"script\":[")?;
     for n in 0..keys {
         write!(text, "{{\"put\":[\"k{n}\",\"1\"]}},")?;
     }
-    write!(
-        text,
-        "{{\"get\":\"k0\"}}]}},{{\"at\":0,\"script\":[{{\"get\":\"none\"}},"
-    )?;
+    text.push_str("{\"get\":\"k0\"}]},{\"at\":0,\"script\":[{\"get\":\"none\"},")?;
     for n in 0..keys {
         write!(text, "{{\"get\":\"k{n}\"}},")?;
     }
-    write!(text, "{{\"get\":\"k0\"}}]}}]}}")?;
-    Ok(scenario(alloc, &text)?)
+    text.push_str("{\"get\":\"k0\"}]}]}")?;
+    Ok(())
+}
+
+/// How a run of such a scenario ends.
+fn ran_many<R: Threads + Wait + Sync, G: Gate>(
+    rt: &R,
+    alloc: Global,
+    keys: u32,
+    gate: &G,
+) -> Result<Result<Run, RunFault>, Fail> {
+    let mut text = String::new(alloc);
+    let ran = match write_many(&mut text, keys) {
+        Ok(()) => ran(rt, alloc, &text, gate),
+        Err(fault) => Err(fault),
+    };
+    drop(text);
+    ran
 }
 
 #[test]
 fn a_client_with_a_full_context_stops(rt: HostRuntime) -> Result<(), Fail> {
-    let alloc = rt.alloc();
     let gate = Turns {
         answered: AtomicU64::new(0),
         wanted: 256,
         reached: AtomicBool::new(false),
     };
-    let run = run(&rt, alloc, many(alloc, 256)?, &gate)?;
-    assert!(rt;
-        run.outcomes.as_slice()
-            == [
-                ClientOutcome::Done,
-                ClientOutcome::Stopped(Refusal::ContextFull)
-            ]
-            .as_slice()
-    );
-    assert_eq!(rt; run.trace.len(), 514);
+    let ran = ran_many(&rt, rt.alloc(), 256, &gate)?;
+    let outcomes = [DONE, ClientOutcome::Stopped(Refusal::ContextFull)];
+    assert!(rt; operations_of(ran, &outcomes) == Some(514));
     Ok(())
+}
+
+/// A world in the setting of the scenario whose messages come three times.
+fn late_world(alloc: Global) -> Result<World, Fail> {
+    let scenario = scenario(alloc, LATE)?;
+    let setting = scenario.setting(alloc);
+    drop(scenario);
+    Ok(World::of(alloc, setting?)?)
 }
 
 /// How many of the outcomes are like one.
@@ -185,15 +179,24 @@ fn count(outcomes: &[Outcome], like: &Outcome) -> usize {
     outcomes.iter().filter(|outcome| *outcome == like).count()
 }
 
+/// How many puts such a world holds by these events, how many it has again, and how many it settles.
+fn counts(alloc: Global, events: &[Event]) -> Result<[usize; 3], Fail> {
+    let mut world = late_world(alloc)?;
+    let outcomes = world.run(events);
+    drop(world);
+    let outcomes = outcomes?;
+    let held = count(&outcomes, &Outcome::Held);
+    let repeated = count(&outcomes, &Outcome::Repeat);
+    let settled = count(&outcomes, &Outcome::Settled);
+    drop(outcomes);
+    Ok([held, repeated, settled])
+}
+
 #[test]
 fn each_message_comes_three_times(rt: HostRuntime) -> Result<(), Fail> {
-    let alloc = rt.alloc();
-    let setting = scenario(alloc, LATE)?.setting(alloc)?;
-    let run = run(&rt, alloc, scenario(alloc, LATE)?, &OpenGate)?;
-    let mut world = World::of(alloc, setting)?;
-    let outcomes = world.run(&run.events)?;
-    assert_eq!(rt; count(&outcomes, &Outcome::Held), 2);
-    assert_eq!(rt; count(&outcomes, &Outcome::Repeat), 4);
-    assert_eq!(rt; count(&outcomes, &Outcome::Settled), 2);
+    let run = ran(&rt, rt.alloc(), LATE, &OpenGate)??;
+    let counts = counts(rt.alloc(), &run.events);
+    drop(run);
+    assert_eq!(rt; counts?, [2, 4, 2]);
     Ok(())
 }

@@ -1,14 +1,8 @@
+use crate::building::{HEAD, TWO};
 use cops_gates::HoldsSteps;
 use cops_run_stream::{Streamed, run_stream};
 use cops_types::Counted;
 use std::test::Fail;
-
-/// Two data centres, in each of which a client puts a key and gets it.
-const TWO: &str =
-    "{\"data_centres\":2,\"clients\":[{\"at\":0,\"script\":[{\"put\":[\"a\",\"1\"]},{\"get\":\"a\"}]},{\"at\":1,\"script\":[{\"put\":[\"b\",\"1\"]},{\"get\":\"b\"}]}]}";
-
-/// The head of a trace of two clients.
-const HEAD: [u8; 9] = [0, 0, 0, 5, 0x11, 0, 1, 0, 2];
 
 #[test]
 fn a_run_that_is_held_is_told(rt: HostRuntime) -> Result<(), Fail> {

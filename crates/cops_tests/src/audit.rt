@@ -1,6 +1,6 @@
 use crate::building::*;
 use cops_audit::*;
-use cops_types::{History, Key, Op, OpName, Value, Version};
+use cops_types::{History, Op, OpName, Version};
 use std::alloc::Global;
 use std::test::Fail;
 
@@ -14,8 +14,18 @@ fn an_accepted_history(rt: HostRuntime) -> Result<(), Fail> {
         (2, Did::Got(b'x', 2, 1, 64)),
     ];
     let verdict = judged(rt.alloc(), 3, &entries)?;
-    assert!(rt; accepts(&verdict, &[name(1, 0), name(0, 0), name(1, 1)]));
+    assert!(rt; accepts(verdict, &[name(1, 0), name(0, 0), name(1, 1)]));
     Ok(())
+}
+
+/// Whether just this get is stale. The verdict is let go.
+fn is_stale(verdict: Verdict, fault: Stale) -> bool {
+    let is_stale = match &verdict {
+        Verdict::Refused(Faults::Stale(faults)) => faults.as_slice() == [fault].as_slice(),
+        _ => false,
+    };
+    drop(verdict);
+    is_stale
 }
 
 #[test]
@@ -24,20 +34,18 @@ fn a_refused_history(rt: HostRuntime) -> Result<(), Fail> {
         op: name(1, 1),
         newer: name(0, 1),
     };
-    match judged(rt.alloc(), 2, &STALE)? {
-        Verdict::Refused(Faults::Stale(faults)) => assert!(rt;
-            faults.as_slice() == [fault].as_slice()
-        ),
-        _ => return Err("no stale get".into()),
-    }
+    let verdict = judged(rt.alloc(), 2, &STALE)?;
+    assert!(rt; is_stale(verdict, fault));
     Ok(())
 }
 
 /// An operation with a key of the greatest length, a value of this length and the greatest version.
 fn largest(alloc: Global, length: usize, is_put: bool) -> Result<Op, Fail> {
-    let key = Key::new(alloc, &[255; 64])?;
-    let value = Value::new(alloc, vec![in alloc; 255u8; length]?.as_slice())?;
     let version = Version::new(281_474_976_710_655, 1023)?;
+    let bytes = vec![in alloc; 255u8; length]?;
+    let pair = pair(alloc, &[255; 64], bytes.as_slice());
+    drop(bytes);
+    let (key, value) = pair?;
     if is_put {
         return Ok(Op::Put {
             key,
@@ -64,15 +72,18 @@ fn push_largest(
 
 fn is_accepted(alloc: Global, history: &History) -> Result<bool, Fail> {
     let verdict = judge(alloc, history)?;
-    Ok(accepts(&verdict, &[name(0, 0)]))
+    Ok(accepts(verdict, &[name(0, 0)]))
 }
 
 /// Whether just the get of this name has no source.
 fn is_sourceless(alloc: Global, history: &History, get: OpName) -> Result<bool, Fail> {
-    match judge(alloc, history)? {
-        Verdict::Refused(Faults::NoSource(gets)) => Ok(gets.as_slice() == [get].as_slice()),
-        _ => Ok(false),
-    }
+    let verdict = judge(alloc, history)?;
+    let is_sourceless = match &verdict {
+        Verdict::Refused(Faults::NoSource(gets)) => gets.as_slice() == [get].as_slice(),
+        _ => false,
+    };
+    drop(verdict);
+    Ok(is_sourceless)
 }
 
 /// Whether the largest put is the source of a get with all of its value, and not of one with a shorter value.
@@ -87,7 +98,9 @@ fn is_source_of_all(alloc: Global, history: &mut History) -> Result<bool, Fail> 
 #[test]
 fn limits_of_keys_and_values(rt: HostRuntime) -> Result<(), Fail> {
     let mut history = History::new(rt.alloc(), 2)?;
-    assert!(rt; is_source_of_all(rt.alloc(), &mut history)?);
+    let is_source = is_source_of_all(rt.alloc(), &mut history);
+    drop(history);
+    assert!(rt; is_source?);
     Ok(())
 }
 
@@ -100,16 +113,20 @@ fn has_past(
     wanted: &[(u16, u32)],
 ) -> Result<bool, Fail> {
     let history = history(alloc, clients, entries)?;
-    Ok(past(alloc, &history, op)?.as_slice() == wanted)
+    let past = past(alloc, &history, op);
+    drop(history);
+    Ok(past?.as_slice() == wanted)
 }
 
 /// A chain of a hundred clients: client 0 puts x twice and then its own key, each next client gets the key of the one
 /// before and puts its own, and the last one gets the first x.
 fn chain(alloc: Global) -> Result<Vec<(u16, Did)>, Fail> {
-    let mut entries = Vec::new(alloc);
-    entries.push((0, Did::Put(b'x', 1, 1, 0)))?;
-    entries.push((0, Did::Put(b'x', 2, 2, 0)))?;
-    entries.push((0, Did::Put(128, 1, 3, 0)))?;
+    let first = [
+        (0, Did::Put(b'x', 1, 1, 0)),
+        (0, Did::Put(b'x', 2, 2, 0)),
+        (0, Did::Put(128, 1, 3, 0)),
+    ];
+    let mut entries = Vec::from_slice(alloc, &first)?;
     for client in 1..100u8 {
         let clock = u64::from(client) + 2;
         entries.push((u16::from(client), Did::Got(127 + client, 1, clock, 0)))?;
@@ -120,17 +137,21 @@ fn chain(alloc: Global) -> Result<Vec<(u16, Did)>, Fail> {
     Ok(entries)
 }
 
+/// How many of each client's first operations are in the past of the last one of such a chain.
+fn past_of_chain() -> [(u16, u32); 101] {
+    let mut past = [(0, 3); 101];
+    for client in 1..100u16 {
+        past[client as usize] = (client, 2);
+    }
+    past[100] = (100, 1);
+    past
+}
+
 #[test]
 fn past_through_a_hundred_clients(rt: HostRuntime) -> Result<(), Fail> {
-    let a = rt.alloc();
-    let entries = chain(a)?;
-    let mut wanted = Vec::new(a);
-    wanted.push((0, 3))?;
-    for client in 1..100u16 {
-        wanted.push((client, 2))?;
-    }
-    wanted.push((100, 1))?;
-    assert!(rt; has_past(a, 101, &entries, name(100, 1), &wanted)?);
+    let entries = chain(rt.alloc())?;
+    let wanted = past_of_chain();
+    assert!(rt; has_past(rt.alloc(), 101, &entries, name(100, 1), &wanted)?);
     Ok(())
 }
 

@@ -2,7 +2,7 @@ use crate::building::*;
 use cops_audit::{Verdict, judge};
 use cops_batch::*;
 use cops_gates::{HoldsAt, Meeting};
-use cops_types::{Gate, History, OpenGate, Point};
+use cops_types::{Gate, History, Memory, OpenGate, Point};
 use std::sync::Wait;
 use std::test::Fail;
 use std::thread::Threads;
@@ -25,10 +25,23 @@ fn gives<R: Threads + Wait + Sync + AllocGlobal, G: Gate>(
     wanted: &Verdict,
 ) -> Result<bool, BatchFault> {
     let verdict = judge_with(rt, rt.alloc(), history, workers, gate)?;
-    Ok(same(&verdict, wanted))
+    Ok(same(verdict, wanted))
 }
 
-/// Whether so many workers say what one does, or the fault with which they end.
+/// Whether so many workers say of a history what one does, or the fault with which they end.
+fn answer_on<R: Threads + Wait + Sync + AllocGlobal, G: Gate>(
+    rt: &R,
+    gate: &G,
+    workers: u8,
+    history: &History,
+) -> Result<Result<bool, BatchFault>, Memory> {
+    let wanted = judge(rt.alloc(), history)?;
+    let answer = gives(rt, gate, workers, history, &wanted);
+    drop(wanted);
+    Ok(answer)
+}
+
+/// The same of a history of three clients with these entries.
 fn answer<R: Threads + Wait + Sync + AllocGlobal, G: Gate>(
     rt: &R,
     gate: &G,
@@ -36,8 +49,9 @@ fn answer<R: Threads + Wait + Sync + AllocGlobal, G: Gate>(
     entries: &[(u16, Did)],
 ) -> Result<Result<bool, BatchFault>, Fail> {
     let history = history(rt.alloc(), 3, entries)?;
-    let wanted = judge(rt.alloc(), &history)?;
-    Ok(gives(rt, gate, workers, &history, &wanted))
+    let answer = answer_on(rt, gate, workers, &history);
+    drop(history);
+    Ok(answer?)
 }
 
 #[test]

@@ -28,6 +28,18 @@ pub const TWO: [u8; 66] = [
     0, 0, 0, 5, 21, 0, 0, 0, 2,
 ];
 
+/// A key and a value of these bytes.
+pub fn pair(alloc: Global, key: &[u8], value: &[u8]) -> Result<(Key, Value), TypeFault> {
+    let key = Key::new(alloc, key)?;
+    match Value::new(alloc, value) {
+        Ok(value) => Ok((key, value)),
+        Err(fault) => {
+            drop(key);
+            Err(fault)
+        }
+    }
+}
+
 /// A key and a value of one byte each, and a version.
 fn versioned(
     alloc: Global,
@@ -37,8 +49,7 @@ fn versioned(
     node: u16,
 ) -> Result<(Key, Value, Version), TypeFault> {
     let version = Version::new(clock, node)?;
-    let key = Key::new(alloc, &[key])?;
-    let value = Value::new(alloc, &[value])?;
+    let (key, value) = pair(alloc, &[key], &[value])?;
     Ok((key, value, version))
 }
 
@@ -66,33 +77,52 @@ pub fn op(alloc: Global, did: Did) -> Result<Op, TypeFault> {
     }
 }
 
+/// Each client did what its entries say, in their order.
+fn push_all(alloc: Global, history: &mut History, entries: &[(u16, Did)]) -> Result<(), TypeFault> {
+    for (client, did) in entries {
+        let op = op(alloc, *did)?;
+        history.push(*client, op)?;
+    }
+    Ok(())
+}
+
 /// A history in which each client did what its entries say, in their order.
 pub fn history(alloc: Global, clients: u16, entries: &[(u16, Did)]) -> Result<History, Fail> {
     let mut history = History::new(alloc, clients)?;
-    for (client, did) in entries {
-        history.push(*client, op(alloc, *did)?)?;
+    match push_all(alloc, &mut history, entries) {
+        Ok(()) => Ok(history),
+        Err(fault) => {
+            drop(history);
+            Err(Fail::from(fault))
+        }
     }
-    Ok(history)
 }
 
 /// The verdict of `judge` on such a history.
 pub fn judged(alloc: Global, clients: u16, entries: &[(u16, Did)]) -> Result<Verdict, Fail> {
     let history = history(alloc, clients, entries)?;
-    Ok(judge(alloc, &history)?)
+    let verdict = judge(alloc, &history);
+    drop(history);
+    Ok(verdict?)
 }
 
 pub fn name(client: u16, index: u32) -> OpName {
     OpName { client, index }
 }
 
-/// Whether a verdict accepts just these puts, in this order.
-pub fn accepts(verdict: &Verdict, puts: &[OpName]) -> bool {
-    match verdict {
+/// Whether a verdict accepts just these puts, in this order. It is let go.
+pub fn accepts(verdict: Verdict, puts: &[OpName]) -> bool {
+    let accepts = match &verdict {
         Verdict::Accepted(accepted) => accepted.as_slice() == puts,
         Verdict::Refused(_) => false,
-    }
+    };
+    drop(verdict);
+    accepts
 }
 
-pub fn same(verdict: &Verdict, other: &Verdict) -> bool {
-    verdict == other
+/// Whether two verdicts are the same. The first of them is let go.
+pub fn same(verdict: Verdict, other: &Verdict) -> bool {
+    let same = verdict == *other;
+    drop(verdict);
+    same
 }

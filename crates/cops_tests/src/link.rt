@@ -1,7 +1,8 @@
-ghost use Rattle.cops_link.specs.Link.{SameIn, SameOut};
+ghost use Rattle.cops_link.specs.Link.{IsFinishedOf, SameIn, SameOut};
 
+use crate::building::pair;
 use cops_link::*;
-use cops_types::{Dep, Deps, Key, Memory, PutRecord, TypeFault, Value, Version};
+use cops_types::{Dep, Deps, Key, Memory, PutRecord, TypeFault, Version};
 use cops_wire::Message;
 use std::alloc::Global;
 use std::sync::Wait;
@@ -23,10 +24,10 @@ fn deps(alloc: Global, clock: u64) -> Result<Deps, TypeFault> {
 fn put(alloc: Global, clock: u64) -> Result<PutRecord, TypeFault> {
     let version = Version::new(clock, 0)?;
     let deps = deps(alloc, clock)?;
-    let key = Key::new(alloc, b"p")?;
+    let (key, value) = pair(alloc, b"p", b"6")?;
     Ok(PutRecord {
         key,
-        value: Value::new(alloc, b"6")?,
+        value,
         version,
         deps,
     })
@@ -50,7 +51,9 @@ fn spent_clock(message: Message) -> u64 {
 /// The frame of a put of that clock.
 fn frame(alloc: Global, clock: u64) -> Result<Frame, Fail> {
     let put = put(alloc, clock)?;
-    Ok(Frame::of(alloc, &put)?)
+    let frame = Frame::of(alloc, &put);
+    drop(put);
+    Ok(frame?)
 }
 
 /// Whether a put of that clock is taken.
@@ -89,19 +92,32 @@ fn is_given_back(
     Ok(first == 1 && sender.send(back).is_ok())
 }
 
+/// Whether a link of one frame takes a put, and a second one once there is room.
+fn takes_two(alloc: Global, sender: &mut LinkIn, taker: &mut LinkOut) -> Result<bool, Fail>
+    ensures sender { SameIn sender.old sender.new }
+    ensures taker { SameOut taker.old taker.new }
+{
+    Ok(offer(alloc, sender, 1)? && is_given_back(alloc, sender, taker, 2)?)
+}
+
+/// How many frames are left, and the clock of the put that is taken next, or 0.
+fn left(taker: &mut LinkOut, finished: &mut Finished) -> Result<(usize, u64), Memory>
+    requires { IsFinishedOf finished.old taker.old }
+    ensures { IsFinishedOf finished.new taker.new }
+{
+    let left = taker.after(finished);
+    Ok((left, next_clock(taker)?))
+}
+
 #[test]
 fn a_link_of_one_frame(rt: HostRuntime) -> Result<(), Fail> {
-    let alloc = rt.alloc();
-    let (mut sender, mut taker) = link(alloc, 1)?;
-    assert!(rt; offer(alloc, &mut sender, 1)?);
-    assert!(rt; is_given_back(alloc, &mut sender, &mut taker, 2)?);
+    let (mut sender, mut taker) = link(rt.alloc(), 1)?;
+    assert!(rt; takes_two(rt.alloc(), &mut sender, &mut taker)?);
     let Some(mut finished) = sender.finish() else {
         return Err(Fail::new("nothing is told"));
     };
-    assert_eq!(rt; taker.after(&mut finished), 1);
-    assert_eq!(rt; next_clock(&mut taker)?, 2);
-    assert_eq!(rt; taker.after(&mut finished), 0);
-    assert_eq!(rt; next_clock(&mut taker)?, 0);
+    assert!(rt; left(&mut taker, &mut finished)? == (1, 2));
+    assert!(rt; left(&mut taker, &mut finished)? == (0, 0));
     Ok(())
 }
 
@@ -145,30 +161,47 @@ fn a_put_comes_out_as_it_went_in(rt: HostRuntime) -> Result<(), Fail> {
     Ok(())
 }
 
-#[test]
-fn a_capacity_is_1_to_1024(rt: HostRuntime) -> Result<(), Fail> {
-    for capacity in [0, 1025, usize::MAX] {
-        assert_eq!(rt;
-            link(rt.alloc(), capacity).err(),
-            Some(LinkFault::BadCapacity)
-        );
+/// Why there is no link of this capacity, or none where there is one.
+fn fault_of(alloc: Global, capacity: usize) -> Option<LinkFault> {
+    match link(alloc, capacity) {
+        Ok(ends) => {
+            drop(ends);
+            None
+        }
+        Err(fault) => Some(fault),
     }
-    assert!(rt; link(rt.alloc(), 1).is_ok());
-    assert!(rt; link(rt.alloc(), 1024).is_ok());
-    Ok(())
 }
 
-/// Sends a thousand puts, and waits where the link is full.
+#[test]
+fn a_capacity_is_1_to_1024(rt: HostRuntime) {
+    let bad = Some(LinkFault::BadCapacity);
+    for (capacity, fault) in [
+        (0, bad),
+        (1025, bad),
+        (usize::MAX, bad),
+        (1, None),
+        (1024, None),
+    ] {
+        assert!(rt; fault_of(rt.alloc(), capacity) == fault, "{capacity}");
+    }
+}
+
+/// Sends a frame, and waits where the link is full.
+fn send_surely<R: Wait>(rt: &R, sender: &mut LinkIn, mut frame: Frame) {
+    for _ in rt.forever() {
+        match sender.send(frame) {
+            Ok(()) => return,
+            Err(SendFault::Full(back)) => frame = back,
+        }
+        thread::yield_now();
+    }
+}
+
+/// Sends a thousand puts.
 fn send_all<R: Wait>(rt: &R, alloc: Global, mut sender: LinkIn) -> Result<bool, Fail> {
     for clock in 1..1001 {
-        let mut frame = frame(alloc, clock)?;
-        for _ in rt.forever() {
-            match sender.send(frame) {
-                Ok(()) => break,
-                Err(SendFault::Full(back)) => frame = back,
-            }
-            thread::yield_now();
-        }
+        let frame = frame(alloc, clock)?;
+        send_surely(rt, &mut sender, frame);
     }
     Ok(sender.finish().is_some())
 }

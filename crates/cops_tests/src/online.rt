@@ -1,8 +1,8 @@
 use crate::building::*;
 use cops_audit::SoFar::{Clean, Refused, Waiting};
 use cops_audit::{FeedFault, Online, SoFar};
-use cops_trace::{Partial, read_so_far};
-use cops_types::{Counted, OpName};
+use cops_trace::{Partial, Trace, read_so_far};
+use cops_types::{Counted, History, OpName};
 use std::alloc::Global;
 use std::test::Fail;
 
@@ -37,8 +37,17 @@ fn says(
 /// Whether the verdict is the one of `judge` on these operations.
 fn ends(alloc: Global, online: Online, clients: u16, entries: &[(u16, Did)]) -> Result<bool, Fail> {
     let verdict = online.finish()?;
-    let wanted = judged(alloc, clients, entries)?;
-    Ok(same(&verdict, &wanted))
+    match judged(alloc, clients, entries) {
+        Ok(wanted) => {
+            let same = same(verdict, &wanted);
+            drop(wanted);
+            Ok(same)
+        }
+        Err(fault) => {
+            drop(verdict);
+            Err(fault)
+        }
+    }
 }
 
 /// Whether just this is said after each of these operations, and in the end what `judge` says.
@@ -153,9 +162,9 @@ fn fed_rounds(alloc: Global) -> Result<Online, Fail> {
 
 #[test]
 fn many_gets_before_their_puts(rt: HostRuntime) -> Result<(), Fail> {
-    let verdict = fed_rounds(rt.alloc())?.finish()?;
     let puts = puts_of_rounds(rt.alloc())?;
-    assert!(rt; accepts(&verdict, &puts));
+    let verdict = fed_rounds(rt.alloc())?.finish()?;
+    assert!(rt; accepts(verdict, &puts));
     Ok(())
 }
 
@@ -188,20 +197,40 @@ fn clients_that_are_not_there(rt: HostRuntime) -> Result<(), Fail> {
     Ok(())
 }
 
+/// Feeds all operations of a client.
+fn feed_client(online: &mut Online, history: &History, client: u16) -> Result<(), Fail> {
+    for index in 0..history.session_len(client) {
+        let index = index as u32;
+        if let Some(op) = history.op(OpName { client, index }) {
+            let op = op.to_op()?;
+            online.feed(client, op)?;
+        }
+    }
+    Ok(())
+}
+
+/// What is said so far where all operations of a trace were fed, client by client.
+fn said_of_all(online: &mut Online, trace: &Trace) -> Result<SoFar, Fail> {
+    for client in 0..trace.clients() {
+        feed_client(online, trace.history(), client)?;
+    }
+    Ok(online.so_far())
+}
+
+/// The same by an auditor of its own.
+fn said_of_trace(alloc: Global, trace: &Trace) -> Result<SoFar, Fail> {
+    let mut online = Online::new(alloc, trace.clients())?;
+    let said = said_of_all(&mut online, trace);
+    drop(online);
+    said
+}
+
 /// The place where a text is cut, and what is said so far of the whole records before it.
 fn said_of(alloc: Global, text: &[u8]) -> Result<(Option<u64>, SoFar), Fail> {
     let Partial { trace, cut } = read_so_far(alloc, &mut Counted::new(text))?;
-    let mut online = Online::new(alloc, trace.clients())?;
-    for client in 0..trace.clients() {
-        for index in 0..trace.history().session_len(client) {
-            let index = index as u32;
-            if let Some(op) = trace.history().op(OpName { client, index }) {
-                online.feed(client, op.to_op()?)?;
-            }
-        }
-    }
-    let so_far = online.so_far();
-    Ok((cut, so_far))
+    let said = said_of_trace(alloc, &trace);
+    drop(trace);
+    Ok((cut, said?))
 }
 
 #[test]

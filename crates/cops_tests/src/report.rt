@@ -1,25 +1,50 @@
 use crate::building::*;
 use cops_audit::{Judged, Online, judge};
 use cops_report::*;
-use cops_types::OpName;
+use cops_types::{History, Memory, OpName};
 use std::alloc::Global;
 use std::test::Fail;
+
+fn feed_all(alloc: Global, online: &mut Online, entries: &[(u16, Did)]) -> Result<(), Fail> {
+    for (client, did) in entries {
+        let op = op(alloc, *did)?;
+        online.feed(*client, op)?;
+    }
+    Ok(())
+}
 
 /// What an auditor of two clients says at its end that was fed these operations.
 fn fed(alloc: Global, entries: &[(u16, Did)]) -> Result<Judged, Fail> {
     let mut online = Online::new(alloc, 2)?;
-    for (client, did) in entries {
-        online.feed(*client, op(alloc, *did)?)?;
+    match feed_all(alloc, &mut online, entries) {
+        Ok(()) => Ok(online.close()?),
+        Err(fault) => {
+            drop(online);
+            Err(fault)
+        }
     }
-    Ok(online.close()?)
+}
+
+/// Whether the report of the verdict on a history is this text.
+fn is_told(alloc: Global, history: &History, text: &str) -> Result<bool, Memory> {
+    let verdict = judge(alloc, history)?;
+    let told = report(alloc, history, &verdict);
+    drop(verdict);
+    Ok(told?.as_slice() == text.as_bytes())
 }
 
 /// Whether the report of the verdict on a history is this text, also where it was fed operation by operation.
 fn tells(alloc: Global, entries: &[(u16, Did)], text: &str) -> Result<bool, Fail> {
     let history = history(alloc, 2, entries)?;
-    let verdict = judge(alloc, &history)?;
-    let is_told = report(alloc, &history, &verdict)?.as_slice() == text.as_bytes();
-    Ok(is_told && report_judged(alloc, &fed(alloc, entries)?)?.as_slice() == text.as_bytes())
+    let is_told = is_told(alloc, &history, text);
+    drop(history);
+    if !is_told? {
+        return Ok(false);
+    }
+    let fed = fed(alloc, entries)?;
+    let told = report_judged(alloc, &fed);
+    drop(fed);
+    Ok(told?.as_slice() == text.as_bytes())
 }
 
 #[test]
@@ -44,7 +69,9 @@ fn leads(
     wanted: &[OpName],
 ) -> Result<bool, Fail> {
     let history = history(alloc, clients, entries)?;
-    match chain(alloc, &history, ends.0, ends.1)? {
+    let chain = chain(alloc, &history, ends.0, ends.1);
+    drop(history);
+    match chain? {
         Some(names) => Ok(names.as_slice() == wanted),
         None => Ok(wanted.is_empty()),
     }

@@ -1,0 +1,38 @@
+//! What the tests of clusters share.
+use cops_cluster::{Cluster, Opened};
+use cops_place::Place;
+use cops_types::{Key, TypeFault, Value};
+use std::alloc::Global;
+use std::test::Fail;
+
+pub fn key(alloc: Global, byte: u8) -> Result<Key, TypeFault> {
+    Key::new(alloc, &[byte])
+}
+
+/// A key and the value 1.
+pub fn pair(alloc: Global, byte: u8) -> Result<(Key, Value), TypeFault> {
+    let key = key(alloc, byte)?;
+    match Value::new(alloc, b"1") {
+        Ok(value) => Ok((key, value)),
+        Err(fault) => {
+            drop(key);
+            Err(fault)
+        }
+    }
+}
+
+/// A place of so many data centres, each with one node or with two whose ranges meet at `m`.
+fn place(alloc: Global, dcs: u8, is_split: bool) -> Result<Place, Fail> {
+    let mut splits = Vec::new(alloc);
+    if is_split {
+        splits.push(key(alloc, b'm')?)?;
+    }
+    Ok(Place::new(dcs, splits)?)
+}
+
+/// A cluster at such a place, with clients in these data centres.
+pub fn opened(alloc: Global, dcs: u8, is_split: bool, homes: &[u8]) -> Result<Opened, Fail> {
+    let homes = Vec::from_slice(alloc, homes)?;
+    let place = place(alloc, dcs, is_split)?;
+    Ok(Cluster::open(alloc, place, homes)?)
+}

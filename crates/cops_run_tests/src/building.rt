@@ -1,0 +1,64 @@
+//! What the tests of runs share.
+use cops_clients::{ClientOutcome, Run, RunFault, run};
+use cops_scenario::{Scenario, ScenarioFault};
+use cops_types::{Gate, Key, TypeFault, Value};
+use std::alloc::Global;
+use std::sync::Wait;
+use std::test::Fail;
+use std::thread::Threads;
+
+/// Two data centres, in each of which a client puts a key and gets it.
+pub const TWO: &str =
+    "{\"data_centres\":2,\"clients\":[{\"at\":0,\"script\":[{\"put\":[\"a\",\"1\"]},{\"get\":\"a\"}]},{\"at\":1,\"script\":[{\"put\":[\"b\",\"1\"]},{\"get\":\"b\"}]}]}";
+
+/// The head of a trace of two clients.
+pub const HEAD: [u8; 9] = [0, 0, 0, 5, 0x11, 0, 1, 0, 2];
+
+pub const DONE: ClientOutcome = ClientOutcome::Done;
+
+pub fn scenario(alloc: Global, text: &str) -> Result<Scenario, ScenarioFault> {
+    Scenario::from_json(alloc, text.as_bytes())
+}
+
+/// A key and a value of one byte each.
+pub fn pair(alloc: Global) -> Result<(Key, Value), TypeFault> {
+    let key = Key::new(alloc, b"x")?;
+    match Value::new(alloc, b"1") {
+        Ok(value) => Ok((key, value)),
+        Err(fault) => {
+            drop(key);
+            Err(fault)
+        }
+    }
+}
+
+/// How a run of a scenario's text ends.
+pub fn ran<R: Threads + Wait + Sync, G: Gate>(
+    rt: &R,
+    alloc: Global,
+    text: &str,
+    gate: &G,
+) -> Result<Result<Run, RunFault>, Fail> {
+    let scenario = scenario(alloc, text)?;
+    Ok(run(rt, alloc, scenario, gate))
+}
+
+/// The fault of a run, or none. What it left is let go.
+pub fn fault_of(ran: Result<Run, RunFault>) -> Option<RunFault> {
+    let fault = match &ran {
+        Ok(_) => None,
+        Err(fault) => Some(*fault),
+    };
+    drop(ran);
+    fault
+}
+
+/// How many operations are in the trace of a run that left these outcomes, or none. What it left is let go.
+pub fn operations_of(ran: Result<Run, RunFault>, outcomes: &[ClientOutcome]) -> Option<usize> {
+    let operations = match &ran {
+        Ok(run) if run.outcomes.as_slice() == outcomes => Some(run.trace.len()),
+        _ => None,
+    };
+    drop(ran);
+    operations
+}
