@@ -1,0 +1,3 @@
+pub mod Asked
+pub mod Texts
+pub mod Versions
