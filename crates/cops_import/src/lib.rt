@@ -7,7 +7,9 @@ mod fault;
 mod field;
 mod line;
 mod name;
+mod names;
 
 pub use fault::LineFault;
 pub use line::Told;
 pub use name::Name;
+pub use names::Names;
