@@ -1,4 +1,6 @@
 //! Why lines are no trace.
+use cops_trace::WriteFault;
+use std::alloc::AllocFailed;
 use thiserror::Error;
 
 /// What is wrong with a line, in the order in which it is looked for.
@@ -31,4 +33,52 @@ pub enum LineFault {
     /// 8: it is its client's 1,000,001st operation, or the 16,000,001st of all.
     #[error("too many operations")]
     TooManyOperations,
+}
+
+/// Why no trace was made of lines.
+#[derive(Clone, Copy, Debug, PartialEq, Eq, Error)]
+pub enum ImportFault {
+    /// 0: out of memory.
+    #[error("out of memory")]
+    Memory,
+    /// 1: the reader failed.
+    #[error("the reader failed")]
+    ReadFailed,
+    /// 2: the writer failed, after exactly so many of the text's first bytes.
+    #[error("the writer failed after {written} bytes")]
+    WriteFailed { written: usize },
+    /// 3: this line, counted from 1, is the first that is wrong.
+    #[error("line {number}: {fault}")]
+    Line { number: u64, fault: LineFault },
+    /// 4: the lines name more or fewer clients than was said.
+    #[error("another number of clients")]
+    Changed,
+    /// 5: the lines did not end within 2^40 reads, or there are 2^64.
+    #[error("the lines do not end")]
+    Endless,
+}
+
+impl From<WriteFault> for ImportFault {
+    ghost use Rattle.std.specs.Prelude.{◌≡◌};
+    ghost use Rattle.cops_import.specs.Writing.{fault_of};
+
+    ghost from_gives = { λ fault e. e ≡ fault_of fault };
+
+    fn from(e: WriteFault) -> ImportFault {
+        match e {
+            WriteFault::Memory => ImportFault::Memory,
+            WriteFault::WriteFailed { written } => ImportFault::WriteFailed { written },
+        }
+    }
+}
+
+impl<T: Drop> From<AllocFailed<T>> for ImportFault {
+    ghost use Rattle.std.specs.Prelude.{◌≡◌};
+    ghost use Rattle.cops_import.specs.declared.fault.ImportFault.TheVariants.{Memory as OutOfMemory};
+
+    ghost from_gives = { λ _ e. e ≡ OutOfMemory };
+
+    fn from(_e: AllocFailed<T>) -> ImportFault {
+        ImportFault::Memory
+    }
 }

@@ -5,11 +5,16 @@
 
 mod fault;
 mod field;
+mod imported;
+mod importer;
 mod line;
 mod name;
 mod names;
+mod reading;
 
-pub use fault::LineFault;
+pub use fault::{ImportFault, LineFault};
+pub use imported::{Imported, Unimported};
 pub use line::Told;
 pub use name::Name;
 pub use names::Names;
+pub use reading::import_stream;
