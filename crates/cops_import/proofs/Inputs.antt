@@ -1,5 +1,5 @@
 -- What was read of a reader whose bytes are known.
-use Rattle.std.proofs.Common.{◌≡◌, ℕ, List, [], ◌++◌, sym, ap, subst, ◌∙◌, append_assoc, append-nil}
+use Rattle.std.proofs.Common.{◌≡◌, ◌≤◌, ℕ, List, [], ◌++◌, arith, length, length-append, sym, ap, subst, ◌∙◌, append_assoc, append-nil}
 use Rattle.std.specs.Prelude.{Option, Some, None, IfSome}
 use Rattle.std.specs.Io.KnownBytes.{Consumes, IsAtEnd}
 use Rattle.cops_types.specs.Counted.{inner}
@@ -26,6 +26,12 @@ fault_read (Some u) None c xs ys clients e p q says = absurd p
 fault_read (Some u) (Some v) None xs ys clients e p q says = absurd q
 fault_read (Some u) (Some v) (Some w) xs ys clients e p q says =
     subst (λ (bytes : List ℕ). IsFaultOf clients bytes e) (sym (p ∙ ap (λ (t : List ℕ). xs ++ t) q ∙ sym (append_assoc xs ys w))) (says w)
+
+-- there were at least as many as were taken
+pub long_read : (a b : Option (List ℕ)) (xs : List ℕ) (n : ℕ) → Consumes a b xs → n ≤ length xs → IfSome a (λ bytes. n ≤ length bytes)
+long_read None b xs n p h = tt
+long_read (Some u) None xs n p h = absurd p
+long_read (Some u) (Some v) xs n p h = omega (arith, ap length p, length-append xs v, h)
 
 pub fault_of_all : (known : Option (List ℕ)) (fed : List ℕ) (clients : ℕ) (e : ImportFault) → IfSome known (λ bytes. bytes ≡ fed) → IsFaultOf clients fed e → IfSome known (λ bytes. IsFaultOf clients bytes e)
 fault_of_all None fed clients e is says = tt

@@ -1,5 +1,5 @@
 -- An import that goes on, byte by byte and line by line.
-use Rattle.std.proofs.Common.{◌≡◌, ◌≢◌, ◌==◌, ◌+◌, ◌<◌, ℕ, false, List, [], ◌∷◌, ◌++◌, length, get_or, take, drop, refl, sym, ap, subst, ◌∙◌, append_assoc, arith}
+use Rattle.std.proofs.Common.{◌≡◌, ◌≢◌, ◌==◌, ◌+◌, ◌^◌, ◌<◌, ◌≤◌, ℕ, false, List, [], ◌∷◌, ◌++◌, length, get_or, take, drop, refl, sym, ap, subst, ◌∙◌, append_assoc, arith}
 use Rattle.std.specs.Prelude.{Option}
 use Rattle.std.proofs.lemmas.List.{length-append, take-append-drop, take_more}
 use Rattle.std.proofs.lemmas.List.Elements.{All-nil, All-append, All-cons}
@@ -15,7 +15,7 @@ use Rattle.cops_import.specs.declared.importer.Importer.{Importer}
 use Rattle.cops_import.specs.declared.line.Told.{Told}
 use Rattle.cops_import.proofs.Records.{cut_so_far}
 use Rattle.cops_import.proofs.Splitting.{IsWithin, Splits, split_byte, split_ended, split_last, split_none, tell_more}
-use Rattle.cops_import.proofs.Stops.{stops_here}
+use Rattle.cops_import.proofs.Stops.{no_number, stops_here}
 
 within_more : (line : List ℕ) (byte : ℕ) → IsWithin line → byte ≢ 10 → IsWithin (line ++ byte ∷ [])
 within_more line byte h other =
@@ -65,11 +65,15 @@ module _ {W : Type 0} (contents : W → Option (List ℕ)) (from : Counted W) wh
   }
 
   -- no number is left for a line
-  pub stopped_endless : (fed all : List ℕ) (old : Importer W) → IsUnderway contents from fed old → HasStopped contents from all Endless old.clients old.writer.writer
-  stopped_endless fed all old u = record {
-    says = λ more. tt;
+  pub stopped_endless : (fed all : List ℕ) (old : Importer W) → IsUnderway contents from fed old → 18446744073709551615 ≤ old.ended → all ≡ fed ++ 10 ∷ [] → HasStopped contents from all Endless old.clients old.writer.writer
+  stopped_endless fed all old u many is = record {
+    says = λ more. no_number (all ++ more) u.ended (lines (old.line.items ++ 10 ∷ more)) (ap (λ (l : List ℕ). lines (l ++ more)) is ∙ ap lines (append_assoc fed (10 ∷ []) more) ∙ u.split (10 ∷ more)) (omega (arith, many, u.counted));
     left = record { cut = cut_so_far contents from _ old.writer u.taken.wrote; heard = u.taken.wrote.heard };
   }
+
+  pub endless_says : (fed : List ℕ) (old : Importer W) → IsUnderway contents from fed old → 18446744073709551615 ≤ old.ended → 2 ^ 40 ≤ length fed
+  endless_says fed old u many =
+      no_number fed u.ended (old.line.items ∷ []) (split_last fed u.ended old.line.items u.split u.within) (omega (arith, many, u.counted))
 
   -- what stopped it stops it whatever follows
   pub stopped_more : (fed rest all : List ℕ) (e : ImportFault) (clients : ℕ) (w : Counted W) → fed ++ rest ≡ all → HasStopped contents from fed e clients w → HasStopped contents from all e clients w

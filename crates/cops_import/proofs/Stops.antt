@@ -1,6 +1,9 @@
 -- What stops an import is what a fault says of the whole text.
-use Rattle.std.proofs.Common.{◌≡◌, ◌+◌, ℕ, List, [], ◌∷◌, ◌++◌, length, sym, ◌∙◌, append_assoc, inl, inr}
+use Rattle.std.proofs.Common.{◌≡◌, ◌==◌, ◌+◌, ◌^◌, ◌≤◌, ℕ, Bool, List, [], ◌∷◌, ◌++◌, length, sym, ap, ◌∙◌, append_assoc, inl, inr, arith}
 use Rattle.std.specs.Prelude.{Some, Result, Ok, Err, IfErr, IfOk}
+use Rattle.std.proofs.lemmas.List.{length-append}
+use Rattle.std.proofs.lemmas.List.Splits.{length-slice_split}
+use Rattle.std.proofs.lemmas.List.Sums.{count_by-le-length}
 use Rattle.cops_import.specs.Faults.{IsFaultOf}
 use Rattle.cops_import.specs.Line.{LineTells}
 use Rattle.cops_import.specs.Lines.{LinesTell, lines}
@@ -25,7 +28,7 @@ stop_of clients number tolds line told ReadFailed tells stop = tt
 stop_of clients number tolds line told (WriteFailed written) tells stop = tt
 stop_of clients number tolds line told (Line n fault) tells stop = (stop.0, inr (told, tells, stop.1))
 stop_of clients number tolds line told Changed tells stop = (told, tells, stop)
-stop_of clients number tolds line told Endless tells stop = tt
+stop_of clients number tolds line told Endless tells stop = absurd stop
 
 -- what stops at a line is a fault of the text in which it stands
 stop_says : (clients : ℕ) (bytes : List ℕ) (ended : List (List ℕ)) (line : List ℕ) (after : List (List ℕ)) (tolds : List Told) (number : ℕ) (e : ImportFault)
@@ -44,7 +47,7 @@ stop_says clients bytes ended line after tolds number Changed split tell counted
       tell = tell_more [] ended tolds line (Some stop.0) tell stop.1;
       more = stop.2;
     })
-stop_says clients bytes ended line after tolds number Endless split tell counted stop = tt
+stop_says clients bytes ended line after tolds number Endless split tell counted stop = absurd stop
 
 -- at a line that a line feed ends, whatever follows
 pub stops_here : (clients : ℕ) (fed : List ℕ) (ended : List (List ℕ)) (line : List ℕ) (tolds : List Told) (number : ℕ) (e : ImportFault) → Splits fed ended line → IsWithin line
@@ -65,4 +68,10 @@ stops_ended clients bytes tolds ReadFailed tell stop = tt
 stops_ended clients bytes tolds (WriteFailed written) tell stop = tt
 stops_ended clients bytes tolds (Line n fault) tell stop = absurd stop
 stops_ended clients bytes tolds Changed tell stop = inr (tolds, tell, stop)
-stops_ended clients bytes tolds Endless tell stop = tt
+stops_ended clients bytes tolds Endless tell stop = absurd stop
+
+-- where no number of 64 bits is left for a line
+pub no_number : (bytes : List ℕ) (ended rest : List (List ℕ)) → lines bytes ≡ ended ++ rest → 18446744073709551615 ≤ length ended → 2 ^ 40 ≤ length bytes
+no_number bytes ended rest split many =
+    let p : ℕ → Bool = λ b. b == 10 in
+    omega (arith, ap length split, length-append ended rest, length-slice_split p bytes, count_by-le-length p bytes, many)

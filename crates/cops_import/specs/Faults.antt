@@ -1,5 +1,5 @@
 -- Why a text of lines is no trace.
-use Rattle.std.specs.Prelude.{◌≡◌, ◌≢◌, ◌⊎◌, ℕ, ◌+◌, ◌<◌, List, [], ◌∷◌, ◌++◌, length, Option, Some}
+use Rattle.std.specs.Prelude.{◌≡◌, ◌≢◌, ◌⊎◌, ℕ, ◌+◌, ◌^◌, ◌<◌, ◌≤◌, List, [], ◌∷◌, ◌++◌, length, Option, Some}
 use Rattle.cops_types.specs.Failures.{Failed}
 use Rattle.cops_types.specs.declared.limits.TheConstants.{MAX_CLIENTS, MAX_CLIENT_OPS, MAX_OPS}
 use Rattle.cops_trace.specs.Live.{IsCutShort}
@@ -8,7 +8,7 @@ use Rattle.cops_import.specs.Line.{IsFaulty, LineTells}
 use Rattle.cops_import.specs.Lines.{LinesTell, lines, names_of, trace_of}
 use Rattle.cops_import.specs.Names.{number_of}
 use Rattle.cops_import.specs.declared.fault.ImportFault.{ImportFault}
-use Rattle.cops_import.specs.declared.fault.ImportFault.TheVariants.{Memory, Changed, Line, ReadFailed, WriteFailed}
+use Rattle.cops_import.specs.declared.fault.ImportFault.TheVariants.{Memory, Changed, Endless, Line, ReadFailed, WriteFailed}
 use Rattle.cops_import.specs.declared.fault.LineFault.{LineFault}
 use Rattle.cops_import.specs.declared.fault.LineFault.TheVariants.{TooManyClients, TooManyOperations}
 use Rattle.cops_import.specs.declared.line.Told.{Told}
@@ -55,6 +55,7 @@ NamesOthers clients bytes = (tolds : List Told) × LinesTell (lines bytes) tolds
 abbrev pub IsFaultOf : ℕ → List ℕ → ImportFault → Type 0
 IsFaultOf clients bytes (Line number fault) = IsFirstFaulty bytes number fault
 IsFaultOf clients bytes Changed = NamesMore clients bytes ⊎ NamesOthers clients bytes
+IsFaultOf clients bytes Endless = 2 ^ 40 ≤ length bytes
 IsFaultOf clients bytes _ = Unit {0}
 
 -- and of the writer: it failed where a write failed, and else did not; for want of memory nothing is said

@@ -2,6 +2,7 @@ pub mod Line
 pub mod Asked
 pub mod Names
 pub mod Lines
+pub mod Words
 pub mod Writing
 pub mod Faults
 pub mod Imports

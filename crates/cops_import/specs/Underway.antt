@@ -11,7 +11,7 @@ use Rattle.cops_import.specs.Faults.{IsCutBy, IsFaultOf, IsFaultyAfter, IsHeardB
 use Rattle.cops_import.specs.Line.{LineTells}
 use Rattle.cops_import.specs.Lines.{LinesTell, lines, names_of, trace_of, with_told}
 use Rattle.cops_import.specs.declared.fault.ImportFault.{ImportFault}
-use Rattle.cops_import.specs.declared.fault.ImportFault.TheVariants.{Changed, Line}
+use Rattle.cops_import.specs.declared.fault.ImportFault.TheVariants.{Changed, Endless, Line}
 use Rattle.cops_import.specs.declared.imported.Imported.{Imported}
 use Rattle.cops_import.specs.declared.importer.Importer.{Importer}
 use Rattle.cops_import.specs.declared.line.Told.{Told}
@@ -74,18 +74,21 @@ pub record HasLeft {W : Type 0} (contents : W → Option (List ℕ)) (from : Cou
 abbrev pub IsStopOf : ℕ → ℕ → List Told → Told → ImportFault → Type 0
 IsStopOf clients number tolds told (Line n fault) = (n ≡ number) × IsTooMany tolds told fault
 IsStopOf clients number tolds told Changed = clients < length (names_of (tolds ++ told ∷ []))
+IsStopOf clients number tolds told Endless = ⊥
 IsStopOf clients number tolds told _ = Unit {0}
 
 -- what stops at a line of this number, after others that told these
 abbrev pub IsStopAt : ℕ → ℕ → List Told → List ℕ → ImportFault → Type 0
 IsStopAt clients number tolds line (Line n fault) = (n ≡ number) × IsFaultyAfter tolds line fault
 IsStopAt clients number tolds line Changed = (told : Told) × LineTells line (Some told) × (clients < length (names_of (tolds ++ told ∷ [])))
+IsStopAt clients number tolds line Endless = ⊥
 IsStopAt clients number tolds line _ = Unit {0}
 
 -- what stops at the end, after all told these
 abbrev pub IsStopAtEnd : ℕ → List Told → ImportFault → Type 0
 IsStopAtEnd clients tolds (Line n fault) = ⊥
 IsStopAtEnd clients tolds Changed = length (names_of tolds) ≢ clients
+IsStopAtEnd clients tolds Endless = ⊥
 IsStopAtEnd clients tolds _ = Unit {0}
 
 -- it stopped: whatever bytes follow, the fault is that of all

@@ -1,6 +1,9 @@
 //! Why lines are no trace.
+ghost use Rattle.std.specs.Prelude.{◌≡◌, IfOk, string_bytes};
+ghost use Rattle.cops_import.specs.Words.{faulty_line};
+
 use cops_trace::WriteFault;
-use std::alloc::AllocFailed;
+use std::alloc::{AllocError, AllocFailed, Global};
 use thiserror::Error;
 
 /// What is wrong with a line, in the order in which it is looked for.
@@ -33,6 +36,36 @@ pub enum LineFault {
     /// 8: it is its client's 1,000,001st operation, or the 16,000,001st of all.
     #[error("too many operations")]
     TooManyOperations,
+}
+
+impl LineFault {
+    ghost use Rattle.std.specs.Prelude.{◌≡◌};
+    ghost use Rattle.cops_import.specs.Words.{words_of};
+
+    /// Its words.
+    fn words(self) -> &'static str
+        ensures { result.now ≡ words_of self }
+    {
+        match self {
+            LineFault::NoJson => "no JSON",
+            LineFault::NoClient => "no client",
+            LineFault::NoOperation => "no operation",
+            LineFault::BothOperations => "both operations",
+            LineFault::BadKey => "bad key",
+            LineFault::BadValue => "bad value",
+            LineFault::BadVersion => "bad version",
+            LineFault::TooManyClients => "too many clients",
+            LineFault::TooManyOperations => "too many operations",
+        }
+    }
+}
+
+/// The line that tells what is wrong with the line of a number.
+pub fn faulty_line(alloc: Global, number: u64, fault: LineFault) -> Result<String, AllocError>
+    ensures { IfOk result (λ line. string_bytes line ≡ faulty_line number fault) }
+{
+    let words = fault.words();
+    format!(in alloc; "faulty: line {number}: {words}\n")
 }
 
 /// Why no trace was made of lines.

@@ -3,6 +3,7 @@
 //! line which is told as faulty is the first that tells nothing.
 #![tactic(auto)]
 
+mod count;
 mod fault;
 mod field;
 mod imported;
@@ -12,7 +13,8 @@ mod name;
 mod names;
 mod reading;
 
-pub use fault::{ImportFault, LineFault};
+pub use count::count_clients;
+pub use fault::{ImportFault, LineFault, faulty_line};
 pub use imported::{Imported, Unimported};
 pub use line::Told;
 pub use name::Name;

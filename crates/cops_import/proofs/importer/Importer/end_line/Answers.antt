@@ -1,9 +1,11 @@
-use Rattle.std.proofs.Common.{rules}
+use Rattle.std.proofs.Common.{◌≤◌, refl, rules}
 use Rattle.cops_import.proofs.Steps.{line_ended, stopped_endless, stopped_here}
 use Rattle.cops_import.proofs.importer.Importer.end_line.Goals as goal
 
 pub returns-in_default-clause-err : goal.returns-in_default-clause-err
-returns-in_default-clause-err g c = λ from fed u. stopped_endless g.W.Write.contents from fed _ c.args.self.now u
+returns-in_default-clause-err g c = λ from fed u.
+    let many : 18446744073709551615 ≤ c.args.self.now.ended = search rules in
+    stopped_endless g.W.Write.contents from fed _ c.args.self.now u many refl
 
 pub returns-in-Ok-clause-ok : goal.returns-in-Ok-clause-ok
 returns-in-Ok-clause-ok g c = λ from fed u.

@@ -1,7 +1,7 @@
-use Rattle.std.proofs.Common.{◌≡◌, ◌+◌, ℕ, ap, subst, ◌∙◌, rules}
+use Rattle.std.proofs.Common.{◌≡◌, ◌+◌, ◌≤◌, ℕ, ap, subst, ◌∙◌, rules}
 use Rattle.cops_import.specs.Underway.{IsStopAtEnd}
 use Rattle.cops_import.proofs.Records.{cut_so_far}
-use Rattle.cops_import.proofs.Steps.{last_taken}
+use Rattle.cops_import.proofs.Steps.{endless_says, last_taken}
 use Rattle.cops_import.proofs.Stops.{if_err, if_ok, stops_ended, stops_last}
 use Rattle.cops_import.proofs.importer.Importer.finish.Goals as goal
 
@@ -28,3 +28,8 @@ returns-in-Err-clause-fault g c = λ from fed u.
     rw c.give_up-in-Err.ensures
     (stops_last c.args.self.clients fed u.ended c.args.self.line.items u.tolds c.in-Some.number c.in-Err.fault u.split u.within u.tell (next ∙ ap (λ (n : ℕ). n + 1) u.counted)
     (c.in-Err.ensures.stop from u.tolds u.taken))
+
+pub returns-in_default-clause-fault : goal.returns-in_default-clause-fault
+returns-in_default-clause-fault g c = λ from fed u.
+    let many : 18446744073709551615 ≤ c.args.self.ended = search rules in
+    rw c.give_up.ensures (endless_says g.W.Write.contents from fed c.args.self u many)
