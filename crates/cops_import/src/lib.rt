@@ -12,6 +12,8 @@ mod line;
 mod name;
 mod names;
 mod reading;
+#[cfg(test)]
+mod tests;
 
 pub use count::count_clients;
 pub use fault::{ImportFault, LineFault, faulty_line};
