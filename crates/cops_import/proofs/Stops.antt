@@ -1,6 +1,6 @@
 -- What stops an import is what a fault says of the whole text.
 use Rattle.std.proofs.Common.{◌≡◌, ◌==◌, ◌+◌, ◌^◌, ◌≤◌, ℕ, Bool, List, [], ◌∷◌, ◌++◌, length, sym, ap, ◌∙◌, append_assoc, inl, inr, arith}
-use Rattle.std.specs.Prelude.{Some, Result, Ok, Err, IfErr, IfOk}
+use Rattle.std.specs.Prelude.{Some, Result, Ok, Err, IfErr, IfOk, OnOk}
 use Rattle.std.proofs.lemmas.List.{length-append}
 use Rattle.std.proofs.lemmas.List.Splits.{length-slice_split}
 use Rattle.std.proofs.lemmas.List.Sums.{count_by-le-length}
@@ -20,6 +20,10 @@ if_err (Err e) P Q f h = f e h
 pub if_ok : {T E : Type 0} (r : Result T E) (P Q : T → Type 0) → ((x : T) → P x → Q x) → IfOk r P → IfOk r Q
 if_ok (Ok x) P Q f h = f x h
 if_ok (Err e) P Q f h = tt
+
+pub on_ok : {T E : Type 0} (r : Result T E) (P Q : Type 0) → (P → Q) → OnOk r P → OnOk r Q
+on_ok (Ok x) P Q f h = f h
+on_ok (Err e) P Q f h = tt
 
 -- what stops at an operation stops at its line
 pub stop_of : (clients number : ℕ) (tolds : List Told) (line : List ℕ) (told : Told) (e : ImportFault) → LineTells line (Some told) → IsStopOf clients number tolds told e → IsStopAt clients number tolds line e

@@ -86,10 +86,14 @@ TellsOp d (op.Missed key) = AsksKey d Get key × FoundNothing d
 abbrev pub Tells : Data → Told → Type 0
 Tells d told = TellsName d told.name × TellsOp d told.op
 
+-- the text of an object does
+abbrev pub TextTells : List ℕ → Told → Type 0
+TextTells line told = (d : Data) × IsJson line d × Tells d told
+
 -- a line tells nothing where it is blank, and else what its object does
 abbrev pub LineTells : List ℕ → Option Told → Type 0
 LineTells line None = IsBlank line
-LineTells line (Some told) = (d : Data) × IsJson line d × Tells d told
+LineTells line (Some told) = (IsBlank line → ⊥) × TextTells line told
 
 -- ---- what is wrong with it
 

@@ -1,8 +1,8 @@
 //! What one line tells.
-ghost use Rattle.std.specs.Prelude.{◌≡◌, ◌↔◌, Some, Err, IfOk, IsTrue, option_map};
+ghost use Rattle.std.specs.Prelude.{◌≡◌, ◌↔◌, Err, IfOk, IsTrue, option_map};
 ghost use Rattle.serde_json.specs.View.{view};
 ghost use Rattle.cops_import.specs.declared.fault.LineFault.{LineFault as AFault};
-ghost use Rattle.cops_import.specs.Line.{FoundNothing, IsAsked, IsBlank, IsFaulty, IsNothing, IsWrong, IsWrongIn, LineTells, Tells, TellsName};
+ghost use Rattle.cops_import.specs.Line.{FoundNothing, IsAsked, IsBlank, IsFaulty, IsNothing, IsWrong, IsWrongIn, LineTells, Tells, TellsName, TextTells};
 ghost use Rattle.cops_import.specs.Asked.{IsWrongOf, TellsKind};
 
 use crate::fault::LineFault;
@@ -64,7 +64,7 @@ pub(crate) fn of_line(alloc: Global, line: &[u8]) -> Result<Option<Told>, Untold
 
 /// What the JSON text of a line tells.
 fn of_text(alloc: Global, line: &[u8]) -> Result<Told, Untold>
-    ensures told { IfOk result (λ told. LineTells line.now (Some told)) }
+    ensures told { IfOk result (TextTells line.now) }
     ensures wrong { (fault : AFault) → result ≡ Err (Untold.Fault fault) → IsWrongIn line.now fault }
 {
     match Json::from_slice(alloc, line) {
