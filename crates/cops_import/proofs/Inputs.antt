@@ -50,5 +50,6 @@ module _ {W : Type 0} (contents : W → Option (List ℕ)) (from : Counted W) wh
     tell = subst (λ (b : List ℕ). LinesTell (lines b) finished.0) (sym is) finished.1;
     names_are = finished.2.names;
     counted = finished.2.operations;
+    is_trace = finished.2.is_trace;
     written = finished.2.written;
   }

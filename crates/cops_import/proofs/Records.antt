@@ -15,7 +15,7 @@ use Rattle.cops_trace.specs.Counts.{ACounts, AreCountsOf, HasTurn, counted, noth
 use Rattle.cops_trace.specs.Kept.{grown}
 use Rattle.cops_trace.specs.Live.{HasBegun, IsCutShort}
 use Rattle.cops_trace.specs.Live as live
-use Rattle.cops_trace.specs.Text.{ATrace, IsOp, beginning, op_message, record_text, text, turn}
+use Rattle.cops_trace.specs.Text.{ATrace, IsOp, IsTrace, beginning, op_message, record_text, text, turn}
 use Rattle.cops_trace.specs.Writing.{IsUnwritten, end_frame, head_frame, more_written, record_frame}
 use Rattle.cops_trace.specs.declared.fault.WriteFault.{WriteFault}
 use Rattle.cops_trace.specs.declared.fault.WriteFault.TheVariants as write
@@ -137,6 +137,9 @@ module _ {W : Type 0} (contents : W → Option (List ℕ)) (from : Counted W) wh
 
   end_is : (t : ATrace) (c : ACounts) → AreCountsOf t c → text t ≡ beginning t ++ end_frame c
   end_is t c counts = ap (λ (n : ℕ). beginning t ++ spelled (TraceEnd n)) (sym counts.total)
+
+  pub ended_trace : (tolds : List Told) (i : Importer W) → HasTaken contents from tolds i → length i.names ≡ i.clients → IsTrace (trace_of tolds)
+  ended_trace tolds i h many = subst (λ (k : ℕ). IsTrace (trace_to k tolds)) (sym many ∙ ap length h.names) h.wrote.is_trace
 
   pub ended_written : (tolds : List Told) (i : Importer W) (w : Counted W) → HasTaken contents from tolds i → length i.names ≡ i.clients
       → Appends (contents (inner i.writer.writer)) (contents (inner w)) (end_frame i.writer.counts) → Appends (contents (inner from)) (contents (inner w)) (text (trace_of tolds))

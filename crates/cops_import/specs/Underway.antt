@@ -52,6 +52,7 @@ pub record IsUnderway {W : Type 0} (contents : W → Option (List ℕ)) (from : 
 pub record HasEnded {W : Type 0} (contents : W → Option (List ℕ)) (from : Counted W) (tolds : List Told) (done : Imported W) : Type 0 where
   pub names : done.names ≡ names_of tolds
   pub operations : done.operations ≡ length tolds
+  pub is_trace : IsTrace (trace_of tolds)
   pub written : Appends (contents (inner from)) (contents (inner done.writer)) (text (trace_of tolds))
   pub heard : failures done.writer ≡ failures from
 

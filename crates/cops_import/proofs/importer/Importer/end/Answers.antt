@@ -1,5 +1,5 @@
 use Rattle.std.proofs.Common.{◌≡◌, length, ◌∙◌, rules}
-use Rattle.cops_import.proofs.Records.{cut_so_far, ended_written, left_ended}
+use Rattle.cops_import.proofs.Records.{cut_so_far, ended_trace, ended_written, left_ended}
 use Rattle.cops_import.proofs.importer.Importer.end.Goals as goal
 
 pub returns-then-len-from-clause-err : goal.returns-then-len-from-clause-err
@@ -11,6 +11,7 @@ returns-in-Ok-clause-ok g c = λ from tolds h.
     record {
       names = h.names;
       operations = h.operations;
+      is_trace = ended_trace g.W.Write.contents from tolds c.args.self h many;
       written = ended_written g.W.Write.contents from tolds c.args.self c.in-Ok.writer h many c.in-Ok.ensures.ok;
       heard = c.in-Ok.ensures.heard ∙ h.wrote.heard;
     }
