@@ -7,8 +7,8 @@ use cops_types::{Counted, MAX_CLIENTS};
 use std::alloc::Global;
 use std::io::Read;
 
-/// How many clients the lines name before the first that is wrong, which is what `import_stream` wants to be told: at most 65,535.
-/// The same reader gives no lines again.
+/// How many clients the lines name before the first that is wrong, which is what `import_stream` wants to be told: at
+/// most 65,535. The same reader gives no lines again.
 pub fn count_clients<R: Read>(alloc: Global, lines: &mut Counted<R>) -> Result<u16, ImportFault> {
     let mut names = Names::new(alloc);
     let mut line = Vec::new(alloc);

@@ -4,8 +4,8 @@ use cops_trace::Unwritten;
 use cops_types::Counted;
 use std::io::Write;
 
-/// What was imported: the names of the clients, each at its client's number, and how many operations there are. The writer comes
-/// back.
+/// What was imported: the names of the clients, each at its client's number, and how many operations there are. The
+/// writer comes back.
 #[derive(Drop)]
 pub struct Imported<W: Write> {
     pub names: Names,

@@ -3,7 +3,7 @@ use indexmap::IndexSet;
 use std::alloc::{AllocFailed, Global};
 use std::marker::Model;
 
-/// The names of clients, each once, in the order in which they first appear: a client's number is the place of its name.
+/// The names of clients, each once, in the order in which they first appear: a client's number is its name's place.
 #[derive(Debug, Drop)]
 pub struct Names {
     names: IndexSet<Name>,

@@ -19,10 +19,10 @@ pub(crate) const PIECE: usize = 65_536;
 /// The most reads.
 pub(crate) const READS: u64 = 1 << 40;
 
-/// Writes the trace that JSON Lines tell, an operation a line in the order of each client, as README.md has their members. So many
-/// clients are to be named, else the answer is `Changed`. Of the lines it keeps the names, how many operations each client has, and
-/// one line. A failed read or write is not tried again. On `Ok` the text is whole; on `Err` it is cut, and `Line` has the number,
-/// from 1, of the first line that is wrong.
+/// Writes the trace that JSON Lines tell, an operation a line in the order of each client, as README.md has their
+/// members. So many clients are to be named, else the answer is `Changed`. Of the lines it keeps the names, how many
+/// operations each client has, and one line. A failed read or write is not tried again. On `Ok` the text is whole; on
+/// `Err` it is cut, and `Line` has the number, from 1, of the first line that is wrong.
 pub fn import_stream<R: Read, W: Write>(
     alloc: Global,
     clients: u16,
