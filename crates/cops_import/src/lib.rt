@@ -20,7 +20,6 @@ pub use count::count_clients;
 pub use fault::{ImportFault, LineFault, faulty_line};
 pub use imported::{Imported, Unimported};
 pub use laws::lines_tell_one;
-pub use line::Told;
 pub use name::Name;
 pub use names::Names;
 pub use reading::import_stream;

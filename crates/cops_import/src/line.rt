@@ -14,9 +14,9 @@ use std::alloc::Global;
 
 /// What a client did, and the client's name.
 #[derive(Debug, Drop)]
-pub struct Told {
-    pub name: Name,
-    pub op: Op,
+pub(crate) struct Told {
+    pub(crate) name: Name,
+    pub(crate) op: Op,
 }
 
 /// What an operation is.
