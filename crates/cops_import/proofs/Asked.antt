@@ -1,0 +1,63 @@
+-- An object tells what its one operation does.
+use Rattle.std.proofs.Common.{◌≡◌, ℕ, List, [], ◌∷◌, length, Some, refl, subst}
+use Rattle.serde_json.specs.Data.{Data, item, no_items}
+use Rattle.serde_json.specs.View.{items_view}
+use Rattle.serde_json.specs.declared.value.Value.{Value}
+use Rattle.cops_types.specs.declared.op.Op.{Op}
+use Rattle.cops_types.specs.declared.op.Op.TheVariants as op
+use Rattle.cops_import.specs.declared.fault.LineFault.{LineFault}
+use Rattle.cops_import.specs.declared.fault.LineFault.TheVariants.{NoJson, NoClient, NoOperation, BothOperations, BadKey, BadValue, BadVersion, TooManyClients, TooManyOperations}
+use Rattle.cops_import.specs.declared.field.Unread.{Unread}
+use Rattle.cops_import.specs.declared.field.Unread.TheVariants.{Memory, Form}
+use Rattle.cops_import.specs.declared.line.Untold.{Untold}
+use Rattle.cops_import.specs.declared.line.Untold.TheVariants.{Fault, Memory as OutOfMemory}
+use Rattle.cops_import.specs.declared.line.Kind.{Kind}
+use Rattle.cops_import.specs.declared.line.Kind.TheVariants.{Put, Get}
+use Rattle.cops_import.specs.Line.{AsksKey, HasName, IsAsked, IsJson, IsWrong, IsWrongIn, TellsOp, number_json}
+use Rattle.cops_import.specs.Asked.{IsKeyJson, IsWrongOf, TellsKind}
+
+asks : (d : Data) (kind : Kind) (at : Data) (key : List ℕ) → IsAsked d kind at → IsKeyJson at key → AsksKey d kind key
+asks d kind at key asked is = (subst (λ (x : Data). IsAsked d kind x) is.0 asked, is.1)
+
+pub tells_of : (d : Data) (kind : Kind) (at : Data) (o : Op) → IsAsked d kind at → TellsKind d kind at o → TellsOp d o
+tells_of d Put at (op.Put key value version) asked told = (asks d Put at key asked told.0, told.1, told.2)
+tells_of d Put at (op.Got key value version) asked told = absurd told
+tells_of d Put at (op.Missed key) asked told = absurd told
+tells_of d Get at (op.Put key value version) asked told = absurd told
+tells_of d Get at (op.Got key value version) asked told = (asks d Get at key asked told.0, told.1, told.2)
+tells_of d Get at (op.Missed key) asked told = (asks d Get at key asked told.0, told.1)
+
+pub wrong_of : (d : Data) (kind : Kind) (at : Data) (fault : LineFault) → HasName d → IsAsked d kind at → IsWrongOf d kind at fault → IsWrong d fault
+wrong_of d kind at NoJson name asked wrong = absurd wrong
+wrong_of d kind at NoClient name asked wrong = absurd wrong
+wrong_of d kind at NoOperation name asked wrong = absurd wrong
+wrong_of d kind at BothOperations name asked wrong = absurd wrong
+wrong_of d kind at BadKey name asked wrong = (name, (kind, at, asked, wrong))
+wrong_of d kind at BadValue name asked wrong = (name, (kind, wrong.0, asks d kind at wrong.0 asked wrong.1, wrong.2))
+wrong_of d kind at BadVersion name asked wrong = (name, (kind, wrong.0, asks d kind at wrong.0 asked wrong.1, wrong.2))
+wrong_of d kind at TooManyClients name asked wrong = absurd wrong
+wrong_of d kind at TooManyOperations name asked wrong = absurd wrong
+
+-- what is wrong where something is not read is what was named
+pub wrong_unread : (P : LineFault → Type 0) (named fault : LineFault) (unread : Unread) (r : Untold) → (unread ≡ Memory → r ≡ OutOfMemory) → (unread ≡ Form → r ≡ Fault named) → (unread ≡ Form → P named) → r ≡ Fault fault → P fault
+wrong_unread P named fault Memory r memory form wrong e = let m = memory refl in absurd cc
+wrong_unread P named fault Form r memory form wrong e = let f = form refl in let same : named ≡ fault = cc in subst P same (wrong refl)
+
+-- what is wrong with the object of a line is wrong with the line
+pub wrong_in : (line : List ℕ) (d : Data) (fault : LineFault) → IsJson line d → IsWrong d fault → IsWrongIn line fault
+wrong_in line d NoJson json wrong = absurd wrong
+wrong_in line d NoClient json wrong = (d, json, wrong)
+wrong_in line d NoOperation json wrong = (d, json, wrong)
+wrong_in line d BothOperations json wrong = (d, json, wrong)
+wrong_in line d BadKey json wrong = (d, json, wrong)
+wrong_in line d BadValue json wrong = (d, json, wrong)
+wrong_in line d BadVersion json wrong = (d, json, wrong)
+wrong_in line d TooManyClients json wrong = absurd wrong
+wrong_in line d TooManyOperations json wrong = absurd wrong
+
+-- a list of two has two items
+pub two_items : (vs : List Value) (a b : ℕ) → Some (items_view vs) ≡ Some (item (number_json a) (item (number_json b) no_items)) → length vs ≡ 2
+two_items [] a b e = let no : ⊥ = cc in absurd no
+two_items (v ∷ []) a b e = let no : ⊥ = cc in absurd no
+two_items (v ∷ w ∷ []) a b e = refl
+two_items (v ∷ w ∷ x ∷ vs) a b e = let no : ⊥ = cc in absurd no

@@ -1,0 +1,55 @@
+-- What was read of a reader whose bytes are known.
+use Rattle.std.proofs.Common.{◌≡◌, ◌≤◌, ℕ, List, [], ◌++◌, arith, length, length-append, sym, ap, subst, ◌∙◌, append_assoc, append-nil}
+use Rattle.std.specs.Prelude.{Option, Some, None, IfSome}
+use Rattle.std.specs.Io.KnownBytes.{Consumes, IsAtEnd}
+use Rattle.cops_types.specs.Counted.{inner}
+use Rattle.cops_types.specs.declared.counted.Counted.{Counted}
+use Rattle.cops_import.specs.Faults.{IsFaultOf}
+use Rattle.cops_import.specs.Imports.{IsImport}
+use Rattle.cops_import.specs.Lines.{LinesTell, lines}
+use Rattle.cops_import.specs.Underway.{Finishes}
+use Rattle.cops_import.specs.declared.fault.ImportFault.{ImportFault}
+use Rattle.cops_import.specs.declared.imported.Imported.{Imported}
+
+-- what was read before the end is all there was
+pub all_read : (a b c : Option (List ℕ)) (xs : List ℕ) → Consumes a b xs → Consumes b c [] → IsAtEnd c → IfSome a (λ bytes. bytes ≡ xs)
+all_read None b c xs p q r = tt
+all_read (Some u) None c xs p q r = absurd p
+all_read (Some u) (Some v) None xs p q r = absurd q
+all_read (Some u) (Some v) (Some w) xs p q r = p ∙ ap (λ (t : List ℕ). xs ++ t) (q ∙ r) ∙ append-nil xs
+
+-- a fault that stands whatever follows is that of all bytes
+pub fault_read : (a b c : Option (List ℕ)) (xs ys : List ℕ) (clients : ℕ) (e : ImportFault) → Consumes a b xs → Consumes b c ys → ((more : List ℕ) → IsFaultOf clients ((xs ++ ys) ++ more) e)
+    → IfSome a (λ bytes. IsFaultOf clients bytes e)
+fault_read None b c xs ys clients e p q says = tt
+fault_read (Some u) None c xs ys clients e p q says = absurd p
+fault_read (Some u) (Some v) None xs ys clients e p q says = absurd q
+fault_read (Some u) (Some v) (Some w) xs ys clients e p q says =
+    subst (λ (bytes : List ℕ). IsFaultOf clients bytes e) (sym (p ∙ ap (λ (t : List ℕ). xs ++ t) q ∙ sym (append_assoc xs ys w))) (says w)
+
+-- there were at least as many as were taken
+pub long_read : (a b : Option (List ℕ)) (xs : List ℕ) (n : ℕ) → Consumes a b xs → n ≤ length xs → IfSome a (λ bytes. n ≤ length bytes)
+long_read None b xs n p h = tt
+long_read (Some u) None xs n p h = absurd p
+long_read (Some u) (Some v) xs n p h = omega (arith, ap length p, length-append xs v, h)
+
+pub fault_of_all : (known : Option (List ℕ)) (fed : List ℕ) (clients : ℕ) (e : ImportFault) → IfSome known (λ bytes. bytes ≡ fed) → IsFaultOf clients fed e → IfSome known (λ bytes. IsFaultOf clients bytes e)
+fault_of_all None fed clients e is says = tt
+fault_of_all (Some bytes) fed clients e is says = subst (λ (b : List ℕ). IsFaultOf clients b e) (sym is) says
+
+pub fault_of_any : (known : Option (List ℕ)) (clients : ℕ) (e : ImportFault) → ((bytes : List ℕ) → IsFaultOf clients bytes e) → IfSome known (λ bytes. IsFaultOf clients bytes e)
+fault_of_any None clients e says = tt
+fault_of_any (Some bytes) clients e says = says bytes
+
+module _ {W : Type 0} (contents : W → Option (List ℕ)) (from : Counted W) where
+  pub import_of_all : (known : Option (List ℕ)) (fed : List ℕ) (done : Imported W) → IfSome known (λ bytes. bytes ≡ fed) → Finishes contents from fed done
+      → IfSome known (λ bytes. IsImport bytes (contents (inner from)) (contents (inner done.writer)) done.names done.operations)
+  import_of_all None fed done is finished = tt
+  import_of_all (Some bytes) fed done is finished = record {
+    tolds = finished.0;
+    tell = subst (λ (b : List ℕ). LinesTell (lines b) finished.0) (sym is) finished.1;
+    names_are = finished.2.names;
+    counted = finished.2.operations;
+    is_trace = finished.2.is_trace;
+    written = finished.2.written;
+  }

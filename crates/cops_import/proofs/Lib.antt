@@ -1,0 +1,10 @@
+pub mod Asked
+pub mod Texts
+pub mod Versions
+pub mod Numbering
+pub mod Splitting
+pub mod Records
+pub mod Stops
+pub mod Steps
+pub mod Inputs
+pub mod Telling

@@ -1,0 +1,191 @@
+-- Records that are written one after another.
+use Rattle.std.proofs.Common.{◌≡◌, ◌≢◌, ℕ, min, ◌+◌, ◌^◌, ◌<◌, List, [], ◌∷◌, ◌++◌, length, map, refl, sym, ap, subst, ◌∙◌, arith}
+use Rattle.std.specs.Prelude.{Option, Some}
+use Rattle.std.specs.Io.KnownBytes.{Appends}
+use Rattle.std.proofs.lemmas.List.{length-append, length-map, map-append}
+use Rattle.cops_types.proofs.Devices.{appends_more}
+use Rattle.cops_types.specs.Counted.{failures, inner}
+use Rattle.cops_types.specs.Failures.{Failed}
+use Rattle.cops_types.specs.declared.counted.Counted.{Counted}
+use Rattle.cops_types.specs.declared.limits.TheConstants.{MAX_CLIENT_OPS}
+use Rattle.cops_types.specs.declared.op.Op.{Op}
+use Rattle.cops_wire.specs.Message.{spelled}
+use Rattle.cops_wire.specs.declared.message.Message.TheVariants.{TraceEnd}
+use Rattle.cops_trace.specs.Counts.{ACounts, AreCountsOf, HasTurn, counted, nothing}
+use Rattle.cops_trace.specs.Kept.{grown}
+use Rattle.cops_trace.specs.Live.{HasBegun, IsCutShort}
+use Rattle.cops_trace.specs.Live as live
+use Rattle.cops_trace.specs.Text.{ATrace, IsOp, IsTrace, beginning, op_message, record_text, text, turn}
+use Rattle.cops_trace.specs.Writing.{IsUnwritten, end_frame, head_frame, more_written, record_frame}
+use Rattle.cops_trace.specs.declared.fault.WriteFault.{WriteFault}
+use Rattle.cops_trace.specs.declared.fault.WriteFault.TheVariants as write
+use Rattle.cops_trace.specs.declared.record.Record.{Record}
+use Rattle.cops_trace.specs.declared.writer.TraceWriter.{TraceWriter}
+use Rattle.cops_trace.proofs.Begun.{add_cut, cut_begun, cut_kept, new_cut, rest_cut}
+use Rattle.cops_trace.proofs.Growth.{IsTrace-grown, IsTrace-none, beginning-grown, beginning-none}
+use Rattle.cops_trace.proofs.Readings.{front_len, text_len}
+use Rattle.cops_trace.proofs.Underway.{counts_grown, counts_none}
+use Rattle.cops_import.specs.Faults.{IsFaultOf, IsTooMany}
+use Rattle.cops_import.specs.Lines.{names_of, record_of, trace_of}
+use Rattle.cops_import.specs.Names.{number_of, with_name}
+use Rattle.cops_import.specs.Underway.{HasLeft, HasTaken, HasWritten, IsStopAtEnd, trace_to}
+use Rattle.cops_import.specs.Writing.{fault_of}
+use Rattle.cops_import.specs.declared.fault.ImportFault.TheVariants.{ReadFailed}
+use Rattle.cops_import.specs.declared.fault.LineFault.TheVariants.{TooManyOperations}
+use Rattle.cops_import.specs.declared.importer.Importer.{Importer}
+use Rattle.cops_import.specs.declared.line.Told.{Told}
+use Rattle.cops_import.proofs.Numbering.{names_more, number_own, records_kept}
+
+-- ---- the trace of one operation more
+
+abbrev entry : List Told → Told → Record
+entry tolds told = record { client = number_of (names_of tolds) told.name; op = told.op }
+
+pub trace_more : (clients : ℕ) (tolds : List Told) (told : Told) → trace_to clients (tolds ++ told ∷ []) ≡ grown (trace_to clients tolds) (entry tolds told)
+trace_more clients tolds told =
+    let names = names_of tolds in
+    let all = with_name names told.name in
+    let more : map (record_of (names_of (tolds ++ told ∷ []))) (tolds ++ told ∷ []) ≡ map (record_of all) (tolds ++ told ∷ []) =
+    ap (λ (ns : List (List ℕ)). map (record_of ns) (tolds ++ told ∷ [])) (names_more tolds told) in
+    let kept : map (record_of all) tolds ≡ map (record_of names) tolds = records_kept [] tolds told.name in
+    let last : record_of all told ≡ entry tolds told = ap (λ (k : ℕ). record { client = k; op = told.op }) (number_own names told.name) in
+    ap (λ (rs : List Record). record { clients = clients; records = rs })
+    (more ∙ map-append (record_of all) tolds (told ∷ []) ∙ ap (λ (rs : List Record). rs ++ record_of all told ∷ []) kept ∙ ap (λ (r : Record). map (record_of names) tolds ++ r ∷ []) last)
+
+-- ---- what is written
+
+module _ {W : Type 0} (contents : W → Option (List ℕ)) (from : Counted W) where
+  begun_of : (t : ATrace) (w : TraceWriter W) → HasWritten contents from t w → HasBegun (contents (inner from)) (contents (inner w.writer)) (beginning t) w.counts w.written
+  begun_of t w h = record { trace = t; is_trace = h.is_trace; counts = h.counts; bytes_are = refl; in_all = h.in_all; appends = h.appends }
+
+  -- the record of an operation more
+  pub written_more : (t : ATrace) (old new : TraceWriter W) (client : ℕ) (op : Op) → HasWritten contents from t old → HasTurn old.counts client → IsOp op
+      → Appends (contents (inner old.writer)) (contents (inner new.writer)) (record_frame old.counts client op) → new.counts ≡ counted old.counts client
+      → new.written ≡ more_written old.written (length (record_frame old.counts client op)) → failures new.writer ≡ failures old.writer
+      → HasWritten contents from (grown t (record { client = client; op = op })) new
+  written_more t old new client op h room is more counts written heard =
+      let r : Record = record { client = client; op = op } in
+      let trace = IsTrace-grown t r h.is_trace (omega (arith, h.counts.clients, room.0)) is (omega (arith, h.counts.next client, room.1)) (omega (arith, h.counts.total, room.2)) in
+      let frame : record_frame old.counts client op ≡ record_text t.records r = ap (λ (i : ℕ). spelled (op_message client i op)) (h.counts.next client) in
+      let same : beginning (grown t r) ≡ beginning t ++ record_frame old.counts client op = beginning-grown t r ∙ ap (λ (l : List ℕ). beginning t ++ l) (sym frame) in
+      record {
+        is_trace = trace;
+        counts = subst (AreCountsOf (grown t r)) (sym counts) (counts_grown t old.counts r h.counts room.0);
+        in_all = omega (arith, written, h.in_all, ap length same, length-append (beginning t) (record_frame old.counts client op), front_len (Some (grown t r)) trace);
+        appends = appends_more (contents (inner from)) (contents (inner old.writer)) (contents (inner new.writer)) (beginning t) (record_frame old.counts client op) (beginning (grown t r)) h.appends more (sym same);
+        heard = heard ∙ h.heard;
+      }
+
+  pub cut_so_far : (t : ATrace) (w : TraceWriter W) → HasWritten contents from t w → (n : ℕ) × IsCutShort (contents (inner from)) (contents (inner w.writer)) n
+  cut_so_far t w h = cut_begun (contents (inner from)) (contents (inner w.writer)) (beginning t) w.counts w.written (begun_of t w h)
+
+  left_of : (e : WriteFault) (w : Counted W) → live.IsCutBy e (contents (inner from)) (contents (inner w)) → (e ≢ write.Memory → Failed (failures from) (failures w))
+      → HasLeft contents from (fault_of e) w
+  left_of write.Memory w cut failed = record { cut = cut; heard = tt }
+  left_of (write.WriteFailed written) w cut failed = record { cut = cut; heard = failed (λ q. let no : ⊥ = cc in no) }
+
+  -- the record was not written
+  pub left_refused : (t : ATrace) (old new : TraceWriter W) (client : ℕ) (op : Op) (e : WriteFault) → HasWritten contents from t old → HasTurn old.counts client → IsOp op
+      → IsUnwritten (record_frame old.counts client op) old.written (contents (inner old.writer)) (contents (inner new.writer)) e
+      → (e ≢ write.Memory → Failed (failures old.writer) (failures new.writer)) → HasLeft contents from (fault_of e) new.writer
+  left_refused t old new client op e h room is unwritten failed =
+      left_of e new.writer
+      (add_cut (contents (inner from)) (contents (inner old.writer)) (contents (inner new.writer)) (beginning t) old.counts old.written client op e (begun_of t old h) room is unwritten)
+      (λ q. subst (λ (n : ℕ). Failed n (failures new.writer)) h.heard (failed q))
+
+  -- an operation more was taken
+  pub taken_more : (tolds : List Told) (told : Told) (old new : Importer W) (client : ℕ) → HasTaken contents from tolds old → new.clients ≡ old.clients
+      → new.names ≡ with_name old.names told.name → new.operations ≡ min (old.operations + 1) 18446744073709551615 → client ≡ number_of old.names told.name
+      → HasTurn old.writer.counts client → HasWritten contents from (grown (trace_to old.clients tolds) (record { client = client; op = told.op })) new.writer
+      → HasTaken contents from (tolds ++ told ∷ []) new
+  taken_more tolds told old new client h clients names operations number room wrote =
+      let many : length (trace_to old.clients tolds).records ≡ length tolds = length-map tolds (record_of (names_of tolds)) in
+      let entered : client ≡ number_of (names_of tolds) told.name = number ∙ ap (λ (ns : List (List ℕ)). number_of ns told.name) h.names in
+      let trace : grown (trace_to old.clients tolds) (record { client = client; op = told.op }) ≡ trace_to new.clients (tolds ++ told ∷ []) =
+      ap (λ (k : ℕ). grown (trace_to old.clients tolds) (record { client = k; op = told.op })) entered ∙ sym (trace_more old.clients tolds told)
+      ∙ ap (λ (k : ℕ). trace_to k (tolds ++ told ∷ [])) (sym clients) in
+      record {
+        names = names ∙ ap (λ (ns : List (List ℕ)). with_name ns told.name) h.names ∙ sym (names_more tolds told);
+        operations = omega (arith, operations, h.operations, length-append tolds (told ∷ []), room.2, h.wrote.counts.total, many);
+        wrote = subst (λ (t : ATrace). HasWritten contents from t new.writer) trace wrote;
+      }
+
+  -- ---- the head and the end
+
+  pub left_new : (w : Counted W) (clients : ℕ) (e : WriteFault) → clients < 2 ^ 16 → IsUnwritten (head_frame clients) 0 (contents (inner from)) (contents (inner w)) e
+      → (e ≢ write.Memory → Failed (failures from) (failures w)) → HasLeft contents from (fault_of e) w
+  left_new w clients e few unwritten failed = left_of e w (new_cut (contents (inner from)) (contents (inner w)) clients e few unwritten) failed
+
+  -- no operation was taken
+  pub taken_none : (i : Importer W) → i.names ≡ [] → i.operations ≡ 0 → i.clients < 2 ^ 16 → Appends (contents (inner from)) (contents (inner i.writer.writer)) (head_frame i.clients)
+      → i.writer.counts ≡ nothing i.clients → i.writer.written ≡ more_written 0 (length (head_frame i.clients)) → failures i.writer.writer ≡ failures from → HasTaken contents from [] i
+  taken_none i names operations few head counts written heard =
+      let t = trace_to i.clients [] in
+      let trace = IsTrace-none i.clients few in
+      let same : beginning t ≡ head_frame i.clients = beginning-none i.clients in
+      record {
+        names = names;
+        operations = operations;
+        wrote = record {
+          is_trace = trace;
+          counts = subst (AreCountsOf t) (sym counts) (counts_none i.clients);
+          in_all = omega (arith, written, ap length same, front_len (Some t) trace);
+          appends = subst (Appends (contents (inner from)) (contents (inner i.writer.writer))) (sym same) head;
+          heard = heard;
+        };
+      }
+
+  end_is : (t : ATrace) (c : ACounts) → AreCountsOf t c → text t ≡ beginning t ++ end_frame c
+  end_is t c counts = ap (λ (n : ℕ). beginning t ++ spelled (TraceEnd n)) (sym counts.total)
+
+  pub ended_trace : (tolds : List Told) (i : Importer W) → HasTaken contents from tolds i → length i.names ≡ i.clients → IsTrace (trace_of tolds)
+  ended_trace tolds i h many = subst (λ (k : ℕ). IsTrace (trace_to k tolds)) (sym many ∙ ap length h.names) h.wrote.is_trace
+
+  pub ended_written : (tolds : List Told) (i : Importer W) (w : Counted W) → HasTaken contents from tolds i → length i.names ≡ i.clients
+      → Appends (contents (inner i.writer.writer)) (contents (inner w)) (end_frame i.writer.counts) → Appends (contents (inner from)) (contents (inner w)) (text (trace_of tolds))
+  ended_written tolds i w h many more =
+      let t = trace_to i.clients tolds in
+      let all : text (trace_to i.clients tolds) ≡ text (trace_of tolds) = ap (λ (k : ℕ). text (trace_to k tolds)) (sym many ∙ ap length h.names) in
+      appends_more (contents (inner from)) (contents (inner i.writer.writer)) (contents (inner w)) (beginning t) (end_frame i.writer.counts) (text (trace_of tolds)) h.wrote.appends more
+      (sym (end_is t i.writer.counts h.wrote.counts) ∙ all)
+
+  -- so many bytes more are no more than a number of 64 bits tells
+  told : (old new : Option (List ℕ)) (before count : ℕ) → IsCutShort old new (before + count) → before + count ≡ more_written before count
+  told old new before count cut = let long = text_len cut.trace cut.is_trace in omega (arith, cut.fewer, long)
+
+  end_cut : (t : ATrace) (old : TraceWriter W) (w : Counted W) (e : WriteFault) → HasWritten contents from t old
+      → IsUnwritten (end_frame old.counts) old.written (contents (inner old.writer)) (contents (inner w)) e → live.IsCutBy e (contents (inner from)) (contents (inner w))
+  end_cut t old w write.Memory h k = cut_kept (contents (inner from)) (contents (inner old.writer)) (contents (inner w)) (beginning t) old.counts old.written (begun_of t old h) k
+  end_cut t old w (write.WriteFailed all) h u =
+      let cut = rest_cut (contents (inner from)) (contents (inner old.writer)) (contents (inner w)) t (beginning t) (end_frame old.counts) u.0 h.is_trace (end_is t old.counts h.counts) h.appends u.3 u.1 in
+      subst (IsCutShort (contents (inner from)) (contents (inner w)))
+      (told (contents (inner from)) (contents (inner w)) (length (beginning t)) u.0 cut ∙ ap (λ (n : ℕ). more_written n u.0) (sym h.in_all) ∙ sym u.2) cut
+
+  -- the end was not written
+  pub left_ended : (t : ATrace) (old : TraceWriter W) (w : Counted W) (e : WriteFault) → HasWritten contents from t old
+      → IsUnwritten (end_frame old.counts) old.written (contents (inner old.writer)) (contents (inner w)) e → (e ≢ write.Memory → Failed (failures old.writer) (failures w)) → HasLeft contents from (fault_of e) w
+  left_ended t old w e h unwritten failed = left_of e w (end_cut t old w e h unwritten) (λ q. subst (λ (n : ℕ). Failed n (failures w)) h.heard (failed q))
+
+-- a client that has no turn has no room
+pub too_many : (clients : ℕ) (tolds : List Told) (told : Told) (counts : ACounts) (client : ℕ) → AreCountsOf (trace_to clients tolds) counts → client ≡ number_of (names_of tolds) told.name → client < clients
+    → (HasTurn counts client → ⊥) → IsTooMany tolds told TooManyOperations
+too_many clients tolds told counts client h number there full room =
+    let many : length (trace_to clients tolds).records ≡ length tolds = length-map tolds (record_of (names_of tolds)) in
+    let same : number_of (names_of (tolds ++ told ∷ [])) told.name ≡ client =
+    ap (λ (ns : List (List ℕ)). number_of ns told.name) (names_more tolds told) ∙ number_own (names_of tolds) told.name ∙ sym number in
+    let own : turn client (trace_of tolds).records < MAX_CLIENT_OPS = subst (λ (k : ℕ). turn k (trace_of tolds).records < MAX_CLIENT_OPS) same room.0 in
+    full (omega (arith, h.clients, there), omega (arith, h.next client, own), omega (arith, h.total, many, room.1))
+
+-- a write that failed says nothing of the lines
+pub write_says : (clients : ℕ) (bytes : List ℕ) (e : WriteFault) → IsFaultOf clients bytes (fault_of e)
+write_says clients bytes write.Memory = tt
+write_says clients bytes (write.WriteFailed written) = tt
+
+pub write_stops : (clients : ℕ) (tolds : List Told) (e : WriteFault) → IsStopAtEnd clients tolds (fault_of e)
+write_stops clients tolds write.Memory = tt
+write_stops clients tolds (write.WriteFailed written) = tt
+
+-- and is no failed read
+pub write_device : (e : WriteFault) → fault_of e ≢ ReadFailed
+write_device write.Memory q = let no : ⊥ = cc in no
+write_device (write.WriteFailed written) q = let no : ⊥ = cc in no

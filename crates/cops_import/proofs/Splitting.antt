@@ -1,0 +1,41 @@
+-- Lines that end, and what they tell.
+use Rattle.std.proofs.Common.{◌≡◌, ◌==◌, ℕ, false, List, [], ◌∷◌, ◌++◌, All, refl, sym, ap, ◌∙◌, append_assoc}
+use Rattle.std.specs.Prelude.{Option}
+use Rattle.std.proofs.lemmas.List.{append-nil}
+use Rattle.std.proofs.lemmas.List.Splits.{slice_split_at, slice_split_none}
+use Rattle.cops_import.specs.Line.{LineTells}
+use Rattle.cops_import.specs.Lines.{TellAfter, lines, with_told}
+use Rattle.cops_import.specs.declared.line.Told.{Told}
+
+-- what was kept of a text whose lines ended
+abbrev pub Splits : List ℕ → List (List ℕ) → List ℕ → Type 0
+Splits fed ended line = (more : List ℕ) → lines (fed ++ more) ≡ ended ++ lines (line ++ more)
+
+abbrev pub IsWithin : List ℕ → Type 0
+IsWithin line = All (λ (b : ℕ). (b == 10) ≡ false) line
+
+pub split_none : Splits [] [] []
+split_none more = refl
+
+-- a byte more of the last line
+pub split_byte : (fed : List ℕ) (ended : List (List ℕ)) (line : List ℕ) (byte : ℕ) → Splits fed ended line → Splits (fed ++ byte ∷ []) ended (line ++ byte ∷ [])
+split_byte fed ended line byte h more = ap lines (append_assoc fed (byte ∷ []) more) ∙ h (byte ∷ more) ∙ ap (λ (l : List ℕ). ended ++ lines l) (sym (append_assoc line (byte ∷ []) more))
+
+-- the line that a line feed ends
+pub split_here : (fed : List ℕ) (ended : List (List ℕ)) (line more : List ℕ) → Splits fed ended line → IsWithin line → lines ((fed ++ 10 ∷ []) ++ more) ≡ ended ++ line ∷ lines more
+split_here fed ended line more h within =
+    ap lines (append_assoc fed (10 ∷ []) more) ∙ h (10 ∷ more) ∙ ap (λ (ls : List (List ℕ)). ended ++ ls) (slice_split_at (λ (b : ℕ). b == 10) line 10 more within refl)
+
+pub split_ended : (fed : List ℕ) (ended : List (List ℕ)) (line : List ℕ) → Splits fed ended line → IsWithin line → Splits (fed ++ 10 ∷ []) (ended ++ line ∷ []) []
+split_ended fed ended line h within more = split_here fed ended line more h within ∙ sym (append_assoc ended (line ∷ []) (lines more))
+
+-- the last line, which no line feed ends
+pub split_last : (fed : List ℕ) (ended : List (List ℕ)) (line : List ℕ) → Splits fed ended line → IsWithin line → lines fed ≡ ended ++ line ∷ []
+split_last fed ended line h within =
+    ap lines (sym (append-nil fed)) ∙ h [] ∙ ap (λ (l : List ℕ). ended ++ lines l) (append-nil line)
+    ∙ ap (λ (ls : List (List ℕ)). ended ++ ls) (slice_split_none (λ (b : ℕ). b == 10) line within)
+
+-- what one line more tells comes last
+pub tell_more : (earlier : List Told) (ls : List (List ℕ)) (tolds : List Told) (line : List ℕ) (told : Option Told) → TellAfter earlier ls tolds → LineTells line told → TellAfter earlier (ls ++ line ∷ []) (with_told tolds told)
+tell_more earlier [] tolds line told h is = (told, is, ap (λ (ts : List Told). with_told ts told) h)
+tell_more earlier (l ∷ ls) tolds line told h is = (h.0, h.1, tell_more (with_told earlier h.0) ls tolds line told h.2 is)

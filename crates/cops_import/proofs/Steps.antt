@@ -1,0 +1,108 @@
+-- An import that goes on, byte by byte and line by line.
+use Rattle.std.proofs.Common.{◌≡◌, ◌≢◌, ◌==◌, ◌+◌, ◌^◌, ◌<◌, ◌≤◌, ℕ, false, List, [], ◌∷◌, ◌++◌, length, get_or, take, drop, refl, sym, ap, subst, ◌∙◌, append_assoc, arith}
+use Rattle.std.specs.Prelude.{Option}
+use Rattle.std.proofs.lemmas.List.{length-append, take-append-drop, take_more}
+use Rattle.std.proofs.lemmas.List.Elements.{All-nil, All-append, All-cons}
+use Rattle.std.proofs.lemmas.Bool.{ne_eqb}
+use Rattle.cops_types.specs.declared.counted.Counted.{Counted}
+use Rattle.cops_import.specs.Faults.{IsFaultOf}
+use Rattle.cops_import.specs.Line.{LineTells}
+use Rattle.cops_import.specs.Lines.{LinesTell, lines, with_told}
+use Rattle.cops_import.specs.Underway.{HasLeft, HasStopped, HasTaken, IsStopAt, IsUnderway, TakesLine}
+use Rattle.cops_import.specs.declared.fault.ImportFault.{ImportFault}
+use Rattle.cops_import.specs.declared.fault.ImportFault.TheVariants.{Endless, Memory}
+use Rattle.cops_import.specs.declared.importer.Importer.{Importer}
+use Rattle.cops_import.specs.declared.line.Told.{Told}
+use Rattle.cops_import.proofs.Records.{cut_so_far}
+use Rattle.cops_import.proofs.Splitting.{IsWithin, Splits, split_byte, split_ended, split_last, split_none, tell_more}
+use Rattle.cops_import.proofs.Stops.{no_number, stops_here}
+
+within_more : (line : List ℕ) (byte : ℕ) → IsWithin line → byte ≢ 10 → IsWithin (line ++ byte ∷ [])
+within_more line byte h other =
+    let P : ℕ → Type 0 = λ b. (b == 10) ≡ false in
+    All-append P line (byte ∷ []) h (All-cons P byte [] (ne_eqb byte 10 other) (All-nil P))
+
+module _ {W : Type 0} (contents : W → Option (List ℕ)) (from : Counted W) where
+  -- a line feed came
+  pub line_ended : (fed : List ℕ) (old new : Importer W) (told : Option Told) → (u : IsUnderway contents from fed old) → LineTells old.line.items told → HasTaken contents from (with_told u.tolds told) new
+      → new.line.items ≡ [] → new.ended ≡ old.ended + 1 → IsUnderway contents from (fed ++ 10 ∷ []) new
+  line_ended fed old new told u is taken none next = record {
+    ended = u.ended ++ old.line.items ∷ [];
+    tolds = with_told u.tolds told;
+    tell = tell_more [] u.ended u.tolds old.line.items told u.tell is;
+    counted = omega (arith, next, u.counted, length-append u.ended (old.line.items ∷ []));
+    split = subst (Splits (fed ++ 10 ∷ []) (u.ended ++ old.line.items ∷ [])) (sym none) (split_ended fed u.ended old.line.items u.split u.within);
+    within = subst IsWithin (sym none) (All-nil (λ (b : ℕ). (b == 10) ≡ false));
+    taken = taken;
+  }
+
+  -- another byte came
+  pub byte_taken : (fed : List ℕ) (old new : Importer W) (byte : ℕ) → (u : IsUnderway contents from fed old) → new.line.items ≡ old.line.items ++ byte ∷ [] → byte ≢ 10 → new.ended ≡ old.ended
+      → HasTaken contents from u.tolds new → IsUnderway contents from (fed ++ byte ∷ []) new
+  byte_taken fed old new byte u items other same taken = record {
+    ended = u.ended;
+    tolds = u.tolds;
+    tell = u.tell;
+    counted = same ∙ u.counted;
+    split = subst (Splits (fed ++ byte ∷ []) u.ended) (sym items) (split_byte fed u.ended old.line.items byte u.split);
+    within = subst IsWithin (sym items) (within_more old.line.items byte u.within other);
+    taken = taken;
+  }
+
+  -- it stops at a line that a line feed ends
+  pub stopped_here : (fed : List ℕ) (old : Importer W) (number : ℕ) (e : ImportFault) (w : Counted W) → (u : IsUnderway contents from fed old) → number ≡ old.ended + 1
+      → IsStopAt old.clients number u.tolds old.line.items e → HasLeft contents from e w → HasStopped contents from (fed ++ 10 ∷ []) e old.clients w
+  stopped_here fed old number e w u next stop left = record {
+    says = stops_here old.clients fed u.ended old.line.items u.tolds number e u.split u.within u.tell (next ∙ ap (λ (n : ℕ). n + 1) u.counted) stop;
+    left = left;
+  }
+
+  -- memory was refused
+  pub stopped_short : (fed all : List ℕ) (old : Importer W) → IsUnderway contents from fed old → HasStopped contents from all Memory old.clients old.writer.writer
+  stopped_short fed all old u = record {
+    says = λ more. tt;
+    left = record { cut = cut_so_far contents from _ old.writer u.taken.wrote; heard = tt };
+  }
+
+  -- no number is left for a line
+  pub stopped_endless : (fed all : List ℕ) (old : Importer W) → IsUnderway contents from fed old → 18446744073709551615 ≤ old.ended → all ≡ fed ++ 10 ∷ [] → HasStopped contents from all Endless old.clients old.writer.writer
+  stopped_endless fed all old u many is = record {
+    says = λ more. no_number (all ++ more) u.ended (lines (old.line.items ++ 10 ∷ more)) (ap (λ (l : List ℕ). lines (l ++ more)) is ∙ ap lines (append_assoc fed (10 ∷ []) more) ∙ u.split (10 ∷ more)) (omega (arith, many, u.counted));
+    left = record { cut = cut_so_far contents from _ old.writer u.taken.wrote; heard = u.taken.wrote.heard };
+  }
+
+  pub endless_says : (fed : List ℕ) (old : Importer W) → IsUnderway contents from fed old → 18446744073709551615 ≤ old.ended → 2 ^ 40 ≤ length fed
+  endless_says fed old u many =
+      no_number fed u.ended (old.line.items ∷ []) (split_last fed u.ended old.line.items u.split u.within) (omega (arith, many, u.counted))
+
+  -- what stopped it stops it whatever follows
+  pub stopped_more : (fed rest all : List ℕ) (e : ImportFault) (clients : ℕ) (w : Counted W) → fed ++ rest ≡ all → HasStopped contents from fed e clients w → HasStopped contents from all e clients w
+  stopped_more fed rest all e clients w is h = record {
+    says = λ more. subst (λ (bytes : List ℕ). IsFaultOf clients bytes e) (sym (append_assoc fed rest more) ∙ ap (λ (l : List ℕ). l ++ more) is) (h.says (rest ++ more));
+    left = h.left;
+  }
+
+  -- all lines were taken
+  pub last_taken : (fed : List ℕ) (old mid : Importer W) → (u : IsUnderway contents from fed old) → TakesLine contents from u.tolds old.line.items mid
+      → (tolds : List Told) × LinesTell (lines fed) tolds × HasTaken contents from tolds mid
+  last_taken fed old mid u took =
+      let tolds = with_told u.tolds took.0 in
+      (tolds, subst (λ (ls : List (List ℕ)). LinesTell ls tolds) (sym (split_last fed u.ended old.line.items u.split u.within)) (tell_more [] u.ended u.tolds old.line.items took.0 u.tell took.1), took.2)
+
+  -- nothing came yet
+  pub underway_none : (i : Importer W) → HasTaken contents from [] i → i.line.items ≡ [] → i.ended ≡ 0 → IsUnderway contents from [] i
+  underway_none i taken none ended = record {
+    ended = [];
+    tolds = [];
+    tell = refl;
+    counted = ended;
+    split = subst (Splits [] []) (sym none) split_none;
+    within = subst IsWithin (sym none) (All-nil (λ (b : ℕ). (b == 10) ≡ false));
+    taken = taken;
+  }
+
+-- a piece after one of its bytes
+pub piece_rest : (fed piece : List ℕ) (i : ℕ) → i < length piece → ((fed ++ take i piece) ++ get_or piece i 0 ∷ []) ++ drop (i + 1) piece ≡ fed ++ piece
+piece_rest fed piece i inside =
+    ap (λ (l : List ℕ). l ++ drop (i + 1) piece) (append_assoc fed (take i piece) (get_or piece i 0 ∷ []) ∙ ap (λ (l : List ℕ). fed ++ l) (sym (take_more piece i 0 inside)))
+    ∙ append_assoc fed (take (i + 1) piece) (drop (i + 1) piece) ∙ ap (λ (l : List ℕ). fed ++ l) (take-append-drop (i + 1) piece)

@@ -1,0 +1,17 @@
+use Rattle.std.proofs.Common.{◌≤◌, refl, rules}
+use Rattle.cops_import.proofs.Steps.{line_ended, stopped_endless, stopped_here}
+use Rattle.cops_import.proofs.importer.Importer.end_line.Goals as goal
+
+pub returns-in_default-clause-err : goal.returns-in_default-clause-err
+returns-in_default-clause-err g c = λ from fed u.
+    let many : 18446744073709551615 ≤ c.args.self.now.ended = search rules in
+    stopped_endless g.W.Write.contents from fed _ c.args.self.now u many refl
+
+pub returns-in-Ok-clause-ok : goal.returns-in-Ok-clause-ok
+returns-in-Ok-clause-ok g c = λ from fed u.
+    let took = c.in-Ok.ensures.ok from u.tolds u.taken in
+    line_ended g.W.Write.contents from fed c.args.self.now _ took.0 u took.1 (record { names = took.2.names; operations = took.2.operations; wrote = took.2.wrote }) c.clear.ensures.items (search rules)
+
+pub returns-in-Err-clause-err : goal.returns-in-Err-clause-err
+returns-in-Err-clause-err g c = λ from fed u.
+    stopped_here g.W.Write.contents from fed c.args.self.now c.in-Some.number c.in-Err.fault _ u (search rules) (c.in-Err.ensures.stop from u.tolds u.taken) (c.in-Err.ensures.err from u.tolds u.taken)

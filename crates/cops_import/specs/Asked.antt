@@ -1,0 +1,28 @@
+-- The operation of a kind, with what stands in its object as its key.
+use Rattle.std.specs.Prelude.{◌≡◌, ◌≢◌, ℕ, List}
+use Rattle.serde_json.specs.Data.{Data}
+use Rattle.cops_types.specs.KeyValue.{IsKey}
+use Rattle.cops_types.specs.declared.op.Op.{Op}
+use Rattle.cops_types.specs.declared.op.Op.TheVariants as op
+use Rattle.cops_import.specs.declared.fault.LineFault.{LineFault}
+use Rattle.cops_import.specs.declared.fault.LineFault.TheVariants.{BadKey, BadValue, BadVersion}
+use Rattle.cops_import.specs.declared.line.Kind.{Kind}
+use Rattle.cops_import.specs.declared.line.Kind.TheVariants.{Put, Get}
+use Rattle.cops_import.specs.Line.{FoundNothing, LacksValue, LacksVersion, TellsValue, TellsVersion, text_json}
+
+abbrev pub IsKeyJson : Data → List ℕ → Type 0
+IsKeyJson at key = (at ≡ text_json key) × IsKey key
+
+-- what the object tells, of which this is its one operation
+abbrev pub TellsKind : Data → Kind → Data → Op → Type 0
+TellsKind d Put at (op.Put key value version) = IsKeyJson at key × TellsValue d value × TellsVersion d version
+TellsKind d Get at (op.Got key value version) = IsKeyJson at key × TellsValue d value × TellsVersion d version
+TellsKind d Get at (op.Missed key) = IsKeyJson at key × FoundNothing d
+TellsKind d _ at _ = ⊥
+
+-- what is wrong with it
+abbrev pub IsWrongOf : Data → Kind → Data → LineFault → Type 0
+IsWrongOf d kind at BadKey = (key : List ℕ) → IsKey key → at ≢ text_json key
+IsWrongOf d kind at BadValue = (key : List ℕ) × IsKeyJson at key × LacksValue d kind
+IsWrongOf d kind at BadVersion = (key : List ℕ) × IsKeyJson at key × LacksVersion d
+IsWrongOf d kind at _ = ⊥

@@ -1,0 +1,16 @@
+-- What was imported of a text of lines.
+use Rattle.std.specs.Prelude.{◌≡◌, ℕ, List, length, Option}
+use Rattle.std.specs.Io.KnownBytes.{Appends}
+use Rattle.cops_trace.specs.Text.{IsTrace, text}
+use Rattle.cops_import.specs.Lines.{LinesTell, lines, names_of, trace_of}
+use Rattle.cops_import.specs.declared.line.Told.{Told}
+
+-- all that its lines tell went out, as the text of the one trace of it, which is within the limits; and these are the names of its
+-- clients, and so many operations
+pub record IsImport (bytes : List ℕ) (old new : Option (List ℕ)) (names : List (List ℕ)) (operations : ℕ) : Type 0 where
+  pub tolds : List Told
+  pub tell : LinesTell (lines bytes) tolds
+  pub names_are : names ≡ names_of tolds
+  pub counted : operations ≡ length tolds
+  pub is_trace : IsTrace (trace_of tolds)
+  pub written : Appends old new (text (trace_of tolds))

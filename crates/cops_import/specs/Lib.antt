@@ -1,0 +1,9 @@
+pub mod Line
+pub mod Asked
+pub mod Names
+pub mod Lines
+pub mod Words
+pub mod Writing
+pub mod Faults
+pub mod Imports
+pub mod Underway

@@ -1,0 +1,134 @@
+-- What a line tells.
+use Rattle.std.specs.Prelude.{◌≡◌, ◌≢◌, ◌⊎◌, ◌==◌, ◌||◌, ℕ, Bool, List, codes, decimal, Option, None, Some, IsUtf8}
+use Rattle.std.specs.List.{AllPass}
+use Rattle.serde_json.specs.Data.{Data, unsigned, null, number, string, array, item, no_items}
+use Rattle.serde_json.specs.Read.{read}
+use Rattle.serde_json.specs.Find.{get}
+use Rattle.cops_types.specs.KeyValue.{IsKey, IsValue}
+use Rattle.cops_types.specs.Version.{IsVersion, clock_of, node_of}
+use Rattle.cops_types.specs.Texts.{version_text}
+use Rattle.cops_types.specs.declared.op.Op.{Op}
+use Rattle.cops_types.specs.declared.op.Op.TheVariants as op
+use Rattle.cops_import.specs.declared.fault.LineFault.{LineFault}
+use Rattle.cops_import.specs.declared.fault.LineFault.TheVariants.{NoJson, NoClient, NoOperation, BothOperations, BadKey, BadValue, BadVersion}
+use Rattle.cops_import.specs.declared.line.Kind.{Kind}
+use Rattle.cops_import.specs.declared.line.Kind.TheVariants.{Put, Get}
+use Rattle.cops_import.specs.declared.line.Told.{Told}
+
+-- ---- its bytes
+
+-- a space, a tab or a carriage return
+abbrev pub is_blank_byte : ℕ → Bool
+is_blank_byte b = b == 32 || b == 9 || b == 13
+
+-- nothing else stands in the line
+abbrev pub IsBlank : List ℕ → Type 0
+IsBlank line = AllPass is_blank_byte line
+
+-- the line is the text of this JSON value
+abbrev pub IsJson : List ℕ → Data → Type 0
+IsJson line d = IsUtf8 line × (read line ≡ Some d)
+
+-- ---- the members of its object
+
+abbrev pub text_json : List ℕ → Data
+text_json text = string text
+
+abbrev pub number_json : ℕ → Data
+number_json n = number (unsigned n)
+
+abbrev pub pair_json : ℕ → ℕ → Data
+pair_json a b = array (item (number_json a) (item (number_json b) no_items))
+
+-- a client's name: a text, or a whole number, whose decimal digits are the name
+abbrev pub IsNameJson : List ℕ → Data → Type 0
+IsNameJson name d = (d ≡ text_json name) ⊎ ((n : ℕ) × (d ≡ number_json n) × (name ≡ decimal n))
+
+abbrev pub TellsName : Data → List ℕ → Type 0
+TellsName d name = (at : Data) × (get (codes "client") d ≡ Some at) × IsNameJson name at
+
+-- the one operation that the object has, and what stands there as its key
+abbrev pub IsAsked : Data → Kind → Data → Type 0
+IsAsked d Put at = (get (codes "put") d ≡ Some at) × (get (codes "get") d ≡ None)
+IsAsked d Get at = (get (codes "put") d ≡ None) × (get (codes "get") d ≡ Some at)
+
+-- with a key
+abbrev pub AsksKey : Data → Kind → List ℕ → Type 0
+AsksKey d kind key = IsAsked d kind (text_json key) × IsKey key
+
+abbrev pub TellsValue : Data → List ℕ → Type 0
+TellsValue d value = (get (codes "value") d ≡ Some (text_json value)) × IsValue value
+
+-- a version: the text of its clock and node, its clock alone where its node is 0, or both numbers
+abbrev pub IsVersionJson : ℕ → Data → Type 0
+IsVersionJson v d =
+    (d ≡ text_json (version_text v)) ⊎ ((d ≡ number_json (clock_of v)) × (node_of v ≡ 0)) ⊎ (d ≡ pair_json (clock_of v) (node_of v))
+
+abbrev pub TellsVersion : Data → ℕ → Type 0
+TellsVersion d v = (at : Data) × (get (codes "version") d ≡ Some at) × IsVersionJson v at × IsVersion v
+
+-- no member, or null
+abbrev pub IsNothing : Option Data → Type 0
+IsNothing at = (at ≡ None) ⊎ (at ≡ Some null)
+
+-- neither a value nor a version
+abbrev pub FoundNothing : Data → Type 0
+FoundNothing d = IsNothing (get (codes "value") d) × IsNothing (get (codes "version") d)
+
+-- ---- what it tells
+
+abbrev pub TellsOp : Data → Op → Type 0
+TellsOp d (op.Put key value version) = AsksKey d Put key × TellsValue d value × TellsVersion d version
+TellsOp d (op.Got key value version) = AsksKey d Get key × TellsValue d value × TellsVersion d version
+TellsOp d (op.Missed key) = AsksKey d Get key × FoundNothing d
+
+-- the object tells what its client did
+abbrev pub Tells : Data → Told → Type 0
+Tells d told = TellsName d told.name × TellsOp d told.op
+
+-- the text of an object does
+abbrev pub TextTells : List ℕ → Told → Type 0
+TextTells line told = (d : Data) × IsJson line d × Tells d told
+
+-- a line tells nothing where it is blank, and else what its object does
+abbrev pub LineTells : List ℕ → Option Told → Type 0
+LineTells line None = IsBlank line
+LineTells line (Some told) = (IsBlank line → ⊥) × TextTells line told
+
+-- ---- what is wrong with it
+
+abbrev pub HasName : Data → Type 0
+HasName d = (name : List ℕ) × TellsName d name
+
+abbrev pub HasNoValue : Data → Type 0
+HasNoValue d = (value : List ℕ) → TellsValue d value → ⊥
+
+abbrev pub HasNoVersion : Data → Type 0
+HasNoVersion d = (v : ℕ) → TellsVersion d v → ⊥
+
+-- a put needs a value, and so does a get that did not find nothing
+abbrev pub LacksValue : Data → Kind → Type 0
+LacksValue d Put = HasNoValue d
+LacksValue d Get = HasNoValue d × (FoundNothing d → ⊥)
+
+-- a value needs a version
+abbrev pub LacksVersion : Data → Type 0
+LacksVersion d = (value : List ℕ) × TellsValue d value × HasNoVersion d
+
+-- what is wrong with an object, where all that is looked at before it is right
+abbrev pub IsWrong : Data → LineFault → Type 0
+IsWrong d NoClient = (name : List ℕ) → TellsName d name → ⊥
+IsWrong d NoOperation = HasName d × (get (codes "put") d ≡ None) × (get (codes "get") d ≡ None)
+IsWrong d BothOperations = HasName d × (get (codes "put") d ≢ None) × (get (codes "get") d ≢ None)
+IsWrong d BadKey = HasName d × ((kind : Kind) × (at : Data) × IsAsked d kind at × ((key : List ℕ) → IsKey key → at ≢ text_json key))
+IsWrong d BadValue = HasName d × ((kind : Kind) × (key : List ℕ) × AsksKey d kind key × LacksValue d kind)
+IsWrong d BadVersion = HasName d × ((kind : Kind) × (key : List ℕ) × AsksKey d kind key × LacksVersion d)
+IsWrong d _ = ⊥
+
+-- what is wrong with a line that is not blank
+abbrev pub IsWrongIn : List ℕ → LineFault → Type 0
+IsWrongIn line NoJson = (d : Data) → IsJson line d → ⊥
+IsWrongIn line fault = (d : Data) × IsJson line d × IsWrong d fault
+
+abbrev pub IsFaulty : List ℕ → LineFault → Type 0
+IsFaulty line fault = (IsBlank line → ⊥) × IsWrongIn line fault

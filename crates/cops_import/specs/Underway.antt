@@ -1,0 +1,98 @@
+-- An import that is underway.
+use Rattle.std.specs.Prelude.{◌≡◌, ◌≢◌, ◌==◌, ℕ, ◌<◌, List, [], ◌∷◌, ◌++◌, length, false, Option, Some, IfSome}
+use Rattle.std.specs.List.{All}
+use Rattle.std.specs.Io.KnownBytes.{Appends}
+use Rattle.cops_types.specs.Counted.{failures, inner}
+use Rattle.cops_types.specs.declared.counted.Counted.{Counted}
+use Rattle.cops_trace.specs.Counts.{AreCountsOf}
+use Rattle.cops_trace.specs.Text.{ATrace, IsTrace, beginning, text}
+use Rattle.cops_trace.specs.declared.writer.TraceWriter.{TraceWriter}
+use Rattle.cops_import.specs.Faults.{IsCutBy, IsFaultOf, IsFaultyAfter, IsHeardBy, IsTooMany}
+use Rattle.cops_import.specs.Line.{LineTells}
+use Rattle.cops_import.specs.Lines.{LinesTell, lines, names_of, trace_of, with_told}
+use Rattle.cops_import.specs.declared.fault.ImportFault.{ImportFault}
+use Rattle.cops_import.specs.declared.fault.ImportFault.TheVariants.{Changed, Endless, Line}
+use Rattle.cops_import.specs.declared.imported.Imported.{Imported}
+use Rattle.cops_import.specs.declared.importer.Importer.{Importer}
+use Rattle.cops_import.specs.declared.line.Told.{Told}
+
+-- the trace of what was told so far, of which the number of clients was said before
+abbrev pub trace_to : ℕ → List Told → ATrace
+trace_to clients tolds = record { clients = clients; records = (trace_of tolds).records }
+
+-- head and records of a trace went out, and the writer did not fail
+pub record HasWritten {W : Type 0} (contents : W → Option (List ℕ)) (from : Counted W) (t : ATrace) (w : TraceWriter W) : Type 0 where
+  pub is_trace : IsTrace t
+  pub counts : AreCountsOf t w.counts
+  pub in_all : w.written ≡ length (beginning t)
+  pub appends : Appends (contents (inner from)) (contents (inner w.writer)) (beginning t)
+  pub heard : failures w.writer ≡ failures from
+
+-- these were told, their names are kept, and their records went out
+pub record HasTaken {W : Type 0} (contents : W → Option (List ℕ)) (from : Counted W) (tolds : List Told) (i : Importer W) : Type 0 where
+  pub names : i.names ≡ names_of tolds
+  pub operations : i.operations ≡ length tolds
+  pub wrote : HasWritten contents from (trace_to i.clients tolds) i.writer
+
+-- what a line told was taken, which may be nothing
+abbrev pub TakesLine : {W : Type 0} → (W → Option (List ℕ)) → Counted W → List Told → List ℕ → Importer W → Type 0
+TakesLine contents from tolds line i = (told : Option Told) × LineTells line told × HasTaken contents from (with_told tolds told) i
+
+-- of these bytes, the lines that ended were taken, and the last line is kept, as far as it came
+pub record IsUnderway {W : Type 0} (contents : W → Option (List ℕ)) (from : Counted W) (fed : List ℕ) (i : Importer W) : Type 0 where
+  pub ended : List (List ℕ)
+  pub tolds : List Told
+  pub tell : LinesTell ended tolds
+  pub counted : i.ended ≡ length ended
+  pub split : (more : List ℕ) → lines (fed ++ more) ≡ ended ++ lines (i.line.items ++ more)
+  pub within : All (λ b. (b == 10) ≡ false) i.line.items
+  pub taken : HasTaken contents from tolds i
+
+-- the end went out after the records of what was told
+pub record HasEnded {W : Type 0} (contents : W → Option (List ℕ)) (from : Counted W) (tolds : List Told) (done : Imported W) : Type 0 where
+  pub names : done.names ≡ names_of tolds
+  pub operations : done.operations ≡ length tolds
+  pub is_trace : IsTrace (trace_of tolds)
+  pub written : Appends (contents (inner from)) (contents (inner done.writer)) (text (trace_of tolds))
+  pub heard : failures done.writer ≡ failures from
+
+-- all bytes came that a reader had, where those are known
+abbrev pub HasReadAll : {W : Type 0} → (W → Option (List ℕ)) → Counted W → Option (List ℕ) → Importer W → Type 0
+HasReadAll contents from known i = (fed : List ℕ) × IsUnderway contents from fed i × IfSome known (λ bytes. bytes ≡ fed)
+
+-- it ended after all that the lines of these bytes told
+abbrev pub Finishes : {W : Type 0} → (W → Option (List ℕ)) → Counted W → List ℕ → Imported W → Type 0
+Finishes contents from fed done = (tolds : List Told) × LinesTell (lines fed) tolds × HasEnded contents from tolds done
+
+-- ---- it stops
+
+-- a trace's text is cut, of a writer that was this one
+pub record HasLeft {W : Type 0} (contents : W → Option (List ℕ)) (from : Counted W) (fault : ImportFault) (w : Counted W) : Type 0 where
+  pub cut : IsCutBy fault (contents (inner from)) (contents (inner w))
+  pub heard : IsHeardBy fault (failures from) (failures w)
+
+-- what stops at an operation that was told after others, by the line of this number
+abbrev pub IsStopOf : ℕ → ℕ → List Told → Told → ImportFault → Type 0
+IsStopOf clients number tolds told (Line n fault) = (n ≡ number) × IsTooMany tolds told fault
+IsStopOf clients number tolds told Changed = clients < length (names_of (tolds ++ told ∷ []))
+IsStopOf clients number tolds told Endless = ⊥
+IsStopOf clients number tolds told _ = Unit {0}
+
+-- what stops at a line of this number, after others that told these
+abbrev pub IsStopAt : ℕ → ℕ → List Told → List ℕ → ImportFault → Type 0
+IsStopAt clients number tolds line (Line n fault) = (n ≡ number) × IsFaultyAfter tolds line fault
+IsStopAt clients number tolds line Changed = (told : Told) × LineTells line (Some told) × (clients < length (names_of (tolds ++ told ∷ [])))
+IsStopAt clients number tolds line Endless = ⊥
+IsStopAt clients number tolds line _ = Unit {0}
+
+-- what stops at the end, after all told these
+abbrev pub IsStopAtEnd : ℕ → List Told → ImportFault → Type 0
+IsStopAtEnd clients tolds (Line n fault) = ⊥
+IsStopAtEnd clients tolds Changed = length (names_of tolds) ≢ clients
+IsStopAtEnd clients tolds Endless = ⊥
+IsStopAtEnd clients tolds _ = Unit {0}
+
+-- it stopped: whatever bytes follow, the fault is that of all
+pub record HasStopped {W : Type 0} (contents : W → Option (List ℕ)) (from : Counted W) (fed : List ℕ) (fault : ImportFault) (clients : ℕ) (w : Counted W) : Type 0 where
+  pub says : (more : List ℕ) → IsFaultOf clients (fed ++ more) fault
+  pub left : HasLeft contents from fault w

@@ -1,0 +1,117 @@
+//! Why lines are no trace.
+ghost use Rattle.std.specs.Prelude.{◌≡◌, IfOk, string_bytes};
+ghost use Rattle.cops_import.specs.Words.{faulty_line};
+
+use cops_trace::WriteFault;
+use std::alloc::{AllocError, AllocFailed, Global};
+use thiserror::Error;
+
+/// What is wrong with a line, in the order in which it is looked for.
+#[derive(Clone, Copy, Debug, PartialEq, Eq, Error)]
+pub enum LineFault {
+    /// 0: the line is no JSON text: by its grammar, for its encoding, or nested deeper than 127.
+    #[error("no JSON")]
+    NoJson,
+    /// 1: it is no object, or its client is neither a text nor a whole number.
+    #[error("no client")]
+    NoClient,
+    /// 2: it has neither a put nor a get.
+    #[error("no operation")]
+    NoOperation,
+    /// 3: it has both.
+    #[error("both operations")]
+    BothOperations,
+    /// 4: the key is no text of 1 to 64 bytes.
+    #[error("bad key")]
+    BadKey,
+    /// 5: the value is no text of at most 4,096 bytes, and it is no get that found nothing.
+    #[error("bad value")]
+    BadValue,
+    /// 6: the version is none.
+    #[error("bad version")]
+    BadVersion,
+    /// 7: its client is the 65,536th.
+    #[error("too many clients")]
+    TooManyClients,
+    /// 8: it is its client's 1,000,001st operation, or the 16,000,001st of all.
+    #[error("too many operations")]
+    TooManyOperations,
+}
+
+impl LineFault {
+    ghost use Rattle.std.specs.Prelude.{◌≡◌};
+    ghost use Rattle.cops_import.specs.Words.{words_of};
+
+    /// Its words.
+    fn words(self) -> &'static str
+        ensures { result.now ≡ words_of self }
+    {
+        match self {
+            LineFault::NoJson => "no JSON",
+            LineFault::NoClient => "no client",
+            LineFault::NoOperation => "no operation",
+            LineFault::BothOperations => "both operations",
+            LineFault::BadKey => "bad key",
+            LineFault::BadValue => "bad value",
+            LineFault::BadVersion => "bad version",
+            LineFault::TooManyClients => "too many clients",
+            LineFault::TooManyOperations => "too many operations",
+        }
+    }
+}
+
+/// The line that tells what is wrong with the line of a number.
+pub fn faulty_line(alloc: Global, number: u64, fault: LineFault) -> Result<String, AllocError>
+    ensures { IfOk result (λ line. string_bytes line ≡ faulty_line number fault) }
+{
+    let words = fault.words();
+    format!(in alloc; "faulty: line {number}: {words}\n")
+}
+
+/// Why no trace was made of lines.
+#[derive(Clone, Copy, Debug, PartialEq, Eq, Error)]
+pub enum ImportFault {
+    /// 0: out of memory.
+    #[error("out of memory")]
+    Memory,
+    /// 1: the reader failed.
+    #[error("the reader failed")]
+    ReadFailed,
+    /// 2: the writer failed, after exactly so many of the text's first bytes.
+    #[error("the writer failed after {written} bytes")]
+    WriteFailed { written: usize },
+    /// 3: this line, counted from 1, is the first that is wrong.
+    #[error("line {number}: {fault}")]
+    Line { number: u64, fault: LineFault },
+    /// 4: the lines name more or fewer clients than was said.
+    #[error("another number of clients")]
+    Changed,
+    /// 5: the lines did not end within 2^40 reads, or there are 2^64.
+    #[error("the lines do not end")]
+    Endless,
+}
+
+impl From<WriteFault> for ImportFault {
+    ghost use Rattle.std.specs.Prelude.{◌≡◌};
+    ghost use Rattle.cops_import.specs.Writing.{fault_of};
+
+    ghost from_gives = { λ fault e. e ≡ fault_of fault };
+
+    fn from(e: WriteFault) -> ImportFault {
+        match e {
+            WriteFault::Memory => ImportFault::Memory,
+            WriteFault::WriteFailed { written } => ImportFault::WriteFailed { written },
+        }
+    }
+}
+
+impl<T: Drop> From<AllocFailed<T>> for ImportFault {
+    ghost use Rattle.std.specs.Prelude.{◌≡◌};
+    ghost use Rattle.cops_import.specs.declared.fault.ImportFault.TheVariants.{Memory as OutOfMemory};
+
+    ghost from_gives = { λ _ e. e ≡ OutOfMemory };
+
+    fn from(_e: AllocFailed<T>) -> ImportFault {
+        ImportFault::Memory
+    }
+}

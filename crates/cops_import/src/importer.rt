@@ -1,0 +1,217 @@
+//! An import that is underway: it takes lines as their bytes come, and writes a record for each operation.
+ghost use Rattle.std.specs.Prelude.{◌≡◌, ◌≢◌, [], ◌∷◌, ◌++◌, List, ℕ, length, IfErr, IfOk, OnOk};
+ghost use Rattle.cops_types.specs.declared.counted.Counted.{Counted as ACounted};
+ghost use Rattle.cops_trace.specs.Text.{IsOp};
+ghost use Rattle.cops_import.specs.declared.line.Told.{Told as ATold};
+ghost use Rattle.cops_import.specs.Faults.{IsFaultOf};
+ghost use Rattle.cops_import.specs.Underway.{HasLeft, HasStopped, HasTaken, IsStopAt, IsStopOf, IsStopAtEnd, IsUnderway, TakesLine, HasEnded, Finishes};
+
+use crate::fault::{ImportFault, LineFault};
+use crate::imported::{Imported, Unimported};
+use crate::line::{Told, Untold, of_line};
+use crate::name::Name;
+use crate::names::Names;
+use cops_trace::TraceWriter;
+use cops_types::{Counted, MAX_CLIENTS, Op};
+use std::alloc::Global;
+use std::io::Write;
+
+/// The names so far, the writer of the trace, the last line as far as it came, and how many lines ended.
+#[derive(Drop)]
+pub(crate) struct Importer<W: Write> {
+    alloc: Global,
+    clients: u16,
+    names: Names,
+    operations: usize,
+    writer: TraceWriter<W>,
+    line: Vec<u8>,
+    ended: u64,
+}
+
+impl<W: Write> Importer<W> {
+    /// Writes the head of so many clients. Where it is not written, the writer comes back.
+    pub(crate) fn new(alloc: Global, trace: Counted<W>, clients: u16) -> Result<Self, Unimported<W>>
+        ensures ok { IfOk result (λ i. IsUnderway W.contents trace [] i) }
+        ensures err { IfErr result (λ u. HasLeft W.contents trace u.fault u.writer) }
+        ensures fault { IfErr result (λ u. (bytes : List ℕ) → IsFaultOf clients bytes u.fault) }
+        ensures device { IfErr result (λ u. u.fault ≢ ImportFault.ReadFailed) }
+        ensures clients { IfOk result (λ i. i.clients ≡ clients) }
+    {
+        match TraceWriter::new(alloc, trace, clients) {
+            Ok(writer) => Ok(Importer {
+                alloc,
+                clients,
+                names: Names::new(alloc),
+                operations: 0,
+                writer,
+                line: Vec::new(alloc),
+                ended: 0,
+            }),
+            Err(unwritten) => Err(Unimported::from(unwritten)),
+        }
+    }
+
+    /// Takes what the client of a name did, which the line of this number told.
+    fn take(&mut self, name: Name, op: &Op, number: u64) -> Result<(), ImportFault>
+        requires { IsOp op.now }
+        ensures ok { OnOk result ((from : ACounted W) (tolds : List ATold) → HasTaken W.contents from tolds self.old → HasTaken W.contents from (tolds ++ record { name = name; op = op.now } ∷ []) self.new) }
+        ensures err { IfErr result (λ e. (from : ACounted W) (tolds : List ATold) → HasTaken W.contents from tolds self.old → HasLeft W.contents from e self.new.writer.writer) }
+        ensures stop { IfErr result (λ e. (from : ACounted W) (tolds : List ATold) → HasTaken W.contents from tolds self.old → IsStopOf self.old.clients number tolds (record { name = name; op = op.now }) e) }
+        ensures device { IfErr result (λ e. e ≢ ImportFault.ReadFailed) }
+        ensures clients { self.new.clients ≡ self.old.clients }
+        ensures line { self.new.line ≡ self.old.line }
+    {
+        let Ok(client) = self.names.number(name) else {
+            return Err(ImportFault::Memory);
+        };
+        if self.names.len() > usize::from(MAX_CLIENTS) {
+            return Err(ImportFault::Line {
+                number,
+                fault: LineFault::TooManyClients,
+            });
+        }
+        if self.names.len() > usize::from(self.clients) {
+            return Err(ImportFault::Changed);
+        }
+        let client = client as u16;
+        if !self.writer.has_turn(client) {
+            return Err(ImportFault::Line {
+                number,
+                fault: LineFault::TooManyOperations,
+            });
+        }
+        match self.writer.op(client, op) {
+            Ok(()) => {
+                self.operations = self.operations.saturating_add(1);
+                Ok(())
+            }
+            Err(fault) => Err(ImportFault::from(fault)),
+        }
+    }
+
+    /// Takes the last line, of this number, as it came.
+    fn take_line(&mut self, number: u64) -> Result<(), ImportFault>
+        ensures ok { OnOk result ((from : ACounted W) (tolds : List ATold) → HasTaken W.contents from tolds self.old → TakesLine W.contents from tolds self.old.line.items self.new) }
+        ensures err { IfErr result (λ e. (from : ACounted W) (tolds : List ATold) → HasTaken W.contents from tolds self.old → HasLeft W.contents from e self.new.writer.writer) }
+        ensures stop { IfErr result (λ e. (from : ACounted W) (tolds : List ATold) → HasTaken W.contents from tolds self.old → IsStopAt self.old.clients number tolds self.old.line.items e) }
+        ensures device { IfErr result (λ e. e ≢ ImportFault.ReadFailed) }
+        ensures clients { self.new.clients ≡ self.old.clients }
+    {
+        match of_line(self.alloc, &self.line) {
+            Ok(None) => Ok(()),
+            Ok(Some(told)) => {
+                let Told { name, op } = told;
+                self.take(name, &op, number)
+            }
+            Err(Untold::Memory) => Err(ImportFault::Memory),
+            Err(Untold::Fault(fault)) => Err(ImportFault::Line { number, fault }),
+        }
+    }
+
+    /// Takes the line that a line feed ends.
+    fn end_line(&mut self) -> Result<(), ImportFault>
+        ensures ok { OnOk result ((from : ACounted W) (fed : List ℕ) → IsUnderway W.contents from fed self.old → IsUnderway W.contents from (fed ++ 10 ∷ []) self.new) }
+        ensures err { IfErr result (λ e. (from : ACounted W) (fed : List ℕ) → IsUnderway W.contents from fed self.old → HasStopped W.contents from (fed ++ 10 ∷ []) e self.old.clients self.new.writer.writer) }
+        ensures device { IfErr result (λ e. e ≢ ImportFault.ReadFailed) }
+        ensures clients { self.new.clients ≡ self.old.clients }
+    {
+        let Some(number) = self.ended.checked_add(1) else {
+            return Err(ImportFault::Endless);
+        };
+        match self.take_line(number) {
+            Ok(()) => {
+                self.ended = number;
+                self.line.clear();
+                Ok(())
+            }
+            Err(fault) => Err(fault),
+        }
+    }
+
+    /// Takes the next byte.
+    fn take_byte(&mut self, byte: u8) -> Result<(), ImportFault>
+        ensures ok { OnOk result ((from : ACounted W) (fed : List ℕ) → IsUnderway W.contents from fed self.old → IsUnderway W.contents from (fed ++ byte ∷ []) self.new) }
+        ensures err { IfErr result (λ e. (from : ACounted W) (fed : List ℕ) → IsUnderway W.contents from fed self.old → HasStopped W.contents from (fed ++ byte ∷ []) e self.old.clients self.new.writer.writer) }
+        ensures device { IfErr result (λ e. e ≢ ImportFault.ReadFailed) }
+        ensures clients { self.new.clients ≡ self.old.clients }
+    {
+        if byte == b'\n' {
+            return self.end_line();
+        }
+        match self.line.push(byte) {
+            Ok(()) => Ok(()),
+            Err(_) => Err(ImportFault::Memory),
+        }
+    }
+
+    /// Takes the next bytes.
+    pub(crate) fn take_piece(&mut self, piece: &[u8]) -> Result<(), ImportFault>
+        ensures ok { OnOk result ((from : ACounted W) (fed : List ℕ) → IsUnderway W.contents from fed self.old → IsUnderway W.contents from (fed ++ piece.now) self.new) }
+        ensures err { IfErr result (λ e. (from : ACounted W) (fed : List ℕ) → IsUnderway W.contents from fed self.old → HasStopped W.contents from (fed ++ piece.now) e self.old.clients self.new.writer.writer) }
+        ensures device { IfErr result (λ e. e ≢ ImportFault.ReadFailed) }
+        ensures clients { self.new.clients ≡ self.old.clients }
+    {
+        for byte in piece {
+            match self.take_byte(*byte) {
+                Ok(()) => {}
+                Err(fault) => return Err(fault),
+            }
+        }
+        Ok(())
+    }
+
+    /// Takes the last line, and writes the end.
+    pub(crate) fn finish(mut self) -> Result<Imported<W>, Unimported<W>>
+        ensures ok { IfOk result (λ done. (from : ACounted W) (fed : List ℕ) → IsUnderway W.contents from fed self → Finishes W.contents from fed done) }
+        ensures err { IfErr result (λ u. (from : ACounted W) (fed : List ℕ) → IsUnderway W.contents from fed self → HasLeft W.contents from u.fault u.writer) }
+        ensures fault { IfErr result (λ u. (from : ACounted W) (fed : List ℕ) → IsUnderway W.contents from fed self → IsFaultOf self.clients fed u.fault) }
+        ensures device { IfErr result (λ u. u.fault ≢ ImportFault.ReadFailed) }
+        ensures clients { IfOk result (λ done. length done.names ≡ self.clients) }
+    {
+        let Some(number) = self.ended.checked_add(1) else {
+            return Err(self.give_up(ImportFault::Endless));
+        };
+        match self.take_line(number) {
+            Ok(()) => self.end(),
+            Err(fault) => Err(self.give_up(fault)),
+        }
+    }
+
+    /// Writes the end, where as many clients were named as was said.
+    fn end(self) -> Result<Imported<W>, Unimported<W>>
+        ensures ok { IfOk result (λ done. (from : ACounted W) (tolds : List ATold) → HasTaken W.contents from tolds self → HasEnded W.contents from tolds done) }
+        ensures err { IfErr result (λ u. (from : ACounted W) (tolds : List ATold) → HasTaken W.contents from tolds self → HasLeft W.contents from u.fault u.writer) }
+        ensures stop { IfErr result (λ u. (from : ACounted W) (tolds : List ATold) → HasTaken W.contents from tolds self → IsStopAtEnd self.clients tolds u.fault) }
+        ensures device { IfErr result (λ u. u.fault ≢ ImportFault.ReadFailed) }
+        ensures clients { IfOk result (λ done. length done.names ≡ self.clients) }
+    {
+        if self.names.len() != usize::from(self.clients) {
+            return Err(self.give_up(ImportFault::Changed));
+        }
+        let Importer {
+            names,
+            operations,
+            writer,
+            ..
+        } = self;
+        match writer.end() {
+            Ok(writer) => Ok(Imported {
+                names,
+                operations,
+                writer,
+            }),
+            Err(unwritten) => Err(Unimported::from(unwritten)),
+        }
+    }
+
+    /// The writer comes back for this fault.
+    pub(crate) fn give_up(self, fault: ImportFault) -> Unimported<W>
+        ensures { result ≡ record { writer = self.writer.writer; fault = fault } }
+    {
+        let Importer { writer, .. } = self;
+        Unimported {
+            writer: writer.into_writer(),
+            fault,
+        }
+    }
+}

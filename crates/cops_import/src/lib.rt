@@ -1,0 +1,25 @@
+//! JSON Lines as a trace: one operation of a client a line, in the order of each client. Stands on traces, on the
+//! writer of their texts and on `serde_json`. The layers above use that what was written is the text of the one trace
+//! that all of the lines tell, and that a line which is told as faulty is the first that tells nothing.
+#![tactic(auto)]
+
+mod count;
+mod fault;
+mod field;
+mod imported;
+mod importer;
+mod laws;
+mod line;
+mod name;
+mod names;
+mod reading;
+#[cfg(test)]
+mod tests;
+
+pub use count::count_clients;
+pub use fault::{ImportFault, LineFault, faulty_line};
+pub use imported::{Imported, Unimported};
+pub use laws::lines_tell_one;
+pub use name::Name;
+pub use names::Names;
+pub use reading::import_stream;

@@ -1,0 +1,155 @@
+//! What one line tells.
+ghost use Rattle.std.specs.Prelude.{◌≡◌, ◌↔◌, Err, IfOk, IsTrue, option_map};
+ghost use Rattle.serde_json.specs.View.{view};
+ghost use Rattle.cops_import.specs.declared.fault.LineFault.{LineFault as AFault};
+ghost use Rattle.cops_import.specs.Line.{FoundNothing, IsAsked, IsBlank, IsFaulty, IsNothing, IsWrong, IsWrongIn, LineTells, Tells, TellsName, TextTells};
+ghost use Rattle.cops_import.specs.Asked.{IsWrongOf, TellsKind};
+
+use crate::fault::LineFault;
+use crate::field::{Unread, key, name, value, version};
+use crate::name::Name;
+use cops_types::Op;
+use serde_json::Value as Json;
+use std::alloc::Global;
+
+/// What a client did, and the client's name.
+#[derive(Debug, Drop)]
+pub(crate) struct Told {
+    pub(crate) name: Name,
+    pub(crate) op: Op,
+}
+
+/// What an operation is.
+#[derive(Clone, Copy, Debug, PartialEq, Eq)]
+pub(crate) enum Kind {
+    Put,
+    Get,
+}
+
+/// Why a line tells nothing.
+#[derive(Clone, Copy, Debug, PartialEq, Eq)]
+pub(crate) enum Untold {
+    Memory,
+    Fault(LineFault),
+}
+
+impl Unread {
+    ghost use Rattle.std.specs.Prelude.{◌≡◌};
+
+    /// Why the line that it stands in tells nothing.
+    fn of(self, fault: LineFault) -> Untold
+        ensures memory { self ≡ Unread.Memory → result ≡ Untold.Memory }
+        ensures form { self ≡ Unread.Form → result ≡ Untold.Fault fault }
+    {
+        match self {
+            Unread::Memory => Untold::Memory,
+            Unread::Form => Untold::Fault(fault),
+        }
+    }
+}
+
+/// What a line tells, nothing where it is blank, or what is wrong with it.
+pub(crate) fn of_line(alloc: Global, line: &[u8]) -> Result<Option<Told>, Untold>
+    ensures told { IfOk result (LineTells line.now) }
+    ensures wrong { (fault : AFault) → result ≡ Err (Untold.Fault fault) → IsFaulty line.now fault }
+{
+    if is_blank(line) {
+        return Ok(None);
+    }
+    match of_text(alloc, line) {
+        Ok(told) => Ok(Some(told)),
+        Err(untold) => Err(untold),
+    }
+}
+
+/// What the JSON text of a line tells.
+fn of_text(alloc: Global, line: &[u8]) -> Result<Told, Untold>
+    ensures told { IfOk result (TextTells line.now) }
+    ensures wrong { (fault : AFault) → result ≡ Err (Untold.Fault fault) → IsWrongIn line.now fault }
+{
+    match Json::from_slice(alloc, line) {
+        Ok(object) => of_object(alloc, &object),
+        Err(e) if e.is_memory() => Err(Untold::Memory),
+        Err(_) => Err(Untold::Fault(LineFault::NoJson)),
+    }
+}
+
+/// Whether nothing but spaces, tabs and carriage returns stands in a line.
+fn is_blank(line: &[u8]) -> bool
+    ensures { IsTrue result ↔ IsBlank line.now }
+{
+    line.iter()
+        .all(|b| *b == b' ' || *b == b'\t' || *b == b'\r')
+}
+
+/// What an object tells.
+fn of_object(alloc: Global, object: &Json) -> Result<Told, Untold>
+    ensures told { IfOk result (Tells (view object.now)) }
+    ensures wrong { (fault : AFault) → result ≡ Err (Untold.Fault fault) → IsWrong (view object.now) fault }
+{
+    let name = match name(alloc, object) {
+        Ok(name) => name,
+        Err(unread) => return Err(unread.of(LineFault::NoClient)),
+    };
+    match (object.get("put"), object.get("get")) {
+        (None, None) => Err(Untold::Fault(LineFault::NoOperation)),
+        (Some(_), Some(_)) => Err(Untold::Fault(LineFault::BothOperations)),
+        (Some(at), None) => of_kind(alloc, name, Kind::Put, at, object),
+        (None, Some(at)) => of_kind(alloc, name, Kind::Get, at, object),
+    }
+}
+
+/// What an object tells of a client, of which an operation of this kind is its only one.
+fn of_kind(alloc: Global, name: Name, kind: Kind, at: &Json, object: &Json) -> Result<Told, Untold>
+    requires name { TellsName (view object.now) name }
+    requires asked { IsAsked (view object.now) kind (view at.now) }
+    ensures told { IfOk result (Tells (view object.now)) }
+    ensures wrong { (fault : AFault) → result ≡ Err (Untold.Fault fault) → IsWrong (view object.now) fault }
+{
+    match op(alloc, kind, at, object) {
+        Ok(op) => Ok(Told { name, op }),
+        Err(untold) => Err(untold),
+    }
+}
+
+/// The operation of this kind with what stands there as its key.
+fn op(alloc: Global, kind: Kind, at: &Json, object: &Json) -> Result<Op, Untold>
+    ensures told { IfOk result (TellsKind (view object.now) kind (view at.now)) }
+    ensures wrong { (fault : AFault) → result ≡ Err (Untold.Fault fault) → IsWrongOf (view object.now) kind (view at.now) fault }
+{
+    let key = key(alloc, at).map_err(|unread| unread.of(LineFault::BadKey))?;
+    if kind == Kind::Get && found_nothing(object) {
+        return Ok(Op::Missed { key });
+    }
+    let value = value(alloc, object).map_err(|unread| unread.of(LineFault::BadValue))?;
+    let version = version(object).map_err(|unread| unread.of(LineFault::BadVersion))?;
+    Ok(match kind {
+        Kind::Put => Op::Put {
+            key,
+            value,
+            version,
+        },
+        Kind::Get => Op::Got {
+            key,
+            value,
+            version,
+        },
+    })
+}
+
+/// Whether an object has neither a value nor a version.
+fn found_nothing(object: &Json) -> bool
+    ensures { IsTrue result ↔ FoundNothing (view object.now) }
+{
+    is_nothing(object.get("value")) && is_nothing(object.get("version"))
+}
+
+/// Whether there is no member, or null.
+fn is_nothing(at: Option<&Json>) -> bool
+    ensures { IsTrue result ↔ IsNothing (option_map (λ v. view v.now) at.entry) }
+{
+    match at {
+        Some(json) => json.is_null(),
+        None => true,
+    }
+}

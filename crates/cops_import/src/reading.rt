@@ -1,0 +1,77 @@
+//! The import of a text of lines.
+ghost use Rattle.std.specs.Prelude.{◌≡◌, ◌≢◌, [], length, IfErr, IfOk, IfSome, OnOk};
+ghost use Rattle.cops_types.specs.declared.counted.Counted.{Counted as ACounted};
+ghost use Rattle.cops_types.specs.Counted.{failures, inner};
+ghost use Rattle.cops_import.specs.Faults.{IsCutBy, IsFaultOf, IsHeardBy, IsReadBy};
+ghost use Rattle.cops_import.specs.Imports.{IsImport};
+ghost use Rattle.cops_import.specs.Underway.{HasLeft, HasReadAll, IsUnderway};
+
+use crate::fault::ImportFault;
+use crate::imported::{Imported, Unimported};
+use crate::importer::Importer;
+use cops_types::Counted;
+use std::alloc::Global;
+use std::io::{Read, Write};
+
+/// How many bytes are asked for in one read.
+pub(crate) const PIECE: usize = 65_536;
+
+/// The most reads.
+pub(crate) const READS: u64 = 1 << 40;
+
+/// Writes the trace that JSON Lines tell, an operation a line in the order of each client, as README.md has their
+/// members. So many clients are to be named, else the answer is `Changed`. Of the lines it keeps the names, how many
+/// operations each client has, and one line. A failed read or write is not tried again. On `Ok` the text is whole; on
+/// `Err` it is cut, and `Line` has the number, from 1, of the first line that is wrong.
+pub fn import_stream<R: Read, W: Write>(
+    alloc: Global,
+    clients: u16,
+    lines: &mut Counted<R>,
+    trace: Counted<W>,
+) -> Result<Imported<W>, Unimported<W>>
+    ensures ok { IfOk result (λ done. IfSome (R.remaining (inner lines.old)) (λ bytes. IsImport bytes (W.contents (inner trace)) (W.contents (inner done.writer)) done.names done.operations)) }
+    ensures clients { IfOk result (λ done. length done.names ≡ clients) }
+    ensures fault { IfErr result (λ u. IfSome (R.remaining (inner lines.old)) (λ bytes. IsFaultOf clients bytes u.fault)) }
+    ensures cut { IfErr result (λ u. IsCutBy u.fault (W.contents (inner trace)) (W.contents (inner u.writer))) }
+    ensures heard { IfOk result (λ done. (failures done.writer ≡ failures trace) × (failures lines.new ≡ failures lines.old)) }
+    ensures write { IfErr result (λ u. IsHeardBy u.fault (failures trace) (failures u.writer)) }
+    ensures read { IfErr result (λ u. IsReadBy u.fault (failures lines.old) (failures lines.new)) }
+{
+    let mut importer = match Importer::new(alloc, trace, clients) {
+        Ok(importer) => importer,
+        Err(unimported) => return Err(unimported),
+    };
+    match read_lines(&mut importer, lines) {
+        Ok(()) => importer.finish(),
+        Err(fault) => Err(importer.give_up(fault)),
+    }
+}
+
+/// Reads the bytes of all lines. The last line is not taken.
+fn read_lines<R: Read, W: Write>(
+    importer: &mut Importer<W>,
+    lines: &mut Counted<R>,
+) -> Result<(), ImportFault>
+    ensures ok { OnOk result ((from : ACounted W) → IsUnderway W.contents from [] importer.old → HasReadAll W.contents from (R.remaining (inner lines.old)) importer.new) }
+    ensures err { IfErr result (λ e. (from : ACounted W) → IsUnderway W.contents from [] importer.old → HasLeft W.contents from e importer.new.writer.writer) }
+    ensures fault { IfErr result (λ e. (from : ACounted W) → IsUnderway W.contents from [] importer.old → IfSome (R.remaining (inner lines.old)) (λ bytes. IsFaultOf importer.old.clients bytes e)) }
+    ensures heard { OnOk result (failures lines.new ≡ failures lines.old) }
+    ensures read { IfErr result (λ e. IsReadBy e (failures lines.old) (failures lines.new)) }
+    ensures clients { importer.new.clients ≡ importer.old.clients }
+{
+    let mut piece = [0u8; PIECE];
+    for _ in 0..READS {
+        let count = match lines.read(&mut piece) {
+            Ok(count) => count,
+            Err(_) => return Err(ImportFault::ReadFailed),
+        };
+        if count == 0 {
+            return Ok(());
+        }
+        match importer.take_piece(&piece[..count]) {
+            Ok(()) => {}
+            Err(fault) => return Err(fault),
+        }
+    }
+    Err(ImportFault::Endless)
+}
