@@ -102,7 +102,7 @@ impl Online {
     }
 
     /// The verdict on what was fed, with the sessions that were fed, whose values are left out. It judges in the room that is kept,
-    /// and copies nothing.
+    /// and copies nothing that was fed. While it judges it takes memory for names and for notes, 20 bytes for each operation.
     pub fn close(self) -> Result<Judged, Memory>
         ensures { IfOk result (IsJudged self) }
     {
