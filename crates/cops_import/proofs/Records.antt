@@ -1,5 +1,5 @@
 -- Records that are written one after another.
-use Rattle.std.proofs.Common.{◌≡◌, ◌≢◌, ℕ, min, ◌+◌, ◌^◌, ◌<◌, List, [], ◌∷◌, ◌++◌, length, map, refl, sym, ap, subst, ◌∙◌, arith}
+use Rattle.std.proofs.Common.{◌≡◌, ◌≤◌, ◌≢◌, ℕ, min, ◌+◌, ◌^◌, ◌<◌, List, [], ◌∷◌, ◌++◌, length, map, refl, sym, ap, subst, ◌∙◌, arith}
 use Rattle.std.specs.Prelude.{Option, Some}
 use Rattle.std.specs.Io.KnownBytes.{Appends}
 use Rattle.std.proofs.lemmas.List.{length-append, length-map, map-append}
@@ -7,7 +7,7 @@ use Rattle.cops_types.proofs.Devices.{appends_more}
 use Rattle.cops_types.specs.Counted.{failures, inner}
 use Rattle.cops_types.specs.Failures.{Failed}
 use Rattle.cops_types.specs.declared.counted.Counted.{Counted}
-use Rattle.cops_types.specs.declared.limits.TheConstants.{MAX_CLIENT_OPS}
+use Rattle.cops_types.specs.declared.limits.TheConstants.{MAX_CLIENTS, MAX_CLIENT_OPS}
 use Rattle.cops_types.specs.declared.op.Op.{Op}
 use Rattle.cops_wire.specs.Message.{spelled}
 use Rattle.cops_wire.specs.declared.message.Message.TheVariants.{TraceEnd}
@@ -168,13 +168,16 @@ module _ {W : Type 0} (contents : W → Option (List ℕ)) (from : Counted W) wh
 
 -- a client that has no turn has no room
 pub too_many : (clients : ℕ) (tolds : List Told) (told : Told) (counts : ACounts) (client : ℕ) → AreCountsOf (trace_to clients tolds) counts → client ≡ number_of (names_of tolds) told.name → client < clients
-    → (HasTurn counts client → ⊥) → IsTooMany tolds told TooManyOperations
-too_many clients tolds told counts client h number there full room =
+    → (HasTurn counts client → ⊥) → length (names_of (tolds ++ told ∷ [])) ≤ MAX_CLIENTS → IsTooMany tolds told TooManyOperations
+too_many clients tolds told counts client h number there full few =
     let many : length (trace_to clients tolds).records ≡ length tolds = length-map tolds (record_of (names_of tolds)) in
     let same : number_of (names_of (tolds ++ told ∷ [])) told.name ≡ client =
-    ap (λ (ns : List (List ℕ)). number_of ns told.name) (names_more tolds told) ∙ number_own (names_of tolds) told.name ∙ sym number in
-    let own : turn client (trace_of tolds).records < MAX_CLIENT_OPS = subst (λ (k : ℕ). turn k (trace_of tolds).records < MAX_CLIENT_OPS) same room.0 in
-    full (omega (arith, h.clients, there), omega (arith, h.next client, own), omega (arith, h.total, many, room.1))
+    ap (λ (ns : List (List ℕ)). number_of ns told.name) (names_more tolds told) ∙ number_own (names_of tolds) told.name ∙ sym number in (
+      few,
+      λ room.
+          let own : turn client (trace_of tolds).records < MAX_CLIENT_OPS = subst (λ (k : ℕ). turn k (trace_of tolds).records < MAX_CLIENT_OPS) same room.0 in
+          full (omega (arith, h.clients, there), omega (arith, h.next client, own), omega (arith, h.total, many, room.1)),
+    )
 
 -- a write that failed says nothing of the lines
 pub write_says : (clients : ℕ) (bytes : List ℕ) (e : WriteFault) → IsFaultOf clients bytes (fault_of e)

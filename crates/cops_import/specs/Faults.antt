@@ -20,7 +20,8 @@ HasRoomAfter tolds client = (turn client (trace_of tolds).records < MAX_CLIENT_O
 -- it is one too many after these
 abbrev pub IsTooMany : List Told → Told → LineFault → Type 0
 IsTooMany tolds told TooManyClients = MAX_CLIENTS < length (names_of (tolds ++ told ∷ []))
-IsTooMany tolds told TooManyOperations = HasRoomAfter tolds (number_of (names_of (tolds ++ told ∷ [])) told.name) → ⊥
+IsTooMany tolds told TooManyOperations =
+    (length (names_of (tolds ++ told ∷ [])) ≤ MAX_CLIENTS) × (HasRoomAfter tolds (number_of (names_of (tolds ++ told ∷ [])) told.name) → ⊥)
 IsTooMany tolds told _ = ⊥
 
 -- what is wrong with a line after others that told these: it tells nothing, or one too many

@@ -4,7 +4,7 @@ ghost use Rattle.cops_types.specs.declared.counted.Counted.{Counted as ACounted}
 ghost use Rattle.cops_trace.specs.Text.{IsOp};
 ghost use Rattle.cops_import.specs.declared.line.Told.{Told as ATold};
 ghost use Rattle.cops_import.specs.Faults.{IsFaultOf};
-ghost use Rattle.cops_import.specs.Underway.{HasLeft, HasStopped, HasTaken, IsStopAt, IsStopOf, IsStopAtEnd, IsUnderway, TakesLine, HasEnded, Finishes};
+ghost use Rattle.cops_import.specs.Underway.{Finishes, HasEnded, HasLeft, HasStopped, HasTaken, IsStopAt, IsStopAtEnd, IsStopOf, IsUnderway, TakesLine};
 
 use crate::fault::{ImportFault, LineFault};
 use crate::imported::{Imported, Unimported};

@@ -1,10 +1,11 @@
-use Rattle.std.proofs.Common.{◌≡◌, ◌<◌, ap, ◌∙◌, refl, rules}
+use Rattle.std.proofs.Common.{◌≡◌, ◌<◌, ◌≤◌, [], ◌∷◌, ◌++◌, ap, arith, length, sym, ◌∙◌, refl, rules}
 use Rattle.std.specs.Prelude.{List, ℕ}
 use Rattle.cops_trace.specs.Counts.{HasTurn}
 use Rattle.cops_import.specs.Lines.{names_of}
-use Rattle.cops_import.specs.Names.{number_of}
+use Rattle.cops_import.specs.Names.{number_of, with_name}
 use Rattle.cops_import.specs.Underway.{trace_to}
 use Rattle.cops_import.specs.declared.line.Told.{Told}
+use Rattle.cops_import.proofs.Numbering.{names_more}
 use Rattle.cops_import.proofs.Records.{cut_so_far, left_refused, taken_more, too_many, written_more}
 use Rattle.cops_import.proofs.importer.Importer.take.Goals as goal
 
@@ -26,7 +27,10 @@ returns-then-not-has_turn-clause-stop g c = λ from tolds h.
     let number : c.in-Ok.client ≡ number_of (names_of tolds) c.args.name = c.in-Ok.ensures.number ∙ ap (λ (ns : List (List ℕ)). number_of ns c.args.name) h.names in
     let there : c.in-Ok.client < c.args.self.now.clients = search rules in
     let full : HasTurn c.args.self.now.writer.counts c.in-Ok.client → ⊥ = λ turn. let yes = c.has_turn.ensures.1 turn in let no = c.if-not-has_turn.true in search rules in
-    (refl, too_many c.args.self.now.clients tolds told c.args.self.now.writer.counts c.in-Ok.client h.wrote.counts number there full)
+    let names : c.number.new.self ≡ names_of (tolds ++ told ∷ []) =
+    c.in-Ok.ensures.names ∙ ap (λ (ns : List (List ℕ)). with_name ns c.args.name) h.names ∙ sym (names_more tolds told) in
+    let few : length c.number.new.self ≤ 65535 = search rules in
+    (refl, too_many c.args.self.now.clients tolds told c.args.self.now.writer.counts c.in-Ok.client h.wrote.counts number there full (omega (arith, ap length names, few)))
 
 pub returns-in-Ok-op-clause-ok : goal.returns-in-Ok-op-clause-ok
 returns-in-Ok-op-clause-ok g c = λ from tolds h.
