@@ -1,5 +1,6 @@
 ghost use Rattle.std.specs.Prelude.{◌≡◌, ◌≤◌, IfOk, IfNone, IfSome, OnOk, length};
 ghost use Rattle.cops_types.specs.Counts.{count_of};
+ghost use Rattle.cops_types.specs.Histories.{IsNamed};
 ghost use Rattle.cops_types.specs.Recorded.{IsWithinLimits};
 ghost use Rattle.cops_types.specs.Verdicts.{AllAbove, AllHaveSources};
 ghost use Rattle.cops_types.specs.Faults.{IsStale, Lists};
@@ -8,14 +9,14 @@ ghost use Rattle.cops_audit.specs.Rooms.{IsNotedIn, IsReady};
 ghost use Rattle.cops_audit.specs.Tables.{IsVersionTable};
 ghost use Rattle.cops_audit.specs.Verdicts.{IsVerdict};
 
-use crate::names::all_names;
+use crate::names::{all_names, set_names};
 use crate::notes::{Notes, SessionNotes, without_source};
 use crate::rising::not_above;
 use crate::room::Room;
 use crate::stale::stale_suspects;
 use crate::table::{doubled, is_rising, put_names, set_puts};
 use crate::verdict::{Faults, Stale, Verdict};
-use cops_types::History;
+use cops_types::{History, OpName};
 use std::alloc::{AllocError, Global};
 
 impl Room {
@@ -60,15 +61,15 @@ impl Room {
         alloc: Global,
         history: &History,
         notes: &Notes,
+        names: &[OpName],
     ) -> Result<Option<Verdict>, AllocError>
+        requires names { Lists (λ n. n) (IsNamed history.now.sessions) names.now }
         requires table { IsVersionTable history.now.sessions self.now.table.items }
         requires notes { IsNoted history.now.sessions self.now.table.items notes.now }
         ensures refused { IfOk result (λ found. IfSome found (IsVerdict history.now.sessions)) }
         ensures sources { IfOk result (λ found. IfNone found (AllHaveSources history.now.sessions)) }
         ensures above { IfOk result (λ found. IfNone found (AllAbove history.now.sessions)) }
     {
-        let names = all_names(alloc, history)?;
-        let names = names.as_slice();
         let sourceless = without_source(alloc, notes, names)?;
         if !sourceless.is_empty() {
             return Ok(Some(Verdict::Refused(Faults::NoSource(sourceless))));
@@ -91,7 +92,13 @@ impl Room {
         let hints = std::mem::replace(&mut self.hints, Vec::new(alloc));
         let session_notes = SessionNotes::hinted(alloc, history, self.table.as_slice(), hints)?;
         let notes = session_notes.look();
-        if let Some(verdict) = self.judge_notes(alloc, history, &notes)? {
+        // The names stand where there was room for them, so that all of it is given back.
+        let empty = Vec::with_capacity(alloc, self.space)?;
+        let mut names = std::mem::replace(&mut self.names, empty);
+        set_names(&mut names, history);
+        let found = self.judge_notes(alloc, history, &notes, names.as_slice())?;
+        drop(names);
+        if let Some(verdict) = found {
             return Ok(verdict);
         }
         let stale = self.stale(alloc, history, &notes)?;

@@ -1,6 +1,4 @@
-use Rattle.std.proofs.Common.{length, arith, sym, subst, ap, take_all}
-use Rattle.std.specs.Prelude.{sum_by}
-use Rattle.cops_types.specs.declared.op.Op.{Op}
+use Rattle.std.proofs.Common.{arith, sym, subst}
 use Rattle.cops_audit.specs.Windows.{AreSuspectsBefore}
 use Rattle.cops_audit.proofs.Gathering.{none_gathered, sessions_gathered}
 use Rattle.cops_audit.proofs.window.set_suspects.Goals as goal

@@ -14,8 +14,8 @@ returns-then-not-is_empty c =
     let h = c.args.history.now.sessions in
     let stale = c.in_ok-stale.stale in (
       none_doubled h c.args.self.now.table.items c.requires.table,
-      subst (λ (o : Option Verdict). IfNone o (AllHaveSources h)) c.in_default.is c.in_ok-verdict.ensures.sources,
-      subst (λ (o : Option Verdict). IfNone o (AllAbove h)) c.in_default.is c.in_ok-verdict.ensures.above,
+      subst (λ (o : Option Verdict). IfNone o (AllHaveSources h)) c.in_default.is c.in_ok-found.ensures.sources,
+      subst (λ (o : Option Verdict). IfNone o (AllAbove h)) c.in_default.is c.in_ok-found.ensures.above,
       some_there {A = Stale} (λ f. f.op) (λ f. IsStale h f.op f.newer) stale.items c.is_empty.result _ c.if-not-is_empty.true c.is_empty.ensures stale.ok.0,
       c.in_ok-stale.ensures.stale,
     )
@@ -24,11 +24,11 @@ pub returns : goal.returns
 returns c =
     let h = c.args.history.now.sessions in
     let stale = c.in_ok-stale.stale in
-    let table = c.as_slice-2.ensures.value ∙ ap (λ (v : Vec VersionedPut Global). v.items) c.in_ok-stale.ensures.table in
+    let table = c.as_slice-3.ensures.value ∙ ap (λ (v : Vec VersionedPut Global). v.items) c.in_ok-stale.ensures.table in
     record {
       doubled = none_doubled h c.args.self.now.table.items c.requires.table;
-      sources = subst (λ (o : Option Verdict). IfNone o (AllHaveSources h)) c.in_default.is c.in_ok-verdict.ensures.sources;
-      above = subst (λ (o : Option Verdict). IfNone o (AllAbove h)) c.in_default.is c.in_ok-verdict.ensures.above;
+      sources = subst (λ (o : Option Verdict). IfNone o (AllHaveSources h)) c.in_default.is c.in_ok-found.ensures.sources;
+      above = subst (λ (o : Option Verdict). IfNone o (AllAbove h)) c.in_default.is c.in_ok-found.ensures.above;
       stale = λ n q fault. none_there {A = Stale} (λ f. f.op) (λ f. IsStale h f.op f.newer) stale.items c.is_empty.result _ c.in_ok-stale.ensures.stale c.if-not-is_empty.false c.is_empty.ensures stale.ok.0 (record { op = n; newer = q }) fault;
       version_order = subst (IsVersionOrder h) (sym (c.in_ok-puts.ensures ∙ ap (map (λ (p : VersionedPut). p.name)) table)) (order_of_table h c.args.self.now.table.items c.requires.table);
     }
