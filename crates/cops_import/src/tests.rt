@@ -4,6 +4,14 @@ use cops_types::{Counted, FailingReader, FailingWriter};
 use std::alloc::Global;
 use std::test::Fail;
 
+/// The line of a fault, where it is one of the lines.
+fn line_of(alloc: Global, fault: ImportFault) -> Result<Vec<u8>, Fail> {
+    match fault {
+        ImportFault::Line { number, fault } => Ok(faulty_line(alloc, number, fault)?.into_bytes()),
+        _ => Err(Fail::from(fault)),
+    }
+}
+
 /// What an import of lines answers: the trace, or the line of the fault.
 fn answer(alloc: Global, lines: &[u8]) -> Result<Vec<u8>, Fail> {
     let mut first = Counted::new(lines);
@@ -16,12 +24,7 @@ fn answer(alloc: Global, lines: &[u8]) -> Result<Vec<u8>, Fail> {
         }
         Err(unimported) => {
             let Unimported { fault, .. } = unimported;
-            match fault {
-                ImportFault::Line { number, fault } => {
-                    Ok(faulty_line(alloc, number, fault)?.into_bytes())
-                }
-                _ => Err(Fail::from(fault)),
-            }
+            line_of(alloc, fault)
         }
     }
 }
@@ -57,60 +60,62 @@ fn a_trace_by_hand(rt: HostRuntime) -> Result<(), Fail> {
     Ok(())
 }
 
+/// Lines, and the line that tells of the first wrong one.
+const WRONG: [(&[u8], &[u8]); 16] = [
+    (b"x", b"faulty: line 1: no JSON\n"),
+    (b"\n\n\xff\n", b"faulty: line 3: no JSON\n"),
+    (b"[1]", b"faulty: line 1: no client\n"),
+    (b"{\"client\":-1,\"put\":3}", b"faulty: line 1: no client\n"),
+    (
+        b"{\"client\":1,\"version\":3}",
+        b"faulty: line 1: no operation\n",
+    ),
+    (
+        b"{\"client\":1,\"put\":null,\"get\":\"x\"}",
+        b"faulty: line 1: both operations\n",
+    ),
+    (b"{\"client\":1,\"get\":\"\"}", b"faulty: line 1: bad key\n"),
+    (
+        b"{\"client\":1,\"put\":\"k\",\"version\":1}",
+        b"faulty: line 1: bad value\n",
+    ),
+    (
+        b"{\"client\":1,\"get\":\"k\",\"value\":null,\"version\":1}",
+        b"faulty: line 1: bad value\n",
+    ),
+    (
+        b"{\"client\":1,\"get\":\"k\",\"value\":\"\"}",
+        b"faulty: line 1: bad version\n",
+    ),
+    (
+        b"{\"client\":1,\"put\":\"k\",\"value\":\"\",\"version\":\"01.0\"}",
+        b"faulty: line 1: bad version\n",
+    ),
+    (
+        b"{\"client\":1,\"put\":\"k\",\"value\":\"\",\"version\":0}",
+        b"faulty: line 1: bad version\n",
+    ),
+    (
+        b"{\"client\":1,\"put\":\"k\",\"value\":\"\",\"version\":[1]}",
+        b"faulty: line 1: bad version\n",
+    ),
+    (
+        b"{\"client\":1,\"put\":\"k\",\"value\":\"\",\"version\":[1,1024]}",
+        b"faulty: line 1: bad version\n",
+    ),
+    (
+        b"{\"client\":1,\"put\":\"k\",\"value\":\"\",\"version\":1.0}",
+        b"faulty: line 1: bad version\n",
+    ),
+    (
+        b"{\"client\":1,\"get\":\"k\"}\n{}",
+        b"faulty: line 2: no client\n",
+    ),
+];
+
 #[test]
 fn the_first_wrong_line(rt: HostRuntime) -> Result<(), Fail> {
-    let rows: [(&[u8], &[u8]); 16] = [
-        (b"x", b"faulty: line 1: no JSON\n"),
-        (b"\n\n\xff\n", b"faulty: line 3: no JSON\n"),
-        (b"[1]", b"faulty: line 1: no client\n"),
-        (b"{\"client\":-1,\"put\":3}", b"faulty: line 1: no client\n"),
-        (
-            b"{\"client\":1,\"version\":3}",
-            b"faulty: line 1: no operation\n",
-        ),
-        (
-            b"{\"client\":1,\"put\":null,\"get\":\"x\"}",
-            b"faulty: line 1: both operations\n",
-        ),
-        (b"{\"client\":1,\"get\":\"\"}", b"faulty: line 1: bad key\n"),
-        (
-            b"{\"client\":1,\"put\":\"k\",\"version\":1}",
-            b"faulty: line 1: bad value\n",
-        ),
-        (
-            b"{\"client\":1,\"get\":\"k\",\"value\":null,\"version\":1}",
-            b"faulty: line 1: bad value\n",
-        ),
-        (
-            b"{\"client\":1,\"get\":\"k\",\"value\":\"\"}",
-            b"faulty: line 1: bad version\n",
-        ),
-        (
-            b"{\"client\":1,\"put\":\"k\",\"value\":\"\",\"version\":\"01.0\"}",
-            b"faulty: line 1: bad version\n",
-        ),
-        (
-            b"{\"client\":1,\"put\":\"k\",\"value\":\"\",\"version\":0}",
-            b"faulty: line 1: bad version\n",
-        ),
-        (
-            b"{\"client\":1,\"put\":\"k\",\"value\":\"\",\"version\":[1]}",
-            b"faulty: line 1: bad version\n",
-        ),
-        (
-            b"{\"client\":1,\"put\":\"k\",\"value\":\"\",\"version\":[1,1024]}",
-            b"faulty: line 1: bad version\n",
-        ),
-        (
-            b"{\"client\":1,\"put\":\"k\",\"value\":\"\",\"version\":1.0}",
-            b"faulty: line 1: bad version\n",
-        ),
-        (
-            b"{\"client\":1,\"get\":\"k\"}\n{}",
-            b"faulty: line 2: no client\n",
-        ),
-    ];
-    for (lines, line) in rows {
+    for (lines, line) in WRONG {
         let text = answer(rt.alloc(), lines)?;
         assert_eq!(rt; text.as_slice(), line);
     }
