@@ -42,3 +42,4 @@ pub mod Finding
 pub mod Continuing
 pub mod Lasting
 pub mod Growing
+pub mod FaultLemmas

@@ -10,6 +10,7 @@ pub mod Sorted
 pub mod Sweeps
 pub mod Tables
 pub mod Tallies
+pub mod Faults
 pub mod Floors
 pub mod Verdicts
 pub mod Windows

@@ -11,6 +11,7 @@ mod assessing;
 mod beside;
 mod concluding;
 mod did;
+mod fault;
 mod feed_fault;
 mod flat;
 mod floors;
@@ -35,6 +36,7 @@ mod tally;
 mod verdict;
 mod window;
 
+pub use fault::Fault;
 pub use feed_fault::FeedFault;
 pub use judged::Judged;
 pub use judging::judge;

@@ -54,6 +54,7 @@ impl Online {
 
     /// Takes a client's next operation: `UnknownClient` where there is no such client, then `TooManyOps` where the
     /// client has 1,000,000 operations or there are 16,000,000. A fault changes nothing.
+    #[inline(always)]
     pub fn feed(&mut self, client: u16, op: Op) -> Result<(), FeedFault>
         ensures ok { OnOk result (self.new ≡ with_op self.old client op) }
         ensures err { OnErr result (self.new ≡ self.old) }

@@ -34,7 +34,11 @@ fn make_room<T: Drop>(items: &mut Vec<T>, count: usize) -> Result<(), AllocError
     ensures capacity { vec_capacity items.old ≤ vec_capacity items.new }
 {
     items.clear();
-    items.reserve(count)
+    if items.capacity() < count {
+        // (a vector that grows has the heap copy its bytes, though there is no item)
+        *items = Vec::with_capacity(*items.allocator(), count)?;
+    }
+    Ok(())
 }
 
 impl Room {

@@ -21,6 +21,12 @@ const NO_PUT: OpName = OpName {
 /// What a place has that guesses no key: there are fewer.
 const NO_KEY: u32 = u32::MAX;
 
+/// The most places of the table of keys: of 100,000 keys one in ten shares its place with another.
+const MOST_KEYS: usize = 1_048_576;
+
+/// The most places of the table of puts. A get names one of the last puts, as a rule.
+const MOST_PUTS: usize = 262_144;
+
 /// After how many operations the tables may grow.
 const GROWN_AFTER: usize = 64;
 
@@ -60,8 +66,8 @@ impl Foresight {
     /// Makes room for guesses of so many keys and operations, as far as there is memory, and now and then.
     pub(crate) fn grow(&mut self, keys: usize, ops: usize) {
         if ops % GROWN_AFTER == 0 {
-            self.keys.grow(keys.saturating_mul(8), NO_KEY);
-            self.puts.grow(ops, NO_PUT);
+            self.keys.grow(keys.saturating_mul(8), MOST_KEYS, NO_KEY);
+            self.puts.grow(ops, MOST_PUTS, NO_PUT);
         }
     }
 

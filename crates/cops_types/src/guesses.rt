@@ -3,9 +3,6 @@ use std::alloc::Global;
 /// The fewest places that a table has, once it has any.
 const FEWEST: usize = 16;
 
-/// The most places that a table has.
-const MOST: usize = 262_144;
-
 /// A table of guesses: each stands at the place that the low bits of a number name, where a later one takes the place of an
 /// earlier one. Whoever asks looks whether what was guessed is so.
 #[derive(Debug, Drop)]
@@ -21,12 +18,12 @@ impl<T: Copy> Guesses<T> {
         }
     }
 
-    /// Lets the table have more places than so many, up to 262,144, of which those that are new guess nothing. Where memory is
-    /// refused it stays as it is.
-    pub(crate) fn grow(&mut self, count: usize, nothing: T) {
+    /// Lets the table have more places than so many, of which those that are new guess nothing. A table of so many places as it may
+    /// have at most stays as it is, and so does one where memory is refused.
+    pub(crate) fn grow(&mut self, count: usize, most: usize, nothing: T) {
         let len = self.places.len();
         let more = len.max(FEWEST);
-        if len > count || len >= MOST || self.places.reserve(more).is_err() {
+        if len > count || len >= most || self.places.reserve(more).is_err() {
             return;
         }
         for i in 0..more {

@@ -1,8 +1,9 @@
-ghost use Rattle.std.specs.Prelude.{◌≡◌, ◌<◌, ℕ, List, [], Some, length, slice_get, slice_index_or};
+ghost use Rattle.std.specs.Prelude.{◌≡◌, ◌<◌, ℕ, List, [], Some, IfSome, length, slice_get, slice_index_or};
 ghost use Rattle.cops_types.specs.declared.limits.TheConstants.{MAX_CLIENT_OPS, MAX_OPS};
 ghost use Rattle.cops_types.specs.declared.op.Op.TheVariants.{Got};
 ghost use Rattle.cops_types.specs.Entries.{AreSound, HasSource, IsSound, key_number_of, told};
 ghost use Rattle.cops_types.specs.KeySets.{AreDistinct, GainsKey};
+ghost use Rattle.cops_types.specs.Operations.{key_of};
 
 use crate::entries::Entries;
 use crate::entry::Entry;
@@ -90,6 +91,7 @@ impl History {
 
     /// Adds a client's next operation: `UnknownClient` where there is no such client, then `TooManyOps` where the
     /// client has 1,000,000 operations or there are 16,000,000. A fault changes nothing.
+    #[inline(always)]
     pub fn push(&mut self, client: u16, op: Op) -> Result<(), TypeFault>
         ensures ok { OnOk result (self.new.sessions ≡ with_op self.old.sessions client op) }
         ensures err { OnErr result (self.new.sessions ≡ self.old.sessions) }
@@ -169,6 +171,7 @@ impl History {
     }
 
     /// Adds the operation, at the place that is held for it.
+    #[inline(always)]
     fn put_in(&mut self, client: u16, op: Op)
         requires inside { client < length self.old.sessions }
         requires session { length (slice_index_or self.old.sessions client []) < MAX_CLIENT_OPS }
@@ -312,6 +315,7 @@ impl History {
 }
 
 /// The entry of an operation of that name, whose key is added where it is not there.
+#[inline(always)]
 fn entry_of(
     keys: &mut KeySet,
     foresight: &mut Foresight,
@@ -328,6 +332,7 @@ fn entry_of(
     ensures gains { GainsKey keys.old keys.new }
 {
     let guess = foresight.next();
+    let known = known_number(keys, foresight, &op, guess.key);
     match op {
         Op::Put {
             key,
@@ -336,7 +341,7 @@ fn entry_of(
         } => {
             foresight.note_put(version, name);
             Entry::Put {
-                key: number_of(keys, foresight, key, guess),
+                key: number_of(keys, foresight, key, known),
                 value,
                 version,
             }
@@ -346,34 +351,61 @@ fn entry_of(
             value,
             version,
         } => {
-            let put = guess.put.or(foresight.put_of(version));
-            let key = number_of(keys, foresight, key, guess);
+            let key = number_of(keys, foresight, key, known);
+            let put = match guess.put {
+                Some(put) => Some(put),
+                None => foresight.put_of(version),
+            };
             got_entry(entries, put, key, value, version)
         }
         Op::Missed { key } => Entry::Missed {
-            key: number_of(keys, foresight, key, guess),
+            key: number_of(keys, foresight, key, known),
         },
     }
 }
 
-/// The number of a key, which is added where it is not there, and kept for further guesses.
-fn number_of(keys: &mut KeySet, foresight: &mut Foresight, key: Key, guess: Guess) -> u32
+/// The number of an operation's key, where it is guessed right. The key is looked at where it lies.
+#[inline(always)]
+fn known_number(keys: &KeySet, foresight: &Foresight, op: &Op, guess: Option<u32>) -> Option<u32>
+    ensures { IfSome result (λ number. slice_get keys.now.keys number ≡ Some (key_of op.now)) }
+{
+    let key = match op {
+        Op::Put { key, .. } | Op::Got { key, .. } | Op::Missed { key } => key,
+    };
+    let number = match guess {
+        Some(number) => number,
+        None => foresight.number_of(key)?,
+    };
+    if keys.is_at(number, key) {
+        Some(number)
+    } else {
+        None
+    }
+}
+
+/// The number of a key: the one that is known, or else the one that is found by a search, in which a new key is
+/// added, and which is kept for further guesses.
+#[inline(always)]
+fn number_of(keys: &mut KeySet, foresight: &mut Foresight, key: Key, known: Option<u32>) -> u32
+    requires known { IfSome known (λ number. slice_get keys.old.keys number ≡ Some key) }
     requires few { length keys.old.keys < MAX_OPS }
     requires room { 0 < keys.old.spare }
     requires distinct { AreDistinct keys.old.keys }
     ensures found { slice_get keys.new.keys result ≡ Some key }
     ensures gains { GainsKey keys.old keys.new }
 {
-    let guess = guess.key.or(foresight.number_of(&key));
-    let number = keys.number(key, guess);
-    if guess != Some(number) {
-        foresight.note_key(keys.key(number), number);
+    if let Some(number) = known {
+        drop(key);
+        return number;
     }
+    let number = keys.number(key);
+    foresight.note_key(keys.key(number), number);
     number
 }
 
-/// The entry of a get of the key of that number. Where the put that is guessed wrote the key and the value with this version, the
-/// entry names it, and the value is let go.
+/// The entry of a get of the key of that number. Where the put that is guessed wrote the key and the value with this
+/// version, the entry names it, and the value is let go.
+#[inline(always)]
 fn got_entry(
     entries: &Entries,
     put: Option<OpName>,

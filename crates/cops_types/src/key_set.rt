@@ -67,7 +67,7 @@ impl KeySet {
     }
 
     /// Whether the key of that number is there and is this one.
-    fn is_at(&self, number: u32, key: &Key) -> bool
+    pub(crate) fn is_at(&self, number: u32, key: &Key) -> bool
         ensures { IsTrue result ↔ (slice_get self.now.keys number ≡ Some key.now) }
     {
         match self.keys.as_slice().get(number as usize) {
@@ -76,21 +76,15 @@ impl KeySet {
         }
     }
 
-    /// The number of a key, which is added where it is not there. It takes no memory. Where the number is guessed right, nothing is
-    /// searched.
-    pub(crate) fn number(&mut self, key: Key, guess: Option<u32>) -> u32
+    /// The number of a key, which is added where it is not there. It takes no memory.
+    #[inline(never)]
+    pub(crate) fn number(&mut self, key: Key) -> u32
         requires few { length self.old.keys < MAX_OPS }
         requires room { 0 < self.old.spare }
         requires distinct { AreDistinct self.old.keys }
         ensures found { slice_get self.new.keys result ≡ Some key }
         ensures gains { GainsKey self.old self.new }
     {
-        if let Some(number) = guess {
-            if self.is_at(number, &key) {
-                drop(key);
-                return number;
-            }
-        }
         let (number, _) = self.keys.insert_full(key).unwrap();
         number as u32
     }

@@ -24,6 +24,7 @@ mod op;
 mod op_ref;
 mod put_record;
 mod refusal;
+mod selection;
 mod value;
 mod version;
 
@@ -44,5 +45,6 @@ pub use op::{Op, OpName};
 pub use op_ref::OpRef;
 pub use put_record::{NodeStatus, PutRecord};
 pub use refusal::Refusal;
+pub use selection::Selection;
 pub use value::{Value, ValueRoom};
 pub use version::{Version, node_number};

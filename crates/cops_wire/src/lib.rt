@@ -40,4 +40,4 @@ pub use laws::{
 };
 pub use legality::{legal, legal_in};
 pub use message::Message;
-pub use showing::show;
+pub use showing::{show, show_bytes};

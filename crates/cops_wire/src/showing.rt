@@ -182,8 +182,8 @@ fn push_field(line: &mut String, field: &FieldRef<'_>) -> Result<(), AllocError>
         FieldRef::U16(n) => write!(line, "{n}"),
         FieldRef::U32(n) => write!(line, "{n}"),
         FieldRef::U64(n) => write!(line, "{n}"),
-        FieldRef::Key(key) => push_bytes(line, key.as_bytes()),
-        FieldRef::Value(value) => push_bytes(line, value.as_bytes()),
+        FieldRef::Key(key) => show_bytes(key.as_bytes(), line),
+        FieldRef::Value(value) => show_bytes(value.as_bytes(), line),
         FieldRef::Version(version) => write!(line, "{version}"),
         FieldRef::Deps(deps) => push_deps(line, deps),
     }
@@ -207,7 +207,9 @@ fn push_byte(line: &mut String, byte: u8) -> Result<(), AllocError>
     }
 }
 
-fn push_bytes(line: &mut String, bytes: &[u8]) -> Result<(), AllocError>
+/// Appends the bytes of a key or a value: those of ASCII letters, digits, `-`, `.` and `_` as they are, and any other as `%` and two
+/// lower case hexadecimal digits (`bytes_text` in `specs/Shown.antt`). Where memory runs out, some of them may be there.
+pub fn show_bytes(bytes: &[u8], line: &mut String) -> Result<(), AllocError>
     ensures { OnOk result (string_bytes line.new ≡ string_bytes line.old ++ bytes_text bytes.now) }
 {
     for &byte in bytes {
@@ -220,7 +222,7 @@ fn push_bytes(line: &mut String, bytes: &[u8]) -> Result<(), AllocError>
 fn push_pair(line: &mut String, dep: &Dep) -> Result<(), AllocError>
     ensures { OnOk result (string_bytes line.new ≡ string_bytes line.old ++ pair_text dep.now) }
 {
-    push_bytes(line, dep.key.as_bytes())?;
+    show_bytes(dep.key.as_bytes(), line)?;
     let version = dep.version;
     write!(line, "@{version}")
 }
