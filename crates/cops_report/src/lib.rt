@@ -1,6 +1,7 @@
 //! Reports: the text of a verdict on a history, and the chains of steps that show why a get is stale. Stands on
 //! cops_types and cops_audit. The layer above uses that the text is exactly that of the verdict's lines, and that a
-//! chain is the first of the shortest by which an operation is in the past of another.
+//! chain is the first of the shortest by which an operation is in the past of another. Explanations use the parts that
+//! a report is made of: its first line, chains with the puts at hand, and the puts by their versions.
 #![tactic(auto)]
 
 mod chains;
@@ -12,7 +13,9 @@ mod puts;
 mod reports;
 mod search;
 
-pub use chains::chain;
+pub use chains::{chain, chain_by};
 pub use judged::report_judged;
 pub use laws::{chain_is_evidence, one_chain, past_has_a_chain};
-pub use reports::report;
+pub use lines::version_at;
+pub use puts::{from_version, put_table};
+pub use reports::{refused, report};

@@ -37,8 +37,8 @@ pub fn put_count(history: &History) -> usize
     puts
 }
 
-/// The version of a put or a get.
-fn version(history: &History, name: OpName) -> Version
+/// The version of a put, or of what a get returned.
+pub fn version_at(history: &History, name: OpName) -> Version
     requires { HasSomeVersion history.now.sessions name }
     ensures { result ≡ version_at history.now.sessions name }
 {
@@ -91,7 +91,7 @@ pub fn named(
         ≡ out.old.items ++ flat_map (named_line word.now history.now.sessions) names.now) }
 {
     for name in names {
-        let version = version(history, *name);
+        let version = version_at(history, *name);
         let line = format!(in alloc; "{word} {name} at {version}\n")?;
         out.extend_from_slice(line.as_bytes())?;
     }
@@ -113,8 +113,8 @@ pub fn not_above(
     for fault in faults {
         let op = fault.op;
         let earlier = fault.earlier;
-        let own = version(history, op);
-        let other = version(history, earlier);
+        let own = version_at(history, op);
+        let other = version_at(history, earlier);
         let line = format!(in alloc; "not above {op} at {own}, earlier {earlier} at {other}\n")?;
         out.extend_from_slice(line.as_bytes())?;
     }
@@ -155,7 +155,7 @@ fn stale_head(
     let op = fault.op;
     let newer = fault.newer;
     let returned = returned(alloc, history, op)?;
-    let version = version(history, newer);
+    let version = version_at(history, newer);
     let line = format!(in alloc;
         "stale {op} returned {returned}, newer {newer} at {version}, chain"
     )?;

@@ -38,7 +38,7 @@ fn push_puts(puts: &mut Vec<VersionedPut>, history: &History, client: u16) -> Re
     Ok(())
 }
 
-/// All puts, in order of versions.
+/// All puts, in order of versions. `AllocError` where a growth was refused.
 pub fn put_table(alloc: Global, history: &History) -> Result<Vec<VersionedPut>, AllocError>
     ensures { IfOk result (λ v. HasAllPuts history.now.sessions v.items) }
 {
@@ -50,7 +50,7 @@ pub fn put_table(alloc: Global, history: &History) -> Result<Vec<VersionedPut>, 
     Ok(puts)
 }
 
-/// The puts from a version on.
+/// The puts from a version on, of puts in order of versions.
 pub fn from_version(puts: &[VersionedPut], version: Version) -> &[VersionedPut]
     requires { IsNonDecreasingBy (λ p. p.version) puts.now }
     ensures rising { IsNonDecreasingBy (λ p. p.version) result.now }

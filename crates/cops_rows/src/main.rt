@@ -2,6 +2,7 @@
 #![tactic(auto)]
 
 mod clock;
+mod explain;
 mod history;
 mod subjects;
 mod trace;

@@ -1,6 +1,6 @@
 //! What rows act on.
 
-use crate::{clock, history, trace, types, wire};
+use crate::{clock, explain, history, trace, types, wire};
 use anyhow::Error;
 use cops_trace::Trace;
 use cops_types::{Clock, History};
@@ -12,6 +12,7 @@ use std::alloc::Global;
 #[derive(Clone, Copy)]
 enum Name {
     Clock,
+    Explain,
     History,
     Trace,
     Types,
@@ -22,6 +23,7 @@ enum Name {
 fn read_name(word: &str) -> Result<Name, Error> {
     match word {
         "clock" => Ok(Name::Clock),
+        "explain" => Ok(Name::Explain),
         "history" => Ok(Name::History),
         "trace" => Ok(Name::Trace),
         "types" => Ok(Name::Types),
@@ -62,6 +64,7 @@ impl Auditor {
     fn told(&mut self, alloc: Global, on: Name, call: &[&str]) -> Result<String, Error> {
         match on {
             Name::Clock => clock::answer(alloc, &mut self.clock, call),
+            Name::Explain => explain::answer(alloc, &self.trace, call),
             Name::History => history::answer(alloc, &mut self.history, call),
             Name::Trace => trace::answer(alloc, &mut self.trace, call),
             Name::Types => types::answer(alloc, call),

@@ -6,3 +6,5 @@ pub mod Told
 pub mod ToldSoFar
 pub mod Unique
 pub mod UniqueSoFar
+pub mod ToldExplained
+pub mod UniqueExplained

@@ -1,6 +1,7 @@
 pub mod Convergent
 pub mod Audit
 pub mod SoFar
+pub mod Explain
 pub mod Fed
 pub mod Show
 pub mod NextLine

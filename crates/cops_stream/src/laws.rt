@@ -1,8 +1,10 @@
 ghost use Rattle.std.specs.Prelude.{◌≡◌, ◌↔◌, List, ℕ};
 ghost use Rattle.cops_wire.specs.Answer.{IsBytes};
+ghost use Rattle.cops_types.specs.declared.selection.Selection.{Selection as ASelection};
 ghost use Rattle.cops_trace.specs.declared.fault.TraceFault.TheVariants.{Cut};
 ghost use Rattle.cops_trace.specs.Answer.{HasFault};
 ghost use Rattle.cops_stream.specs.Audit.{AuditSays};
+ghost use Rattle.cops_stream.specs.Explain.{ExplainSays};
 ghost use Rattle.cops_stream.specs.SoFar.{SaysSoFar};
 ghost use Rattle.cops_stream.specs.declared.audit.Answer.{Answer};
 
@@ -19,4 +21,13 @@ pub fn one_audit_so_far()
         SaysSoFar bytes answer told → SaysSoFar bytes other text → (answer ≡ other) × (told ≡ text) }
     ensures uncut { (bytes : List ℕ) → ((offset : ℕ) → ¬ HasFault bytes (Cut offset)) → (answer : Answer) (told : List ℕ) →
         SaysSoFar bytes answer told ↔ AuditSays bytes answer told }
+{}
+
+/// A law of the definitions: bytes have one answer and one text of what is explained for what is asked, and the answer is that
+/// of an audit.
+pub fn one_explanation()
+    ensures one { (bytes : List ℕ) → IsBytes bytes → (asked : ASelection) (answer other : Answer) (told text : List ℕ) →
+        ExplainSays asked bytes answer told → ExplainSays asked bytes other text → (answer ≡ other) × (told ≡ text) }
+    ensures audited { (bytes : List ℕ) → IsBytes bytes → (asked : ASelection) (answer other : Answer) (told text : List ℕ) →
+        ExplainSays asked bytes answer told → AuditSays bytes other text → answer ≡ other }
 {}

@@ -18,12 +18,12 @@ text f v w =
     codes "not above " ⧺ name_text f.op ⧺ codes " at " ⧺ version_text v
     ⧺ codes ", earlier " ⧺ name_text f.earlier ⧺ codes " at " ⧺ version_text w ⧺ codes "\n"
 
-pub version-own-requires : goal.version-own-requires
-version-own-requires c =
+pub version_at-own-requires : goal.version_at-own-requires
+version_at-own-requires c =
     c.requires.op (get_or c.args.faults.now c.loop-fault.fault-index first) (Contains-get_or c.args.faults.now c.loop-fault.fault-index first c.loop-fault-test.true)
 
-pub version-other-requires : goal.version-other-requires
-version-other-requires c =
+pub version_at-other-requires : goal.version_at-other-requires
+version_at-other-requires c =
     c.requires.earlier (get_or c.args.faults.now c.loop-fault.fault-index first) (Contains-get_or c.args.faults.now c.loop-fault.fault-index first c.loop-fault-test.true)
 
 pub loop-fault-preserved : goal.loop-fault-preserved
@@ -31,4 +31,4 @@ loop-fault-preserved c =
     let fault = get_or c.args.faults.now c.loop-fault.fault-index first in
     lines_more (not_above_line c.args.history.now.sessions) c.args.out.now.items c.loop-fault.out.items c.extend_from_slice.new.self.items c.as_bytes.result.now
     c.args.faults.now c.loop-fault.fault-index first c.loop-fault-test.true c.in_ok-extend_from_slice.ensures.items
-    (c.as_bytes.ensures.value ∙ c.in_ok-line.ensures.ok ∙ ap₂ (text fault) c.version-own.ensures c.version-other.ensures) c.loop-fault.invariant
+    (c.as_bytes.ensures.value ∙ c.in_ok-line.ensures.ok ∙ ap₂ (text fault) c.version_at-own.ensures c.version_at-other.ensures) c.loop-fault.invariant

@@ -1,0 +1,5 @@
+pub mod ParagraphLemmas
+pub mod StepLemmas
+pub mod OtherLemmas
+pub mod TextLemmas
+pub mod Unique

@@ -1,0 +1,54 @@
+-- What is explained of a verdict.
+use Rattle.std.specs.Prelude.{◌≡◌, ◌+◌, ◌-◌, ℕ, zero, suc, List, [], ◌∷◌, ◌++◌, length, take, codes, decimal, Option, Some, None}
+use Rattle.cops_types.specs.Counts.{count_of}
+use Rattle.cops_types.specs.Histories.{Sessions}
+use Rattle.cops_types.specs.Texts.{◌⧺◌}
+use Rattle.cops_audit.specs.declared.verdict.Verdict.{Verdict}
+use Rattle.cops_audit.specs.declared.verdict.Verdict.TheVariants.{Accepted, Refused}
+use Rattle.cops_report.specs.Reports.{accepted_line, put_count, refusal}
+use Rattle.cops_types.specs.declared.selection.Selection.{Selection}
+use Rattle.cops_types.specs.declared.selection.Selection.TheVariants.{First, All, One}
+use Rattle.cops_explain.specs.declared.limits.TheConstants.{FIRST_FAULTS}
+use Rattle.cops_audit.specs.declared.fault.Fault.{Fault}
+use Rattle.cops_audit.specs.Faults.{fault_of_number, faults_of}
+use Rattle.cops_explain.specs.Paragraphs.{IsParagraph}
+
+-- a paragraph for each fault, numbered from this number on
+abbrev pub AreParagraphs : Sessions → ℕ → List Fault → List ℕ → Type 0
+AreParagraphs h number [] text = text ≡ []
+AreParagraphs h number (fault ∷ faults) text = (told : List ℕ) × (rest : List ℕ)
+    × IsParagraph h number fault told × (text ≡ told ++ rest) × AreParagraphs h (number + 1) faults rest
+
+-- a text with the paragraphs of faults more
+abbrev pub AddsParagraphs : Sessions → ℕ → List Fault → List ℕ → List ℕ → Type 0
+AddsParagraphs h number faults old new = (told : List ℕ) × AreParagraphs h number faults told × (new ≡ old ++ told)
+
+-- how many faults are left out, where some are
+abbrev pub more_text : ℕ → List ℕ
+more_text zero = []
+more_text (suc more) = codes "\nand " ⧺ decimal (suc more) ⧺ codes " more: --all tells them all, --fault N the one of a number\n"
+
+abbrev pub none_text : ℕ → List ℕ
+none_text number = codes "\nthere is no fault " ⧺ decimal number ⧺ codes "\n"
+
+-- the paragraph of the fault of a number, or that there is none
+abbrev pub TellsOne : Sessions → ℕ → Option Fault → List ℕ → Type 0
+TellsOne h number (Some fault) text = IsParagraph h number fault text
+TellsOne h number None text = text ≡ none_text number
+
+-- what is told of the faults that are asked for
+abbrev pub TellsAsked : Sessions → List Fault → Selection → List ℕ → Type 0
+TellsAsked h faults First text = (told : List ℕ)
+    × AreParagraphs h 1 (take FIRST_FAULTS faults) told × (text ≡ told ++ more_text (length faults - FIRST_FAULTS))
+TellsAsked h faults All text = AreParagraphs h 1 faults text
+TellsAsked h faults (One number) text = TellsOne h number (fault_of_number faults number) text
+
+-- a text with what is told of the faults that are asked for
+abbrev pub AddsAsked : Sessions → List Fault → Selection → List ℕ → List ℕ → Type 0
+AddsAsked h faults asked old new = (told : List ℕ) × TellsAsked h faults asked told × (new ≡ old ++ told)
+
+-- of a history that is accepted the line of the report; else the first line of the report, and what is told of the faults that are asked for
+abbrev pub IsExplained : Sessions → Verdict → Selection → List ℕ → Type 0
+IsExplained h (Accepted puts) asked text = text ≡ accepted_line (count_of h) (put_count h)
+IsExplained h (Refused faults) asked text = (told : List ℕ)
+    × TellsAsked h (faults_of faults) asked told × (text ≡ refusal h (length (faults_of faults)) told)

@@ -1,0 +1,5 @@
+pub mod Operations
+pub mod Others
+pub mod Steps
+pub mod Paragraphs
+pub mod Explained

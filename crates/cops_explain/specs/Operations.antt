@@ -1,0 +1,36 @@
+-- Operations in words.
+use Rattle.std.specs.Prelude.{ℕ, List, [], codes, decimal, Option, Some, None}
+use Rattle.std.specs.List.{flat_map}
+use Rattle.cops_types.specs.declared.op.Op.{Op}
+use Rattle.cops_types.specs.declared.op.Op.TheVariants.{Put, Got, Missed}
+use Rattle.cops_types.specs.declared.op.OpName.{OpName}
+use Rattle.cops_types.specs.Histories.{Sessions, op_at}
+use Rattle.cops_types.specs.Texts.{◌⧺◌, name_text, version_text}
+use Rattle.cops_wire.specs.Shown.{bytes_text}
+
+-- put x=1 at 1.0
+abbrev pub pair_text : List ℕ → List ℕ → List ℕ → ℕ → List ℕ
+pair_text word key value version = word ⧺ bytes_text key ⧺ codes "=" ⧺ bytes_text value ⧺ codes " at " ⧺ version_text version
+
+-- what an operation did
+abbrev pub did_text : Option Op → List ℕ
+did_text (Some (Put key value version)) = pair_text (codes "put ") key value version
+did_text (Some (Got key value version)) = pair_text (codes "got ") key value version
+did_text (Some (Missed key)) = codes "got nothing at " ⧺ bytes_text key
+did_text None = []
+
+-- client 0 put x=1 at 1.0
+abbrev pub act_text : Sessions → OpName → List ℕ
+act_text h name = codes "client " ⧺ decimal name.client ⧺ codes " " ⧺ did_text (op_at h name)
+
+-- (0,0) client 0 put x=1 at 1.0
+abbrev pub told_text : Sessions → OpName → List ℕ
+told_text h name = name_text name ⧺ codes " " ⧺ act_text h name
+
+-- that, in a line of its own
+abbrev pub told_line : Sessions → OpName → List ℕ
+told_line h name = told_text h name ⧺ codes "\n"
+
+-- a line for each operation
+abbrev pub told_lines : Sessions → List OpName → List ℕ
+told_lines h names = flat_map (told_line h) names

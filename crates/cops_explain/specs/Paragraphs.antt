@@ -1,0 +1,77 @@
+-- The paragraph of a fault.
+use Rattle.std.specs.Prelude.{◌≡◌, ℕ, List, [], ◌∷◌, ◌++◌, codes, decimal, Option, Some, None}
+use Rattle.cops_types.specs.declared.op.OpName.{OpName}
+use Rattle.cops_types.specs.Histories.{Sessions}
+use Rattle.cops_types.specs.Texts.{◌⧺◌, name_text}
+use Rattle.cops_audit.specs.declared.verdict.NotAbove.{NotAbove as ANotAbove}
+use Rattle.cops_audit.specs.declared.verdict.Stale.{Stale as AStale}
+use Rattle.cops_report.specs.Chains.{IsFirstChain}
+use Rattle.cops_explain.specs.declared.causes.TheConstants.{DOUBLED, NO_SOURCE, NOT_ABOVE, STALE}
+use Rattle.cops_audit.specs.declared.fault.Fault.{Fault}
+use Rattle.cops_audit.specs.declared.fault.Fault.TheVariants.{Doubled, NoSource, NotAbove, Stale}
+use Rattle.cops_explain.specs.Operations.{act_text, told_line, told_lines, told_text}
+use Rattle.cops_explain.specs.Others.{AreOthers}
+use Rattle.cops_explain.specs.Steps.{chain_text, first_crossing}
+
+-- behind an empty line: fault 1: stale (1,1)
+abbrev pub title : ℕ → List ℕ → OpName → List ℕ
+title number class name = codes "\nfault " ⧺ decimal number ⧺ codes ": " ⧺ class ⧺ codes " " ⧺ name_text name ⧺ codes "\n"
+
+-- the title, the operation, and what is said of it
+abbrev pub fault_head : Sessions → ℕ → List ℕ → OpName → List ℕ → List ℕ
+fault_head h number class name words = title number class name ⧺ told_line h name ⧺ words
+
+-- a put, and all others of its version
+abbrev pub doubled_text : Sessions → ℕ → OpName → List OpName → List ℕ
+doubled_text h number name others =
+    fault_head h number (codes "doubled") name (codes "no other put may bear that version, and these do:\n") ⧺ told_lines h others ⧺ DOUBLED.now
+
+-- the puts of a version that a get without a source returned
+abbrev pub bearers_text : Sessions → List OpName → List ℕ
+bearers_text h [] = codes "no put has that version\n"
+bearers_text h (put ∷ puts) = codes "of that version there is:\n" ⧺ told_lines h (put ∷ puts)
+
+-- a get, and the puts of the version that it returned, whose keys or values are others
+abbrev pub no_source_text : Sessions → ℕ → OpName → List OpName → List ℕ
+no_source_text h number name bearers =
+    fault_head h number (codes "no source") name (codes "no put of the trace has that key, value and version\n") ⧺ bearers_text h bearers ⧺ NO_SOURCE.now
+
+-- a put, and the first operation before it whose version it is not above
+abbrev pub not_above_text : Sessions → ℕ → ANotAbove → List ℕ
+not_above_text h number fault =
+    fault_head h number (codes "not above") fault.op (codes "its version is not above that of what its client did before:\n")
+    ⧺ told_line h fault.earlier ⧺ NOT_ABOVE.now
+
+-- a get, and the newer put that it had to know of
+abbrev pub stale_head : Sessions → ℕ → AStale → List ℕ
+stale_head h number fault =
+    title number (codes "stale") fault.op ⧺ act_text h fault.op
+    ⧺ codes ", though it had to know of the newer put " ⧺ name_text fault.newer ⧺ codes "\n"
+
+-- where the chain goes from one client to another, or the put of which the client itself had to know
+abbrev pub place_text : OpName → Option OpName → List ℕ
+place_text newer (Some name) = codes "look at: " ⧺ name_text name ⧺ codes ", the first step between two clients\n"
+place_text newer None = codes "look at: " ⧺ name_text newer ⧺ codes ", the same client's own put\n"
+
+-- what it should have returned
+abbrev pub right_text : Sessions → OpName → List ℕ
+right_text h newer = codes "should have returned: " ⧺ told_text h newer ⧺ codes ", or a newer put\n"
+
+-- that, where to look, and what usually causes it
+abbrev pub stale_end : Sessions → AStale → List OpName → List ℕ
+stale_end h fault chain = right_text h fault.newer ⧺ place_text fault.newer (first_crossing chain) ⧺ STALE.now
+
+-- all of it, with the chain by which the put came to be known
+abbrev pub stale_text : Sessions → ℕ → AStale → List OpName → List ℕ
+stale_text h number fault chain = stale_head h number fault ⧺ chain_text h chain ⧺ stale_end h fault chain
+
+-- the paragraph of a fault, by its class
+abbrev pub IsParagraph : Sessions → ℕ → Fault → List ℕ → Type 0
+IsParagraph h number (Doubled name) text = (others : List OpName) × AreOthers h name others × (text ≡ doubled_text h number name others)
+IsParagraph h number (NoSource name) text = (bearers : List OpName) × AreOthers h name bearers × (text ≡ no_source_text h number name bearers)
+IsParagraph h number (NotAbove fault) text = text ≡ not_above_text h number fault
+IsParagraph h number (Stale fault) text = (chain : List OpName) × IsFirstChain h fault.newer fault.op chain × (text ≡ stale_text h number fault chain)
+
+-- a text with the paragraph of one fault more
+abbrev pub AddsParagraph : Sessions → ℕ → Fault → List ℕ → List ℕ → Type 0
+AddsParagraph h number fault old new = (told : List ℕ) × IsParagraph h number fault told × (new ≡ old ++ told)

@@ -1,0 +1,34 @@
+-- The chain of a stale get, step by step.
+use Rattle.std.specs.Prelude.{ℕ, List, [], ◌∷◌, ◌==◌, if◌then◌else◌, codes, Option, Some, None}
+use Rattle.cops_types.specs.declared.op.OpName.{OpName}
+use Rattle.cops_types.specs.Histories.{Sessions}
+use Rattle.cops_types.specs.Texts.{◌⧺◌}
+use Rattle.cops_explain.specs.Operations.{told_line, told_text}
+
+-- what a step is: where no version stands twice and puts are above what their clients did before, no get returns a later put of its client
+abbrev pub step_text : OpName → OpName → List ℕ
+step_text from to = if from.client == to.client then codes ": the same client's later operation\n" else codes ": returned that put\n"
+
+-- the operation to which a step leads, with what the step is
+abbrev pub step_line : Sessions → OpName → OpName → List ℕ
+step_line h from to = told_text h to ⧺ step_text from to
+
+-- a line for each operation to which the steps lead, one from another
+abbrev pub step_lines : Sessions → OpName → List OpName → List ℕ
+step_lines h from [] = []
+step_lines h from (to ∷ rest) = step_line h from to ⧺ step_lines h to rest
+
+-- a line for each operation of a chain
+abbrev pub chain_text : Sessions → List OpName → List ℕ
+chain_text h [] = []
+chain_text h (first ∷ rest) = told_line h first ⧺ step_lines h first rest
+
+-- the first of the names whose client is not that of the name before it
+abbrev pub crossing : OpName → List OpName → Option OpName
+crossing from [] = None
+crossing from (to ∷ rest) = if from.client == to.client then crossing to rest else Some to
+
+-- the first operation of a chain to which a step between two clients leads
+abbrev pub first_crossing : List OpName → Option OpName
+first_crossing [] = None
+first_crossing (first ∷ rest) = crossing first rest

@@ -1,0 +1,88 @@
+//! What an operation did, in words.
+ghost use Rattle.std.specs.Prelude.{◌≡◌, ◌++◌, OnOk, string_bytes};
+ghost use Rattle.cops_types.specs.Histories.{op_at};
+ghost use Rattle.cops_explain.specs.Operations.{act_text, did_text, pair_text, told_line, told_lines, told_text};
+
+use cops_types::{History, Key, OpName, OpRef, Value, Version};
+use cops_wire::show_bytes;
+use std::alloc::AllocError;
+use std::fmt::Write;
+
+/// A key with a value and its version.
+fn push_pair(
+    out: &mut String,
+    word: &str,
+    key: &Key,
+    value: &Value,
+    version: Version,
+) -> Result<(), AllocError>
+    ensures { OnOk result (string_bytes out.new ≡ string_bytes out.old ++ pair_text word.now key.now value.now version) }
+{
+    out.push_str(word)?;
+    show_bytes(key.as_bytes(), out)?;
+    out.push_str("=")?;
+    show_bytes(value.as_bytes(), out)?;
+    write!(out, " at {version}")
+}
+
+/// What an operation did: a put with its version, a get with what it returned, or that it found nothing.
+fn push_did(out: &mut String, history: &History, name: OpName) -> Result<(), AllocError>
+    ensures { OnOk result (string_bytes out.new ≡ string_bytes out.old ++ did_text (op_at history.now.sessions name)) }
+{
+    match history.op(name) {
+        Some(
+            OpRef::Put {
+                key,
+                value,
+                version,
+            },
+        ) => push_pair(out, "put ", key, value, *version),
+        Some(
+            OpRef::Got {
+                key,
+                value,
+                version,
+            },
+        ) => push_pair(out, "got ", key, value, *version),
+        Some(OpRef::Missed { key }) => {
+            out.push_str("got nothing at ")?;
+            show_bytes(key.as_bytes(), out)
+        }
+        None => Ok(()),
+    }
+}
+
+/// What a client did by an operation.
+pub fn push_act(out: &mut String, history: &History, name: OpName) -> Result<(), AllocError>
+    ensures { OnOk result (string_bytes out.new ≡ string_bytes out.old ++ act_text history.now.sessions name) }
+{
+    let client = name.client;
+    write!(out, "client {client} ")?;
+    push_did(out, history, name)
+}
+
+/// An operation's name, and what its client did by it.
+pub fn push_told(out: &mut String, history: &History, name: OpName) -> Result<(), AllocError>
+    ensures { OnOk result (string_bytes out.new ≡ string_bytes out.old ++ told_text history.now.sessions name) }
+{
+    write!(out, "{name} ")?;
+    push_act(out, history, name)
+}
+
+/// The same in a line of its own.
+pub fn push_line(out: &mut String, history: &History, name: OpName) -> Result<(), AllocError>
+    ensures { OnOk result (string_bytes out.new ≡ string_bytes out.old ++ told_line history.now.sessions name) }
+{
+    push_told(out, history, name)?;
+    out.push_str("\n")
+}
+
+/// A line for each operation.
+pub fn push_lines(out: &mut String, history: &History, names: &[OpName]) -> Result<(), AllocError>
+    ensures { OnOk result (string_bytes out.new ≡ string_bytes out.old ++ told_lines history.now.sessions names.now) }
+{
+    for name in names {
+        push_line(out, history, *name)?;
+    }
+    Ok(())
+}

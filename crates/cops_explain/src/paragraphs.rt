@@ -1,0 +1,272 @@
+//! The paragraphs of faults, by their classes.
+ghost use Rattle.std.specs.Prelude.{◌≡◌, ◌++◌, OnOk, string_bytes};
+ghost use Rattle.cops_report.specs.Puts.{HasAllPuts};
+ghost use Rattle.cops_audit.specs.Faults.{IsFault};
+ghost use Rattle.cops_explain.specs.Paragraphs.{AddsParagraph, bearers_text, doubled_text, fault_head, no_source_text, not_above_text};
+ghost use Rattle.cops_explain.specs.Paragraphs.{place_text, right_text, stale_end, stale_head, stale_text, title};
+
+use crate::causes;
+use crate::operation::{push_act, push_line, push_lines, push_told};
+use crate::others::others;
+use crate::steps::{first_crossing, push_chain};
+use cops_audit::{Fault, NotAbove, Stale, VersionedPut};
+use cops_report::chain_by;
+use cops_types::{History, Memory, OpName};
+use std::alloc::{AllocError, Global};
+use std::fmt::Write;
+
+/// How many bytes a paragraph has room for at first.
+const USUAL_LEN: usize = 1024;
+
+/// Behind an empty line the number, the class and the name of a fault.
+fn push_title(out: &mut String, number: usize, class: &str, name: OpName) -> Result<(), AllocError>
+    ensures { OnOk result (string_bytes out.new ≡ string_bytes out.old ++ title number class.now name) }
+{
+    write!(out, "\nfault {number}: {class} {name}\n")
+}
+
+/// The title of a fault, its operation, and what is said of it.
+fn push_head(
+    out: &mut String,
+    history: &History,
+    number: usize,
+    class: &str,
+    name: OpName,
+    words: &str,
+) -> Result<(), AllocError>
+    ensures { OnOk result (string_bytes out.new
+        ≡ string_bytes out.old ++ fault_head history.now.sessions number class.now name words.now) }
+{
+    push_title(out, number, class, name)?;
+    push_line(out, history, name)?;
+    out.push_str(words)
+}
+
+/// A put, and all others of its version.
+fn push_doubled(
+    out: &mut String,
+    history: &History,
+    number: usize,
+    name: OpName,
+    others: &[OpName],
+) -> Result<(), AllocError>
+    ensures { OnOk result (string_bytes out.new
+        ≡ string_bytes out.old ++ doubled_text history.now.sessions number name others.now) }
+{
+    let words = "no other put may bear that version, and these do:\n";
+    push_head(out, history, number, "doubled", name, words)?;
+    push_lines(out, history, others)?;
+    out.push_str(causes::DOUBLED)
+}
+
+/// The puts of a version that a get without a source returned.
+fn push_bearers(out: &mut String, history: &History, bearers: &[OpName]) -> Result<(), AllocError>
+    ensures { OnOk result (string_bytes out.new ≡ string_bytes out.old ++ bearers_text history.now.sessions bearers.now) }
+{
+    if bearers.is_empty() {
+        return out.push_str("no put has that version\n");
+    }
+    out.push_str("of that version there is:\n")?;
+    push_lines(out, history, bearers)
+}
+
+/// A get, and the puts of the version that it returned.
+fn push_no_source(
+    out: &mut String,
+    history: &History,
+    number: usize,
+    name: OpName,
+    bearers: &[OpName],
+) -> Result<(), AllocError>
+    ensures { OnOk result (string_bytes out.new
+        ≡ string_bytes out.old ++ no_source_text history.now.sessions number name bearers.now) }
+{
+    let words = "no put of the trace has that key, value and version\n";
+    push_head(out, history, number, "no source", name, words)?;
+    push_bearers(out, history, bearers)?;
+    out.push_str(causes::NO_SOURCE)
+}
+
+/// A put, and the first operation before it whose version it is not above.
+fn push_not_above(
+    out: &mut String,
+    history: &History,
+    number: usize,
+    fault: NotAbove,
+) -> Result<(), AllocError>
+    ensures { OnOk result (string_bytes out.new
+        ≡ string_bytes out.old ++ not_above_text history.now.sessions number fault) }
+{
+    let words = "its version is not above that of what its client did before:\n";
+    push_head(out, history, number, "not above", fault.op, words)?;
+    push_line(out, history, fault.earlier)?;
+    out.push_str(causes::NOT_ABOVE)
+}
+
+/// A stale get, and the newer put that it had to know of.
+fn push_stale_head(
+    out: &mut String,
+    history: &History,
+    number: usize,
+    fault: Stale,
+) -> Result<(), AllocError>
+    ensures { OnOk result (string_bytes out.new
+        ≡ string_bytes out.old ++ stale_head history.now.sessions number fault) }
+{
+    push_title(out, number, "stale", fault.op)?;
+    push_act(out, history, fault.op)?;
+    let newer = fault.newer;
+    write!(out, ", though it had to know of the newer put {newer}\n")
+}
+
+/// Where to look.
+fn push_place(out: &mut String, newer: OpName, crossing: Option<OpName>) -> Result<(), AllocError>
+    ensures { OnOk result (string_bytes out.new ≡ string_bytes out.old ++ place_text newer crossing) }
+{
+    match crossing {
+        Some(name) => write!(out, "look at: {name}, the first step between two clients\n"),
+        None => write!(out, "look at: {newer}, the same client's own put\n"),
+    }
+}
+
+/// What a stale get should have returned.
+fn push_right(out: &mut String, history: &History, newer: OpName) -> Result<(), AllocError>
+    ensures { OnOk result (string_bytes out.new ≡ string_bytes out.old ++ right_text history.now.sessions newer) }
+{
+    out.push_str("should have returned: ")?;
+    push_told(out, history, newer)?;
+    out.push_str(", or a newer put\n")
+}
+
+/// That, where to look, and what usually causes it.
+fn push_stale_end(
+    out: &mut String,
+    history: &History,
+    fault: Stale,
+    chain: &[OpName],
+) -> Result<(), AllocError>
+    ensures { OnOk result (string_bytes out.new
+        ≡ string_bytes out.old ++ stale_end history.now.sessions fault chain.now) }
+{
+    push_right(out, history, fault.newer)?;
+    push_place(out, fault.newer, first_crossing(chain))?;
+    out.push_str(causes::STALE)
+}
+
+/// A stale get with its chain.
+fn push_stale(
+    out: &mut String,
+    history: &History,
+    number: usize,
+    fault: Stale,
+    chain: &[OpName],
+) -> Result<(), AllocError>
+    ensures { OnOk result (string_bytes out.new
+        ≡ string_bytes out.old ++ stale_text history.now.sessions number fault chain.now) }
+{
+    push_stale_head(out, history, number, fault)?;
+    push_chain(out, history, chain)?;
+    push_stale_end(out, history, fault, chain)
+}
+
+/// The paragraph of a doubled put.
+fn doubled(
+    alloc: Global,
+    out: &mut String,
+    history: &History,
+    puts: &[VersionedPut],
+    number: usize,
+    name: OpName,
+) -> Result<(), AllocError>
+    requires puts { HasAllPuts history.now.sessions puts.now }
+    requires doubled { IsFault history.now.sessions (Fault.Doubled name) }
+    ensures { OnOk result
+        (AddsParagraph history.now.sessions number (Fault.Doubled name) (string_bytes out.old) (string_bytes out.new)) }
+{
+    let others = others(alloc, history, puts, name)?;
+    push_doubled(out, history, number, name, &others)
+}
+
+/// The paragraph of a get without a source.
+fn no_source(
+    alloc: Global,
+    out: &mut String,
+    history: &History,
+    puts: &[VersionedPut],
+    number: usize,
+    name: OpName,
+) -> Result<(), AllocError>
+    requires puts { HasAllPuts history.now.sessions puts.now }
+    requires no_source { IsFault history.now.sessions (Fault.NoSource name) }
+    ensures { OnOk result
+        (AddsParagraph history.now.sessions number (Fault.NoSource name) (string_bytes out.old) (string_bytes out.new)) }
+{
+    let bearers = others(alloc, history, puts, name)?;
+    push_no_source(out, history, number, name, &bearers)
+}
+
+/// The paragraph of a stale get.
+fn stale(
+    alloc: Global,
+    out: &mut String,
+    history: &History,
+    puts: &[VersionedPut],
+    number: usize,
+    fault: Stale,
+) -> Result<(), Memory>
+    requires puts { HasAllPuts history.now.sessions puts.now }
+    requires stale { IsFault history.now.sessions (Fault.Stale fault) }
+    ensures { OnOk result
+        (AddsParagraph history.now.sessions number (Fault.Stale fault) (string_bytes out.old) (string_bytes out.new)) }
+{
+    let found = chain_by(alloc, history, puts, fault.newer, fault.op)?;
+    match found {
+        Some(chain) => {
+            push_stale(out, history, number, fault, &chain)?;
+            Ok(())
+        }
+        None => unreachable!(),
+    }
+}
+
+/// Adds the paragraph of a fault, by its class.
+fn push_by_class(
+    alloc: Global,
+    out: &mut String,
+    history: &History,
+    puts: &[VersionedPut],
+    number: usize,
+    fault: Fault,
+) -> Result<(), Memory>
+    requires puts { HasAllPuts history.now.sessions puts.now }
+    requires fault { IsFault history.now.sessions fault }
+    ensures { OnOk result
+        (AddsParagraph history.now.sessions number fault (string_bytes out.old) (string_bytes out.new)) }
+{
+    match fault {
+        Fault::Doubled(name) => doubled(alloc, out, history, puts, number, name)?,
+        Fault::NoSource(name) => no_source(alloc, out, history, puts, number, name)?,
+        Fault::NotAbove(fault) => push_not_above(out, history, number, fault)?,
+        Fault::Stale(fault) => stale(alloc, out, history, puts, number, fault)?,
+    }
+    Ok(())
+}
+
+/// Adds the paragraph of a fault, with its number. `puts` are all puts, in order of versions.
+pub fn push_paragraph(
+    alloc: Global,
+    out: &mut Vec<u8>,
+    history: &History,
+    puts: &[VersionedPut],
+    number: usize,
+    fault: Fault,
+) -> Result<(), Memory>
+    requires puts { HasAllPuts history.now.sessions puts.now }
+    requires fault { IsFault history.now.sessions fault }
+    ensures { OnOk result (AddsParagraph history.now.sessions number fault out.old.items out.new.items) }
+{
+    let mut told = String::with_capacity(alloc, USUAL_LEN)?;
+    push_by_class(alloc, &mut told, history, puts, number, fault)?;
+    out.extend_from_slice(told.as_bytes())?;
+    Ok(())
+}

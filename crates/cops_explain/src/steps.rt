@@ -1,0 +1,79 @@
+//! The chain of a stale get, step by step.
+ghost use Rattle.std.specs.Prelude.{◌≡◌, ◌++◌, OnOk, string_bytes};
+ghost use Rattle.cops_explain.specs.Steps.{chain_text, crossing, first_crossing, step_line, step_lines};
+
+use crate::operation::{push_line, push_told};
+use cops_types::{History, OpName};
+use std::alloc::AllocError;
+
+/// The line of an operation to which a step leads, with what the step is.
+fn push_step(
+    out: &mut String,
+    history: &History,
+    from: OpName,
+    to: OpName,
+) -> Result<(), AllocError>
+    ensures { OnOk result (string_bytes out.new ≡ string_bytes out.old ++ step_line history.now.sessions from to) }
+{
+    push_told(out, history, to)?;
+    if from.client == to.client {
+        out.push_str(": the same client's later operation\n")
+    } else {
+        out.push_str(": returned that put\n")
+    }
+}
+
+/// The lines of the operations to which the steps lead, one from another.
+fn push_steps(
+    out: &mut String,
+    history: &History,
+    from: OpName,
+    names: &[OpName],
+) -> Result<(), AllocError>
+    ensures { OnOk result (string_bytes out.new
+        ≡ string_bytes out.old ++ step_lines history.now.sessions from names.now) }
+{
+    let mut from = from;
+    for name in names {
+        push_step(out, history, from, *name)?;
+        from = *name;
+    }
+    Ok(())
+}
+
+/// The lines of a chain.
+pub fn push_chain(out: &mut String, history: &History, chain: &[OpName]) -> Result<(), AllocError>
+    ensures { OnOk result (string_bytes out.new ≡ string_bytes out.old ++ chain_text history.now.sessions chain.now) }
+{
+    match chain {
+        [first, rest @ ..] => {
+            push_line(out, history, *first)?;
+            push_steps(out, history, *first, rest)
+        }
+        [] => Ok(()),
+    }
+}
+
+/// The first of the names whose client is not that of the name before it.
+fn crossing(from: OpName, names: &[OpName]) -> Option<OpName>
+    ensures { result ≡ crossing from names.now }
+{
+    let mut from = from;
+    for name in names {
+        if name.client != from.client {
+            return Some(*name);
+        }
+        from = *name;
+    }
+    None
+}
+
+/// The first operation of a chain to which a step between two clients leads.
+pub fn first_crossing(chain: &[OpName]) -> Option<OpName>
+    ensures { result ≡ first_crossing chain.now }
+{
+    match chain {
+        [first, rest @ ..] => crossing(*first, rest),
+        [] => None,
+    }
+}

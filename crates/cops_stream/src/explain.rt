@@ -1,0 +1,164 @@
+//! What is explained of a trace's bytes.
+ghost use Rattle.std.specs.Prelude.{◌≡◌, ◌⊎◌, ℕ, List, Err, None, IfErr, IfOk, IfSome, IsErrOf, false, true};
+ghost use Rattle.std.specs.Io.KnownBytes.{Keeps};
+ghost use Rattle.cops_types.specs.Counted.{failures, inner};
+ghost use Rattle.cops_types.specs.Failures.{Failed};
+ghost use Rattle.cops_audit.specs.Verdicts.{IsVerdict};
+ghost use Rattle.cops_trace.specs.Answer.{Agrees};
+ghost use Rattle.cops_trace.specs.Lines.{fault_line};
+ghost use Rattle.cops_stream.specs.Convergent.{SpellsConvergent};
+ghost use Rattle.cops_stream.specs.Explain.{ExplainSays, IsDrawing, IsDrawn, IsExplanation, PictureSays, WritesExplained, WritesFrontExplained, drawn_number};
+
+use crate::audit::{Answer, StreamFault, answer_of, faulty};
+use cops_audit::{Verdict, judge};
+use cops_explain::explain;
+use cops_picture::picture;
+use cops_trace::{Trace, TraceFault, read_trace};
+use cops_types::{Counted, History, Memory, Selection, write_text};
+use std::alloc::Global;
+use std::io::{Read, Write};
+
+/// What was explained: the audit's answer, and the picture that was asked for, where there is one.
+#[derive(Debug, Drop)]
+pub struct Explained {
+    pub answer: Answer,
+    pub picture: Option<Vec<u8>>,
+}
+
+/// What is told of a trace, and what is drawn.
+#[derive(Drop)]
+struct Told {
+    explained: Explained,
+    text: Vec<u8>,
+}
+
+/// The number of the fault that is drawn: the one that is asked for, or else the first.
+fn drawn_number(asked: Selection) -> u32
+    ensures { result ≡ drawn_number asked }
+{
+    match asked {
+        Selection::First | Selection::All => 1,
+        Selection::One(number) => number,
+    }
+}
+
+/// The picture of the fault that is asked for, where one is to be drawn.
+fn drawn(
+    alloc: Global,
+    history: &History,
+    verdict: &Verdict,
+    asked: Selection,
+    is_drawn: bool,
+) -> Result<Option<Vec<u8>>, Memory>
+    requires { IsVerdict history.now.sessions verdict.now }
+    ensures drawn { is_drawn ≡ true → IfOk result (IsDrawn verdict.now (drawn_number asked)) }
+    ensures none { is_drawn ≡ false → IfOk result (λ picture. picture ≡ None) }
+{
+    if is_drawn {
+        picture(alloc, history, verdict, drawn_number(asked))
+    } else {
+        Ok(None)
+    }
+}
+
+/// The answer for a trace, with what is explained of it.
+fn explanation(
+    alloc: Global,
+    trace: &Trace,
+    asked: Selection,
+    is_drawn: bool,
+) -> Result<Told, Memory>
+    ensures told { IfOk result (λ told. IsExplanation trace.now asked told.explained.answer told.text.items) }
+    ensures drawn { is_drawn ≡ true → IfOk result (λ told. IsDrawing trace.now asked told.explained.picture) }
+    ensures none { is_drawn ≡ false → IfOk result (λ told. told.explained.picture ≡ None) }
+{
+    let history = trace.history();
+    let verdict = judge(alloc, history)?;
+    let text = explain(alloc, history, &verdict, asked)?;
+    let picture = drawn(alloc, history, &verdict, asked, is_drawn)?;
+    let answer = answer_of(&verdict);
+    Ok(Told {
+        explained: Explained { answer, picture },
+        text,
+    })
+}
+
+/// What is told and drawn of what was read.
+fn answered(
+    alloc: Global,
+    read: Result<Trace, TraceFault>,
+    asked: Selection,
+    is_drawn: bool,
+) -> Result<Told, StreamFault>
+    ensures says { (bytes : List ℕ) → Agrees bytes read → IfOk result (λ told. ExplainSays asked bytes told.explained.answer told.text.items) }
+    ensures drawn { is_drawn ≡ true → (bytes : List ℕ) → Agrees bytes read → IfOk result (λ told. PictureSays asked bytes told.explained.picture) }
+    ensures none { is_drawn ≡ false → IfOk result (λ told. told.explained.picture ≡ None) }
+    ensures faults { IfErr result (λ e. (e ≡ StreamFault.Memory) ⊎ (e ≡ StreamFault.ReadFailed)) }
+    ensures read_failed { IsErrOf result StreamFault.ReadFailed → read ≡ Err TraceFault.ReadFailed }
+    ensures read_told { IsErrOf read TraceFault.ReadFailed → IsErrOf result StreamFault.ReadFailed }
+{
+    match read {
+        Ok(trace) => explanation(alloc, &trace, asked, is_drawn).or(Err(StreamFault::Memory)),
+        Err(TraceFault::Memory) => Err(StreamFault::Memory),
+        Err(TraceFault::ReadFailed) => Err(StreamFault::ReadFailed),
+        Err(fault) => told_faulty(alloc, &fault),
+    }
+}
+
+/// The line of a fault, of which nothing is drawn.
+fn told_faulty(alloc: Global, fault: &TraceFault) -> Result<Told, StreamFault>
+    ensures told { IfOk result (λ told. (told.explained.answer ≡ Answer.Faulty) × (told.text.items ≡ fault_line fault.now) × (told.explained.picture ≡ None)) }
+    ensures memory { IfErr result (λ e. e ≡ StreamFault.Memory) }
+{
+    let (answer, text) = faulty(alloc, fault)?;
+    Ok(Told {
+        explained: Explained {
+            answer,
+            picture: None,
+        },
+        text,
+    })
+}
+
+/// Reads a trace to its end or its first fault, judges it by one worker, and answers as `audit_stream` does. It writes the text of
+/// `explain` for the faults that are asked for, or the fault's line, and nothing else. Where it is to be drawn too, the picture of the
+/// one fault that is asked for, or else of the first, comes back, if there is such a fault. `ReadFailed` where a read failed, and
+/// `WriteFailed` where a write failed: neither is tried again. Nothing is written before the input's end. Where memory is refused
+/// nothing is written.
+pub fn explain_stream<R: Read, W: Write>(
+    alloc: Global,
+    reader: &mut Counted<R>,
+    writer: &mut Counted<W>,
+    asked: Selection,
+    is_drawn: bool,
+) -> Result<Explained, StreamFault>
+    // What is written is what is explained of the reader's bytes, and the answer is the audit's.
+    ensures ok { IfOk result (λ explained. IfSome (R.remaining (inner reader.old)) (λ bytes.
+        WritesExplained asked bytes explained.answer (W.contents (inner writer.old)) (W.contents (inner writer.new)))) }
+
+    // Where it accepts, the bytes spell one history, and it is causally convergent.
+    ensures accepted { IfOk result (λ explained. explained.answer ≡ Answer.Accepted → IfSome (R.remaining (inner reader.old)) SpellsConvergent) }
+
+    // What is drawn is the picture of that fault, where it is to be drawn.
+    ensures drawn { is_drawn ≡ true → IfOk result (λ explained. IfSome (R.remaining (inner reader.old)) (λ bytes. PictureSays asked bytes explained.picture)) }
+    ensures none { is_drawn ≡ false → IfOk result (λ explained. explained.picture ≡ None) }
+
+    // There are no other faults than these. Where a write failed, a front of the text was written, and else nothing.
+    ensures faults { IfErr result (λ e. (e ≡ StreamFault.Memory) ⊎ (e ≡ StreamFault.ReadFailed) ⊎ (e ≡ StreamFault.WriteFailed)) }
+    ensures nothing { (IsErrOf result StreamFault.ReadFailed ⊎ IsErrOf result StreamFault.Memory)
+        → Keeps (W.contents (inner writer.old)) (W.contents (inner writer.new)) }
+    ensures write_failed { IsErrOf result StreamFault.WriteFailed → IfSome (R.remaining (inner reader.old)) (λ bytes.
+        WritesFrontExplained asked bytes (W.contents (inner writer.old)) (W.contents (inner writer.new))) }
+
+    // A device's fault is told exactly where it was met, the reader's and the writer's.
+    ensures read_count { IsErrOf result StreamFault.ReadFailed → Failed (failures reader.old) (failures reader.new) }
+    ensures read_heard { IsErrOf result StreamFault.ReadFailed ⊎ (failures reader.new ≡ failures reader.old) }
+    ensures write_count { IsErrOf result StreamFault.WriteFailed → Failed (failures writer.old) (failures writer.new) }
+    ensures write_heard { IsErrOf result StreamFault.WriteFailed ⊎ (failures writer.new ≡ failures writer.old) }
+{
+    let Told { explained, text } = answered(alloc, read_trace(alloc, reader), asked, is_drawn)?;
+    match write_text(writer, &text) {
+        Ok(()) => Ok(explained),
+        Err(_) => Err(StreamFault::WriteFailed),
+    }
+}
