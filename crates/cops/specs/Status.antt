@@ -1,8 +1,9 @@
 -- The statuses that the program ends with, and what they say.
-use Rattle.std.specs.Prelude.{◌≢◌, ◌≤◌, ℕ, List, Ok, Err}
+use Rattle.std.specs.Prelude.{◌≡◌, ◌≢◌, ◌≤◌, ℕ, List, Option, Ok, Err}
 use Rattle.cops_types.specs.declared.limits.TheConstants.{MAX_WORKERS}
+use Rattle.cops_types.specs.declared.selection.Selection.{Selection}
 use Rattle.cops_line.specs.declared.job.Job.{Job}
-use Rattle.cops_line.specs.declared.job.Job.TheVariants.{Audit, SoFar, Show, Run, Serve}
+use Rattle.cops_line.specs.declared.job.Job.TheVariants.{Audit, SoFar, Explain, Show, Import, Run, Serve}
 use Rattle.cops_trace.specs.declared.fault.TraceFault.{TraceFault}
 use Rattle.cops_trace.specs.declared.fault.TraceFault.TheVariants.{Cut}
 use Rattle.cops_trace.specs.Text.{ATrace}
@@ -15,8 +16,14 @@ use Rattle.cops_command.specs.declared.status.Status.TheVariants as status
 use Rattle.cops_stream.specs.declared.audit.Answer.{Answer}
 use Rattle.cops_stream.specs.declared.audit.Answer.TheVariants.{Accepted, Refused, Faulty}
 use Rattle.cops_stream.specs.Audit.{AuditSays}
+use Rattle.cops_stream.specs.Explain.{ExplainSays}
 use Rattle.cops_stream.specs.SoFar.{IsSoundSoFar, SaysSoFar}
 use Rattle.cops_stream.specs.Convergent.{SpellsConvergent}
+use Rattle.cops_import.specs.Faults.{IsFirstFaulty}
+use Rattle.cops_import.specs.Imports.{IsImport}
+use Rattle.cops_import.specs.declared.fault.ImportFault.{ImportFault}
+use Rattle.cops_import.specs.declared.fault.ImportFault.TheVariants.{Line}
+use Rattle.cops_import.specs.declared.fault.LineFault.{LineFault}
 use Rattle.cops_run_stream.specs.Running.{IsLeft}
 use Rattle.cops_serve.specs.Serving.{IsServed}
 
@@ -38,11 +45,17 @@ TellsRun bytes = (s : AScenario) × (t : ATrace) × (told : List ℕ) × IsTextO
 abbrev pub TellsServed : ℕ → List ℕ → Type 0
 TellsServed sessions bytes = (s : AScenario) × (text : List ℕ) × IsTextOf bytes s × IsServed sessions s text
 
+-- the lines of the bytes tell one trace, and its text went out
+abbrev pub TellsImport : List ℕ → Type 0
+TellsImport bytes = (old new : Option (List ℕ)) × (names : List (List ℕ)) × (operations : ℕ) × IsImport bytes old new names operations
+
 -- what is so of the bytes of a job's input where the job ends as accepted
 abbrev pub EndsWell : Job → List ℕ → Type 0
 EndsWell (Audit trace workers) bytes = SpellsConvergent bytes
 EndsWell (SoFar trace) bytes = IsSoundSoFar bytes
+EndsWell (Explain trace faults picture) bytes = SpellsConvergent bytes
 EndsWell (Show trace) bytes = TellsTrace bytes
+EndsWell (Import lines trace) bytes = TellsImport bytes
 EndsWell (Run scenario trace) bytes = TellsRun bytes
 EndsWell (Serve port scenario sessions idle) bytes = TellsServed sessions bytes
 
@@ -54,10 +67,15 @@ TellsRefused bytes = (told : List ℕ) × AuditSays bytes Refused told
 abbrev pub TellsRefusedSoFar : List ℕ → Type 0
 TellsRefusedSoFar bytes = (told : List ℕ) × SaysSoFar bytes Refused told
 
--- what is so of them where it ends as refused, as audits alone do
+-- the bytes are those of a trace that is refused, of which these faults are explained
+abbrev pub TellsExplained : Selection → List ℕ → Type 0
+TellsExplained faults bytes = (told : List ℕ) × ExplainSays faults bytes Refused told
+
+-- what is so of them where it ends as refused, as audits and explanations alone do
 abbrev pub EndsRefused : Job → List ℕ → Type 0
 EndsRefused (Audit trace workers) bytes = TellsRefused bytes
 EndsRefused (SoFar trace) bytes = TellsRefusedSoFar bytes
+EndsRefused (Explain trace faults picture) bytes = TellsExplained faults bytes
 EndsRefused job bytes = ⊥
 
 -- the bytes are no trace's text, by the fault that is told
@@ -68,11 +86,21 @@ TellsNoTrace bytes = (e : TraceFault) × Says bytes (Err e)
 abbrev pub TellsOtherFault : List ℕ → Type 0
 TellsOtherFault bytes = (e : TraceFault) × ((offset : ℕ) → e ≢ Cut offset) × Says bytes (Err e)
 
--- what is so of them where it ends as faulty: they are no trace's text, or no scenario's; a cut is no fault of what is asked so far
+-- a line of the bytes is wrong, and none before it
+abbrev pub TellsFaultyLine : List ℕ → Type 0
+TellsFaultyLine bytes = (line : ℕ) × (fault : LineFault) × IsFirstFaulty bytes line fault
+
+-- an import's fault is that of a line
+abbrev pub IsLine : ImportFault → Type 0
+IsLine e = (line : ℕ) × (fault : LineFault) × (e ≡ Line line fault)
+
+-- what is so of them where it ends as faulty: they are no trace's text, or no scenario's, or a line of them is wrong; a cut is no fault of what is asked so far
 abbrev pub EndsFaulty : Job → List ℕ → Type 0
 EndsFaulty (Audit trace workers) bytes = TellsNoTrace bytes
 EndsFaulty (SoFar trace) bytes = TellsOtherFault bytes
+EndsFaulty (Explain trace faults picture) bytes = TellsNoTrace bytes
 EndsFaulty (Show trace) bytes = TellsNoTrace bytes
+EndsFaulty (Import lines trace) bytes = TellsFaultyLine bytes
 EndsFaulty (Run scenario trace) bytes = TellsNone bytes
 EndsFaulty (Serve port scenario sessions idle) bytes = TellsNone bytes
 

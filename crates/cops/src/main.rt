@@ -2,34 +2,41 @@
 //! with the command's status: 0 accepted, 1 refused, 2 faulty input or usage, 3 want of memory, 4 a device's fault.
 #![tactic(auto)]
 
-ghost use Rattle.std.specs.Prelude.{◌≡◌, ◌≤◌, ◌⊎◌, IfSome, Ok, Err};
+ghost use Rattle.std.specs.Prelude.{◌≡◌, ◌≢◌, ◌≤◌, ◌⊎◌, IfSome, Ok, Err};
 ghost use Rattle.cops_types.specs.declared.limits.TheConstants.{MAX_WORKERS};
 ghost use Rattle.cops_stream.specs.Convergent.{SpellsConvergent};
 ghost use Rattle.cops_stream.specs.SoFar.{IsSoundSoFar};
 ghost use Rattle.cops_command.specs.Scenario.{TellsNone};
-ghost use Rattle.cops_command.specs.Status.{number};
-ghost use Rattle.cops_command.specs.declared.status.Status.TheVariants.{Accepted, Faulty, Refused};
-ghost use Rattle.cops.specs.Status.{EndsFaulty, EndsRefused, EndsWell, MayWork, TellsNoTrace, TellsOtherFault, TellsRefused, TellsRefusedSoFar, TellsRun, TellsServed, TellsTrace, status_of};
+ghost use Rattle.cops_command.specs.Status.{number, number as status_number};
+ghost use Rattle.cops_command.specs.declared.status.Status.TheVariants.{Accepted, Failed, Faulty, Refused};
+ghost use Rattle.cops.specs.Status.{EndsFaulty, EndsRefused, EndsWell, IsLine, MayWork, TellsExplained, TellsFaultyLine, TellsImport, TellsNoTrace, TellsOtherFault, TellsRefused, TellsRefusedSoFar, TellsRun, TellsServed, TellsTrace, status_of};
 
+mod lines;
 mod progress;
 
+use crate::lines::{has_name, opened, rewound};
 use crate::progress::{Cleared, Watched, begun, remove};
-use cops_command::Status;
-use cops_line::{Job, LineFault, line};
+use cops_command::{Status, print};
+use cops_import::{
+    ImportFault, Imported, LineFault, Unimported, count_clients, faulty_line, import_stream,
+};
+use cops_line::{Job, line};
 use cops_run_stream::{Streamed, run_stream};
 use cops_serve::serve_stream;
-use cops_stream::{Answer, StreamFault, audit_so_far, audit_stream, show_stream};
-use cops_types::{Counted, Memory, OpenGate};
+use cops_stream::{
+    Answer, Explained, StreamFault, audit_so_far, audit_stream, explain_stream, show_stream,
+};
+use cops_types::{Counted, Memory, OpenGate, Selection};
 use std::alloc::AllocError;
 use std::fs::File;
-use std::io::{ErrorKind, IsTerminal, Read, Write};
+use std::io::{BufWriter, ErrorKind, IsTerminal, Read, Write};
 use std::net::{Net, TcpListener, TcpStream};
 use std::process::ExitCode;
 use std::rt::{Env, Files};
 use std::sync::Wait;
 use std::thread::Threads;
 use std::time::{Clock, Instant};
-use std::{env, io};
+use std::{env, io, process};
 
 /// Prints why the program failed, and gives the status.
 fn failed<R: Eprint>(rt: &R, why: &str, status: Status) -> u8
@@ -107,6 +114,45 @@ where
     ended(rt, audited, begun)
 }
 
+/// Explains the faults of the input that are asked for, draws the one of them, or the first, to the file of a name that is given, and
+/// gives the status of an audit.
+fn explain<R, I>(rt: &R, input: I, faults: Selection, name: Option<&str>) -> u8
+where
+    R: Files<File = File> + Print + Eprint + AllocGlobal + Clock,
+    I: Read + Drop,
+    ensures accepted { result ≡ number Accepted → IfSome (I.remaining input) SpellsConvergent }
+    ensures refused { result ≡ number Refused → IfSome (I.remaining input) (TellsExplained faults) }
+    ensures faulty { result ≡ number Faulty → IfSome (I.remaining input) TellsNoTrace }
+{
+    let mut reader = Counted::new(input);
+    let mut writer = Counted::new(io::writer(rt));
+    match explain_stream(rt.alloc(), &mut reader, &mut writer, faults, name.is_some()) {
+        Ok(explained) => {
+            let Explained { answer, picture } = explained;
+            drawn(rt, answer, name, picture)
+        }
+        Err(fault) => ended(rt, Err(fault), None),
+    }
+}
+
+/// Writes the picture, if there is one, to the file of that name, and gives the status of the answer.
+fn drawn<R>(rt: &R, answer: Answer, name: Option<&str>, picture: Option<Vec<u8>>) -> u8
+where
+    R: Files<File = File> + Eprint,
+    ensures { (result ≡ number (status_of answer)) ⊎ (result ≡ number Failed) }
+{
+    let (Some(name), Some(picture)) = (name, picture) else {
+        return status_of(answer).number();
+    };
+    let Ok(mut file) = File::create(rt, name) else {
+        return failed(rt, "open", Status::Failed);
+    };
+    match file.write_all(&picture) {
+        Ok(()) => status_of(answer).number(),
+        Err(_) => failed(rt, "write", Status::Failed),
+    }
+}
+
 /// Shows the input, and gives the status: accepted only of a trace's text.
 fn show<R, I, E>(rt: &R, input: I, errors: E) -> u8
 where
@@ -177,6 +223,123 @@ where
     }
 }
 
+/// Imports the lines of the input, of which an earlier reading named so many clients, writes their trace to the file of that name, and
+/// gives the status: accepted only of lines that tell a trace. Where the name is `-`, the trace goes to standard output, and all else
+/// that is printed to standard error.
+fn import<R, I, E>(rt: &R, clients: u16, input: I, trace: &str, errors: E) -> u8
+where
+    R: Files<File = File> + Print + Eprint + AllocGlobal,
+    I: Read + Drop,
+    E: Write + Copy + Drop,
+    ensures imported { result ≡ number Accepted → IfSome (I.remaining input) TellsImport }
+    ensures refused { result ≡ number Refused → IfSome (I.remaining input) (λ _. ⊥) }
+    ensures faulty { result ≡ number Faulty → IfSome (I.remaining input) TellsFaultyLine }
+{
+    if trace == "-" {
+        return import_over(rt, clients, input, io::writer(rt), errors, errors);
+    }
+    let Ok(file) = File::create(rt, trace) else {
+        return failed(rt, "open", Status::Failed);
+    };
+    import_over(rt, clients, input, file, io::writer(rt), errors)
+}
+
+/// The same over the writers of the trace, of what is printed, and of what failed.
+fn import_over<R, I, T, W, E>(rt: &R, clients: u16, input: I, trace: T, out: W, errors: E) -> u8
+where
+    R: Eprint + AllocGlobal,
+    I: Read + Drop,
+    T: Write + Drop,
+    W: Write + Drop,
+    E: Write + Drop,
+    ensures imported { result ≡ number Accepted → IfSome (I.remaining input) TellsImport }
+    ensures refused { result ≡ number Refused → IfSome (I.remaining input) (λ _. ⊥) }
+    ensures faulty { result ≡ number Faulty → IfSome (I.remaining input) TellsFaultyLine }
+{
+    let mut lines = Counted::new(input);
+    let mut out = Counted::new(out);
+    let mut errors = Counted::new(errors);
+    let Ok(trace) = BufWriter::new(rt.alloc(), trace) else {
+        return failed(rt, "memory", Status::NoMemory);
+    };
+    match import_stream(rt.alloc(), clients, &mut lines, Counted::new(trace)) {
+        Ok(imported) => told(rt, imported, &mut out, &mut errors),
+        Err(unimported) => {
+            let Unimported { fault, .. } = unimported;
+            not_imported(rt, fault, &mut out, &mut errors)
+        }
+    }
+}
+
+/// Prints what was imported, once its trace has gone out, and gives the status.
+fn told<R, T, W, E>(
+    rt: &R,
+    imported: Imported<BufWriter<T>>,
+    out: &mut Counted<W>,
+    errors: &mut Counted<E>,
+) -> u8
+where
+    R: Eprint + AllocGlobal,
+    T: Write + Drop,
+    W: Write,
+    E: Write,
+    ensures { (result ≢ number Refused) × (result ≢ number Faulty) }
+{
+    let text = imported.told(rt.alloc());
+    let Imported { writer, .. } = imported;
+    if writer.into_inner().flush().is_err() {
+        return failed(rt, "write", Status::Failed);
+    }
+    match text {
+        Ok(text) => print(text.as_bytes(), Status::Accepted, out, errors),
+        Err(_) => failed(rt, "memory", Status::NoMemory),
+    }
+}
+
+/// Tells why nothing was imported, and gives the status: faulty only of a line that is wrong.
+fn not_imported<R, W, E>(
+    rt: &R,
+    fault: ImportFault,
+    out: &mut Counted<W>,
+    errors: &mut Counted<E>,
+) -> u8
+where
+    R: Eprint + AllocGlobal,
+    W: Write,
+    E: Write,
+    ensures status { (result ≢ number Accepted) × (result ≢ number Refused) }
+    ensures faulty { result ≡ number Faulty → IsLine fault }
+{
+    match fault {
+        ImportFault::Memory => failed(rt, "memory", Status::NoMemory),
+        ImportFault::ReadFailed => failed(rt, "read", Status::Failed),
+        ImportFault::WriteFailed { .. } => failed(rt, "write", Status::Failed),
+        ImportFault::Line { number, fault } => faulty(rt, number, fault, out, errors),
+        ImportFault::Changed => failed(rt, "changed", Status::Failed),
+        ImportFault::Endless => failed(rt, "endless", Status::Failed),
+    }
+}
+
+/// Prints the line of a line that is wrong, and gives the status.
+fn faulty<R, W, E>(
+    rt: &R,
+    number: u64,
+    fault: LineFault,
+    out: &mut Counted<W>,
+    errors: &mut Counted<E>,
+) -> u8
+where
+    R: Eprint + AllocGlobal,
+    W: Write,
+    E: Write,
+    ensures { (result ≢ status_number Accepted) × (result ≢ status_number Refused) }
+{
+    match faulty_line(rt.alloc(), number, fault) {
+        Ok(line) => print(line.as_bytes(), Status::Faulty, out, errors),
+        Err(_) => failed(rt, "memory", Status::NoMemory),
+    }
+}
+
 /// Serves so many sessions of clients of the cluster of the scenario that the input holds, each of which may be idle for so many
 /// seconds, where they are given, and gives the status: accepted only of a scenario with a report on so many sessions, whose history
 /// is accepted.
@@ -207,8 +370,8 @@ where
     }
 }
 
-/// Does a job over its input, and gives the status.
-fn command<R, I, E>(rt: &R, job: Job<'_>, input: I, errors: E) -> u8
+/// Does a job over its input, of which an earlier reading named so many clients where it is an import's, and gives the status.
+fn command<R, I, E>(rt: &R, job: Job<'_>, clients: u16, input: I, errors: E) -> u8
 where
     R: Files<File = File> + Print + Eprint + AllocGlobal + Threads + Wait + Sync + Clock,
     R: Net<Listener = TcpListener, Stream = TcpStream>,
@@ -221,7 +384,13 @@ where
     match job {
         Job::Audit { workers, .. } => audit(rt, input, workers, errors.is_terminal()),
         Job::SoFar { .. } => so_far(rt, input, errors.is_terminal()),
+        Job::Explain {
+            faults,
+            picture,
+            ..
+        } => explain(rt, input, faults, picture),
         Job::Show { .. } => show(rt, input, errors),
+        Job::Import { trace, .. } => import(rt, clients, input, trace, errors),
         Job::Run { trace, .. } => run_scenario(rt, input, trace, errors),
         Job::Serve {
             port,
@@ -237,49 +406,83 @@ fn input_of<'a>(job: Job<'a>) -> &'a str {
     match job {
         Job::Audit { trace, .. } => trace,
         Job::SoFar { trace } => trace,
+        Job::Explain { trace, .. } => trace,
         Job::Show { trace } => trace,
+        Job::Import { lines, .. } => lines,
         Job::Run { scenario, .. } => scenario,
         Job::Serve { scenario, .. } => scenario,
     }
 }
 
 /// Runs the job over the file that it names, or over standard input where that is `-`.
-fn perform<R, E>(rt: &R, job: Job<'_>, errors: E) -> u8
+fn perform<R, E>(rt: &R, job: Job<'_>, errors: E, process: u32) -> u8
 where
-    R: Files<File = File> + Input + Print + Eprint + AllocGlobal,
+    R: Files<File = File> + Input + Print + Eprint + AllocGlobal + Env,
     R: Threads + Wait + Sync + Clock,
     R: Net<Listener = TcpListener, Stream = TcpStream>,
     E: Write + IsTerminal + Copy + Drop,
 {
+    if let Job::Import { lines, trace } = job {
+        return perform_import(rt, lines, trace, errors, process);
+    }
     let input = input_of(job);
     if input == "-" {
-        return command(rt, job, rt.reader(), errors);
+        return command(rt, job, 0, rt.reader(), errors);
     }
     let Ok(file) = File::open(rt, input) else {
         return failed(rt, "open", Status::Failed);
     };
-    command(rt, job, file, errors)
+    command(rt, job, 0, file, errors)
+}
+
+/// Runs an import of the lines of that name, which are read twice: first their clients are counted.
+fn perform_import<R, E>(rt: &R, lines: &str, trace: &str, errors: E, process: u32) -> u8
+where
+    R: Files<File = File> + Input + Print + Eprint + AllocGlobal + Env,
+    R: Threads + Wait + Sync + Clock,
+    R: Net<Listener = TcpListener, Stream = TcpStream>,
+    E: Write + IsTerminal + Copy + Drop,
+{
+    let file = match opened(rt, lines, process) {
+        Ok(file) => file,
+        Err(why) => return failed(rt, why.word(), why.status()),
+    };
+    if trace != "-" && has_name(rt, &file, trace) {
+        return failed(rt, "same file", Status::Failed);
+    }
+    let mut file = Counted::new(file);
+    let clients = match count_clients(rt.alloc(), &mut file) {
+        Ok(clients) => clients,
+        Err(fault) => {
+            let (mut out, mut errors) = (Counted::new(errors), Counted::new(errors));
+            return not_imported(rt, fault, &mut out, &mut errors);
+        }
+    };
+    match rewound(file.into_inner()) {
+        Ok(file) => command(rt, Job::Import { lines, trace }, clients, file, errors),
+        Err(why) => failed(rt, why.word(), why.status()),
+    }
 }
 
 /// Prints the help, the version or the usage, and gives the status.
-fn no_job<R: Print + Eprint>(rt: &R, fault: LineFault) -> u8 {
+fn no_job<R: Print + Eprint>(rt: &R, fault: cops_line::LineFault) -> u8 {
     match fault {
-        LineFault::Help(text) | LineFault::Version(text) => {
+        cops_line::LineFault::Help(text) | cops_line::LineFault::Version(text) => {
             let _ = print!(rt; "{text}");
             Status::Accepted.number()
         }
-        LineFault::Usage(text) => {
+        cops_line::LineFault::Usage(text) => {
             let _ = eprint!(rt; "{text}");
             Status::Faulty.number()
         }
-        LineFault::Memory => failed(rt, "memory", Status::NoMemory),
+        cops_line::LineFault::Memory => failed(rt, "memory", Status::NoMemory),
     }
 }
 
 /// Does what the words after the program's name ask for.
-fn run<R, E>(rt: &R, arguments: &[String], errors: E) -> Result<u8, AllocError>
+fn run<R, E>(rt: &R, arguments: &[String], errors: E, process: u32) -> Result<u8, AllocError>
 where
-    R: Files<File = File> + Input + Print + Eprint + AllocGlobal,
+    R: Files<File = File> + Input + Print + Eprint + AllocGlobal + Env,
     R: Threads + Wait + Sync + Clock,
     R: Net<Listener = TcpListener, Stream = TcpStream>,
     E: Write + IsTerminal + Copy + Drop,
@@ -290,7 +493,7 @@ where
         .map(|word| word.as_str())
         .collect(rt.alloc())?;
     Ok(match line(rt.alloc(), words.as_slice()) {
-        Ok(job) => perform(rt, job, errors),
+        Ok(job) => perform(rt, job, errors, process),
         Err(fault) => no_job(rt, fault),
     })
 }
@@ -312,8 +515,9 @@ fn no_words<R: Eprint>(rt: &R, fault: io::Error) -> u8 {
 }
 
 fn main(rt: HostRuntime) -> ExitCode {
+    let process = process::id(rt.process());
     let status = match arguments(&rt) {
-        Ok(words) => match run(&rt, words.as_slice(), rt.stderr()) {
+        Ok(words) => match run(&rt, words.as_slice(), rt.stderr(), process) {
             Ok(status) => status,
             Err(_) => failed(&rt, "memory", Status::NoMemory),
         },

@@ -7,13 +7,14 @@ use Rattle.cops_types.specs.declared.op.Op.{Op}
 use Rattle.cops_types.specs.declared.op.Op.TheVariants as op
 use Rattle.cops_import.specs.declared.fault.LineFault.{LineFault}
 use Rattle.cops_import.specs.declared.fault.LineFault.TheVariants.{NoJson, NoClient, NoOperation, BothOperations, BadKey, BadValue, BadVersion, TooManyClients, TooManyOperations}
-use Rattle.cops_import.specs.declared.field.Unread.{Unread}
-use Rattle.cops_import.specs.declared.field.Unread.TheVariants.{Memory, Form}
+use Rattle.cops_fields.specs.declared.unread.Unread.{Unread}
+use Rattle.cops_fields.specs.declared.unread.Unread.TheVariants.{Memory, Form}
 use Rattle.cops_import.specs.declared.line.Untold.{Untold}
 use Rattle.cops_import.specs.declared.line.Untold.TheVariants.{Fault, Memory as OutOfMemory}
 use Rattle.cops_import.specs.declared.line.Kind.{Kind}
 use Rattle.cops_import.specs.declared.line.Kind.TheVariants.{Put, Get}
-use Rattle.cops_import.specs.Line.{AsksKey, HasName, IsAsked, IsJson, IsWrong, IsWrongIn, TellsOp, number_json}
+use Rattle.cops_fields.specs.Json.{number_json}
+use Rattle.cops_import.specs.Line.{AsksKey, HasName, IsAsked, IsJson, IsWrong, IsWrongIn, TellsOp}
 use Rattle.cops_import.specs.Asked.{IsKeyJson, IsWrongOf, TellsKind}
 
 asks : (d : Data) (kind : Kind) (at : Data) (key : List ℕ) → IsAsked d kind at → IsKeyJson at key → AsksKey d kind key

@@ -1,6 +1,4 @@
 pub mod Asked
-pub mod Texts
-pub mod Versions
 pub mod Numbering
 pub mod Splitting
 pub mod Records

@@ -13,14 +13,15 @@ use Rattle.cops_types.specs.Texts.{version_text}
 use Rattle.cops_types.specs.Version.{IsVersion, clock_of, node_of}
 use Rattle.cops_types.specs.declared.op.Op.{Op}
 use Rattle.cops_types.specs.declared.op.Op.TheVariants as op
-use Rattle.cops_import.specs.Line.{AsksKey, FoundNothing, IsAsked, IsFaulty, IsJson, IsNameJson, IsNothing, IsVersionJson, IsWrong, IsWrongIn, LacksValue, LacksVersion, LineTells, Tells, TellsName, TellsOp, TellsValue, TellsVersion, TextTells, text_json}
+use Rattle.cops_fields.specs.Json.{text_json}
+use Rattle.cops_import.specs.Line.{AsksKey, FoundNothing, IsAsked, IsFaulty, IsJson, IsNameJson, IsNothing, IsVersionJson, IsWrong, IsWrongIn, LacksValue, LacksVersion, LineTells, Tells, TellsName, TellsOp, TellsValue, TellsVersion, TextTells}
 use Rattle.cops_import.specs.Lines.{TellAfter, with_told}
 use Rattle.cops_import.specs.declared.fault.LineFault.{LineFault}
 use Rattle.cops_import.specs.declared.fault.LineFault.TheVariants.{NoJson, NoClient, NoOperation, BothOperations, BadKey, BadValue, BadVersion, TooManyClients, TooManyOperations}
 use Rattle.cops_import.specs.declared.line.Kind.{Kind}
 use Rattle.cops_import.specs.declared.line.Kind.TheVariants.{Put, Get}
 use Rattle.cops_import.specs.declared.line.Told.{Told}
-use Rattle.cops_import.proofs.Versions.{clock_fits, no_dot}
+use Rattle.cops_fields.proofs.Versions.{clock_fits, no_dot}
 
 -- ---- one name, one version
 

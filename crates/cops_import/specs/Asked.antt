@@ -8,7 +8,8 @@ use Rattle.cops_import.specs.declared.fault.LineFault.{LineFault}
 use Rattle.cops_import.specs.declared.fault.LineFault.TheVariants.{BadKey, BadValue, BadVersion}
 use Rattle.cops_import.specs.declared.line.Kind.{Kind}
 use Rattle.cops_import.specs.declared.line.Kind.TheVariants.{Put, Get}
-use Rattle.cops_import.specs.Line.{FoundNothing, LacksValue, LacksVersion, TellsValue, TellsVersion, text_json}
+use Rattle.cops_fields.specs.Json.{text_json}
+use Rattle.cops_import.specs.Line.{FoundNothing, LacksValue, LacksVersion, TellsValue, TellsVersion}
 
 abbrev pub IsKeyJson : Data → List ℕ → Type 0
 IsKeyJson at key = (at ≡ text_json key) × IsKey key

@@ -1,9 +1,10 @@
 -- What a line tells.
 use Rattle.std.specs.Prelude.{◌≡◌, ◌≢◌, ◌⊎◌, ◌==◌, ◌||◌, ℕ, Bool, List, codes, decimal, Option, None, Some, IsUtf8}
 use Rattle.std.specs.List.{AllPass}
-use Rattle.serde_json.specs.Data.{Data, unsigned, null, number, string, array, item, no_items}
+use Rattle.serde_json.specs.Data.{Data, null, array, item, no_items}
 use Rattle.serde_json.specs.Read.{read}
 use Rattle.serde_json.specs.Find.{get}
+use Rattle.cops_fields.specs.Json.{number_json, text_json}
 use Rattle.cops_types.specs.KeyValue.{IsKey, IsValue}
 use Rattle.cops_types.specs.Version.{IsVersion, clock_of, node_of}
 use Rattle.cops_types.specs.Texts.{version_text}
@@ -30,12 +31,6 @@ abbrev pub IsJson : List ℕ → Data → Type 0
 IsJson line d = IsUtf8 line × (read line ≡ Some d)
 
 -- ---- the members of its object
-
-abbrev pub text_json : List ℕ → Data
-text_json text = string text
-
-abbrev pub number_json : ℕ → Data
-number_json n = number (unsigned n)
 
 abbrev pub pair_json : ℕ → ℕ → Data
 pair_json a b = array (item (number_json a) (item (number_json b) no_items))

@@ -1,6 +1,7 @@
--- The line that tells of a wrong line.
-use Rattle.std.specs.Prelude.{ℕ, List, codes, decimal}
+-- The line that tells of a wrong line, and what is told of an import.
+use Rattle.std.specs.Prelude.{ℕ, ◌+◌, List, [], ◌∷◌, ◌++◌, codes, decimal, length}
 use Rattle.cops_types.specs.Texts.{◌⧺◌}
+use Rattle.cops_wire.specs.Shown.{bytes_text}
 use Rattle.cops_import.specs.declared.fault.LineFault.{LineFault}
 use Rattle.cops_import.specs.declared.fault.LineFault.TheVariants.{NoJson, NoClient, NoOperation, BothOperations, BadKey, BadValue, BadVersion, TooManyClients, TooManyOperations}
 
@@ -18,3 +19,20 @@ words_of TooManyOperations = codes "too many operations"
 -- the line's number, and what is wrong with it
 abbrev pub faulty_line : ℕ → LineFault → List ℕ
 faulty_line number fault = codes "faulty: line " ⧺ decimal number ⧺ codes ": " ⧺ words_of fault ⧺ codes "\n"
+
+-- a client's number and its name, whose bytes are shown as those of a key
+abbrev pub client_line : ℕ → List ℕ → List ℕ
+client_line number name = codes "client " ⧺ decimal number ⧺ codes " " ⧺ bytes_text name ⧺ codes "\n"
+
+-- a line for each client, whose numbers go on from this one
+abbrev pub client_lines : ℕ → List (List ℕ) → List ℕ
+client_lines number [] = []
+client_lines number (name ∷ names) = client_line number name ++ client_lines (number + 1) names
+
+-- how many operations and clients there are
+abbrev pub count_line : ℕ → ℕ → List ℕ
+count_line operations clients = codes "imported: " ⧺ decimal operations ⧺ codes " operations, " ⧺ decimal clients ⧺ codes " clients\n"
+
+-- what is told of an import: the clients, and then how much it was
+abbrev pub told_text : List (List ℕ) → ℕ → List ℕ
+told_text names operations = client_lines 0 names ++ count_line operations (length names)

@@ -115,3 +115,14 @@ impl<T: Drop> From<AllocFailed<T>> for ImportFault {
         ImportFault::Memory
     }
 }
+
+impl From<AllocError> for ImportFault {
+    ghost use Rattle.std.specs.Prelude.{◌≡◌};
+    ghost use Rattle.cops_import.specs.declared.fault.ImportFault.TheVariants.{Memory as OutOfMemory};
+
+    ghost from_gives = { λ _ e. e ≡ OutOfMemory };
+
+    fn from(_e: AllocError) -> ImportFault {
+        ImportFault::Memory
+    }
+}

@@ -1,7 +1,14 @@
+//! What came of an import.
+ghost use Rattle.std.specs.Prelude.{◌≡◌, ◌++◌, IfOk, OnOk, string_bytes};
+ghost use Rattle.cops_import.specs.Words.{client_line, client_lines, count_line, told_text};
+
 use crate::fault::ImportFault;
+use crate::name::Name;
 use crate::names::Names;
 use cops_trace::Unwritten;
 use cops_types::Counted;
+use cops_wire::show_bytes;
+use std::alloc::{AllocError, Global};
 use std::io::Write;
 
 /// What was imported: the names of the clients, each at its client's number, and how many operations there are. The
@@ -11,6 +18,54 @@ pub struct Imported<W: Write> {
     pub names: Names,
     pub operations: usize,
     pub writer: Counted<W>,
+}
+
+impl<W: Write> Imported<W> {
+    /// What is told of the import: a line `client N NAME` for each client in the order of their numbers, of whose names the bytes of ASCII
+    /// letters, digits, `-`, `.` and `_` stand as they are, and any other as `%` and two lower case hexadecimal digits; and then
+    /// `imported: N operations, M clients` (`told_text` in `specs/Words.antt`).
+    pub fn told(&self, alloc: Global) -> Result<String, AllocError>
+        ensures ok { IfOk result (λ text. string_bytes text ≡ told_text self.now.names self.now.operations) }
+    {
+        told(alloc, &self.names, self.operations)
+    }
+}
+
+/// What is told of these clients, and of so many operations.
+fn told(alloc: Global, names: &Names, operations: usize) -> Result<String, AllocError>
+    ensures { IfOk result (λ text. string_bytes text ≡ told_text names.now operations) }
+{
+    let mut text = client_lines(alloc, names)?;
+    let counts = count_line(alloc, operations, names.len())?;
+    text.push_str(&counts)?;
+    Ok(text)
+}
+
+/// How many operations and clients there are.
+fn count_line(alloc: Global, operations: usize, clients: usize) -> Result<String, AllocError>
+    ensures { IfOk result (λ line. string_bytes line ≡ count_line operations clients) }
+{
+    format!(in alloc; "imported: {operations} operations, {clients} clients\n")
+}
+
+/// A line for each client.
+fn client_lines(alloc: Global, names: &Names) -> Result<String, AllocError>
+    ensures { IfOk result (λ text. string_bytes text ≡ client_lines 0 names.now) }
+{
+    let mut text = String::new(alloc);
+    for number in 0..names.len() {
+        push_client(&mut text, number, names.name(number))?;
+    }
+    Ok(text)
+}
+
+/// Appends a client's line.
+fn push_client(text: &mut String, number: usize, name: &Name) -> Result<(), AllocError>
+    ensures { OnOk result (string_bytes text.new ≡ string_bytes text.old ++ client_line number name.now) }
+{
+    write!(text, "client {number} ")?;
+    show_bytes(name.as_bytes(), text)?;
+    text.push('\n')
 }
 
 /// A writer that comes back, with why no trace was made.

@@ -13,8 +13,6 @@ mod line;
 mod name;
 mod names;
 mod reading;
-#[cfg(test)]
-mod tests;
 
 pub use count::count_clients;
 pub use fault::{ImportFault, LineFault, faulty_line};

@@ -6,8 +6,9 @@ ghost use Rattle.cops_import.specs.Line.{FoundNothing, IsAsked, IsBlank, IsFault
 ghost use Rattle.cops_import.specs.Asked.{IsWrongOf, TellsKind};
 
 use crate::fault::LineFault;
-use crate::field::{Unread, key, name, value, version};
+use crate::field::{name_of, value_of, version_of};
 use crate::name::Name;
+use cops_fields::{Unread, key};
 use cops_types::Op;
 use serde_json::Value as Json;
 use std::alloc::Global;
@@ -33,15 +34,15 @@ pub(crate) enum Untold {
     Fault(LineFault),
 }
 
-impl Unread {
+impl Untold {
     ghost use Rattle.std.specs.Prelude.{◌≡◌};
 
-    /// Why the line that it stands in tells nothing.
-    fn of(self, fault: LineFault) -> Untold
-        ensures memory { self ≡ Unread.Memory → result ≡ Untold.Memory }
-        ensures form { self ≡ Unread.Form → result ≡ Untold.Fault fault }
+    /// Why a line tells nothing in which something was not read, that has this fault where it is not of its form.
+    fn of(unread: Unread, fault: LineFault) -> Untold
+        ensures memory { unread ≡ Unread.Memory → result ≡ Untold.Memory }
+        ensures form { unread ≡ Unread.Form → result ≡ Untold.Fault fault }
     {
-        match self {
+        match unread {
             Unread::Memory => Untold::Memory,
             Unread::Form => Untold::Fault(fault),
         }
@@ -75,7 +76,7 @@ fn of_text(alloc: Global, line: &[u8]) -> Result<Told, Untold>
 }
 
 /// Whether nothing but spaces, tabs and carriage returns stands in a line.
-fn is_blank(line: &[u8]) -> bool
+pub(crate) fn is_blank(line: &[u8]) -> bool
     ensures { IsTrue result ↔ IsBlank line.now }
 {
     line.iter()
@@ -87,9 +88,9 @@ fn of_object(alloc: Global, object: &Json) -> Result<Told, Untold>
     ensures told { IfOk result (Tells (view object.now)) }
     ensures wrong { (fault : AFault) → result ≡ Err (Untold.Fault fault) → IsWrong (view object.now) fault }
 {
-    let name = match name(alloc, object) {
+    let name = match name_of(alloc, object) {
         Ok(name) => name,
-        Err(unread) => return Err(unread.of(LineFault::NoClient)),
+        Err(unread) => return Err(Untold::of(unread, LineFault::NoClient)),
     };
     match (object.get("put"), object.get("get")) {
         (None, None) => Err(Untold::Fault(LineFault::NoOperation)),
@@ -117,12 +118,12 @@ fn op(alloc: Global, kind: Kind, at: &Json, object: &Json) -> Result<Op, Untold>
     ensures told { IfOk result (TellsKind (view object.now) kind (view at.now)) }
     ensures wrong { (fault : AFault) → result ≡ Err (Untold.Fault fault) → IsWrongOf (view object.now) kind (view at.now) fault }
 {
-    let key = key(alloc, at).map_err(|unread| unread.of(LineFault::BadKey))?;
+    let key = key(alloc, at).map_err(|unread| Untold::of(unread, LineFault::BadKey))?;
     if kind == Kind::Get && found_nothing(object) {
         return Ok(Op::Missed { key });
     }
-    let value = value(alloc, object).map_err(|unread| unread.of(LineFault::BadValue))?;
-    let version = version(object).map_err(|unread| unread.of(LineFault::BadVersion))?;
+    let value = value_of(alloc, object).map_err(|unread| Untold::of(unread, LineFault::BadValue))?;
+    let version = version_of(object).map_err(|unread| Untold::of(unread, LineFault::BadVersion))?;
     Ok(match kind {
         Kind::Put => Op::Put {
             key,

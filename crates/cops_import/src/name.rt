@@ -1,19 +1,23 @@
-use std::alloc::AllocError;
+use smallvec::SmallVec;
+use std::alloc::{AllocError, Global};
 use std::hash::{Hash, Hasher};
 use std::marker::Model;
 
-/// The name of a client: any text.
+/// A name of so many bytes lies in itself.
+const INLINE: usize = 16;
+
+/// The name of a client: the bytes of any text.
 #[derive(Debug, Drop)]
 pub struct Name {
-    text: String,
+    bytes: SmallVec<u8, INLINE>,
 }
 
 impl Model for Name {
-    ghost use Rattle.std.specs.Prelude.{List, ℕ, string_bytes};
+    ghost use Rattle.std.specs.Prelude.{List, ℕ};
 
     ghost Value = { List ℕ };
 
-    ghost view = { λ n. string_bytes n.text };
+    ghost view = { λ n. n.bytes.items };
 }
 
 impl PartialEq for Name {
@@ -27,7 +31,7 @@ impl PartialEq for Name {
     ghost laws = { Prim.search (comparing, rules) };
 
     fn eq(&self, other: &Name) -> bool {
-        self.text.as_bytes() == other.text.as_bytes()
+        self.bytes.as_slice() == other.bytes.as_slice()
     }
 }
 
@@ -48,36 +52,40 @@ impl Hash for Name {
     ghost respects_eq = { Prim.search (hashing, rules) };
 
     fn hash<H: Hasher>(&self, state: &mut H) {
-        self.text.as_bytes().hash(state);
+        self.bytes.as_slice().hash(state);
     }
 }
 
-/// A copy with the same text.
+/// A copy with the same bytes.
 impl Clone for Name {
     ghost use Rattle.std.specs.Prelude.{◌≡◌};
 
     ghost is_clone = { λ s t. t ≡ s };
 
     fn clone(&self) -> Result<Name, AllocError> {
+        let alloc = *self.bytes.allocator();
         Ok(Name {
-            text: self.text.clone()?,
+            bytes: SmallVec::from_slice(alloc, self.bytes.as_slice())?,
         })
     }
 }
 
 impl Name {
-    ghost use Rattle.std.specs.Prelude.{◌≡◌, string_bytes};
+    ghost use Rattle.std.specs.Prelude.{◌≡◌, IfOk};
 
     /// The name with this text.
-    pub(crate) fn new(text: String) -> Name
-        ensures { result ≡ string_bytes text }
+    pub(crate) fn new(alloc: Global, text: &str) -> Result<Name, AllocError>
+        ensures { IfOk result (λ name. name ≡ text.now) }
     {
-        Name { text }
+        Ok(Name {
+            bytes: SmallVec::from_slice(alloc, text.as_bytes())?,
+        })
     }
 
-    pub fn as_str(&self) -> &str
+    /// The bytes of the text.
+    pub fn as_bytes(&self) -> &[u8]
         ensures { result.now ≡ self.now }
     {
-        self.text.as_str()
+        self.bytes.as_slice()
     }
 }

@@ -5,29 +5,44 @@ use Rattle.clap.specs.Simple.{new_shape}
 use Rattle.clap.specs.declared.builder.action.ArgAction.TheVariants.{Set, SetTrue}
 use Rattle.clap.specs.declared.builder.value_parser.ValueParser.{ValueParser}
 use Rattle.clap.specs.declared.builder.value_parser.ValueParser.TheVariants as parser
-use Rattle.cops_types.specs.declared.limits.TheConstants.{MAX_WORKERS}
+use Rattle.cops_types.specs.declared.limits.TheConstants.{MAX_OPS, MAX_WORKERS}
 use Rattle.cops_line.specs.declared.job.TheConstants.{MAX_PORT, MAX_SESSIONS, MAX_IDLE}
 
 -- an argument that has to be there, and takes one word
 abbrev pub positional : Text → Rule
 positional id = record (new_rule id) { action = Some Set; required = true; value_names = 1 }
 
+-- an option that takes one word, and may be left out
+abbrev pub value_option : Text → Rule
+value_option id = record (new_rule id) { long = Some id; action = Some Set; value_names = 1 }
+
 -- an option that takes a number, and may be left out
 abbrev pub number_option : Text → ValueParser → Rule
-number_option id number = record (new_rule id) { long = Some id; action = Some Set; value_names = 1; parser = Some number }
+number_option id number = record (value_option id) { parser = Some number }
+
+-- an option that takes no value, and may be left out
+abbrev pub flag_option : Text → Rule
+flag_option id = record (new_rule id) { long = Some id; action = Some SetTrue }
 
 -- `--workers N`, which may be left out and takes a number from 1 to 64
 abbrev pub workers_option : Rule
-workers_option = record (new_rule (codes "workers")) {
-  long = Some (codes "workers");
-  action = Some Set;
-  value_names = 1;
-  parser = Some (parser.Signed (pos 1) (pos MAX_WORKERS));
-}
+workers_option = number_option (codes "workers") (parser.Signed (pos 1) (pos MAX_WORKERS))
 
 -- `--so-far`, which may be left out and takes no value
 abbrev pub so_far_option : Rule
-so_far_option = record (new_rule (codes "so-far")) { long = Some (codes "so-far"); action = Some SetTrue }
+so_far_option = flag_option (codes "so-far")
+
+-- `--all`, which may be left out and takes no value
+abbrev pub all_option : Rule
+all_option = flag_option (codes "all")
+
+-- `--fault N`, which may be left out and takes a number from 1 to 16,000,000
+abbrev pub fault_option : Rule
+fault_option = number_option (codes "fault") (parser.Signed (pos 1) (pos MAX_OPS))
+
+-- `--picture FILE`, which may be left out
+abbrev pub picture_option : Rule
+picture_option = value_option (codes "picture")
 
 -- `PORT`, which has to be there, and is a number from 1 to 65,535
 abbrev pub port_argument : Rule
@@ -35,12 +50,7 @@ port_argument = record (positional (codes "port")) { parser = Some (parser.Signe
 
 -- `--sessions N`, which may be left out and takes a number from 1 to 65,535
 abbrev pub sessions_option : Rule
-sessions_option = record (new_rule (codes "sessions")) {
-  long = Some (codes "sessions");
-  action = Some Set;
-  value_names = 1;
-  parser = Some (parser.Signed (pos 1) (pos MAX_SESSIONS));
-}
+sessions_option = number_option (codes "sessions") (parser.Signed (pos 1) (pos MAX_SESSIONS))
 
 -- `--idle SECONDS`, which may be left out and takes a number from 1 to 65,535
 abbrev pub idle_option : Rule
@@ -50,9 +60,17 @@ idle_option = number_option (codes "idle") (parser.Signed (pos 1) (pos MAX_IDLE)
 abbrev pub audit_app : App
 audit_app = with_rule (with_rule (with_rule (new_app (codes "audit")) (positional (codes "trace"))) workers_option) so_far_option
 
+-- `explain TRACE`, with `--all`, `--fault N` and `--picture FILE` or without them
+abbrev pub explain_app : App
+explain_app = with_rule (with_rule (with_rule (with_rule (new_app (codes "explain")) (positional (codes "trace"))) all_option) fault_option) picture_option
+
 -- `show TRACE`
 abbrev pub show_app : App
 show_app = with_rule (new_app (codes "show")) (positional (codes "trace"))
+
+-- `import LINES TRACE`
+abbrev pub import_app : App
+import_app = with_rule (with_rule (new_app (codes "import")) (positional (codes "lines"))) (positional (codes "trace"))
 
 -- `run SCENARIO TRACE`
 abbrev pub run_app : App
@@ -76,6 +94,14 @@ cops_top = record {
   subs = [];
 }
 
+-- or a subcommand that judges a trace
+abbrev pub judging_app : App
+judging_app = with_subcommand (with_subcommand cops_top audit_app.top) explain_app.top
+
+-- or one that shows a trace, or makes one of lines
+abbrev pub tracing_app : App
+tracing_app = with_subcommand (with_subcommand judging_app show_app.top) import_app.top
+
 -- one of the subcommands
 unfoldable pub cops_app : App
-cops_app = with_subcommand (with_subcommand (with_subcommand (with_subcommand cops_top audit_app.top) show_app.top) run_app.top) serve_app.top
+cops_app = with_subcommand (with_subcommand tracing_app run_app.top) serve_app.top

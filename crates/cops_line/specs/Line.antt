@@ -1,13 +1,15 @@
 -- The job that words tell, and what it means that they tell none.
-use Rattle.std.specs.Prelude.{◌≡◌, ◌≢◌, ◌≤◌, ℕ, List, [], ◌∷◌, codes, Option, Some, None}
+use Rattle.std.specs.Prelude.{◌≡◌, ◌≢◌, ◌≤◌, ℕ, List, [], ◌∷◌, codes, Option, Some, None, option_map}
 use Rattle.std.specs.Str.Parse.{IsNumeral, digits_value, without_leading_plus}
 use Rattle.clap.specs.Words.{Row, Text, first_of, subcommand_of, fault_of, IsAmong}
 use Rattle.clap.specs.declared.error.kind.ErrorKind.{ErrorKind}
 use Rattle.clap.specs.declared.error.kind.ErrorKind.TheVariants.{DisplayHelp, DisplayVersion, OutOfMemory}
-use Rattle.cops_types.specs.declared.limits.TheConstants.{MAX_WORKERS}
+use Rattle.cops_types.specs.declared.limits.TheConstants.{MAX_OPS, MAX_WORKERS}
 use Rattle.cops_line.specs.declared.job.TheConstants.{MAX_PORT, MAX_SESSIONS, MAX_IDLE}
+use Rattle.cops_types.specs.declared.selection.Selection.{Selection}
+use Rattle.cops_types.specs.declared.selection.Selection.TheVariants.{First, All, One}
 use Rattle.cops_line.specs.declared.job.Job.{Job}
-use Rattle.cops_line.specs.declared.job.Job.TheVariants.{Audit, SoFar, Show, Run, Serve}
+use Rattle.cops_line.specs.declared.job.Job.TheVariants.{Audit, SoFar, Explain, Show, Import, Run, Serve}
 use Rattle.cops_line.specs.declared.fault.LineFault.{LineFault}
 use Rattle.cops_line.specs.declared.fault.LineFault.TheVariants.{Memory, Usage, Help, Version}
 use Rattle.cops_line.specs.Commands.{cops_app}
@@ -29,14 +31,20 @@ IsNumberIfGiven most None (Some n) = ⊥
 IsNumberIfGiven most (Some text) None = ⊥
 IsNumberIfGiven most (Some text) (Some n) = IsNumber most text n
 
--- the port that a value tells
-abbrev pub IsPort : Option Text → ℕ → Type 0
-IsPort None n = ⊥
-IsPort (Some text) n = IsNumber MAX_PORT text n
+-- the number that a value tells, which has to be there
+abbrev pub IsNumberGiven : ℕ → Option Text → ℕ → Type 0
+IsNumberGiven most None n = ⊥
+IsNumberGiven most (Some text) n = IsNumber most text n
 
 -- a value tells that its flag was given
 abbrev pub IsGiven : Option Text → Type 0
 IsGiven value = value ≡ Some (codes "true")
+
+-- the faults that the values of `--all` and `--fault` ask for: both ask for none
+abbrev pub IsAsked : Option Text → Option Text → Selection → Type 0
+IsAsked all fault First = (¬ IsGiven all) × (fault ≡ None)
+IsAsked all fault All = IsGiven all × (fault ≡ None)
+IsAsked all fault (One n) = (¬ IsGiven all) × IsNumberGiven MAX_OPS fault n
 
 -- the job of a subcommand with these values: `audit` has one for its flag, which stands beside no number of workers
 abbrev pub IsJobOf : Text → List Row → Job → Type 0
@@ -44,10 +52,14 @@ IsJobOf name rows (Audit trace workers) =
     (name ≡ codes "audit") × (first_of (codes "trace") rows ≡ Some trace.now) × (¬ IsGiven (first_of (codes "so-far") rows)) × IsNumberOr1 MAX_WORKERS (first_of (codes "workers") rows) workers
 IsJobOf name rows (SoFar trace) =
     (name ≡ codes "audit") × (first_of (codes "trace") rows ≡ Some trace.now) × IsGiven (first_of (codes "so-far") rows) × (first_of (codes "workers") rows ≡ None)
+IsJobOf name rows (Explain trace faults picture) =
+    (name ≡ codes "explain") × (first_of (codes "trace") rows ≡ Some trace.now) × IsAsked (first_of (codes "all") rows) (first_of (codes "fault") rows) faults
+    × (option_map (λ s. s.now) picture ≡ first_of (codes "picture") rows)
 IsJobOf name rows (Show trace) = (name ≡ codes "show") × (first_of (codes "trace") rows ≡ Some trace.now)
+IsJobOf name rows (Import lines trace) = (name ≡ codes "import") × (first_of (codes "lines") rows ≡ Some lines.now) × (first_of (codes "trace") rows ≡ Some trace.now)
 IsJobOf name rows (Run scenario trace) = (name ≡ codes "run") × (first_of (codes "scenario") rows ≡ Some scenario.now) × (first_of (codes "trace") rows ≡ Some trace.now)
 IsJobOf name rows (Serve port scenario sessions idle) =
-    (name ≡ codes "serve") × IsPort (first_of (codes "port") rows) port × (first_of (codes "scenario") rows ≡ Some scenario.now) × IsNumberOr1 MAX_SESSIONS (first_of (codes "sessions") rows) sessions
+    (name ≡ codes "serve") × IsNumberGiven MAX_PORT (first_of (codes "port") rows) port × (first_of (codes "scenario") rows ≡ Some scenario.now) × IsNumberOr1 MAX_SESSIONS (first_of (codes "sessions") rows) sessions
     × IsNumberIfGiven MAX_IDLE (first_of (codes "idle") rows) idle
 
 -- no job has this subcommand and these values
@@ -65,10 +77,7 @@ HasNoJobIn met = (job : Job) → ¬ IsJobIn met job
 -- the job of no words: the audit of standard input by one worker
 abbrev pub IsDefault : Job → Type 0
 IsDefault (Audit trace workers) = (trace.now ≡ codes "-") × (workers ≡ 1)
-IsDefault (SoFar trace) = ⊥
-IsDefault (Show trace) = ⊥
-IsDefault (Run scenario trace) = ⊥
-IsDefault (Serve port scenario sessions idle) = ⊥
+IsDefault _ = ⊥
 
 -- the program's command takes the words, and they name a subcommand with the job's values
 abbrev pub IsRead : List Text → Job → Type 0

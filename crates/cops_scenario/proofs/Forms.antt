@@ -7,7 +7,8 @@ use Rattle.serde_json.specs.View.{view, items_of}
 use Rattle.serde_json.specs.Find.{as_array}
 use Rattle.serde_json.specs.declared.value.Value.{Value}
 use Rattle.cops_core.specs.declared.script.ScriptedClient.{ScriptedClient}
-use Rattle.cops_scenario.specs.File.{list_json, text_json, one_json, TellsClient, TellClients}
+use Rattle.cops_fields.specs.Json.{text_json}
+use Rattle.cops_scenario.specs.File.{list_json, one_json, TellsClient, TellClients}
 
 items_alike : (xs ys : List Data) → items_of xs ≡ items_of ys → xs ≡ ys
 items_alike [] [] e = refl

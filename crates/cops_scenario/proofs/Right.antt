@@ -1,7 +1,7 @@
 -- The text of a scenario has no wrong field.
 use Rattle.std.proofs.Common.{◌≡◌, ◌≤◌, ℕ, List, All, ap, arith, refl, subst, sym}
 use Rattle.std.specs.Prelude.{Option, None, Some}
-use Rattle.serde_json.specs.Data.{Data, null, boolean, number, string, array, object, unsigned, negative, float}
+use Rattle.serde_json.specs.Data.{Data, null, boolean, number, string, array, object}
 use Rattle.serde_json.specs.Find.{get, as_object}
 use Rattle.cops_types.specs.declared.limits.TheConstants.{MAX_DCS}
 use Rattle.cops_scenario.specs.declared.fault.Field.{Field}

@@ -1,5 +1,5 @@
 -- The fields of a scenario's file.
-use Rattle.std.specs.Prelude.{◌≡◌, ℕ, List, Option, None, Some, codes, unwrap_or, option_and_then}
+use Rattle.std.specs.Prelude.{ℕ, List, Option, None, Some, codes, unwrap_or, option_and_then}
 use Rattle.std.specs.Option.{option_map_or}
 use Rattle.serde_json.specs.Data.{Data}
 use Rattle.serde_json.specs.Find.{get, as_number, as_u64}

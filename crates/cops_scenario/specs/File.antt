@@ -1,10 +1,11 @@
 -- The JSON that stands in a file for each part of a scenario.
 use Rattle.std.specs.Prelude.{◌≡◌, ◌≢◌, ◌≤◌, ◌⊎◌, ℕ, List, [], ◌∷◌, length, map, codes, All, Option, None, Some, IfSome, IsUtf8}
-use Rattle.serde_json.specs.Data.{Data, unsigned, number, string, array, object, member, no_members}
+use Rattle.serde_json.specs.Data.{Data, array, object, member, no_members}
 use Rattle.serde_json.specs.Read.{read}
 use Rattle.serde_json.specs.View.{items_of}
 use Rattle.serde_json.specs.Find.{get, as_object}
 use Rattle.cops_types.specs.Texts.{version_text}
+use Rattle.cops_fields.specs.Json.{number_json, text_json}
 use Rattle.cops_core.specs.declared.event.Event.{Event}
 use Rattle.cops_core.specs.declared.event.Event.TheVariants.{Put, Get, Deliver, Ask, Mark, Settle}
 use Rattle.cops_scenario.specs.declared.fault.Field.{Field}
@@ -16,12 +17,6 @@ use Rattle.cops_scenario.specs.declared.scenario.TheConstants.{MAX_CLIENTS}
 use Rattle.cops_scenario.specs.Scenario.{AScenario}
 use Rattle.cops_scenario.specs.Fields.{name_of, number_at, range_of}
 use Rattle.cops_scenario.specs.Limits.{AreSplits, IsLegalClient, IsLegalScenario, AreLegalEvents}
-
-abbrev pub number_json : ℕ → Data
-number_json n = number (unsigned n)
-
-abbrev pub text_json : List ℕ → Data
-text_json text = string text
 
 abbrev pub list_json : List Data → Data
 list_json items = array (items_of items)

@@ -5,14 +5,16 @@ ghost use Rattle.cops_types.specs.KeyValue.{IsKey, IsValue};
 ghost use Rattle.cops_types.specs.Texts.{version_text};
 ghost use Rattle.cops_types.specs.Version.{IsVersion};
 ghost use Rattle.cops_core.specs.declared.event.Event.{Event as AnEvent};
-ghost use Rattle.cops_scenario.specs.File.{event_json, op_json, list_json, number_json, text_json, kind_of, parts_of};
+ghost use Rattle.cops_fields.specs.Json.{number_json, text_json};
+ghost use Rattle.cops_scenario.specs.File.{event_json, op_json, list_json, kind_of, parts_of};
 ghost use Rattle.cops_scenario.specs.declared.scenario.TheConstants.{MAX_CLIENT, MAX_DC, MAX_DEP};
 ghost use Rattle.cops_scenario.specs.Limits.{IsLegalEvent, IsLegalOp};
 ghost use Rattle.cops_core.specs.declared.script.ScriptOp.{ScriptOp as AnOp};
 
-use crate::field::{Unread, client, dc, key, list, number, only_member, value, version};
+use crate::field::{client, dc, list, number, only_member};
 use crate::scenario::MAX_DEP;
 use cops_core::{Event, ScriptOp};
+use cops_fields::{Unread, key, value, version};
 use cops_types::{Key, Value, Version};
 use serde_json::Value as Json;
 use std::alloc::Global;

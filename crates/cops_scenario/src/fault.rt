@@ -3,6 +3,7 @@ use crate::scenario::{
     DEFAULT_HOLD, DEFAULT_LINK, DEFAULT_REPEAT, DEFAULT_RETRIES, DEFAULT_TURNS, MAX_HOLD, MAX_LINK,
     MAX_REPEAT, MAX_RETRIES, MAX_TURNS,
 };
+use cops_fields::Unread;
 use cops_types::MAX_DCS;
 use std::fmt;
 use thiserror::Error;
@@ -96,4 +97,20 @@ pub enum ScenarioFault {
     /// 2: the first field that is missing and has no default, is not of its form, or is not within its limits.
     #[error("scenario field {0}")]
     BadField(Field),
+}
+
+impl ScenarioFault {
+    ghost use Rattle.std.specs.Prelude.{◌≡◌, ◌≢◌};
+
+    /// The fault of a field in which something was not read.
+    pub(crate) fn of(unread: Unread, field: Field) -> ScenarioFault
+        ensures memory { unread ≡ Unread.Memory → result ≡ ScenarioFault.Memory }
+        ensures form { unread ≡ Unread.Form → result ≡ ScenarioFault.BadField field }
+        ensures json { result ≢ ScenarioFault.NotJson }
+    {
+        match unread {
+            Unread::Memory => ScenarioFault::Memory,
+            Unread::Form => ScenarioFault::BadField(field),
+        }
+    }
 }

@@ -3,7 +3,8 @@ ghost use Rattle.std.specs.Prelude.{◌≡◌, ◌≢◌, ◌≤◌, ◌<◌, �
 ghost use Rattle.std.specs.Bool.{OnFalse, OnTrue};
 ghost use Rattle.serde_json.specs.Data.{Data};
 ghost use Rattle.serde_json.specs.View.{view};
-ghost use Rattle.cops_scenario.specs.File.{text_json, list_json, AreRightBefore, AreUnscripted, IsListOrMissing, TellsClient, TellClients, TellsEvents, TellsNumberAt, TellsScenario, IsRightNumber, IsWrongNumber, IsWrong};
+ghost use Rattle.cops_fields.specs.Json.{text_json};
+ghost use Rattle.cops_scenario.specs.File.{list_json, AreRightBefore, AreUnscripted, IsListOrMissing, TellsClient, TellClients, TellsEvents, TellsNumberAt, TellsScenario, IsRightNumber, IsWrongNumber, IsWrong};
 ghost use Rattle.cops_scenario.specs.declared.fault.Field.{Field as AField};
 ghost use Rattle.serde_json.specs.Find.{get};
 ghost use Rattle.cops_types.specs.declared.limits.TheConstants.{MAX_DCS};
@@ -15,9 +16,10 @@ ghost use Rattle.cops_core.specs.declared.script.ScriptedClient.{ScriptedClient 
 
 use crate::event::{events, script};
 use crate::fault::{Field, ScenarioFault};
-use crate::field::{Unread, dc, key, list, number};
+use crate::field::{dc, list, number};
 use crate::scenario::{MAX_CLIENTS, MAX_EVENTS, MAX_SCRIPT, Scenario};
 use cops_core::{Event, ScriptedClient};
+use cops_fields::{Unread, key};
 use cops_place::{MAX_SPLITS, Place, PlaceFault};
 use cops_types::MAX_DCS;
 use serde_json::Value as Json;
@@ -55,9 +57,9 @@ fn scenario(alloc: Global, root: &Json) -> Result<Scenario, ScenarioFault>
         return Err(ScenarioFault::BadField(Field::Root));
     }
     let dcs = number_of(root, Field::DataCentres)? as u8;
-    let place = place(alloc, dcs, root.get(Field::Splits.name())).map_err(|unread| unread.of(
-        Field::Splits,
-    ))?;
+    let place = place(alloc, dcs, root.get(Field::Splits.name())).map_err(
+        |unread| ScenarioFault::of(unread, Field::Splits),
+    )?;
     let link = number_of(root, Field::Link)? as u16;
     let turns = number_of(root, Field::Turns)? as u32;
     let retries = number_of(root, Field::Retries)? as u8;
@@ -66,9 +68,12 @@ fn scenario(alloc: Global, root: &Json) -> Result<Scenario, ScenarioFault>
     let Some(listed) = root.get(Field::Clients.name()) else {
         return Err(ScenarioFault::BadField(Field::Clients));
     };
-    let clients = clients(alloc, dcs, listed).map_err(|unread| unread.of(Field::Clients))?;
+    let clients = clients(alloc, dcs, listed).map_err(|unread| ScenarioFault::of(
+        unread,
+        Field::Clients,
+    ))?;
     let events = events_beside(alloc, listed, root.get(Field::Events.name())).map_err(
-        |unread| unread.of(Field::Events),
+        |unread| ScenarioFault::of(unread, Field::Events),
     )?;
     Ok(Scenario::new(place, link, turns, retries, repeat, hold, clients, events))
 }
@@ -88,7 +93,7 @@ fn number_of(root: &Json, field: Field) -> Result<u64, ScenarioFault>
     };
     match (root.get(field.name()), range.missing) {
         (Some(json), _) => {
-            number(json, range.least, range.most).map_err(|unread| unread.of(field))
+            number(json, range.least, range.most).map_err(|unread| ScenarioFault::of(unread, field))
         }
         (None, Some(n)) => Ok(n),
         _ => Err(ScenarioFault::BadField(field)),

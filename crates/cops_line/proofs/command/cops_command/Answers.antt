@@ -10,5 +10,5 @@ unfolding cops_app
 returns c =
     let run_is = ap (λ (a : App). a.top) c.in_ok-run.ensures.app in
     let serve_is = ap (λ (a : App). a.top) c.in_ok-serve.ensures.app in
-    let with_run = c.in_ok-command.ensures.shape c.in_ok-run.ensures.local ∙ ap₂ with_subcommand c.in_ok-reading_command.ensures run_is in
+    let with_run = c.in_ok-command.ensures.shape c.in_ok-run.ensures.local ∙ ap₂ with_subcommand c.in_ok-tracing_command.ensures run_is in
     IfOk-weaker c.subcommand-2.result _ _ (λ r h. h.shape c.in_ok-serve.ensures.local ∙ ap₂ with_subcommand with_run serve_is) c.subcommand-2.ensures

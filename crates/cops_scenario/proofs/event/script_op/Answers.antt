@@ -2,7 +2,7 @@ use Rattle.std.proofs.Common.{◌∙◌, ℕ, List, [], ◌∷◌, map, lit≤, 
 use Rattle.std.specs.Prelude.{◌≢◌}
 use Rattle.serde_json.specs.View.{view}
 use Rattle.cops_types.specs.KeyValue.{IsKey, IsValue}
-use Rattle.cops_scenario.specs.File.{text_json}
+use Rattle.cops_fields.specs.Json.{text_json}
 use Rattle.cops_scenario.proofs.Events.{no_pair}
 use Rattle.cops_scenario.proofs.Forms.{same_list}
 use Rattle.cops_scenario.proofs.event.script_op.Goals as goal

@@ -1,8 +1,8 @@
 use Rattle.std.proofs.Common.{inl, inr, arith}
 use Rattle.std.proofs.lemmas.Fmt.{parse-decimal}
-use Rattle.cops_scenario.proofs.Texts.{decimal_looks, decimal_read}
-use Rattle.cops_scenario.proofs.field.decimal.Goals.{then-is_empty-via-then-is_empty, then-is_empty-via-else-is_empty+then-digits-eq43}
-use Rattle.cops_scenario.proofs.field.decimal.Goals as goal
+use Rattle.cops_fields.proofs.Texts.{decimal_looks, decimal_read}
+use Rattle.cops_fields.proofs.field.decimal.Goals.{then-is_empty-via-then-is_empty, then-is_empty-via-else-is_empty+then-digits-eq43}
+use Rattle.cops_fields.proofs.field.decimal.Goals as goal
 
 pub returns-then-is_empty-clause-none : goal.returns-then-is_empty-clause-none
 returns-then-is_empty-clause-none c = λ n small e.

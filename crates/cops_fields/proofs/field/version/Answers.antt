@@ -4,8 +4,8 @@ use Rattle.std.proofs.lemmas.Fmt.{decimal_injective}
 use Rattle.std.proofs.lemmas.Result.{Ok-from_Ok_iff}
 use Rattle.cops_types.specs.Texts.{version_text}
 use Rattle.cops_types.specs.Version.{clock_of, node_of}
-use Rattle.cops_scenario.proofs.Versions.{clock_fits, version_parts}
-use Rattle.cops_scenario.proofs.field.version.Goals as goal
+use Rattle.cops_fields.proofs.Versions.{clock_fits, version_parts}
+use Rattle.cops_fields.proofs.field.version.Goals as goal
 
 refused : {T E : Type 0} (r : Result T E) (P : Type 0) → P → OnErr r P
 refused (Ok x) P p = tt

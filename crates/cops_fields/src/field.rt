@@ -1,0 +1,63 @@
+//! Texts as keys, values and versions.
+ghost use Rattle.std.specs.Prelude.{◌≡◌, ◌≢◌, ◌<◌, ◌^◌, ℕ, List, decimal, Err, IfOk, OnErr};
+ghost use Rattle.serde_json.specs.View.{view};
+ghost use Rattle.cops_types.specs.KeyValue.{IsKey, IsValue};
+ghost use Rattle.cops_types.specs.Texts.{version_text};
+ghost use Rattle.cops_types.specs.Version.{IsVersion};
+ghost use Rattle.cops_fields.specs.Json.{text_json};
+
+use crate::unread::Unread;
+use cops_types::{Key, Value, Version};
+use serde_json::Value as Json;
+use std::alloc::Global;
+
+/// A text as a key: `Form` where it is no text of 1 to 64 bytes, and `Memory` where memory runs out.
+pub fn key(alloc: Global, json: &Json) -> Result<Key, Unread>
+    ensures json { IfOk result (λ bytes. view json.now ≡ text_json bytes) }
+    ensures legal { IfOk result IsKey }
+    ensures none { result ≡ Err Unread.Form → (bytes : List ℕ) → IsKey bytes → view json.now ≢ text_json bytes }
+{
+    let text = json.as_str().ok_or(Unread::Form)?;
+    Ok(Key::new(alloc, text.as_bytes())?)
+}
+
+/// A text as a value: `Form` where it is no text of at most 4,096 bytes, and `Memory` where memory runs out.
+pub fn value(alloc: Global, json: &Json) -> Result<Value, Unread>
+    ensures json { IfOk result (λ bytes. view json.now ≡ text_json bytes) }
+    ensures legal { IfOk result IsValue }
+    ensures none { result ≡ Err Unread.Form → (bytes : List ℕ) → IsValue bytes → view json.now ≢ text_json bytes }
+{
+    let text = json.as_str().ok_or(Unread::Form)?;
+    Ok(Value::new(alloc, text.as_bytes())?)
+}
+
+/// A text as a version, a clock, a dot and a node, each decimal without leading zeros: `Form` where it is no such text, or its numbers
+/// are no version's. It takes no memory.
+pub fn version(json: &Json) -> Result<Version, Unread>
+    ensures json { IfOk result (λ version. view json.now ≡ text_json (version_text version)) }
+    ensures legal { IfOk result IsVersion }
+    ensures none { OnErr result ((version : ℕ) → IsVersion version → view json.now ≢ text_json (version_text version)) }
+{
+    let text = json.as_str().ok_or(Unread::Form)?;
+    let (clock, node) = text.split_once('.').ok_or(Unread::Form)?;
+    let node = u16::try_from(decimal(node)?).or(Err(Unread::Form))?;
+    Ok(Version::new(decimal(clock)?, node)?)
+}
+
+/// A number of digits alone, without leading zeros.
+fn decimal(text: &str) -> Result<u64, Unread>
+    ensures text { IfOk result (λ n. text.now ≡ decimal n) }
+    ensures none { OnErr result ((n : ℕ) → n < 2 ^ 64 → text.now ≢ decimal n) }
+{
+    let digits = text.as_bytes();
+    if digits.is_empty() || digits[0] == b'+' {
+        return Err(Unread::Form);
+    }
+    if digits[0] == b'0' && digits.len() > 1 {
+        return Err(Unread::Form);
+    }
+    match text.parse::<u64>() {
+        Ok(n) => Ok(n),
+        Err(_) => Err(Unread::Form),
+    }
+}
