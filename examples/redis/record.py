@@ -1,0 +1,145 @@
+"""What clients of a Redis primary and its replica see, recorded as JSON Lines.
+
+The protocol RESP is spoken by hand, over sockets. A put is a script that raises one clock of the primary and stores the value together with what
+the clock then shows: that is the put's version, and no version is given twice. A get returns both.
+"""
+import json
+import socket
+import threading
+import time
+
+CLOCK = "clock"
+PUT = """
+local version = redis.call('INCR', KEYS[1])
+redis.call('HSET', KEYS[2], 'value', ARGV[1], 'version', version)
+return version
+"""
+
+# For how many seconds a reply, or a replica that comes into step, is waited for.
+PATIENCE = 20
+
+
+class Connection:
+    """One connection to a server: commands, and their replies."""
+
+    def __init__(self, port):
+        self.socket = socket.create_connection(("127.0.0.1", port), timeout=PATIENCE)
+        self.replies = self.socket.makefile("rb")
+
+    def call(self, *words):
+        """The reply to a command: text, a whole number, None, or a list of such."""
+        text = f"*{len(words)}\r\n".encode()
+        for word in words:
+            data = str(word).encode()
+            text += f"${len(data)}\r\n".encode() + data + b"\r\n"
+        self.socket.sendall(text)
+        return self.reply()
+
+    def reply(self):
+        line = self.replies.readline()
+        if not line.endswith(b"\r\n"):
+            raise ConnectionError("the server has ended the connection")
+        kind, rest = line[:1], line[1:-2]
+        if kind == b"+":
+            return rest.decode()
+        if kind == b"-":
+            raise RuntimeError(rest.decode())
+        if kind == b":":
+            return int(rest)
+        if kind == b"$":
+            return None if rest == b"-1" else self.replies.read(int(rest) + 2)[:-2].decode()
+        if kind == b"*":
+            return [self.reply() for _ in range(int(rest))]
+        raise ValueError(f"no reply: {line}")
+
+    def information(self, section):
+        """What INFO says of a section, as names and texts."""
+        lines = self.call("INFO", section).split("\r\n")
+        return dict(line.split(":", 1) for line in lines if ":" in line)
+
+    def close(self):
+        self.replies.close()
+        self.socket.close()
+
+
+class Recorder:
+    """Keeps a line for each operation, in the order in which their replies came."""
+
+    def __init__(self):
+        self.lock = threading.Lock()
+        self.lines = []
+
+    def add(self, line):
+        with self.lock:
+            self.lines.append(json.dumps(line))
+
+    def text(self):
+        return "".join(line + "\n" for line in self.lines)
+
+
+class Client:
+    """A client, which puts at the primary and gets where it is told to. It records an operation when its reply has come, before its next one."""
+
+    def __init__(self, name, recorder, primary, replica):
+        self.name = name
+        self.recorder = recorder
+        self.primary = Connection(primary)
+        self.replica = Connection(replica)
+
+    def put(self, key, value):
+        version = self.primary.call("EVAL", PUT, 2, CLOCK, f"key:{key}", value)
+        self.recorder.add({"client": self.name, "put": key, "value": value, "version": version})
+
+    def get(self, key, at_replica=False):
+        server = self.replica if at_replica else self.primary
+        value, version = server.call("HMGET", f"key:{key}", "value", "version")
+        line = {"client": self.name, "get": key}
+        if version is not None:
+            line |= {"value": value, "version": int(version)}
+        self.recorder.add(line)
+
+    def close(self):
+        self.primary.close()
+        self.replica.close()
+
+
+def wait_until(holds, what):
+    """Asks again and again, until it holds."""
+    end = time.monotonic() + PATIENCE
+    while not holds():
+        if time.monotonic() > end:
+            raise TimeoutError(f"waited for {PATIENCE} seconds: {what}")
+        time.sleep(0.01)
+
+
+def in_step(primary, replica):
+    """Waits until the replica has all that the primary has now."""
+    asked, told = Connection(primary), Connection(replica)
+    offset = int(asked.information("replication")["master_repl_offset"])
+
+    def has_all():
+        state = told.information("replication")
+        return state.get("master_link_status") == "up" and int(state["slave_repl_offset"]) >= offset
+
+    wait_until(has_all, "the replica is in step")
+    asked.close()
+    told.close()
+
+
+def side_by_side(*works):
+    """Does each work on a thread of its own. Where one fails, so does this."""
+    failures = []
+
+    def done(work):
+        try:
+            work()
+        except Exception as failure:  # (told below, by the thread that waits)
+            failures.append(failure)
+
+    threads = [threading.Thread(target=done, args=(work,)) for work in works]
+    for thread in threads:
+        thread.start()
+    for thread in threads:
+        thread.join()
+    if failures:
+        raise failures[0]

@@ -1,0 +1,204 @@
+#!/usr/bin/env python3
+"""Records what clients of a Redis primary and its replica see, twice, and has it audited.
+
+usage: run.py [FOLDER]
+
+In the first recording all clients get at the primary; in the second one gets at the replica too, whose link is held back for a while. The lines
+and the traces are left in FOLDER, where one is named. README.md beside this file says more.
+"""
+import os
+import shutil
+import socket
+import subprocess
+import sys
+import tempfile
+import threading
+
+sys.dont_write_bytecode = True
+from record import PATIENCE, Client, Connection, Recorder, in_step, side_by_side, wait_until  # noqa: E402
+
+COPS = os.path.join(os.path.dirname(os.path.abspath(__file__)), "..", "..", "cops")
+ROUNDS = 20
+
+
+def free_port():
+    with socket.socket() as listener:
+        listener.bind(("127.0.0.1", 0))
+        return listener.getsockname()[1]
+
+
+class Server:
+    """A Redis server on a free port of this machine, with nothing on the disk but its log."""
+
+    def __init__(self, folder, name, primary=None):
+        self.port = free_port()
+        words = ["redis-server", "--bind", "127.0.0.1", "--port", str(self.port), "--dir", folder, "--dbfilename", f"{name}.rdb"]
+        words += ["--save", "", "--appendonly", "no", "--repl-diskless-sync-delay", "0"]
+        if primary:
+            words += ["--replicaof", f"127.0.0.1 {primary}"]
+        with open(os.path.join(folder, f"{name}.log"), "wb") as log:
+            self.process = subprocess.Popen(words, stdout=log, stderr=log)
+        try:
+            wait_until(self.answers, f"the {name} answers")
+        except BaseException:
+            self.end()
+            raise
+
+    def answers(self):
+        if self.process.poll() is not None:
+            raise RuntimeError(f"redis-server has ended with {self.process.returncode}")
+        try:
+            connection = Connection(self.port)
+        except ConnectionRefusedError:
+            return False
+        connection.close()
+        return True
+
+    def end(self):
+        self.process.terminate()
+        try:
+            self.process.wait(PATIENCE)
+        except subprocess.TimeoutExpired:
+            self.process.kill()
+            self.process.wait()
+
+
+class Link:
+    """What a replica takes for its primary: a port that passes everything on, and holds back what the primary sends while it is told to."""
+
+    def __init__(self, primary):
+        self.primary = primary
+        self.open = threading.Event()
+        self.open.set()
+        self.listener = socket.create_server(("127.0.0.1", 0))
+        self.port = self.listener.getsockname()[1]
+        threading.Thread(target=self.accept, daemon=True).start()
+
+    def accept(self):
+        try:
+            while True:
+                near, _ = self.listener.accept()
+                far = socket.create_connection(("127.0.0.1", self.primary))
+                threading.Thread(target=self.pass_on, args=(near, far), daemon=True).start()
+                threading.Thread(target=self.pass_on, args=(far, near, self.open), daemon=True).start()
+        except OSError:
+            # (the link is closed, or the primary has ended)
+            pass
+
+    @staticmethod
+    def pass_on(source, target, is_open=None):
+        """Passes on what comes, as soon as it may, to the end."""
+        try:
+            while data := source.recv(65_536):
+                if is_open:
+                    is_open.wait()
+                target.sendall(data)
+            target.shutdown(socket.SHUT_WR)
+        except OSError:
+            # (one of the two servers has ended)
+            pass
+
+    def end(self):
+        self.open.set()
+        self.listener.close()
+
+
+def at_the_primary(primary, replica, link):
+    """Four clients side by side, which put at three keys and get them again, all at the primary."""
+    recorder = Recorder()
+    clients = [Client(name, recorder, primary, replica) for name in ("alice", "bob", "carol", "dave")]
+
+    def work(client):
+        for turn in range(ROUNDS):
+            client.put("xyz"[turn % 3], f"{client.name} {turn}")
+            client.get("xyz"[(turn + 1) % 3])
+            client.get("xyz"[(turn + 2) % 3])
+
+    side_by_side(*(lambda client=client: work(client) for client in clients))
+    for client in clients:
+        client.close()
+    return recorder.text()
+
+
+def at_both(primary, replica, link):
+    """Alice puts a new picture and then says so. Bob gets at the primary what she said, and the picture at the replica, which has the old one as
+    long as its link is held back, and the new one afterwards. Beside them Carol and Dave put and get at the primary."""
+    recorder = Recorder()
+    alice, bob, carol, dave = clients = [Client(name, recorder, primary, replica) for name in ("alice", "bob", "carol", "dave")]
+    alice.put("picture", "old")
+    in_step(primary, replica)
+    bob.get("picture", at_replica=True)
+    link.open.clear()
+    said = threading.Event()
+
+    def put_and_say():
+        alice.put("picture", "new")
+        alice.put("message", "look at my new picture")
+        said.set()
+
+    def read_and_look():
+        if not said.wait(PATIENCE):
+            return
+        bob.get("message")
+        bob.get("picture", at_replica=True)
+        link.open.set()
+        in_step(primary, replica)
+        bob.get("picture", at_replica=True)
+
+    def work(client):
+        for turn in range(ROUNDS):
+            client.put("xy"[turn % 2], f"{client.name} {turn}")
+            client.get("xy"[(turn + 1) % 2])
+
+    side_by_side(put_and_say, read_and_look, lambda: work(carol), lambda: work(dave))
+    for client in clients:
+        client.close()
+    return recorder.text()
+
+
+RECORDINGS = [("primary", at_the_primary), ("both", at_both)]
+
+
+def recorded(folder, name, record):
+    """The path of the lines that a recording left, for which two servers were started and ended."""
+    primary = replica = link = None
+    try:
+        primary = Server(folder, f"{name}_primary")
+        link = Link(primary.port)
+        replica = Server(folder, f"{name}_replica", link.port)
+        in_step(primary.port, replica.port)
+        text = record(primary.port, replica.port, link)
+    finally:
+        for part in (link, replica, primary):
+            if part:
+                part.end()
+    path = os.path.join(folder, f"{name}.jsonl")
+    with open(path, "w", encoding="utf-8") as file:
+        file.write(text)
+    return path
+
+
+def cops(*words):
+    print(f"$ cops {' '.join(words)}", flush=True)
+    return subprocess.run([COPS, *words], check=False).returncode
+
+
+def main(folder):
+    for name, record in RECORDINGS:
+        lines = recorded(folder, name, record)
+        trace = os.path.join(folder, f"{name}.trace")
+        if cops("import", lines, trace) != 0:
+            return 1
+        if cops("audit", trace) == 1:
+            cops("explain", trace)
+    return 0
+
+
+if __name__ == "__main__":
+    if not shutil.which("redis-server"):
+        sys.exit("redis-server is not installed")
+    if len(sys.argv) > 1:
+        os.makedirs(sys.argv[1], exist_ok=True)
+        sys.exit(main(sys.argv[1]))
+    with tempfile.TemporaryDirectory() as temporary:
+        sys.exit(main(temporary))
