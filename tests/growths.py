@@ -42,14 +42,21 @@ class Work(typing.NamedTuple):
 def works():
     with open(data("stale.lines"), "rb") as file:
         report = file.read()
+    with open(data("stale.explained"), "rb") as file:
+        explained = file.read()
     program = os.path.join(ROOT, "crates", "cops", "out", "cops")
     own = [os.path.join(WORKS, "out", "cops_works"), "growths", example("newer_put_elsewhere.json"), data("events.lines"), example("stale.trace"), data("stale.lines")]
+    imported = b"client 0 writer\nclient 1 reader\nimported: 2 operations, 2 clients\n"
     ran = b"client 0 done\nclient 1 done\naccepted: 4 operations, 2 puts\n"
     return [
         Work("works", own, (0, b"as wanted\n"), (1,)),
         Work("audit", [program, "audit", example("stale.trace")], (1, report)),
         Work("audit by two workers", [program, "audit", example("stale.trace"), "--workers", "2"], (1, report)),
         Work("audit so far", [program, "audit", example("stale.trace"), "--so-far"], (1, report)),
+        Work("explain", [program, "explain", example("stale.trace"), "--picture", os.devnull], (1, explained)),
+        Work("import", [program, "import", example("put_and_get.jsonl"), os.devnull], (0, imported)),
+        # (standard input has no lines)
+        Work("import of standard input", [program, "import", "-", os.devnull], (0, b"imported: 0 operations, 0 clients\n")),
         # (an operation is tried once more, so that both clients are done whichever growth of theirs is refused)
         Work("run", [program, "run", data("scripts.json"), os.devnull], (0, ran)),
     ]

@@ -18,9 +18,12 @@ import plain  # noqa: E402
 import plain_cluster  # noqa: E402
 from cut_traces import cut_traces  # noqa: E402
 from large_traces import generated, little_memory, long_chain, many_rounds  # noqa: E402
+from pictures import pictures  # noqa: E402
+from redis import redis  # noqa: E402
 from traces import ROOT, audited, by_stalling_pipe, check, cops, ended, example, ran, skip, trace  # noqa: E402
 from client import message, talk  # noqa: E402
 from events import scenario  # noqa: E402
+from imports import imports  # noqa: E402
 from named import definition_files, wrong_edits  # noqa: E402
 from terminal import on_a_terminal  # noqa: E402
 
@@ -32,6 +35,14 @@ LISTENS = "0A"
 # For how many seconds a client of these tests waits for the front door.
 PATIENCE = 60
 
+
+# What is told where both of these options of `explain` stand.
+ALL_BESIDE_FAULT = b"""error: the argument '--all' cannot be used with '--fault <N>'
+
+Usage: cops explain --all <TRACE>
+
+For more information, try '--help'.
+"""
 
 TRACES = [
     ("empty", 0, "accepted: 0 operations, 0 puts\n"),
@@ -679,7 +690,17 @@ def words():
     for given in (["audit"], ["audit", b"\xff"], [b"\xff"], ["nothing"], ["audit", path, "more"], ["audit", "--nothing", path], ["show"], ["run", "a"], ["judge", "a", "b"]):
         status, out, err = cops(*given)
         check(f"usage of {given}", (status, out, err != b""), (2, b"", True))
-    for given in (["--help"], ["audit", "--help"], ["show", "--help"], ["run", "--help"], ["serve", "--help"], ["help"]):
+    for given in (["--all", "--fault", "2", path], ["--fault=1", path, "--all", "--picture", "a"], [path, "--all", "--fault", "16000000"]):
+        check(f"usage of explain {given}", cops("explain", *given), (2, b"", ALL_BESIDE_FAULT))
+    mistaken = (["--fault", "0", path], ["--fault", "16000001", path], ["--fault", path], ["--all=no", path], [path, "--picture"], ["--all"], [path, "--all", "--all"])
+    for given in mistaken:
+        status, out, err = cops("explain", *given)
+        check(f"usage of explain {given}", (status, out, err != b"", err == ALL_BESIDE_FAULT), (2, b"", True, False))
+    for command in ("audit", "explain", "show", "import", "run", "serve"):
+        check(f"the help has {command}", f"  {command} ".encode() in cops("--help")[1], True)
+    for option in (b"--all", b"--fault <N>", b"--picture <FILE>"):
+        check(f"help of {option}", option in cops("explain", "--help")[1], True)
+    for given in (["--help"], *([command, "--help"] for command in ("audit", "explain", "show", "import", "run", "serve")), ["help"]):
         status, out, err = cops(*given)
         check(f"help of {given}", (status, b"Usage: cops" in out, err), (0, True, b""))
     for option in (b"--sessions <N>", b"--idle <SECONDS>"):
@@ -726,7 +747,7 @@ def no_thread():
 for tests in (
     examples, long_chain, many_rounds, faults, cut_traces, shown, scenarios, refusals, faulty_scenarios, scripts, mixed_scripts, working_clusters,
     plain_cluster.random_worlds, many_workers, served, replies, strange_peers, sent_behind, idle_clients, listens_here_alone, words, devices,
-    on_a_terminal, generated, little_memory, no_thread, definition_files, wrong_edits, plain.rows, plain.random_histories,
+    on_a_terminal, generated, little_memory, no_thread, imports, pictures, redis, definition_files, wrong_edits, plain.rows, plain.random_histories,
 ):
     tests()
 sys.exit(ended())

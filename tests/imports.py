@@ -1,0 +1,343 @@
+"""The tests of `cops import`: JSON Lines that are made a trace, beside a plain importer in Python."""
+import json
+import os
+import random
+import re
+import struct
+import subprocess
+import tempfile
+
+from traces import BUILT, ROOT, check, cops, example
+from write_trace import TRACE_END, TRACE_GOT, TRACE_HEAD, TRACE_MISSED, TRACE_PUT, frame
+
+MAX_CLIENTS, MAX_CLIENT_OPS = 65_535, 1_000_000
+MAX_KEY, MAX_VALUE, MAX_CLOCK, MAX_NODE, MAX_DEPTH = 64, 4_096, 2**48 - 1, 1_023, 127
+BLANK = b" \t\r"
+WHOLE = re.compile(r"0|[1-9][0-9]*")
+VERSION = re.compile(r"(0|[1-9][0-9]*)\.(0|[1-9][0-9]*)", re.ASCII)
+PLAIN = b"ABCDEFGHIJKLMNOPQRSTUVWXYZabcdefghijklmnopqrstuvwxyz0123456789-._"
+
+FIRST = b'{"client":1,"get":"k"}\n'
+
+# Lines, and what is wrong with the last of them.
+WRONG = [
+    (b"x", "no JSON"),
+    (b"\n\n\xff\n", "no JSON"),
+    (b'{"client":1,"get":"k"} {}', "no JSON"),
+    (b'{"client":1,"get":"k"', "no JSON"),
+    (b'{"client":1,"get":"\\ud800"}', "no JSON"),
+    (b"[" * 128 + b"]" * 128, "no JSON"),
+    (b"[1]", "no client"),
+    (b"null", "no client"),
+    (b"{}", "no client"),
+    (b'{"client":-1,"put":3}', "no client"),
+    (b'{"client":1.0,"get":"k"}', "no client"),
+    (b'{"client":1e2,"get":"k"}', "no client"),
+    (b'{"client":-0,"get":"k"}', "no client"),
+    (b'{"client":18446744073709551616,"get":"k"}', "no client"),
+    (b'{"client":null,"get":"k"}', "no client"),
+    (b'{"client":1,"version":3}', "no operation"),
+    (b'{"client":1,"put":null,"get":"x"}', "both operations"),
+    (b'{"client":1,"get":""}', "bad key"),
+    (b'{"client":1,"get":null}', "bad key"),
+    (b'{"client":1,"get":1}', "bad key"),
+    (b'{"client":1,"put":"' + b"k" * 65 + b'","value":"","version":1}', "bad key"),
+    (b'{"client":1,"put":"k","version":1}', "bad value"),
+    (b'{"client":1,"put":"k","value":1,"version":1}', "bad value"),
+    (b'{"client":1,"put":"k"}', "bad value"),
+    (b'{"client":1,"get":"k","value":null,"version":1}', "bad value"),
+    (b'{"client":1,"put":"k","value":"' + b"v" * 4097 + b'","version":1}', "bad value"),
+    (b'{"client":1,"get":"k","value":""}', "bad version"),
+    (b'{"client":1,"get":"k","value":"","version":null}', "bad version"),
+    *[
+        (b'{"client":1,"put":"k","value":"","version":' + version + b"}", "bad version")
+        for version in (
+            b"0", b"281474976710656", b"1.0", b'"1"', b'"01.0"', b'"1.00"', b'"1.1024"', b'"0.1"', b'"+1.0"', b'"1."', b'"1.0 "', b'" 1.0"', b'"1.0.0"',
+            b"[1]", b"[1,1024]", b"[0,1]", b"[1,0,0]", b"[1.0,0]", b'["1",0]', b"{}", b"true",
+        )
+    ],
+]
+
+
+class Number(str):
+    """The text of a JSON number."""
+
+
+def has_surrogate(of):
+    if isinstance(of, Number):
+        return False
+    if isinstance(of, str):
+        return any("\ud800" <= c <= "\udfff" for c in of)
+    parts = [*of.keys(), *of.values()] if isinstance(of, dict) else of if isinstance(of, list) else []
+    return any(map(has_surrogate, parts))
+
+
+def depth_of(of):
+    """How deep lists and objects stand in each other."""
+    if isinstance(of, (dict, list)):
+        return 1 + max(map(depth_of, of.values() if isinstance(of, dict) else of), default=0)
+    return 0
+
+
+class Wrong(Exception):
+    pass
+
+
+def json_of(line):
+    try:
+        of = json.loads(line.decode(), parse_int=Number, parse_float=Number, parse_constant=lambda _: 1 / 0)
+    except (ValueError, ZeroDivisionError, RecursionError) as fault:
+        raise Wrong("no JSON") from fault
+    if has_surrogate(of) or depth_of(of) > MAX_DEPTH:
+        raise Wrong("no JSON")
+    return of
+
+
+def whole(of):
+    return int(of) if isinstance(of, Number) and WHOLE.fullmatch(of) and int(of) < 2**64 else None
+
+
+def text(of, words, least, most):
+    if not isinstance(of, str) or isinstance(of, Number) or not least <= len(of.encode()) <= most:
+        raise Wrong(words)
+    return of.encode()
+
+
+def name_of(of):
+    name = of.get("client") if isinstance(of, dict) else None
+    if isinstance(name, str) and not isinstance(name, Number):
+        return name
+    if whole(name) is None:
+        raise Wrong("no client")
+    return str(whole(name))
+
+
+def version_of(of):
+    parts = None, None
+    if isinstance(of, Number):
+        parts = whole(of), 0
+    elif isinstance(of, str) and VERSION.fullmatch(of):
+        parts = map(int, of.split("."))
+    elif isinstance(of, list) and len(of) == 2:
+        parts = map(whole, of)
+    clock, node = parts
+    if clock is None or node is None or not 1 <= clock <= MAX_CLOCK or node > MAX_NODE:
+        raise Wrong("bad version")
+    return struct.pack(">Q", clock * 65536 + node)
+
+
+def told(line):
+    """What a line tells: the client's name, the record's kind, and the bytes of its key, value and version."""
+    of = json_of(line)
+    name = name_of(of)
+    if "put" not in of and "get" not in of:
+        raise Wrong("no operation")
+    if "put" in of and "get" in of:
+        raise Wrong("both operations")
+    key = text(of.get("put", of.get("get")), "bad key", 1, MAX_KEY)
+    key = struct.pack(">B", len(key)) + key
+    if "get" in of and of.get("value") is None and of.get("version") is None:
+        return name, TRACE_MISSED, key
+    value = text(of.get("value"), "bad value", 0, MAX_VALUE)
+    value = struct.pack(">H", len(value)) + value
+    return name, TRACE_PUT if "put" in of else TRACE_GOT, key + value + version_of(of.get("version"))
+
+
+def escaped(name):
+    return "".join(chr(byte) if byte in PLAIN else f"%{byte:02x}" for byte in name.encode())
+
+
+def plain_import(data):
+    """What an import of lines answers: its status, what it prints, and the trace, or none."""
+    indices, records = {}, []
+    for number, line in enumerate(data.split(b"\n"), 1):
+        if not line.strip(BLANK):
+            continue
+        try:
+            name, kind, fields = told(line)
+            if name not in indices and len(indices) == MAX_CLIENTS:
+                raise Wrong("too many clients")
+            client, index = indices.get(name, (len(indices), 0))
+            if index == MAX_CLIENT_OPS:
+                raise Wrong("too many operations")
+        except Wrong as fault:
+            return 2, f"faulty: line {number}: {fault}\n".encode(), None
+        indices[name] = client, index + 1
+        records.append(frame(kind, struct.pack(">HI", client, index) + fields))
+    trace = [frame(TRACE_HEAD, struct.pack(">HH", 1, len(indices))), *records, frame(TRACE_END, struct.pack(">I", len(records)))]
+    lines = [f"client {client} {escaped(name)}\n" for name, (client, _) in indices.items()]
+    lines.append(f"imported: {len(records)} operations, {len(indices)} clients\n")
+    return 0, "".join(lines).encode(), b"".join(trace)
+
+
+def imported(data):
+    """What `cops import` of lines answers, and the trace that it writes: by files, and by standard input and output."""
+    with tempfile.TemporaryDirectory() as folder:
+        lines, trace = os.path.join(folder, "lines"), os.path.join(folder, "trace")
+        with open(lines, "wb") as file:
+            file.write(data)
+        status, out, errors = cops("import", lines, trace)
+        with open(trace, "rb") as file:
+            written = file.read()
+        from_input = cops("import", "-", trace, stdin=data)
+        with open(trace, "rb") as file:
+            also_written = file.read()
+        to_output = cops("import", lines, "-")
+        both = cops("import", "-", "-", stdin=data)
+    same = from_input == (status, out, errors) and also_written == written and to_output == both == (status, written, out + errors)
+    return (status, out, errors, written) if same else ("the four ways differ", from_input, to_output, both)
+
+
+def as_plain(name, data):
+    """The import answers what the plain importer does. Where a line is wrong, some records before it went out, and no end."""
+    status, out, trace = plain_import(data)
+    got = imported(data)
+    check(name, got if trace is not None else got[:3], (status, out, b"") if trace is None else (status, out, b"", trace))
+    if trace is None and isinstance(got[3], bytes):
+        cut = f"faulty: cut at {whole_frames(got[3])}\n".encode()
+        check(f"{name}: no whole trace", cops("audit", "-", stdin=got[3])[:2], (2, cut))
+
+
+def whole_frames(trace):
+    """Where the frame begins that is not whole."""
+    at = 0
+    while at + 4 <= len(trace) and at + 4 + struct.unpack(">I", trace[at : at + 4])[0] <= len(trace):
+        at += 4 + struct.unpack(">I", trace[at : at + 4])[0]
+    return at
+
+
+def worked():
+    """The trace by hand of docs/FORMATS.md, told in several ways."""
+    trace, counts = example("put_and_get.trace"), b"imported: 2 operations, 2 clients\n"
+    check("import of put_and_get.jsonl", imported(example("put_and_get.jsonl")), (0, b"client 0 writer\nclient 1 reader\n" + counts, b"", trace))
+    ways = [
+        b'{"client":1,"put":"x","value":"1","version":1}\n{"client":2,"get":"x","value":"1","version":1}\n',
+        b'{"client":"1","put":"x","value":"1","version":[1,0]}\n\n \t\r\n{"client":2,"get":"x","value":"1","version":"1.0","at":3}',
+        b'{"at":[{}],"version":9,"client":"1","put":"y","put":"x","value":"1","version":"1.0"}\r\n{"client":"2","get":"\\u0078","value":"1","version":1}\n',
+    ]
+    for data in ways:
+        check(f"import of {data}", imported(data), (0, b"client 0 1\nclient 1 2\n" + counts, b"", trace))
+    check("an audit of what was imported", cops("audit", "-", stdin=imported(ways[0])[3]), (0, b"accepted: 2 operations, 1 puts\n", b""))
+    empty = example("empty.trace")[:7] + b"\0\0" + example("empty.trace")[9:]
+    for data in (b"", b"\n", b" \t\r\n\r\n"):
+        check(f"import of blank lines {data}", imported(data), (0, b"imported: 0 operations, 0 clients\n", b"", empty))
+    names = '{"client":"","get":"k"}\n{"client":"a b/%\\n\\u0000","get":"k"}\n{"client":"ü-._Z9","get":"k"}\n'.encode()
+    shown = b"client 0 \nclient 1 a%20b%2f%25%0a%00\nclient 2 %c3%bc-._Z9\nimported: 3 operations, 3 clients\n"
+    check("names that are escaped", imported(names)[:3], (0, shown, b""))
+
+
+def wrong_lines():
+    """The first wrong line is told, and leaves no whole trace."""
+    for last, words in WRONG:
+        number = last.rstrip(b"\n").count(b"\n") + 1
+        check(f"the plain importer of {last[:60]}", plain_import(last)[:2], (2, f"faulty: line {number}: {words}\n".encode()))
+        as_plain(f"import of {last[:60]}", last)
+        later = FIRST + b"\r\n" + last + b"\n" + b"also wrong"
+        check(f"import of {last[:60]}, later", imported(later)[:3], (2, f"faulty: line {number + 2}: {words}\n".encode(), b""))
+
+
+def limits():
+    """The most clients, and one more; the most operations of a client, and one more."""
+    clients = b"".join(b'{"client":%d,"get":"k"}\n' % n for n in range(MAX_CLIENTS))
+    names = b"".join(b"client %d %d\n" % (n, n) for n in range(MAX_CLIENTS))
+    cases = [
+        ("clients", clients, names + b"imported: 65535 operations, 65535 clients\n", b'{"client":"more","get":"k"}', b"faulty: line 65536: too many clients\n"),
+        ("operations", FIRST * MAX_CLIENT_OPS, b"client 0 1\nimported: 1000000 operations, 1 clients\n", FIRST, b"faulty: line 1000001: too many operations\n"),
+    ]
+    for name, most, told, more, faulty in cases:
+        with tempfile.NamedTemporaryFile() as file:
+            file.write(most)
+            file.flush()
+            check(f"the most {name}", cops("import", file.name, os.devnull), (0, told, b""))
+            file.write(more)
+            file.flush()
+            check(f"more {name} than the most", cops("import", file.name, os.devnull), (2, faulty, b""))
+
+
+def devices():
+    """Files that are not there, readers and writers that fail, and lines that come by a pipe."""
+    path = os.path.join(ROOT, "examples", "put_and_get.jsonl")
+    lines = b"client 0 writer\nclient 1 reader\nimported: 2 operations, 2 clients\n"
+    with tempfile.TemporaryDirectory() as folder:
+        none = os.path.join(folder, "trace")
+        check("no such lines", cops("import", "/nothing/there", none), (4, b"", b"failed: open\n"))
+        check("lines that are a folder", cops("import", ROOT, none), (4, b"", b"failed: read\n"))
+        check("lines that were not read leave no file", os.path.exists(none), False)
+        same = os.path.join(folder, "same")
+        with open(path, "rb") as file, open(same, "wb") as copy:
+            copy.write(file.read())
+        os.link(same, os.path.join(folder, "other name"))
+        for name in ("same", "other name"):
+            check(f"a trace over its own lines, {name}", cops("import", same, os.path.join(folder, name)), (4, b"", b"failed: same file\n"))
+        check("lines that were to be written over", cops("import", same, none), (0, lines, b""))
+        check("an import in no folder", cops("import", path, "/nothing/there"), (4, b"", b"failed: open\n"))
+        check("an import to a full device", cops("import", path, "/dev/full"), (4, b"", b"failed: write\n"))
+        with open("/dev/full", "wb") as full:
+            check("an import to standard output that is full", cops("import", path, "-", stdout=full), (4, None, b"failed: write\n"))
+            check("names to standard output that is full", cops("import", path, os.devnull, stdout=full), (4, None, b"failed: write\n"))
+        pipe = os.path.join(folder, "pipe")
+        os.mkfifo(pipe)
+        feeding = subprocess.Popen(["cp", path, pipe])
+        check("lines by a pipe of a name", cops("import", pipe, os.devnull), (0, lines, b""))
+        feeding.wait()
+        copies(folder, path, lines)
+    for words in (["import"], ["import", path], ["import", path, "-", "-"], ["import", "--all", path, "-"]):
+        status, out, errors = cops(*words)
+        check(f"usage of {words}", (status, out, errors != b""), (2, b"", True))
+    status, out, errors = cops("import", "--help")
+    check("help of import", (status, b"Usage: cops import <LINES> <TRACE>" in out, errors), (0, True, b""))
+
+
+def copies(folder, path, lines):
+    """The copy of standard input lies in the folder that TMPDIR names, and nothing is left there."""
+    kept = os.path.join(folder, "kept")
+    os.mkdir(kept)
+
+    def ran(where, data, trace=os.devnull):
+        answer = subprocess.run([BUILT, "import", "-", trace], input=data, capture_output=True, env={"TMPDIR": where})
+        return (answer.returncode, answer.stdout, answer.stderr), os.listdir(kept)
+
+    with open(path, "rb") as file:
+        data = file.read()
+    check("a copy of lines", ran(kept, data), ((0, lines, b""), []))
+    check("a copy of wrong lines", ran(kept, b"x"), ((2, b"faulty: line 1: no JSON\n", b""), []))
+    check("a copy for a full device", ran(kept, data, "/dev/full"), ((4, b"", b"failed: write\n"), []))
+    check("a copy in no folder", ran("/nothing/there", data), ((4, b"", b"failed: create\n"), []))
+
+
+def generated(seed):
+    """Random lines, now and then a wrong one."""
+    pick = random.Random(seed)
+    names = [1, 7, "7", "b", "a b", "ü", "", 2**64 - 1, "client"]
+    keys, values = ["x", "y", "k" * 64, "ü", " "], ["", "1", "v" * 4096, "a\nb", "\u0000", "ü"]
+
+    def version():
+        clock, node = pick.choice((1, 2, 77, 2**48 - 1)), pick.choice((0, 1, 64, 1023))
+        return pick.choice((f"{clock}.{node}", [clock, node], clock))
+
+    def line():
+        of = {"client": pick.choice(names), pick.choice(("put", "get")): pick.choice(keys)}
+        if "put" in of or pick.random() < 0.7:
+            of.update(value=pick.choice(values), version=version())
+        elif pick.random() < 0.5:
+            of.update(value=None, version=None)
+        if pick.random() < 0.2:
+            of[pick.choice(("at", "time", ""))] = pick.choice((1.5, None, [], {"put": 1}))
+        if pick.random() < 0.02:
+            of[pick.choice(("client", "put", "get", "value", "version"))] = pick.choice((None, 1, "x", [1, 2], {}, "", "1.0"))
+        if pick.random() < 0.01:
+            return json.dumps(of)[: pick.randrange(10)]
+        text = json.dumps(of, ensure_ascii=pick.random() < 0.5, separators=pick.choice(((",", ":"), (" , ", " : "))))
+        return pick.choice(("", "", " ", "\t")) + text + pick.choice(("", "", "\r", " "))
+
+    lines = [line() if pick.random() < 0.9 else pick.choice(("", " ", "\t\r")) for _ in range(pick.randrange(60))]
+    return "\n".join(lines).encode() + pick.choice((b"", b"\n"))
+
+
+def imports():
+    worked()
+    wrong_lines()
+    limits()
+    devices()
+    for seed in range(150):
+        as_plain(f"generated lines {seed}", generated(seed))

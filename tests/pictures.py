@@ -1,0 +1,121 @@
+"""Tests of the pictures of faults that the running program draws."""
+import os
+import shutil
+import struct
+import subprocess
+import tempfile
+import xml.etree.ElementTree as ElementTree
+
+from traces import ROOT, check, cops, example, skip, trace
+from write_trace import TRACE_END, TRACE_GOT, TRACE_HEAD, TRACE_PUT, frame
+
+SVG = "{http://www.w3.org/2000/svg}"
+
+# The label of each example's picture, and the operations that it shows, from left to right, each with the class of its card.
+PICTURES = [
+    ("doubled", "doubled (0,0)", [("card fault", "(0,0) client 0 put x=1 at 1.0"), ("card", "(1,0) client 1 put x=2 at 1.0")]),
+    ("no_source", "no source (1,0)", [("card fault", "(1,0) client 1 got x=1 at 1.0")]),
+    ("not_above", "not above (0,1)", [("card", "(0,0) client 0 got a=2 at 1.64"), ("card fault", "(0,1) client 0 put b=1 at 1.0")]),
+    (
+        "stale",
+        "stale (1,1)",
+        [
+            ("card returned", "(0,0) client 0 put x=1 at 1.0"),
+            ("card newer", "(0,1) client 0 put x=2 at 2.0"),
+            ("card", "(0,2) client 0 put y=3 at 3.0"),
+            ("card", "(1,0) client 1 got y=3 at 3.0"),
+            ("card fault", "(1,1) client 1 got x=1 at 1.0"),
+        ],
+    ),
+    (
+        "stale_missed",
+        "stale (1,1)",
+        [
+            ("card newer", "(0,1) client 0 put x=2 at 2.0"),
+            ("card", "(0,2) client 0 put y=3 at 3.0"),
+            ("card", "(1,0) client 1 got y=3 at 3.0"),
+            ("card fault", "(1,1) client 1 got nothing at x"),
+        ],
+    ),
+]
+
+
+def drawn(data, number=1):
+    """The picture of a trace's fault of that number, counted from 1, or another text where there is none."""
+    with tempfile.TemporaryDirectory() as folder:
+        path = os.path.join(folder, "fault.trace")
+        with open(path, "wb") as file:
+            file.write(data)
+        picture = os.path.join(folder, "fault.svg")
+        cops("explain", path, "--fault", str(number), "--picture", picture)
+        if not os.path.exists(picture):
+            return b"<nothing/>"
+        with open(picture, "rb") as file:
+            return file.read()
+
+
+def told(picture):
+    """The label of a picture, and its cards, each with its class and the operation that it tells, or how many are left out."""
+    svg = ElementTree.fromstring(picture)
+    shown = []
+    for group in svg.findall(f"{SVG}g"):
+        title = group.find(f"{SVG}title")
+        shown.append((group.get("class"), "".join((group if title is None else title).itertext())))
+    return svg.get("aria-label"), shown
+
+
+def hostile():
+    """A trace whose stale get has keys and values of bytes that mean something in XML, and of every other byte."""
+    texts = [b"]]><script>alert('&\"');</script><!-- ", bytes(range(64)), b"\"/><x a='", b"%" * 64, b"-->"]
+    texts += [bytes(range(start, start + 64)) for start in (64, 128, 192)]
+    for text in texts:
+        size = struct.pack(">B", len(text)) + text + struct.pack(">H", 256) + bytes(range(256))
+        names = [struct.pack(">HI", client, index) for client, index in ((0, 0), (0, 1), (1, 0), (1, 1))]
+        versions = [struct.pack(">Q", clock * 65536) for clock in (1, 2, 2, 1)]
+        kinds = (TRACE_PUT, TRACE_PUT, TRACE_GOT, TRACE_GOT)
+        frames = [frame(kind, name + size + version) for kind, name, version in zip(kinds, names, versions)]
+        yield b"".join([frame(TRACE_HEAD, struct.pack(">HH", 1, 2)), *frames, frame(TRACE_END, struct.pack(">I", 4))])
+
+
+def many_clients(clients):
+    """A stale get with a chain through so many clients."""
+    lines = [f"clients {clients}", "0 put x 1 1.0", "0 put x 2 2.0", "0 put c0 1 3.0"]
+    for client in range(1, clients):
+        lines += [f"{client} got c{client - 1} 1 {client + 2}.0", f"{client} put c{client} 1 {client + 3}.0"]
+    return trace([*lines, f"{clients - 1} got x 1 1.0"])
+
+
+def pictures():
+    """Each is well-formed, has the label of its fault, and shows what it should; some are rendered where that is possible."""
+    all_drawn = []
+    for name, label, shown in PICTURES:
+        picture = drawn(example(f"{name}.trace"))
+        check(f"the picture of {name}", told(picture), (label, shown))
+        all_drawn.append((name, picture))
+    check("the second doubled put", told(drawn(example("doubled.trace"), 2))[0], "doubled (1,0)")
+    with open(os.path.join(ROOT, "docs", "stale.svg"), "rb") as file:
+        check("docs/stale.svg is the picture of examples/stale.trace", file.read(), dict(all_drawn)["stale"])
+    for number, data in enumerate(hostile()):
+        picture = drawn(data)
+        check(f"a picture of hostile bytes, {number}", (told(picture)[0], picture.isascii(), picture.count(b"<script")), ("stale (1,1)", True, 0))
+        all_drawn.append((f"hostile bytes, {number}", picture))
+    picture = drawn(many_clients(100))
+    label, shown = told(picture)
+    check("a picture of a long chain", (label, len(shown), shown[7]), ("stale (99,2)", 14, ("left", ".. 188 more")))
+    left_out = [[card for card in told(drawn(many_clients(clients)))[1] if card[0] == "left"] for clients in (6, 7)]
+    check("pictures of chains of 12 and of 14", left_out, [[], [("left", ".. 2 more")]])
+    all_drawn.append(("a long chain", picture))
+    rendered(all_drawn)
+
+
+def rendered(all_drawn):
+    """Each picture is drawn as large as it says."""
+    if not shutil.which("rsvg-convert"):
+        skip("pictures, rendered", "rsvg-convert is not installed")
+        return
+    for name, picture in all_drawn:
+        ran = subprocess.run(["rsvg-convert", "--format", "png"], input=picture, stdout=subprocess.PIPE, stderr=subprocess.PIPE)
+        svg = ElementTree.fromstring(picture)
+        size = ran.stdout[16:24] if ran.stdout.startswith(b"\x89PNG") else b""
+        wanted = struct.pack(">II", int(svg.get("width", "0")), int(svg.get("height", "0")))
+        check(f"rendered: {name}", (ran.returncode, size, ran.stderr), (0, wanted, b""))
