@@ -27,6 +27,10 @@ pub struct Room {
     pub sweep: Sweep,
 }
 
+/// The least number of operations that there is space for, once there is any. Each vector of so many lies in pages of its own, where the
+/// system lets it grow without a copy of what was never written.
+const LEAST_SPACE: usize = 32_768;
+
 /// Empties it, and makes room for so many.
 fn make_room<T: Drop>(items: &mut Vec<T>, count: usize) -> Result<(), AllocError>
     ensures empty { items.new.items ≡ [] }
@@ -34,11 +38,7 @@ fn make_room<T: Drop>(items: &mut Vec<T>, count: usize) -> Result<(), AllocError
     ensures capacity { vec_capacity items.old ≤ vec_capacity items.new }
 {
     items.clear();
-    if items.capacity() < count {
-        // (a vector that grows has the heap copy its bytes, though there is no item)
-        *items = Vec::with_capacity(*items.allocator(), count)?;
-    }
-    Ok(())
+    items.reserve(count)
 }
 
 impl Room {
@@ -67,7 +67,7 @@ impl Room {
         })
     }
 
-    /// Makes space for a quarter more than so many operations, which are more than there is space for.
+    /// Makes space for a quarter more than so many operations, which are more than there is space for, and for the least number at least.
     fn reserve(&mut self, notes: &mut FlatNotes, count: usize) -> Result<(), AllocError>
         requires more { self.old.space < count }
         requires few { count ≤ MAX_OPS + 1 }
@@ -80,7 +80,7 @@ impl Room {
         ensures notes { self.new.space ≤ notes.new.note_room }
         ensures sessions { notes.new.session_room ≡ notes.old.session_room }
     {
-        let space = count + count / 4;
+        let space = (count + count / 4).max(LEAST_SPACE);
         notes.reserve(space)?;
         make_room(&mut self.names, space)?;
         make_room(&mut self.table, space)?;
