@@ -1,25 +1,22 @@
 -- Lines that end, and what they tell.
-use Rattle.std.proofs.Common.{◌≡◌, ◌==◌, ℕ, false, List, [], ◌∷◌, ◌++◌, All, refl, sym, ap, ◌∙◌, append_assoc}
+use Rattle.std.proofs.Common.{◌≡◌, ◌==◌, ℕ, List, [], ◌∷◌, ◌++◌, refl, sym, ap, ◌∙◌, append_assoc}
 use Rattle.std.specs.Prelude.{Option}
 use Rattle.std.proofs.lemmas.List.{append-nil}
 use Rattle.std.proofs.lemmas.List.Splits.{slice_split_at, slice_split_none}
 use Rattle.cops_import.specs.Line.{LineTells}
-use Rattle.cops_import.specs.Lines.{TellAfter, lines, with_told}
+use Rattle.cops_import.specs.Lines.{IsWithin, TellAfter, lines, with_told}
 use Rattle.cops_import.specs.declared.line.Told.{Told}
 
 -- what was kept of a text whose lines ended
 abbrev pub Splits : List ℕ → List (List ℕ) → List ℕ → Type 0
 Splits fed ended line = (more : List ℕ) → lines (fed ++ more) ≡ ended ++ lines (line ++ more)
 
-abbrev pub IsWithin : List ℕ → Type 0
-IsWithin line = All (λ (b : ℕ). (b == 10) ≡ false) line
-
 pub split_none : Splits [] [] []
 split_none more = refl
 
--- a byte more of the last line
-pub split_byte : (fed : List ℕ) (ended : List (List ℕ)) (line : List ℕ) (byte : ℕ) → Splits fed ended line → Splits (fed ++ byte ∷ []) ended (line ++ byte ∷ [])
-split_byte fed ended line byte h more = ap lines (append_assoc fed (byte ∷ []) more) ∙ h (byte ∷ more) ∙ ap (λ (l : List ℕ). ended ++ lines l) (sym (append_assoc line (byte ∷ []) more))
+-- a part more of the last line
+pub split_part : (fed : List ℕ) (ended : List (List ℕ)) (line part : List ℕ) → Splits fed ended line → Splits (fed ++ part) ended (line ++ part)
+split_part fed ended line part h more = ap lines (append_assoc fed part more) ∙ h (part ++ more) ∙ ap (λ (l : List ℕ). ended ++ lines l) (sym (append_assoc line part more))
 
 -- the line that a line feed ends
 pub split_here : (fed : List ℕ) (ended : List (List ℕ)) (line more : List ℕ) → Splits fed ended line → IsWithin line → lines ((fed ++ 10 ∷ []) ++ more) ≡ ended ++ line ∷ lines more

@@ -1,26 +1,20 @@
--- An import that goes on, byte by byte and line by line.
-use Rattle.std.proofs.Common.{◌≡◌, ◌≢◌, ◌==◌, ◌+◌, ◌^◌, ◌<◌, ◌≤◌, ℕ, false, List, [], ◌∷◌, ◌++◌, length, get_or, take, drop, refl, sym, ap, subst, ◌∙◌, append_assoc, arith}
+-- An import that goes on, part by part and line by line.
+use Rattle.std.proofs.Common.{◌≡◌, ◌==◌, ◌+◌, ◌^◌, ◌≤◌, ℕ, false, List, [], ◌∷◌, ◌++◌, length, refl, sym, ap, subst, ◌∙◌, append_assoc, arith}
 use Rattle.std.specs.Prelude.{Option}
-use Rattle.std.proofs.lemmas.List.{length-append, take-append-drop, take_more}
-use Rattle.std.proofs.lemmas.List.Elements.{All-nil, All-append, All-cons}
-use Rattle.std.proofs.lemmas.Bool.{ne_eqb}
+use Rattle.std.proofs.lemmas.List.{length-append}
+use Rattle.std.proofs.lemmas.List.Elements.{All-nil, All-append}
 use Rattle.cops_types.specs.declared.counted.Counted.{Counted}
 use Rattle.cops_import.specs.Faults.{IsFaultOf}
 use Rattle.cops_import.specs.Line.{LineTells}
-use Rattle.cops_import.specs.Lines.{LinesTell, lines, with_told}
+use Rattle.cops_import.specs.Lines.{IsWithin, LinesTell, lines, with_told}
 use Rattle.cops_import.specs.Underway.{HasLeft, HasStopped, HasTaken, IsStopAt, IsUnderway, TakesLine}
 use Rattle.cops_import.specs.declared.fault.ImportFault.{ImportFault}
 use Rattle.cops_import.specs.declared.fault.ImportFault.TheVariants.{Endless, Memory}
 use Rattle.cops_import.specs.declared.importer.Importer.{Importer}
 use Rattle.cops_import.specs.declared.line.Told.{Told}
 use Rattle.cops_import.proofs.Records.{cut_so_far}
-use Rattle.cops_import.proofs.Splitting.{IsWithin, Splits, split_byte, split_ended, split_last, split_none, tell_more}
+use Rattle.cops_import.proofs.Splitting.{Splits, split_ended, split_last, split_none, split_part, tell_more}
 use Rattle.cops_import.proofs.Stops.{no_number, stops_here}
-
-within_more : (line : List ℕ) (byte : ℕ) → IsWithin line → byte ≢ 10 → IsWithin (line ++ byte ∷ [])
-within_more line byte h other =
-    let P : ℕ → Type 0 = λ b. (b == 10) ≡ false in
-    All-append P line (byte ∷ []) h (All-cons P byte [] (ne_eqb byte 10 other) (All-nil P))
 
 module _ {W : Type 0} (contents : W → Option (List ℕ)) (from : Counted W) where
   -- a line feed came
@@ -36,16 +30,16 @@ module _ {W : Type 0} (contents : W → Option (List ℕ)) (from : Counted W) wh
     taken = taken;
   }
 
-  -- another byte came
-  pub byte_taken : (fed : List ℕ) (old new : Importer W) (byte : ℕ) → (u : IsUnderway contents from fed old) → new.line.items ≡ old.line.items ++ byte ∷ [] → byte ≢ 10 → new.ended ≡ old.ended
-      → HasTaken contents from u.tolds new → IsUnderway contents from (fed ++ byte ∷ []) new
-  byte_taken fed old new byte u items other same taken = record {
+  -- a part of a line came
+  pub part_taken : (fed part : List ℕ) (old new : Importer W) → (u : IsUnderway contents from fed old) → new.line.items ≡ old.line.items ++ part → IsWithin part → new.ended ≡ old.ended
+      → HasTaken contents from u.tolds new → IsUnderway contents from (fed ++ part) new
+  part_taken fed part old new u items within same taken = record {
     ended = u.ended;
     tolds = u.tolds;
     tell = u.tell;
     counted = same ∙ u.counted;
-    split = subst (Splits (fed ++ byte ∷ []) u.ended) (sym items) (split_byte fed u.ended old.line.items byte u.split);
-    within = subst IsWithin (sym items) (within_more old.line.items byte u.within other);
+    split = subst (Splits (fed ++ part) u.ended) (sym items) (split_part fed u.ended old.line.items part u.split);
+    within = subst IsWithin (sym items) (All-append (λ (b : ℕ). (b == 10) ≡ false) old.line.items part u.within within);
     taken = taken;
   }
 
@@ -101,8 +95,13 @@ module _ {W : Type 0} (contents : W → Option (List ℕ)) (from : Counted W) wh
     taken = taken;
   }
 
--- a piece after one of its bytes
-pub piece_rest : (fed piece : List ℕ) (i : ℕ) → i < length piece → ((fed ++ take i piece) ++ get_or piece i 0 ∷ []) ++ drop (i + 1) piece ≡ fed ++ piece
-piece_rest fed piece i inside =
-    ap (λ (l : List ℕ). l ++ drop (i + 1) piece) (append_assoc fed (take i piece) (get_or piece i 0 ∷ []) ∙ ap (λ (l : List ℕ). fed ++ l) (sym (take_more piece i 0 inside)))
-    ∙ append_assoc fed (take (i + 1) piece) (drop (i + 1) piece) ∙ ap (λ (l : List ℕ). fed ++ l) (take-append-drop (i + 1) piece)
+-- a line that was cut off the rest of a piece
+pub cut_off : (piece before rest part behind : List ℕ) → piece ≡ before ++ rest → rest ≡ part ++ 10 ∷ behind → piece ≡ (before ++ part ++ 10 ∷ []) ++ behind
+cut_off piece before rest part behind is cut =
+    is ∙ ap (λ (l : List ℕ). before ++ l) cut ∙ sym (append_assoc (before ++ part) (10 ∷ []) behind ∙ append_assoc before part (10 ∷ behind))
+
+pub after_line : (fed before part : List ℕ) → (fed ++ before) ++ part ++ 10 ∷ [] ≡ fed ++ (before ++ part ++ 10 ∷ [])
+after_line fed before part = ap (λ (l : List ℕ). l ++ 10 ∷ []) (append_assoc fed before part) ∙ append_assoc fed (before ++ part) (10 ∷ [])
+
+pub all_of : (fed piece front rest : List ℕ) → piece ≡ front ++ rest → (fed ++ front) ++ rest ≡ fed ++ piece
+all_of fed piece front rest is = append_assoc fed front rest ∙ ap (λ (l : List ℕ). fed ++ l) (sym is)

@@ -6,12 +6,12 @@ use Rattle.std.proofs.lemmas.List.Splits.{length-slice_split}
 use Rattle.std.proofs.lemmas.List.Sums.{count_by-le-length}
 use Rattle.cops_import.specs.Faults.{IsFaultOf}
 use Rattle.cops_import.specs.Line.{LineTells}
-use Rattle.cops_import.specs.Lines.{LinesTell, lines}
+use Rattle.cops_import.specs.Lines.{IsWithin, LinesTell, lines}
 use Rattle.cops_import.specs.Underway.{IsStopAt, IsStopAtEnd, IsStopOf}
 use Rattle.cops_import.specs.declared.fault.ImportFault.{ImportFault}
 use Rattle.cops_import.specs.declared.fault.ImportFault.TheVariants.{Memory, ReadFailed, WriteFailed, Line, Changed, Endless}
 use Rattle.cops_import.specs.declared.line.Told.{Told}
-use Rattle.cops_import.proofs.Splitting.{IsWithin, Splits, split_here, split_last, tell_more}
+use Rattle.cops_import.proofs.Splitting.{Splits, split_here, split_last, tell_more}
 
 pub if_err : {T E : Type 0} (r : Result T E) (P Q : E → Type 0) → ((e : E) → P e → Q e) → IfErr r P → IfErr r Q
 if_err (Ok x) P Q f h = tt

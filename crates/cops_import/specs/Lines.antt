@@ -1,11 +1,15 @@
 -- What lines tell, and the trace of it.
-use Rattle.std.specs.Prelude.{◌≡◌, ◌==◌, ℕ, List, [], ◌∷◌, ◌++◌, Option, None, Some, length, map, fold}
-use Rattle.std.specs.List.{slice_split}
+use Rattle.std.specs.Prelude.{◌≡◌, ◌==◌, ℕ, false, List, [], ◌∷◌, ◌++◌, Option, None, Some, length, map, fold}
+use Rattle.std.specs.List.{All, slice_split}
 use Rattle.cops_trace.specs.Text.{ATrace}
 use Rattle.cops_trace.specs.declared.record.Record.{Record}
 use Rattle.cops_import.specs.Line.{LineTells}
 use Rattle.cops_import.specs.Names.{number_of, with_name}
 use Rattle.cops_import.specs.declared.line.Told.{Told}
+
+-- bytes within a line: none is a line feed
+abbrev pub IsWithin : List ℕ → Type 0
+IsWithin line = All (λ b. (b == 10) ≡ false) line
 
 -- the lines of a text: its parts between line feeds, so that the last one may be empty
 abbrev pub lines : List ℕ → List (List ℕ)

@@ -1,6 +1,5 @@
 -- An import that is underway.
-use Rattle.std.specs.Prelude.{◌≡◌, ◌≢◌, ◌==◌, ℕ, ◌<◌, List, [], ◌∷◌, ◌++◌, length, false, Option, Some, IfSome}
-use Rattle.std.specs.List.{All}
+use Rattle.std.specs.Prelude.{◌≡◌, ◌≢◌, ℕ, ◌<◌, List, [], ◌∷◌, ◌++◌, length, Option, Some, IfSome}
 use Rattle.std.specs.Io.KnownBytes.{Appends}
 use Rattle.cops_types.specs.Counted.{failures, inner}
 use Rattle.cops_types.specs.declared.counted.Counted.{Counted}
@@ -9,7 +8,7 @@ use Rattle.cops_trace.specs.Text.{ATrace, IsTrace, beginning, text}
 use Rattle.cops_trace.specs.declared.writer.TraceWriter.{TraceWriter}
 use Rattle.cops_import.specs.Faults.{IsCutBy, IsFaultOf, IsFaultyAfter, IsHeardBy, IsTooMany}
 use Rattle.cops_import.specs.Line.{LineTells}
-use Rattle.cops_import.specs.Lines.{LinesTell, lines, names_of, trace_of, with_told}
+use Rattle.cops_import.specs.Lines.{IsWithin, LinesTell, lines, names_of, trace_of, with_told}
 use Rattle.cops_import.specs.declared.fault.ImportFault.{ImportFault}
 use Rattle.cops_import.specs.declared.fault.ImportFault.TheVariants.{Changed, Endless, Line}
 use Rattle.cops_import.specs.declared.imported.Imported.{Imported}
@@ -45,7 +44,7 @@ pub record IsUnderway {W : Type 0} (contents : W → Option (List ℕ)) (from : 
   pub tell : LinesTell ended tolds
   pub counted : i.ended ≡ length ended
   pub split : (more : List ℕ) → lines (fed ++ more) ≡ ended ++ lines (i.line.items ++ more)
-  pub within : All (λ b. (b == 10) ≡ false) i.line.items
+  pub within : IsWithin i.line.items
   pub taken : HasTaken contents from tolds i
 
 -- the end went out after the records of what was told

@@ -6,9 +6,17 @@ use crate::names::Names;
 use crate::reading::{PIECE, READS};
 use cops_types::{Counted, MAX_CLIENTS};
 use json::{Error, Scratch, Value};
+use memchr::memchr;
+use memchr::memmem::Finder;
 use std::alloc::Global;
 use std::io::Read;
 use std::str;
+
+/// The member that names a client.
+const CLIENT: &[u8] = b"\"client\"";
+
+/// Each number of so many digits is below 2^64.
+const MOST_DIGITS: usize = 19;
 
 /// How many clients the lines name, which is what `import_stream` wants to be told: all of them where each line is right, and else at
 /// least as many as those before the first that is wrong; at most 65,535. The same reader gives no lines again.
@@ -47,22 +55,67 @@ fn name_client(
     scratch: &mut Scratch,
     names: &mut Names,
 ) -> Result<bool, ImportFault> {
-    if is_blank(line) {
-        return Ok(true);
+    if let Some(name) = seen_name(line) {
+        names.number(Name::new(alloc, name)?)?;
+    } else if !is_blank(line) {
+        let Some(name) = read_name(alloc, line, scratch)? else {
+            return Ok(false);
+        };
+        names.number(name)?;
     }
+    Ok(names.len() <= usize::from(MAX_CLIENTS))
+}
+
+/// The name that can be seen in a line without reading it as JSON, where the line is right: nothing is escaped, and the member stands
+/// there once, with a text or a few digits.
+fn seen_name(line: &[u8]) -> Option<&[u8]> {
+    if memchr(b'\\', line).is_some() {
+        return None;
+    }
+    let finder = Finder::new(CLIENT);
+    let (_, behind) = line.split_at_checked(finder.find(line)? + CLIENT.len())?;
+    if finder.find(behind).is_some() {
+        return None;
+    }
+    let value = behind
+        .trim_ascii_start()
+        .strip_prefix(b":")?
+        .trim_ascii_start();
+    match value.strip_prefix(b"\"") {
+        Some(text) => text.get(..memchr(b'"', text)?),
+        None => seen_number(value),
+    }
+}
+
+/// The digits at the front of a value, where they are all of it and no more than a whole number may have.
+fn seen_number(value: &[u8]) -> Option<&[u8]> {
+    let count = value.iter().position(|byte| !byte.is_ascii_digit())?;
+    let is_whole = matches!(value.get(count)?, b',' | b'}' | b' ');
+    if is_whole && 0 < count && count <= MOST_DIGITS {
+        value.get(..count)
+    } else {
+        None
+    }
+}
+
+/// The name that a line's JSON tells.
+fn read_name(
+    alloc: Global,
+    line: &[u8],
+    scratch: &mut Scratch,
+) -> Result<Option<Name>, ImportFault> {
     let Ok(text) = str::from_utf8(line) else {
-        return Ok(false);
+        return Ok(None);
     };
     let object = match Value::parse(alloc, text, scratch) {
         Ok(object) => object,
         Err(Error::OutOfMemory) => return Err(ImportFault::Memory),
-        Err(_) => return Ok(false),
+        Err(_) => return Ok(None),
     };
-    let Some(name) = name_of(&object) else {
-        return Ok(false);
-    };
-    names.number(Name::new(alloc, name)?)?;
-    Ok(names.len() <= usize::from(MAX_CLIENTS))
+    match name_of(&object) {
+        Some(name) => Ok(Some(Name::new(alloc, name.as_bytes())?)),
+        None => Ok(None),
+    }
 }
 
 /// The name of an object's client: of members that bear one name the last counts.

@@ -18,11 +18,11 @@ pub(crate) fn name_of(alloc: Global, object: &Json) -> Result<Name, Unread>
 {
     let json = object.get("client").ok_or(Unread::Form)?;
     if let Some(text) = json.as_str() {
-        return Ok(Name::new(alloc, text)?);
+        return Ok(Name::new(alloc, text.as_bytes())?);
     }
     let number = json.as_u64().ok_or(Unread::Form)?;
     let digits = format!(in alloc; "{number}")?;
-    Ok(Name::new(alloc, digits.as_str())?)
+    Ok(Name::new(alloc, digits.as_str().as_bytes())?)
 }
 
 /// The value of an object, a text of at most 4,096 bytes.

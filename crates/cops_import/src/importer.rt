@@ -1,5 +1,6 @@
 //! An import that is underway: it takes lines as their bytes come, and writes a record for each operation.
-ghost use Rattle.std.specs.Prelude.{◌≡◌, ◌≢◌, [], ◌∷◌, ◌++◌, List, ℕ, length, IfErr, IfOk, OnOk};
+ghost use Rattle.std.specs.Prelude.{◌≡◌, ◌≢◌, [], ◌∷◌, ◌++◌, List, ℕ, length, IfErr, IfNone, IfOk, IfSome, OnOk};
+ghost use Rattle.cops_import.specs.Lines.{IsWithin};
 ghost use Rattle.cops_types.specs.declared.counted.Counted.{Counted as ACounted};
 ghost use Rattle.cops_trace.specs.Text.{IsOp};
 ghost use Rattle.cops_import.specs.declared.line.Told.{Told as ATold};
@@ -13,6 +14,7 @@ use crate::name::Name;
 use crate::names::Names;
 use cops_trace::TraceWriter;
 use cops_types::{Counted, MAX_CLIENTS, Op};
+use memchr::memchr;
 use std::alloc::Global;
 use std::io::Write;
 
@@ -26,6 +28,16 @@ pub(crate) struct Importer<W: Write> {
     writer: TraceWriter<W>,
     line: Vec<u8>,
     ended: u64,
+}
+
+/// The bytes before the first line feed, and those behind it.
+fn cut_line(bytes: &[u8]) -> Option<(&[u8], &[u8])>
+    ensures some { IfSome result (λ parts. IsWithin parts.0.now × (bytes.now ≡ parts.0.now ++ 10 ∷ parts.1.now)) }
+    ensures none { IfNone result (IsWithin bytes.now) }
+{
+    let (part, behind) = bytes.split_at(memchr(b'\n', bytes)?);
+    let (_, behind) = behind.split_at(1);
+    Some((part, behind))
 }
 
 impl<W: Write> Importer<W> {
@@ -128,19 +140,35 @@ impl<W: Write> Importer<W> {
         }
     }
 
-    /// Takes the next byte.
-    fn take_byte(&mut self, byte: u8) -> Result<(), ImportFault>
-        ensures ok { OnOk result ((from : ACounted W) (fed : List ℕ) → IsUnderway W.contents from fed self.old → IsUnderway W.contents from (fed ++ byte ∷ []) self.new) }
-        ensures err { IfErr result (λ e. (from : ACounted W) (fed : List ℕ) → IsUnderway W.contents from fed self.old → HasStopped W.contents from (fed ++ byte ∷ []) e self.old.clients self.new.writer.writer) }
+    /// Takes bytes within a line.
+    fn take_part(&mut self, part: &[u8]) -> Result<(), ImportFault>
+        requires { IsWithin part.now }
+        ensures ok { OnOk result ((from : ACounted W) (fed : List ℕ) → IsUnderway W.contents from fed self.old → IsUnderway W.contents from (fed ++ part.now) self.new) }
+        ensures err { IfErr result (λ e. (from : ACounted W) (fed : List ℕ) → IsUnderway W.contents from fed self.old → HasStopped W.contents from (fed ++ part.now) e self.old.clients self.new.writer.writer) }
         ensures device { IfErr result (λ e. e ≢ ImportFault.ReadFailed) }
         ensures clients { self.new.clients ≡ self.old.clients }
     {
-        if byte == b'\n' {
-            return self.end_line();
-        }
-        match self.line.push(byte) {
+        match self.line.extend_from_slice(part) {
             Ok(()) => Ok(()),
             Err(_) => Err(ImportFault::Memory),
+        }
+    }
+
+    /// Takes bytes within a line, and the line feed that ends it.
+    fn take_end(&mut self, part: &[u8]) -> Result<(), ImportFault>
+        requires { IsWithin part.now }
+        ensures ok { OnOk result ((from : ACounted W) (fed : List ℕ) → IsUnderway W.contents from fed self.old → IsUnderway W.contents from (fed ++ part.now ++ 10 ∷ []) self.new) }
+        ensures err { IfErr result (λ e. (from : ACounted W) (fed : List ℕ) → IsUnderway W.contents from fed self.old → HasStopped W.contents from (fed ++ part.now ++ 10 ∷ []) e self.old.clients self.new.writer.writer) }
+        ensures device { IfErr result (λ e. e ≢ ImportFault.ReadFailed) }
+        ensures clients { self.new.clients ≡ self.old.clients }
+    {
+        match self.take_part(part) {
+            Ok(()) => {}
+            Err(fault) => return Err(fault),
+        }
+        match self.end_line() {
+            Ok(()) => Ok(()),
+            Err(fault) => Err(fault),
         }
     }
 
@@ -151,13 +179,18 @@ impl<W: Write> Importer<W> {
         ensures device { IfErr result (λ e. e ≢ ImportFault.ReadFailed) }
         ensures clients { self.new.clients ≡ self.old.clients }
     {
-        for byte in piece {
-            match self.take_byte(*byte) {
+        let mut rest = piece;
+        while let Some((part, behind)) = cut_line(rest) {
+            match self.take_end(part) {
                 Ok(()) => {}
                 Err(fault) => return Err(fault),
             }
+            rest = behind;
         }
-        Ok(())
+        match self.take_part(rest) {
+            Ok(()) => Ok(()),
+            Err(fault) => Err(fault),
+        }
     }
 
     /// Takes the last line, and writes the end.

@@ -73,12 +73,12 @@ impl Clone for Name {
 impl Name {
     ghost use Rattle.std.specs.Prelude.{◌≡◌, IfOk};
 
-    /// The name with this text.
-    pub(crate) fn new(alloc: Global, text: &str) -> Result<Name, AllocError>
-        ensures { IfOk result (λ name. name ≡ text.now) }
+    /// The name with these bytes.
+    pub(crate) fn new(alloc: Global, bytes: &[u8]) -> Result<Name, AllocError>
+        ensures { IfOk result (λ name. name ≡ bytes.now) }
     {
         Ok(Name {
-            bytes: SmallVec::from_slice(alloc, text.as_bytes())?,
+            bytes: SmallVec::from_slice(alloc, bytes)?,
         })
     }
 

@@ -1,0 +1,11 @@
+use Rattle.std.proofs.Common.{refl, ◌++◌}
+use Rattle.cops_import.proofs.Steps.{part_taken, stopped_short}
+use Rattle.cops_import.proofs.importer.Importer.take_part.Goals as goal
+
+pub returns-in-Err-clause-err : goal.returns-in-Err-clause-err
+returns-in-Err-clause-err g c = λ from fed u. stopped_short g.W.Write.contents from fed (fed ++ c.args.part.now) c.args.self.now u
+
+pub returns-in-Ok-clause-ok : goal.returns-in-Ok-clause-ok
+returns-in-Ok-clause-ok g c = λ from fed u.
+    part_taken g.W.Write.contents from fed c.args.part.now c.args.self.now _ u c.in-Ok.ensures.items c.requires refl
+    (record { names = u.taken.names; operations = u.taken.operations; wrote = u.taken.wrote })
