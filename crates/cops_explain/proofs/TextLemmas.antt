@@ -1,10 +1,11 @@
 -- Texts that are put together.
-use Rattle.std.proofs.Common.{◌≡◌, ◌∙◌, ℕ, List, [], ◌∷◌, ◌++◌, Result, Ok, Err, ap, append_assoc, false, is_ok, length}
+use Rattle.std.proofs.Common.{◌≡◌, ◌∙◌, ◌≤◌, ◌-◌, ℕ, List, [], ◌∷◌, ◌++◌, Result, Ok, Err, refl, ap, append-nil, append_assoc, arith, false, is_ok, length, take_all}
 use Rattle.std.specs.Prelude.{OnOk, codes, if◌then◌else◌, ◌==◌}
 use Rattle.cops_types.specs.declared.op.OpName.{OpName}
 use Rattle.cops_types.specs.Histories.{Sessions}
 use Rattle.cops_explain.specs.Operations.{told_lines}
-use Rattle.cops_explain.specs.Paragraphs.{bearers_text}
+use Rattle.cops_explain.specs.Paragraphs.{bearers_text, more_others, others_text}
+use Rattle.cops_explain.specs.declared.limits.TheConstants.{MOST_OTHERS}
 
 -- three texts, the last by a call whose result is returned as it is
 pub three : {T E : Type 0} (r : Result T E) (old one two new x y z : List ℕ) → one ≡ old ++ x → two ≡ one ++ y → new ≡ (if is_ok r then two ++ z else two) → OnOk r (new ≡ old ++ (x ++ (y ++ z)))
@@ -15,12 +16,22 @@ three (Ok v) old one two new x y z a b c =
     ∙ append_assoc (old ++ x) y z
     ∙ append_assoc old x (y ++ z)
 
-two : {T E : Type 0} (r : Result T E) (old one new x y : List ℕ) → one ≡ old ++ x → OnOk r (new ≡ one ++ y) → OnOk r (new ≡ old ++ (x ++ y))
+pub two : {T E : Type 0} (r : Result T E) (old one new x y : List ℕ) → one ≡ old ++ x → OnOk r (new ≡ one ++ y) → OnOk r (new ≡ old ++ (x ++ y))
 two (Err e) old one new x y a b = tt
 two (Ok v) old one new x y a b = b ∙ ap (λ (t : List ℕ). t ++ y) a ∙ append_assoc old x y
 
 -- puts of a version, where there are some
 pub some_bearers : {T E : Type 0} (h : Sessions) (puts : List OpName) (r : Result T E) (old one new : List ℕ) → (length puts == 0) ≡ false → one ≡ old ++ codes "of that version there is:\n"
-    → OnOk r (new ≡ one ++ told_lines h puts) → OnOk r (new ≡ old ++ bearers_text h puts)
+    → OnOk r (new ≡ one ++ others_text h puts) → OnOk r (new ≡ old ++ bearers_text h puts)
 some_bearers h [] r old one new some a b = absurd cc
-some_bearers h (put ∷ puts) r old one new some a b = two r old one new (codes "of that version there is:\n") (told_lines h (put ∷ puts)) a b
+some_bearers h (put ∷ puts) r old one new some a b = two r old one new (codes "of that version there is:\n") (others_text h (put ∷ puts)) a b
+
+none_more : (n : ℕ) → n ≡ 0 → more_others n ≡ []
+none_more n none = rw none refl
+
+-- of few puts of a version all are told
+pub few_others : (h : Sessions) (others : List OpName) → length others ≤ MOST_OTHERS → others_text h others ≡ told_lines h others
+few_others h others few =
+    ap (λ (t : List ℕ). t ++ more_others (length others - MOST_OTHERS)) (ap (told_lines h) (take_all MOST_OTHERS others few))
+    ∙ ap (λ (t : List ℕ). told_lines h others ++ t) (none_more (length others - MOST_OTHERS) (omega (arith, few)))
+    ∙ append-nil (told_lines h others)

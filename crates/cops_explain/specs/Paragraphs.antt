@@ -1,5 +1,5 @@
 -- The paragraph of a fault.
-use Rattle.std.specs.Prelude.{◌≡◌, ℕ, List, [], ◌∷◌, ◌++◌, codes, decimal, Option, Some, None}
+use Rattle.std.specs.Prelude.{◌≡◌, ◌-◌, ℕ, zero, suc, List, [], ◌∷◌, ◌++◌, length, take, codes, decimal, Option, Some, None}
 use Rattle.cops_types.specs.declared.op.OpName.{OpName}
 use Rattle.cops_types.specs.Histories.{Sessions}
 use Rattle.cops_types.specs.Texts.{◌⧺◌, name_text}
@@ -7,6 +7,7 @@ use Rattle.cops_audit.specs.declared.verdict.NotAbove.{NotAbove as ANotAbove}
 use Rattle.cops_audit.specs.declared.verdict.Stale.{Stale as AStale}
 use Rattle.cops_report.specs.Chains.{IsFirstChain}
 use Rattle.cops_explain.specs.declared.causes.TheConstants.{DOUBLED, NO_SOURCE, NOT_ABOVE, STALE}
+use Rattle.cops_explain.specs.declared.limits.TheConstants.{MOST_OTHERS}
 use Rattle.cops_audit.specs.declared.fault.Fault.{Fault}
 use Rattle.cops_audit.specs.declared.fault.Fault.TheVariants.{Doubled, NoSource, NotAbove, Stale}
 use Rattle.cops_explain.specs.Operations.{act_text, told_line, told_lines, told_text}
@@ -21,15 +22,24 @@ title number class name = codes "\nfault " ⧺ decimal number ⧺ codes ": " ⧺
 abbrev pub fault_head : Sessions → ℕ → List ℕ → OpName → List ℕ → List ℕ
 fault_head h number class name words = title number class name ⧺ told_line h name ⧺ words
 
--- a put, and all others of its version
+-- how many more puts of a version there are, where some are
+abbrev pub more_others : ℕ → List ℕ
+more_others zero = []
+more_others (suc more) = codes "and " ⧺ decimal (suc more) ⧺ codes " more of that version\n"
+
+-- a line for each of the first puts of a version, and how many more there are
+abbrev pub others_text : Sessions → List OpName → List ℕ
+others_text h others = told_lines h (take MOST_OTHERS others) ⧺ more_others (length others - MOST_OTHERS)
+
+-- a put, and the others of its version
 abbrev pub doubled_text : Sessions → ℕ → OpName → List OpName → List ℕ
 doubled_text h number name others =
-    fault_head h number (codes "doubled") name (codes "no other put may bear that version, and these do:\n") ⧺ told_lines h others ⧺ DOUBLED.now
+    fault_head h number (codes "doubled") name (codes "no other put may bear that version, and these do:\n") ⧺ others_text h others ⧺ DOUBLED.now
 
 -- the puts of a version that a get without a source returned
 abbrev pub bearers_text : Sessions → List OpName → List ℕ
 bearers_text h [] = codes "no put has that version\n"
-bearers_text h (put ∷ puts) = codes "of that version there is:\n" ⧺ told_lines h (put ∷ puts)
+bearers_text h (put ∷ puts) = codes "of that version there is:\n" ⧺ others_text h (put ∷ puts)
 
 -- a get, and the puts of the version that it returned, whose keys or values are others
 abbrev pub no_source_text : Sessions → ℕ → OpName → List OpName → List ℕ

@@ -14,4 +14,5 @@ mod steps;
 
 pub use explaining::explain;
 pub use laws::one_explanation;
-pub use limits::FIRST_FAULTS;
+pub use limits::{FIRST_FAULTS, MOST_OTHERS};
+pub use operation::push_told;

@@ -2,10 +2,11 @@
 ghost use Rattle.std.specs.Prelude.{◌≡◌, ◌++◌, OnOk, string_bytes};
 ghost use Rattle.cops_report.specs.Puts.{HasAllPuts};
 ghost use Rattle.cops_audit.specs.Faults.{IsFault};
-ghost use Rattle.cops_explain.specs.Paragraphs.{AddsParagraph, bearers_text, doubled_text, fault_head, no_source_text, not_above_text};
+ghost use Rattle.cops_explain.specs.Paragraphs.{AddsParagraph, bearers_text, doubled_text, fault_head, more_others, no_source_text, not_above_text, others_text};
 ghost use Rattle.cops_explain.specs.Paragraphs.{place_text, right_text, stale_end, stale_head, stale_text, title};
 
 use crate::causes;
+use crate::limits::MOST_OTHERS;
 use crate::operation::{push_act, push_line, push_lines, push_told};
 use crate::others::others;
 use crate::steps::{first_crossing, push_chain};
@@ -42,7 +43,28 @@ fn push_head(
     out.push_str(words)
 }
 
-/// A put, and all others of its version.
+/// How many more puts of a version there are, where some are.
+fn push_more_others(out: &mut String, more: usize) -> Result<(), AllocError>
+    ensures { OnOk result (string_bytes out.new ≡ string_bytes out.old ++ more_others more) }
+{
+    if more == 0 {
+        return Ok(());
+    }
+    write!(out, "and {more} more of that version\n")
+}
+
+/// The first puts of a version, and how many more there are.
+fn push_others(out: &mut String, history: &History, others: &[OpName]) -> Result<(), AllocError>
+    ensures { OnOk result (string_bytes out.new ≡ string_bytes out.old ++ others_text history.now.sessions others.now) }
+{
+    if others.len() <= MOST_OTHERS {
+        return push_lines(out, history, others);
+    }
+    push_lines(out, history, &others[..MOST_OTHERS])?;
+    push_more_others(out, others.len() - MOST_OTHERS)
+}
+
+/// A put, and the others of its version.
 fn push_doubled(
     out: &mut String,
     history: &History,
@@ -55,7 +77,7 @@ fn push_doubled(
 {
     let words = "no other put may bear that version, and these do:\n";
     push_head(out, history, number, "doubled", name, words)?;
-    push_lines(out, history, others)?;
+    push_others(out, history, others)?;
     out.push_str(causes::DOUBLED)
 }
 
@@ -67,7 +89,7 @@ fn push_bearers(out: &mut String, history: &History, bearers: &[OpName]) -> Resu
         return out.push_str("no put has that version\n");
     }
     out.push_str("of that version there is:\n")?;
-    push_lines(out, history, bearers)
+    push_others(out, history, bearers)
 }
 
 /// A get, and the puts of the version that it returned.

@@ -5,7 +5,7 @@ ghost use Rattle.cops_picture.specs.declared.sizes.TheConstants.{MAX_COLUMNS};
 
 use crate::columns::{Column, Role};
 use crate::layout::{Card, Place, lane_top};
-use crate::lines::{act_line, left_out_line, name_line, push_whole, value_line};
+use crate::lines::{act_line, left_out_line, name_line, value_line};
 use crate::sentence::sentence;
 use crate::sizes::{
     ACT_BASE, CARD_HEIGHT, CORNER, HEAD_BASE, LANE_BASE, LANE_LEFT, MARGIN, NAME_BASE,
@@ -13,6 +13,7 @@ use crate::sizes::{
 };
 use crate::style::{STYLE, TIPS};
 use cops_audit::Fault;
+use cops_explain::push_told;
 use cops_types::{History, OpName, OpRef};
 use std::alloc::{AllocError, Global};
 
@@ -139,7 +140,7 @@ fn push_card(
     };
     push_start(out, class_of(role), card)?;
     out.push_str("<title>")?;
-    push_whole(out, name, op)?;
+    push_told(out, history, name)?;
     out.push_str("</title>")?;
     push_border(out, card)?;
     push_lines(alloc, out, card.width, name, op)?;

@@ -1,6 +1,6 @@
-//! Pictures: one fault of a verdict as a drawing in SVG, with the operations concerned in lanes by their clients. Stands on cops_types, cops_wire,
-//! cops_audit and cops_report. The layer above uses that the picture is of the fault that was asked for, and that there is none exactly where
-//! there is no such fault.
+//! Pictures: one fault of a verdict as a drawing in SVG, with the operations concerned in lanes by their clients. Stands on the report, whose
+//! chains it draws, and on the words by which explanations tell an operation. The layer above uses that the picture is of the fault that was
+//! asked for, and that there is none exactly where there is no such fault.
 #![tactic(auto)]
 
 mod columns;

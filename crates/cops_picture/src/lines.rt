@@ -1,11 +1,10 @@
 //! What is told of an operation, in a card and where it is pointed at.
-ghost use Rattle.std.specs.Prelude.{◌≤◌, IfOk, OnOk, string_bytes};
-ghost use Rattle.cops_picture.specs.Pictures.{Extends};
+ghost use Rattle.std.specs.Prelude.{◌≤◌, IfOk};
 ghost use Rattle.cops_picture.specs.declared.sizes.TheConstants.{MAX_WIDTH};
 
 use crate::columns::Column;
 use crate::sizes::{CHARACTER, MAX_LINE, MIN_LINE, PADDING, SHOWN_BYTES};
-use cops_types::{History, Key, OpName, OpRef, Value, Version};
+use cops_types::{History, OpName, OpRef};
 use cops_wire::show_bytes;
 use std::alloc::{AllocError, Global};
 
@@ -46,47 +45,6 @@ fn shown(alloc: Global, word: &str, bytes: &[u8]) -> Result<String, AllocError> 
         text.push_str("..")?;
     }
     Ok(text)
-}
-
-/// Tells the whole operation.
-pub fn push_whole(out: &mut String, name: OpName, op: OpRef<'_>) -> Result<(), AllocError>
-    ensures { OnOk result (Extends (string_bytes out.old) (string_bytes out.new)) }
-{
-    let client = name.client;
-    write!(out, "{name} client {client} ")?;
-    match op {
-        OpRef::Put {
-            key,
-            value,
-            version,
-        } => push_pair(out, "put ", key, value, *version),
-        OpRef::Got {
-            key,
-            value,
-            version,
-        } => push_pair(out, "got ", key, value, *version),
-        OpRef::Missed { key } => {
-            out.push_str("got nothing at ")?;
-            show_bytes(key.as_bytes(), out)
-        }
-    }
-}
-
-/// Tells a put, or a get that returned a value.
-fn push_pair(
-    out: &mut String,
-    word: &str,
-    key: &Key,
-    value: &Value,
-    version: Version,
-) -> Result<(), AllocError>
-    ensures { OnOk result (Extends (string_bytes out.old) (string_bytes out.new)) }
-{
-    out.push_str(word)?;
-    show_bytes(key.as_bytes(), out)?;
-    out.push_str("=")?;
-    show_bytes(value.as_bytes(), out)?;
-    write!(out, " at {version}")
 }
 
 /// What stands in place of a card: how many operations are left out.

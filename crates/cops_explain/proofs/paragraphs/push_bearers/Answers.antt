@@ -5,5 +5,5 @@ use Rattle.cops_explain.proofs.paragraphs.push_bearers.Goals as goal
 
 pub returns : goal.returns
 returns c =
-    some_bearers c.args.history.now.sessions c.args.bearers.now c.push_lines.result (string_bytes c.args.out.now) _ _ (sym c.is_empty.ensures ∙ c.if-is_empty.false) c.in_ok-push_str.ensures.bytes
-    c.push_lines.ensures
+    some_bearers c.args.history.now.sessions c.args.bearers.now c.push_others.result (string_bytes c.args.out.now) _ _ (sym c.is_empty.ensures ∙ c.if-is_empty.false) c.in_ok-push_str.ensures.bytes
+    c.push_others.ensures
