@@ -106,6 +106,31 @@ def pictures():
     check("pictures of chains of 12 and of 14", left_out, [[], [("left", ".. 2 more")]])
     all_drawn.append(("a long chain", picture))
     rendered(all_drawn)
+    many_others()
+    over_inputs()
+
+
+def over_inputs():
+    """A file that is read is not written over: it stays as it was."""
+    scenario = os.path.join(ROOT, "examples", "two_clients.json")
+    with tempfile.TemporaryDirectory() as folder:
+        for words, path in ((("explain", "--picture"), os.path.join(ROOT, "examples", "stale.trace")), (("run",), scenario)):
+            same, other = os.path.join(folder, words[0]), os.path.join(folder, f"{words[0]}, another name")
+            shutil.copyfile(path, same)
+            os.link(same, other)
+            for name in (same, other):
+                check(f"{words[0]} over its own input", cops(words[0], same, *words[1:], name), (4, b"", b"failed: same file\n"))
+            with open(same, "rb") as file, open(path, "rb") as source:
+                check(f"the input of {words[0]} is as it was", file.read() == source.read(), True)
+
+
+def many_others():
+    """Of 22 puts of one version the first paragraph tells the put, 20 others and how many more there are, of 21 all."""
+    for count, last in ((21, b"(20,0) client 20 put k20=1 at 1.0"), (22, b"and 1 more of that version"), (30, b"and 9 more of that version")):
+        data = trace([f"clients {count}", *(f"{client} put k{client} 1 1.0" for client in range(count))])
+        lines = cops("explain", "-", "--fault", "1", stdin=data)[1].split(b"\n")
+        shown = [f"({client},0) client {client} put k{client}=1 at 1.0".encode() for client in range(1, 21)]
+        check(f"{count} puts of one version", (lines[5:25], lines[24 if count == 21 else 25]), (shown, last))
 
 
 def rendered(all_drawn):

@@ -83,7 +83,7 @@ pub fn rewound(mut file: File) -> Result<File, NoLines> {
     }
 }
 
-/// Whether the file of that name is this one: to write it would be to lose what is in this one.
+/// Whether the file of that name is this one.
 pub fn has_name<R: Files>(rt: &R, file: &File, name: &str) -> bool {
     match (file.metadata(), fs::metadata(rt, name)) {
         (Ok(here), Ok(there)) => here.dev() == there.dev() && here.ino() == there.ino(),

@@ -38,6 +38,9 @@ use std::thread::Threads;
 use std::time::{Clock, Instant};
 use std::{env, io, process};
 
+/// Why a file is not written that is the one which is read.
+const SAME_FILE: &str = "same file";
+
 /// Prints why the program failed, and gives the status.
 fn failed<R: Eprint>(rt: &R, why: &str, status: Status) -> u8
     ensures { result ≡ number status }
@@ -414,6 +417,20 @@ fn input_of<'a>(job: Job<'a>) -> &'a str {
     }
 }
 
+/// The name of the file that the job writes, where it writes one.
+fn output_of<'a>(job: Job<'a>) -> Option<&'a str> {
+    match job {
+        Job::Explain { picture, .. } => picture,
+        Job::Import { trace, .. } | Job::Run { trace, .. } if trace != "-" => Some(trace),
+        _ => None,
+    }
+}
+
+/// Whether the file that the job writes is the one that it reads: to write it would be to lose what is in it.
+fn writes_over<R: Files>(rt: &R, job: Job<'_>, input: &File) -> bool {
+    output_of(job).is_some_and(|name| has_name(rt, input, name))
+}
+
 /// Runs the job over the file that it names, or over standard input where that is `-`.
 fn perform<R, E>(rt: &R, job: Job<'_>, errors: E, process: u32) -> u8
 where
@@ -432,6 +449,9 @@ where
     let Ok(file) = File::open(rt, input) else {
         return failed(rt, "open", Status::Failed);
     };
+    if writes_over(rt, job, &file) {
+        return failed(rt, SAME_FILE, Status::Failed);
+    }
     command(rt, job, 0, file, errors)
 }
 
@@ -447,8 +467,8 @@ where
         Ok(file) => file,
         Err(why) => return failed(rt, why.word(), why.status()),
     };
-    if trace != "-" && has_name(rt, &file, trace) {
-        return failed(rt, "same file", Status::Failed);
+    if writes_over(rt, Job::Import { lines, trace }, &file) {
+        return failed(rt, SAME_FILE, Status::Failed);
     }
     let mut file = Counted::new(file);
     let clients = match count_clients(rt.alloc(), &mut file) {
