@@ -1,10 +1,12 @@
 """Tests of the running program with traces of many operations."""
 import os
+import struct
 import subprocess
 import sys
 import tempfile
 
 from traces import ROOT, audited, check, cops, trace
+from write_trace import TRACE_END, TRACE_HEAD, TRACE_PUT, frame
 
 
 def long_chain():
@@ -47,6 +49,55 @@ def generated():
             check(name, (got, first.split(":")[0], len(lines)), (1, "refused", faults) if violation else (0, "accepted", 0))
             if violation:
                 check(f"{name}: its faults", all(line.startswith(violation.replace("_", " ")) for line in lines), True)
+
+
+def put_frames(clients, count):
+    """The frames of a trace of so many puts, the head first and the end last: the clients put in turn."""
+    frames = [frame(TRACE_HEAD, struct.pack(">HH", 1, clients))]
+    for n in range(count):
+        fields = struct.pack(">HI", n % clients, n // clients) + b"\x01k\x00\x02vv" + struct.pack(">Q", (n + 1) << 16)
+        frames.append(frame(TRACE_PUT, fields))
+    return [*frames, frame(TRACE_END, struct.pack(">I", count))]
+
+
+def read_ahead():
+    """A long trace that is read ahead of what is fed has each fault in turn, in the first piece, at its end and in the last."""
+    count = 60_000
+    frames = put_frames(3, count)
+    size = len(frames[1])
+    with tempfile.NamedTemporaryFile(suffix=".trace") as file:
+
+        def answered(name, data, wanted, all_workers=("2", "5")):
+            file.seek(0)
+            file.truncate()
+            file.write(data)
+            file.flush()
+            for workers in all_workers:
+                check(f"{name}, by {workers} workers", cops("audit", file.name, "--workers", workers), wanted)
+
+        answered("a long trace", b"".join(frames), (0, f"accepted: {count} operations, {count} puts\n".encode(), b""), ("1", "2", "5", "64"))
+        # (a piece has 524,288 bytes, so that the 20,972nd record begins in the first and ends in the second)
+        for at in (10_000, 20_972, 50_000):
+            place = len(frames[0]) + (at - 1) * size
+            good, rest = frames[at], b"".join(frames[at + 1 :])
+            before = b"".join(frames[:at])
+            wrong = {
+                "index out of turn": good[:7] + struct.pack(">I", 9_999_999) + good[11:],
+                "client out of range": good[:5] + b"\xff\xff" + good[7:],
+                "bad length": bytes(4) + good[4:],
+                "unknown kind": good[:4] + b"\x63" + good[5:],
+                "trailing bytes": struct.pack(">I", 200) + good[4:] + bytes(200),
+                "not a record": frames[0],
+            }
+            for fault, text in wrong.items():
+                answered(f"{fault} at record {at}", before + text + rest, (2, f"faulty: {fault} at {place}\n".encode(), b""))
+            answered(f"bad field at record {at}", before + good[:11] + b"\0" + good[12:] + rest, (2, f"faulty: bad field at {place + 11}\n".encode(), b""))
+            answered(f"cut in record {at}", before + good[:-1], (2, f"faulty: cut at {place}\n".encode(), b""))
+        end = b"".join(frames)
+        answered("a byte after a long trace", end + b"\0", (2, f"faulty: bytes after end at {len(end)}\n".encode(), b""))
+        answered("a record after the end", end + frames[1], (2, f"faulty: bytes after end at {len(end)}\n".encode(), b""))
+        answered("two heads", frames[0] + end, (2, f"faulty: not a record at {len(frames[0])}\n".encode(), b""))
+        answered("no head", end[len(frames[0]) :], (2, b"faulty: no head at 0\n", b""))
 
 
 def little_memory():

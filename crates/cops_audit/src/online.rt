@@ -83,6 +83,15 @@ impl Online {
         self.history.foresee(ops);
     }
 
+    /// The history of what was fed.
+    pub fn into_history(self) -> History
+        ensures { result.sessions ≡ self }
+    {
+        let Online { mut history, .. } = self;
+        history.forget_guesses();
+        history
+    }
+
     /// What is said so far of what was fed. It takes no memory, and about the time of a judge.
     pub fn so_far(&mut self) -> SoFar
         ensures so_far { IsSoFar self.old result }

@@ -1,15 +1,13 @@
 //! The audit of a trace's bytes by one worker, an auditor that is fed them as they come.
-ghost use Rattle.std.specs.Prelude.{◌≡◌, ◌⊎◌, ℕ, List, Err, IfErr, IfOk, IsErrOf};
-ghost use Rattle.cops_trace.specs.Answer.{AgreesInto, TakesFrom};
+ghost use Rattle.std.specs.Prelude.{◌≡◌, ◌⊎◌, IfErr, IfOk, IsErrOf};
 ghost use Rattle.cops_trace.specs.Text.{ATrace};
 ghost use Rattle.cops_batch.specs.Pieces.{MayHoldPiece};
-ghost use Rattle.cops_stream.specs.Audit.{AuditSays, IsTold};
+ghost use Rattle.cops_stream.specs.Audit.{IsTold};
 ghost use Rattle.cops_stream.specs.Fed.{WasFed};
 
-use crate::audit::{Answer, StreamFault, answer_of, faulty};
+use crate::audit::{Answer, StreamFault, answer_of};
 use crate::fed::Fed;
 use cops_report::report_judged;
-use cops_trace::{Taken, TraceFault};
 use cops_types::{Gate, Memory, Point};
 use std::alloc::Global;
 use std::sync::Wait;
@@ -25,7 +23,7 @@ pub(crate) fn whole(alloc: Global, fed: Fed) -> Result<(Answer, Vec<u8>), Memory
 }
 
 /// The same, by a worker whose one piece is all that was fed.
-fn judged<T: Wait, G: Gate>(
+pub(crate) fn judged_alone<T: Wait, G: Gate>(
     rt: &T,
     alloc: Global,
     fed: Fed,
@@ -46,43 +44,4 @@ fn judged<T: Wait, G: Gate>(
         return Err(StreamFault::Held);
     }
     Ok(told)
-}
-
-/// The answer for a trace, or for one that is cut, with its text.
-fn told_of<T: Wait, G: Gate>(
-    rt: &T,
-    alloc: Global,
-    taken: Taken<Fed>,
-    gate: &G,
-) -> Result<(Answer, Vec<u8>), StreamFault>
-    ensures says { (bytes : List ℕ) → TakesFrom WasFed bytes taken → IfOk result (λ told. AuditSays bytes told.0 told.1.items) }
-    ensures held { IsErrOf result StreamFault.Held → MayHoldPiece (G.may_hold gate.now) 0 }
-    ensures faults { IfErr result (λ e. (e ≡ StreamFault.Memory) ⊎ (e ≡ StreamFault.Held)) }
-{
-    let Taken { sink, cut } = taken;
-    match cut {
-        Some(offset) => faulty(alloc, &TraceFault::Cut { offset }),
-        None => judged(rt, alloc, sink, gate),
-    }
-}
-
-/// The answer for what was read, with its text.
-pub(crate) fn told_alone<T: Wait, G: Gate>(
-    rt: &T,
-    alloc: Global,
-    read: Result<Taken<Fed>, TraceFault>,
-    gate: &G,
-) -> Result<(Answer, Vec<u8>), StreamFault>
-    ensures says { (bytes : List ℕ) → AgreesInto WasFed bytes read → IfOk result (λ told. AuditSays bytes told.0 told.1.items) }
-    ensures held { IsErrOf result StreamFault.Held → MayHoldPiece (G.may_hold gate.now) 0 }
-    ensures faults { IfErr result (λ e. (e ≡ StreamFault.Memory) ⊎ (e ≡ StreamFault.Held) ⊎ (e ≡ StreamFault.ReadFailed)) }
-    ensures read_failed { IsErrOf result StreamFault.ReadFailed → read ≡ Err TraceFault.ReadFailed }
-    ensures read_told { IsErrOf read TraceFault.ReadFailed → IsErrOf result StreamFault.ReadFailed }
-{
-    match read {
-        Ok(taken) => told_of(rt, alloc, taken, gate),
-        Err(TraceFault::Memory) => Err(StreamFault::Memory),
-        Err(TraceFault::ReadFailed) => Err(StreamFault::ReadFailed),
-        Err(fault) => faulty(alloc, &fault),
-    }
 }

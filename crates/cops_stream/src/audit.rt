@@ -4,21 +4,22 @@ ghost use Rattle.std.specs.Io.KnownBytes.{Keeps};
 ghost use Rattle.cops_types.specs.Failures.{Failed};
 ghost use Rattle.cops_types.specs.declared.limits.TheConstants.{MAX_WORKERS};
 ghost use Rattle.cops_types.specs.Counted.{failures, inner};
-ghost use Rattle.cops_trace.specs.Answer.{Agrees};
+ghost use Rattle.cops_trace.specs.Answer.{AgreesInto, TakesFrom};
 ghost use Rattle.cops_trace.specs.Lines.{fault_line};
 ghost use Rattle.cops_batch.specs.Pieces.{MayHoldPiece};
 ghost use Rattle.cops_audit.specs.Verdicts.{IsVerdict};
-ghost use Rattle.cops_trace.specs.Text.{sessions_of};
+ghost use Rattle.cops_trace.specs.Text.{ATrace, sessions_of};
 ghost use Rattle.cops_stream.specs.Audit.{AuditSays, Writes, WritesFront, IsTold, answer_of};
 ghost use Rattle.cops_stream.specs.Convergent.{SpellsConvergent};
+ghost use Rattle.cops_stream.specs.Fed.{WasFed};
 
-use crate::alone::told_alone;
+use crate::alone::judged_alone;
 use crate::fed::Fed;
 use cops_audit::Verdict;
 use cops_batch::{BatchFault, judge_with};
 use cops_report::report;
-use cops_trace::{Trace, TraceFault, fault_line, read_into, read_trace};
-use cops_types::{Counted, Gate, MAX_WORKERS, Memory, write_text};
+use cops_trace::{Taken, TraceFault, fault_line, read_ahead_into, read_into};
+use cops_types::{Counted, Gate, History, MAX_WORKERS, Memory, write_text};
 use std::alloc::Global;
 use std::io::{Read, Write};
 use std::sync::Wait;
@@ -66,36 +67,44 @@ pub(crate) fn answer_of(verdict: &Verdict) -> Answer
     }
 }
 
-/// The answer that a verdict on a trace makes, with its report.
-fn reported(alloc: Global, trace: &Trace, verdict: &Verdict) -> Result<(Answer, Vec<u8>), Memory>
-    requires { IsVerdict (sessions_of trace.now) verdict.now }
-    ensures { IfOk result (λ told. IsTold trace.now told.0 told.1.items) }
+/// The answer that a verdict on a history makes, with its report.
+fn reported(
+    alloc: Global,
+    history: &History,
+    verdict: &Verdict,
+) -> Result<(Answer, Vec<u8>), Memory>
+    requires { IsVerdict history.now.sessions verdict.now }
+    ensures { (t : ATrace) → history.now.sessions ≡ sessions_of t → IfOk result (λ told. IsTold t told.0 told.1.items) }
 {
-    let text = report(alloc, trace.history(), verdict)?;
+    let text = report(alloc, history, verdict)?;
     Ok((answer_of(verdict), text))
 }
 
-/// The answer for a trace, with its report, by so many workers.
+/// The answer for what was fed, with its report, by so many workers.
 fn judged<T: Threads + Wait + Sync, G: Gate>(
     rt: &T,
     alloc: Global,
-    trace: &Trace,
+    fed: Fed,
     workers: u8,
     gate: &G,
 ) -> Result<(Answer, Vec<u8>), StreamFault>
-    ensures told { IfOk result (λ told. IsTold trace.now told.0 told.1.items) }
+    ensures told { (t : ATrace) → WasFed fed t → IfOk result (λ told. IsTold t told.0 told.1.items) }
     ensures bad { IsErrOf result StreamFault.BadWorkers → (workers ≡ 0) ⊎ (MAX_WORKERS < workers) }
     ensures held { IsErrOf result StreamFault.Held → (i : ℕ) × (i < workers) × MayHoldPiece (G.may_hold gate.now) i }
     ensures no_read { ¬ IsErrOf result StreamFault.ReadFailed }
     ensures no_write { ¬ IsErrOf result StreamFault.WriteFailed }
 {
-    let verdict = match judge_with(rt, alloc, trace.history(), workers, gate) {
+    let history = match fed.into_online() {
+        Ok(online) => online.into_history(),
+        Err(Memory) => return Err(StreamFault::Memory),
+    };
+    let verdict = match judge_with(rt, alloc, &history, workers, gate) {
         Ok(verdict) => verdict,
         Err(BatchFault::Memory) => return Err(StreamFault::Memory),
         Err(BatchFault::BadWorkers) => return Err(StreamFault::BadWorkers),
         Err(BatchFault::Held) => return Err(StreamFault::Held),
     };
-    match reported(alloc, trace, &verdict) {
+    match reported(alloc, &history, &verdict) {
         Ok(told) => Ok(told),
         Err(Memory) => Err(StreamFault::Memory),
     }
@@ -111,15 +120,37 @@ pub(crate) fn faulty(alloc: Global, fault: &TraceFault) -> Result<(Answer, Vec<u
     Ok((Answer::Faulty, text))
 }
 
+/// The answer for a trace, or for one that is cut, with its text.
+fn told_of<T: Threads + Wait + Sync, G: Gate>(
+    rt: &T,
+    alloc: Global,
+    taken: Taken<Fed>,
+    workers: u8,
+    gate: &G,
+) -> Result<(Answer, Vec<u8>), StreamFault>
+    ensures says { (bytes : List ℕ) → TakesFrom WasFed bytes taken → IfOk result (λ told. AuditSays bytes told.0 told.1.items) }
+    ensures bad { IsErrOf result StreamFault.BadWorkers → (workers ≡ 0) ⊎ (MAX_WORKERS < workers) }
+    ensures held { IsErrOf result StreamFault.Held → (i : ℕ) × (i < workers) × MayHoldPiece (G.may_hold gate.now) i }
+    ensures no_read { ¬ IsErrOf result StreamFault.ReadFailed }
+    ensures no_write { ¬ IsErrOf result StreamFault.WriteFailed }
+{
+    let Taken { sink, cut } = taken;
+    match cut {
+        Some(offset) => faulty(alloc, &TraceFault::Cut { offset }),
+        None if workers == 1 => judged_alone(rt, alloc, sink, gate),
+        None => judged(rt, alloc, sink, workers, gate),
+    }
+}
+
 /// The answer for what was read, with its text.
 fn told<T: Threads + Wait + Sync, G: Gate>(
     rt: &T,
     alloc: Global,
-    read: Result<Trace, TraceFault>,
+    read: Result<Taken<Fed>, TraceFault>,
     workers: u8,
     gate: &G,
 ) -> Result<(Answer, Vec<u8>), StreamFault>
-    ensures says { (bytes : List ℕ) → Agrees bytes read → IfOk result (λ told. AuditSays bytes told.0 told.1.items) }
+    ensures says { (bytes : List ℕ) → AgreesInto WasFed bytes read → IfOk result (λ told. AuditSays bytes told.0 told.1.items) }
     ensures bad { IsErrOf result StreamFault.BadWorkers → (workers ≡ 0) ⊎ (MAX_WORKERS < workers) }
     ensures held { IsErrOf result StreamFault.Held → (i : ℕ) × (i < workers) × MayHoldPiece (G.may_hold gate.now) i }
     ensures read_failed { IsErrOf result StreamFault.ReadFailed → read ≡ Err TraceFault.ReadFailed }
@@ -127,15 +158,32 @@ fn told<T: Threads + Wait + Sync, G: Gate>(
     ensures no_write { ¬ IsErrOf result StreamFault.WriteFailed }
 {
     match read {
-        Ok(trace) => judged(rt, alloc, &trace, workers, gate),
+        Ok(taken) => told_of(rt, alloc, taken, workers, gate),
         Err(TraceFault::Memory) => Err(StreamFault::Memory),
         Err(TraceFault::ReadFailed) => Err(StreamFault::ReadFailed),
         Err(fault) => faulty(alloc, &fault),
     }
 }
 
-/// The answer for what a reader gives, with its text, by so many workers: one is fed what is read as it comes, and several share
-/// the trace that was read.
+/// An auditor that was fed what a reader gives as it came. For several workers a thread reads ahead of what is fed.
+fn fed<T: Threads, R: Read>(
+    rt: &T,
+    alloc: Global,
+    reader: &mut Counted<R>,
+    workers: u8,
+) -> Result<Taken<Fed>, TraceFault>
+    ensures says { IfSome (R.remaining (inner reader.old)) (λ bytes. AgreesInto WasFed bytes result) }
+    ensures failed { IsErrOf result TraceFault.ReadFailed → Failed (failures reader.old) (failures reader.new) }
+    ensures heard { IsErrOf result TraceFault.ReadFailed ⊎ (failures reader.new ≡ failures reader.old) }
+{
+    if workers == 1 {
+        read_into(alloc, reader)
+    } else {
+        read_ahead_into(rt, alloc, reader)
+    }
+}
+
+/// The answer for what a reader gives, with its text, by so many workers.
 fn read_and_told<T: Threads + Wait + Sync, R: Read, G: Gate>(
     rt: &T,
     alloc: Global,
@@ -150,11 +198,7 @@ fn read_and_told<T: Threads + Wait + Sync, R: Read, G: Gate>(
     ensures read_heard { IsErrOf result StreamFault.ReadFailed ⊎ (failures reader.new ≡ failures reader.old) }
     ensures no_write { ¬ IsErrOf result StreamFault.WriteFailed }
 {
-    if workers == 1 {
-        told_alone(rt, alloc, read_into::<Fed, R>(alloc, reader), gate)
-    } else {
-        told(rt, alloc, read_trace(alloc, reader), workers, gate)
-    }
+    told(rt, alloc, fed(rt, alloc, reader, workers), workers, gate)
 }
 
 /// Reads a trace to its end or its first fault, judges it by `workers` workers, 1 to 64, and writes the report or the

@@ -9,3 +9,4 @@ pub mod Readings
 pub mod Feeding
 pub mod Underway
 pub mod Begun
+pub mod Waiting

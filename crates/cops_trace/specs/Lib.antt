@@ -9,3 +9,4 @@ pub mod Answer
 pub mod Kept
 pub mod Parsing
 pub mod Lines
+pub mod Ahead

@@ -3,6 +3,7 @@
 //! offset, and the sessions that it records.
 #![tactic(auto)]
 
+mod ahead;
 mod counts;
 mod fault;
 mod finding;
@@ -10,6 +11,7 @@ mod found;
 mod lines;
 mod live;
 mod parser;
+mod pieces;
 mod reader;
 mod reading;
 mod record;
@@ -23,7 +25,7 @@ pub use found::{Found, Item};
 pub use lines::fault_line;
 pub use live::{LiveTrace, Unfinished};
 pub use reader::TraceReader;
-pub use reading::{read_into, read_so_far, read_trace};
+pub use reading::{read_ahead_into, read_into, read_so_far, read_trace};
 pub use record::Record;
 pub use sink::{Sink, Taken};
 pub use trace::{Partial, Trace};

@@ -13,7 +13,7 @@ use std::alloc::Global;
 /// What was read of a text: what took the head and the records so far, and the bytes that no item was taken from.
 #[derive(Drop)]
 pub(crate) struct Parser<S: Drop> {
-    alloc: Global,
+    pub(crate) alloc: Global,
     pub(crate) reader: TraceReader,
     pub(crate) begun: Option<S>,
 }
@@ -101,8 +101,9 @@ impl<S: Sink> Parser<S> {
     }
 }
 
-/// Gives an item to the sink that was begun.
-fn take<S: Sink>(alloc: Global, begun: &mut Option<S>, item: Item) -> Result<(), Memory>
+/// Gives an item to the sink that was begun. It is compiled into what calls it, since each call would move the item once more.
+#[inline(always)]
+pub(crate) fn take<S: Sink>(alloc: Global, begun: &mut Option<S>, item: Item) -> Result<(), Memory>
     requires { (t : Option ATrace) × IsTakenAs S.took begun.old t × ItemHasRoom item t }
     ensures { (t : Option ATrace) → IsTakenAs S.took begun.old t → OnOk result (IsTakenAs S.took begun.new (with_item item t)) }
 {

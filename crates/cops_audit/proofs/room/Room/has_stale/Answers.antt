@@ -1,7 +1,4 @@
-use Rattle.std.proofs.Common.{List, Vec, Global, sym, subst}
-use Rattle.cops_types.specs.declared.op.OpName.{OpName}
-use Rattle.cops_types.specs.Histories.{IsNamed}
-use Rattle.cops_types.specs.Faults.{Lists}
+use Rattle.std.proofs.Common.{List, sym, subst}
 use Rattle.cops_audit.specs.declared.table.VersionedPut.{VersionedPut}
 use Rattle.cops_audit.specs.Windows.{AreSuspects}
 use Rattle.cops_audit.proofs.Classes.{each_suspect, none_stale, seen_suspects}
