@@ -4,7 +4,7 @@
 usage: bench.py [--quick]     --quick leaves out the traces of a million operations
 
 Ratios are of the medians of seven runs: what the audit takes for each second of `sha256sum`. Memory is all that the process takes, its greatest resident
-size, by operation.
+size, by operation; of few operations it is that of the interpreter that starts the program.
 """
 import os
 import statistics
@@ -14,7 +14,8 @@ import tempfile
 import time
 
 ROOT = os.path.dirname(os.path.dirname(os.path.abspath(__file__)))
-PROGRAM = os.path.join(ROOT, "cops")
+COMMAND = os.path.join(ROOT, "cops")
+PROGRAMS = os.path.join(ROOT, "crates", "cops", "out", "cops"), os.path.join(ROOT, "release", "cops")
 GENERATOR = os.path.join(os.path.dirname(os.path.abspath(__file__)), "generate.py")
 RUNS = 7
 HEADINGS = "operations", "clients", "keys", "value bytes", "violation", "status", "operations/s", "MB/s", "time / sha256sum", "time / cat", "bytes an operation"
@@ -28,12 +29,18 @@ def run(*words):
     return time.monotonic() - begun, usage.ru_maxrss * 1024, os.waitstatus_to_exitcode(status)
 
 
-def row(operations, clients, keys, size, violation=None):
+def program():
+    """The program itself: the command looks first whether it is that of these sources, which takes longer than a short trace."""
+    subprocess.run([COMMAND, "--help"], stdout=subprocess.DEVNULL, check=True)
+    return max(filter(os.path.exists, PROGRAMS), key=os.path.getmtime)
+
+
+def row(audits, operations, clients, keys, size, violation=None):
     with tempfile.NamedTemporaryFile(suffix=".trace") as file:
         words = [sys.executable, GENERATOR, str(operations), str(clients), str(keys), str(size)]
         subprocess.run(words + ([violation] if violation else []), stdout=file, check=True)
         length = os.path.getsize(file.name)
-        commands = ("cat", file.name), ("sha256sum", file.name), (PROGRAM, "audit", file.name)
+        commands = ("cat", file.name), ("sha256sum", file.name), (audits, "audit", file.name)
         rounds = [[run(*words) for words in commands] for _ in range(RUNS)]
     cat, digest, audit = (statistics.median(one[n][0] for one in rounds) for n in range(3))
     peak, status = max(one[2][1] for one in rounds), rounds[0][2][2]
@@ -46,19 +53,19 @@ def row(operations, clients, keys, size, violation=None):
 
 
 def main():
-    subprocess.run([PROGRAM, "--help"], stdout=subprocess.DEVNULL, check=True)
+    audits = program()
     print(f"| {' | '.join(HEADINGS)} |")
     print("|---" * len(HEADINGS) + "|")
     most = 100_000 if "--quick" in sys.argv else 1_000_000
     for keys in (1_000, 100_000):
         for clients in (4, 64, 1_000):
-            row(most, clients, keys, 8)
+            row(audits, most, clients, keys, 8)
     for clients in (4, 64, 1_000):
-        row(most // 10 * 3, clients, 1_000, 1_024)
+        row(audits, most // 10 * 3, clients, 1_000, 1_024)
     for violation in ("doubled", "no_source", "not_above", "stale"):
-        row(most, 64, 1_000, 8, violation)
+        row(audits, most, 64, 1_000, 8, violation)
     for operations in (100_000, 10_000):
-        row(operations, 64, 1_000, 8)
+        row(audits, operations, 64, 1_000, 8)
 
 
 if __name__ == "__main__":
