@@ -1,6 +1,7 @@
 -- Room for a history that grows.
-use Rattle.std.proofs.Common.{◌≡◌, ◌<◌, ◌≤◌, ◌+◌, ℕ, suc, List, [], ◌∷◌, ◌++◌, length, length-append, get_or, replicate, map, Vec, Global, refl, sym, ◌∙◌, ap, inl, inr, arith, slice_index_or}
-use Rattle.std.specs.Prelude.{Result, Ok, Err, OnErr, sum_by, vec_capacity}
+use Rattle.std.proofs.Common.{◌≡◌, ◌<◌, ◌≤◌, ◌+◌, ℕ, suc, List, [], ◌∷◌, ◌++◌, length, length-append, get_or, replicate, map, Vec, Global, refl, sym, ◌∙◌, ap, inl, inr, arith, false, slice_index_or}
+use Rattle.std.specs.Prelude.{Result, Ok, Err, OnOk, sum_by, vec_capacity}
+use Rattle.std.specs.Result.{is_err}
 use Rattle.std.proofs.Math.ListN.{length-set}
 use Rattle.std.proofs.lemmas.Bool.{cases_lt}
 use Rattle.std.proofs.lemmas.List.{length-map, length-replicate}
@@ -61,10 +62,10 @@ fits_on h old new notes more fits space higher but room sessions = record {
   notes = room;
 }
 
--- what holds at an error
-pub at_error : {X E : Type 0} (r : Result X E) (P : Type 0) → P → OnErr r P
-at_error (Ok x) P p = tt
-at_error (Err e) P p = p
+-- what holds where it succeeds, where it is no error
+pub succeeded : {T E : Type 0} (r : Result T E) (P : Type 0) → OnOk r P → false ≡ is_err r → P
+succeeded (Ok x) P p e = p
+succeeded (Err x) P p e = absurd cc
 
 -- a note for each operation
 as_long : (h : Sessions) (table : List VersionedPut) (notes : List (List Note)) → IsNoted h table notes

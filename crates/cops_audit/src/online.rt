@@ -3,7 +3,7 @@ use crate::flat::FlatNotes;
 use crate::judged::Judged;
 use crate::room::Room;
 use crate::verdict::{SoFar, Verdict};
-use cops_types::{History, Memory, Op};
+use cops_types::{History, Memory, Op, OpView};
 use std::alloc::Global;
 use std::marker::Model;
 
@@ -32,6 +32,7 @@ impl Model for Online {
 impl Online {
     ghost use Rattle.std.specs.Prelude.{◌≡◌, ◌≤◌, ◌<◌, ◌↔◌, length, [], replicate, IfOk, IsErrOf, OnOk, OnErr};
     ghost use Rattle.cops_types.specs.Recorded.{IsFull};
+    ghost use Rattle.cops_types.specs.OpViews.{viewed};
     ghost use Rattle.cops_types.specs.Histories.{with_op};
     ghost use Rattle.cops_audit.specs.Judged.{IsJudged};
     ghost use Rattle.cops_audit.specs.SoFar.{IsSoFar};
@@ -75,12 +76,38 @@ impl Online {
         }
     }
 
+    /// The same with an operation that is seen: what of it is new is copied.
+    #[inline(always)]
+    pub fn feed_seen(&mut self, client: u16, op: &OpView<'_>) -> Result<(), FeedFault>
+        ensures ok { OnOk result (self.new ≡ with_op self.old client (viewed op.now)) }
+        ensures err { OnErr result (self.new ≡ self.old) }
+        ensures unknown { IsErrOf result FeedFault.UnknownClient ↔ (length self.old ≤ client) }
+        ensures too_many { IsErrOf result FeedFault.TooManyOps ↔ (client < length self.old × IsFull self.old client) }
+    {
+        if let Err(fault) = self.history.reserve(client) {
+            return Err(FeedFault::of(fault));
+        }
+        if self.room.grow(&mut self.notes, &self.history).is_err() {
+            return Err(FeedFault::Memory);
+        }
+        match self.history.push_seen(client, op) {
+            Ok(()) => {}
+            Err(Memory) => return Err(FeedFault::Memory),
+        }
+        Ok(())
+    }
+
+    /// Whether it is of use to foresee operations.
+    pub fn looks_ahead(&self) -> bool {
+        self.history.looks_ahead()
+    }
+
     /// Fetches from memory what will be needed for operations that come, where these are fed next and in this order. Nothing that is
     /// said of what was fed changes.
-    pub fn foresee(&mut self, ops: &[(u16, Op)])
+    pub fn foresee(&mut self, coming: &[OpView<'_>])
         ensures { self.new ≡ self.old }
     {
-        self.history.foresee(ops);
+        self.history.foresee(coming);
     }
 
     /// The history of what was fed.

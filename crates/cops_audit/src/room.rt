@@ -102,7 +102,7 @@ impl Room {
     pub fn grow(&mut self, notes: &mut FlatNotes, history: &History) -> Result<(), AllocError>
         requires { Fits history.now.sessions self.old notes.old }
         ensures ok { (client : ℕ) (op : AnOp) → client < length history.now.sessions → OnOk result (Fits (with_op history.now.sessions client op) self.new notes.new) }
-        ensures err { OnErr result (Fits history.now.sessions self.new notes.new) }
+        ensures kept { Fits history.now.sessions self.new notes.new }
     {
         let count = history.len() + 1;
         if self.space < count {

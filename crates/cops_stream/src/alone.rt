@@ -16,8 +16,7 @@ use std::sync::Wait;
 pub(crate) fn whole(alloc: Global, fed: Fed) -> Result<(Answer, Vec<u8>), Memory>
     ensures { (t : ATrace) → WasFed fed t → IfOk result (λ told. IsTold t told.0 told.1.items) }
 {
-    let online = fed.into_online()?;
-    let judged = online.close()?;
+    let judged = fed.into_online().close()?;
     let text = report_judged(alloc, &judged)?;
     Ok((answer_of(judged.verdict()), text))
 }

@@ -94,10 +94,7 @@ fn judged<T: Threads + Wait + Sync, G: Gate>(
     ensures no_read { ¬ IsErrOf result StreamFault.ReadFailed }
     ensures no_write { ¬ IsErrOf result StreamFault.WriteFailed }
 {
-    let history = match fed.into_online() {
-        Ok(online) => online.into_history(),
-        Err(Memory) => return Err(StreamFault::Memory),
-    };
+    let history = fed.into_online().into_history();
     let verdict = match judge_with(rt, alloc, &history, workers, gate) {
         Ok(verdict) => verdict,
         Err(BatchFault::Memory) => return Err(StreamFault::Memory),

@@ -46,7 +46,7 @@ fn cut(alloc: Global, fed: Fed, offset: u64) -> Result<(Answer, Vec<u8>), Memory
     ensures { (t : ATrace) → WasFed fed t → IfOk result (λ told. (so_far : ASoFar) × IsSoFar (sessions_of t) so_far
         × (told.0 ≡ answer_so_far so_far) × (told.1.items ≡ cut_text offset so_far)) }
 {
-    let mut online = fed.into_online()?;
+    let mut online = fed.into_online();
     let so_far = online.so_far();
     let text = cut_text(alloc, offset, so_far)?;
     Ok((answer_so_far(so_far), text))

@@ -7,7 +7,12 @@ use Rattle.cops_wire.specs.declared.fault.WireFault.{WireFault}
 use Rattle.cops_wire.specs.declared.fault.WireFault.TheVariants as wire
 use Rattle.cops_wire.specs.Grammar.{grammar, Parts}
 use Rattle.cops_wire.specs.Answer.{Answers, IsAnswer}
+use Rattle.cops_types.specs.declared.op.Op.{Op as AnOp}
 use Rattle.cops_types.specs.declared.op.Op.TheVariants.{Put, Got, Missed}
+use Rattle.cops_types.specs.OpViews.{viewed}
+use Rattle.cops_wire.specs.Message.{parts}
+use Rattle.cops_wire.specs.Records.{record_message, seen_message}
+use Rattle.cops_wire.specs.declared.record_view.RecordView.{RecordView}
 use Rattle.cops_wire.specs.declared.message.Message.{Message}
 use Rattle.cops_wire.specs.declared.message.Message.TheVariants.{TracePut, TraceGot, TraceMissed, TraceEnd}
 use Rattle.cops_trace.specs.declared.found.Item.{Item}
@@ -76,3 +81,13 @@ item_turn at b rest (Head clients) used s = tt
 item_turn at None rest (Entry client op) used s = (given None s.frame (Entry client op) used s.found_is).0
 item_turn at (Some c) rest (Entry client op) used s = (given (Some (progress_from at c)) s.frame (Entry client op) used s.found_is).0
 item_turn at b rest End used s = tt
+
+record_means : (p : Progress) (client index : ℕ) (op : AnOp) (used : ℕ) → later_message p (record_message client index op) used ≡ record_found p (record { client = client; op = op }) index used
+record_means p client index (Put key value version) used = refl
+record_means p client index (Got key value version) used = refl
+record_means p client index (Missed key) used = refl
+
+-- a record that is seen stands there, where it is found
+pub seen_stands : (p : Progress) (rest : List ℕ) (r : RecordView) → IsAnswer (grammar One) rest (Ok (parts (seen_message r), r.used))
+    → record_found p (record { client = r.client; op = viewed r.op }) r.index r.used ≡ Gives (Entry r.client (viewed r.op)) r.used → Stands (Some p) rest (Gives (Entry r.client (viewed r.op)) r.used)
+seen_stands p rest r is found = record { frame = Ok (seen_message r, r.used); frame_is = is; found_is = record_means p r.client r.index (viewed r.op) r.used ∙ found }

@@ -14,7 +14,7 @@ use Rattle.cops_trace.specs.Counts.{ACounts, AreCountsOf, counted, next_of, noth
 use Rattle.cops_trace.specs.Kept.{grown}
 use Rattle.cops_trace.specs.Next.{Stands}
 use Rattle.cops_trace.specs.Parsing.{FailsAt, FedInto, IsBegunAs, IsSettled, IsSettledAt, IsTakenAs, IsUnderway, ItemHasRoom, SettledInto, StepGives, StepsInto, Stops, stage_of, with_item}
-use Rattle.cops_trace.specs.Reading.{FailsIn, GivesNext, IsStoppedBy, IsWithinReach, ItemHasTurn, Reading, WaitsIn, counts_with, is_end, progress_so_far}
+use Rattle.cops_trace.specs.Reading.{FailsIn, GivesNext, IsNextIn, IsStoppedBy, IsWithinReach, ItemHasTurn, Reading, WaitsIn, counts_with, is_end, past, progress_so_far}
 use Rattle.cops_trace.specs.Text.{ATrace, turn}
 use Rattle.cops_trace.proofs.Feeding.{fed_more, fed_none, fed_so_far, fed_whole, none_settled, not_ended, step_fails, step_less, step_takes, step_waits}
 use Rattle.cops_trace.proofs.Founds.{item_room, item_turn, stands_after}
@@ -120,6 +120,10 @@ step_begun b old new i h (fine, going, (used, stands, same)) =
 pub step_took : (b : Option ATrace) (old new : Reading) (i : Item) → IsBegunAs b old.counts → GivesNext old (Ok (Some i)) new → StepGives (stage_of b old) (Ok true) (stage_of (with_item i b) new)
 step_took b old new i h (fine, going, (used, stands, same)) = (going, (i, used, stands_after old.at b old.counts old.rest (Gives i used) h stands, ap (stage_of (with_item i b)) same))
 
+-- what stands next is given next
+pub next_given : (r : Reading) (i : Item) (used : ℕ) → IsNextIn r i used → GivesNext r (Ok (Some i)) (past i used r)
+next_given r i used n = (n.fine, n.going, (used, n.stands, refl))
+
 -- ---- a sink
 
 module _ {S : Type 0} (took : S → ATrace → Type 0) where
@@ -156,6 +160,16 @@ module _ {S : Type 0} (took : S → ATrace → Type 0) where
         underway = record { trace = h.underway.trace; taken = h.underway.taken; counts = h.underway.counts };
         stage = fed_more fed piece (stage_of h.underway.trace old) fits h.stage;
       })
+
+  -- with a sink that got ready
+  pub underway_ready : (from to : Option S) (old new : Reading) → new ≡ old → ((t : Option ATrace) → IsTakenAs took from t → IsTakenAs took to t) → IsUnderway took from old → IsUnderway took to new
+  underway_ready from to old new same ready h =
+      subst (IsUnderway took to) (sym same) (record { trace = h.trace; taken = ready h.trace h.taken; counts = h.counts })
+
+  pub into_ready : (fed : List ℕ) (from to : Option S) (old new : Reading) → new ≡ old → ((t : Option ATrace) → IsTakenAs took from t → IsTakenAs took to t) → FedInto took fed from old → FedInto took fed to new
+  into_ready fed from to old new same ready h =
+      let u = h.underway in
+      subst (FedInto took fed to) (sym same) (record { underway = record { trace = u.trace; taken = ready u.trace u.taken; counts = u.counts }; stage = h.stage })
 
   -- a step
   pub into_less : (old new : Reading) (from to : Option S) → IsUnderway took from old → ((t : Option ATrace) → IsTakenAs took from t → IsBegunAs t old.counts → StepsInto took (stage_of t old) (Ok true) to new)

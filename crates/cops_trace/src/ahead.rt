@@ -6,7 +6,7 @@ ghost use Rattle.cops_trace.specs.Text.{ATrace};
 
 use crate::fault::TraceFault;
 use crate::found::Item;
-use crate::parser::{Parser, take};
+use crate::parser::{Parser, TOGETHER, take};
 use crate::reader::TraceReader;
 use crate::sink::Sink;
 use cops_types::Memory;
@@ -74,13 +74,48 @@ fn take_items<S: Sink>(
     ensures { (t : Option ATrace) → IsTakenAs S.took begun t → HaveRoom items.items t → IfOk result (λ b. IsTakenAs S.took b (with_items items.items t)) }
 {
     let (mut begun, mut items) = (begun, items);
+    let mut passed = 0u32;
     while let Some(item) = items.pop_front() {
         match take(alloc, &mut begun, item) {
             Ok(()) => {}
             Err(Memory) => return Err(Memory),
         }
+        passed = passed.wrapping_add(1);
+        look_ahead(alloc, &mut begun, &items, passed);
     }
     Ok(begun)
+}
+
+/// Lets the sink get ready for some of the items that wait, each time that so many have passed.
+fn look_ahead<S: Sink>(alloc: Global, begun: &mut Option<S>, items: &VecDeque<Item>, passed: u32)
+    ensures { (t : Option ATrace) → IsTakenAs S.took begun.old t → IsTakenAs S.took begun.new t }
+{
+    if passed % TOGETHER == 0 {
+        if let Some(sink) = begun {
+            foresee(alloc, sink, items);
+        }
+    }
+}
+
+/// Lets a sink get ready for the first of the items that wait.
+fn foresee<S: Sink>(alloc: Global, sink: &mut S, items: &VecDeque<Item>)
+    ensures { (t : ATrace) → S.took sink.old t → S.took sink.new t }
+{
+    if !sink.looks_ahead() {
+        return;
+    }
+    let Ok(mut coming) = Vec::with_capacity(alloc, TOGETHER as usize) else {
+        return;
+    };
+    for i in 0..TOGETHER as usize {
+        let Some(Item::Op { op, .. }) = items.get(i) else {
+            break;
+        };
+        if coming.push(op.as_view()).is_err() {
+            break;
+        }
+    }
+    sink.foresee(coming.as_slice());
 }
 
 impl<S: Sink> Underway<S> {

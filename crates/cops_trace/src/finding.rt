@@ -3,12 +3,13 @@ ghost use Rattle.std.specs.Prelude.{◌≡◌, ◌≢◌, ◌<◌, ◌≤◌, �
 ghost use Rattle.cops_types.specs.declared.op.Op.{Op as AnOp};
 ghost use Rattle.cops_trace.specs.Next.{Stands, unread, first_message, later_message, record_found, end_found};
 ghost use Rattle.cops_trace.specs.Counts.{progress_from};
+ghost use Rattle.cops_types.specs.OpViews.{viewed};
 
 use crate::counts::Counts;
 use crate::fault::TraceFault;
 use crate::found::{Found, Item};
 use cops_types::{MAX_CLIENT_OPS, MAX_OPS, Memory, Op};
-use cops_wire::{Message, WireFault, decode};
+use cops_wire::{Message, RecordView, WireFault, decode, record_at};
 use std::alloc::Global;
 
 /// A frame at this place that is no message: it is waited for, or a fault stands there.
@@ -145,6 +146,23 @@ fn later_message(counts: &Counts, at: u64, message: Message, used: usize) -> Fou
             drop(other);
             Found::Fails(TraceFault::NotARecord { offset: at })
         }
+    }
+}
+
+/// The record at the front, seen where its bytes lie, where it may come after the head and the records that were counted.
+#[inline(always)]
+pub(crate) fn record_seen<'a>(
+    alloc: Global,
+    counts: &Counts,
+    at: u64,
+    rest: &'a [u8],
+) -> Option<RecordView<'a>>
+    ensures { IfSome result (λ r. Stands (Some (progress_from at counts.now)) rest.now (Found.Gives (Item.Op r.client (viewed r.op)) r.used)) }
+{
+    let record = record_at(alloc, rest)?;
+    match record_fault(counts, at, record.client, record.index) {
+        None => Some(record),
+        Some(_) => None,
     }
 }
 

@@ -2,13 +2,18 @@
 ghost use Rattle.std.specs.Prelude.{◌≡◌, Option, OnOk};
 ghost use Rattle.cops_trace.specs.Parsing.{IsTakenAs, ItemHasRoom, with_item};
 ghost use Rattle.cops_trace.specs.Text.{ATrace};
+ghost use Rattle.cops_types.specs.OpViews.{viewed};
 
 use crate::fault::TraceFault;
 use crate::found::Item;
 use crate::reader::TraceReader;
 use crate::sink::{Sink, Taken};
-use cops_types::{Memory, Op};
+use cops_types::{Memory, OpView};
+use cops_wire::record_at;
 use std::alloc::Global;
+
+/// So many records a sink is told of before it takes them.
+pub(crate) const TOGETHER: u32 = 64;
 
 /// What was read of a text: what took the head and the records so far, and the bytes that no item was taken from.
 #[derive(Drop)]
@@ -34,8 +39,27 @@ impl<S: Sink> Parser<S> {
         }
     }
 
-    /// Takes the next item, and says whether a whole one was there.
+    /// Takes the next item, and says whether a whole one was there. A record is seen where its bytes lie.
     fn step(&mut self) -> Result<bool, TraceFault>
+        requires { IsUnderway S.took self.old.begun self.old.reader }
+        ensures { (t : Option ATrace) → IsTakenAs S.took self.old.begun t → IsBegunAs t self.old.reader.counts
+            → StepsInto S.took (stage_of t self.old.reader) result self.new.begun self.new.reader }
+    {
+        let Some(record) = self.reader.record() else {
+            return self.step_item();
+        };
+        match push(&mut self.begun, record.client, &record.op) {
+            Ok(()) => {}
+            Err(Memory) => return Err(TraceFault::Memory),
+        }
+        let (client, used) = (record.client, record.used);
+        self.reader.pass(client, used);
+        Ok(true)
+    }
+
+    /// Takes the next item, of any kind, and says whether a whole one was there.
+    #[inline(never)]
+    fn step_item(&mut self) -> Result<bool, TraceFault>
         requires { IsUnderway S.took self.old.begun self.old.reader }
         ensures { (t : Option ATrace) → IsTakenAs S.took self.old.begun t → IsBegunAs t self.old.reader.counts
             → StepsInto S.took (stage_of t self.old.reader) result self.new.begun self.new.reader }
@@ -54,8 +78,25 @@ impl<S: Sink> Parser<S> {
         requires { IsUnderway S.took self.old.begun self.old.reader }
         ensures { (fed : List ℕ) → FedInto S.took fed self.old.begun self.old.reader → AdvancesInto S.took fed result self.new.begun self.new.reader }
     {
-        while self.step()? {}
+        let mut passed = 0u32;
+        self.look_ahead(passed);
+        while self.step()? {
+            passed = passed.wrapping_add(1);
+            self.look_ahead(passed);
+        }
         Ok(())
+    }
+
+    /// Lets the sink get ready for some records that come, each time that so many have passed.
+    fn look_ahead(&mut self, passed: u32)
+        ensures reader { self.new.reader ≡ self.old.reader }
+        ensures begun { (t : Option ATrace) → IsTakenAs S.took self.old.begun t → IsTakenAs S.took self.new.begun t }
+    {
+        if passed % TOGETHER == 0 {
+            if let Some(sink) = &mut self.begun {
+                foresee(self.alloc, sink, self.reader.rest());
+            }
+        }
     }
 
     /// Takes the next piece, and then all whole items off the rest.
@@ -109,7 +150,7 @@ pub(crate) fn take<S: Sink>(alloc: Global, begun: &mut Option<S>, item: Item) ->
 {
     match item {
         Item::Head { clients } => begin(alloc, begun, clients),
-        Item::Op { client, op } => push(begun, client, op),
+        Item::Op { client, op } => push(begun, client, &op.as_view()),
         Item::End => Ok(()),
     }
 }
@@ -126,10 +167,34 @@ fn begin<S: Sink>(alloc: Global, begun: &mut Option<S>, clients: u16) -> Result<
     Ok(())
 }
 
+/// Lets a sink get ready for the records that stand at the front of some bytes.
+fn foresee<S: Sink>(alloc: Global, sink: &mut S, bytes: &[u8])
+    ensures { (t : ATrace) → S.took sink.old t → S.took sink.new t }
+{
+    if !sink.looks_ahead() {
+        return;
+    }
+    let Ok(mut coming) = Vec::with_capacity(alloc, TOGETHER as usize) else {
+        return;
+    };
+    let mut rest = bytes;
+    for _ in 0..TOGETHER {
+        let Some(record) = record_at(alloc, rest) else {
+            break;
+        };
+        rest = &rest[record.used..];
+        if coming.push(record.op).is_err() {
+            break;
+        }
+    }
+    sink.foresee(coming.as_slice());
+}
+
 /// Gives a record to the sink that was begun.
-fn push<S: Sink>(begun: &mut Option<S>, client: u16, op: Op) -> Result<(), Memory>
-    requires { (t : Option ATrace) × IsTakenAs S.took begun.old t × ItemHasRoom (Item.Op client op) t }
-    ensures { (t : Option ATrace) → IsTakenAs S.took begun.old t → OnOk result (IsTakenAs S.took begun.new (with_item (Item.Op client op) t)) }
+#[inline(always)]
+fn push<S: Sink>(begun: &mut Option<S>, client: u16, op: &OpView<'_>) -> Result<(), Memory>
+    requires { (t : Option ATrace) × IsTakenAs S.took begun.old t × ItemHasRoom (Item.Op client (viewed op.now)) t }
+    ensures { (t : Option ATrace) → IsTakenAs S.took begun.old t → OnOk result (IsTakenAs S.took begun.new (with_item (Item.Op client (viewed op.now)) t)) }
 {
     match begun {
         Some(sink) => sink.take(client, op),

@@ -4,10 +4,10 @@ ghost use Rattle.cops_trace.specs.Reading.{ItemHasTurn, counts_with, is_end};
 
 use crate::counts::Counts;
 use crate::fault::TraceFault;
-use crate::finding::{first_found, later_found};
+use crate::finding::{first_found, later_found, record_seen};
 use crate::found::{Found, Item};
 use cops_types::Memory;
-use cops_wire::Buffer;
+use cops_wire::{Buffer, RecordView};
 use std::alloc::Global;
 use std::marker::Model;
 
@@ -36,9 +36,11 @@ impl Model for TraceReader {
 }
 
 impl TraceReader {
-    ghost use Rattle.std.specs.Prelude.{◌≡◌, ◌++◌, [], None, false, true, IfOk, IfSome, OnErr, OnOk, Err};
+    ghost use Rattle.std.specs.Prelude.{◌≡◌, ◌++◌, [], None, Some, false, true, IfOk, IfSome, OnErr, OnOk, Ok, Err};
     ghost use Rattle.cops_trace.specs.Next.{Stands};
-    ghost use Rattle.cops_trace.specs.Reading.{GivesNext, closing, progress_so_far};
+    ghost use Rattle.cops_trace.specs.Reading.{GivesNext, IsNextIn, closing, progress_so_far};
+    ghost use Rattle.cops_types.specs.OpViews.{viewed};
+    ghost use Rattle.cops_types.specs.declared.op.Op.{Op as AnOp};
 
     /// A reader that was given nothing.
     pub fn new(alloc: Global) -> Self
@@ -113,6 +115,39 @@ impl TraceReader {
             None => first_found(self.alloc, rest),
             Some(counts) => later_found(self.alloc, counts, self.at, rest),
         }
+    }
+
+    /// The record at the front of the rest, seen where it lies, where `next` would give it out.
+    #[inline(always)]
+    pub(crate) fn record(&self) -> Option<RecordView<'_>>
+        ensures { IfSome result (λ r. IsNextIn self.now (Item.Op r.client (viewed r.op)) r.used) }
+    {
+        if self.ended || self.fault.is_some() {
+            return None;
+        }
+        let Some(counts) = &self.counts else {
+            return None;
+        };
+        record_seen(self.alloc, counts, self.at, self.buffer.rest())
+    }
+
+    /// Gives out that record of so many bytes.
+    #[inline(always)]
+    pub(crate) fn pass(&mut self, client: u16, len: usize)
+        requires { (op : AnOp) × IsNextIn self.old (Item.Op client op) len }
+        ensures { (op : AnOp) → IsNextIn self.old (Item.Op client op) len → GivesNext self.old (Ok (Some (Item.Op client op))) self.new }
+    {
+        match &mut self.counts {
+            Some(counts) => counts.add(client),
+            None => unreachable!(),
+        }
+        self.at += len as u64;
+        self.buffer.take(len);
+    }
+
+    /// The rest.
+    pub(crate) fn rest(&self) -> &[u8] {
+        self.buffer.rest()
     }
 
     /// Gives out the item of so many bytes that stands at the front of the rest.

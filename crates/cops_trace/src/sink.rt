@@ -2,7 +2,7 @@
 ghost use Rattle.std.specs.Prelude.{◌≡◌};
 
 use crate::trace::Trace;
-use cops_types::{Memory, Op, TypeFault};
+use cops_types::{Memory, OpView, TypeFault};
 use std::alloc::Global;
 
 /// What takes the head of a trace and then its records, one after the other.
@@ -10,6 +10,7 @@ pub trait Sink: Drop {
     ghost use Rattle.std.specs.Prelude.{[], IfOk, OnOk};
     ghost use Rattle.cops_trace.specs.Text.{ATrace};
     ghost use Rattle.cops_trace.specs.Kept.{MayGrow, grown};
+    ghost use Rattle.cops_types.specs.OpViews.{viewed};
 
     /// Whether it took the head and the records of this trace, and no more.
     ghost took: { Self → ATrace → Type 0 };
@@ -18,10 +19,17 @@ pub trait Sink: Drop {
     fn begin(alloc: Global, clients: u16) -> Result<Self, Memory>
         ensures { IfOk result (λ sink. took sink (record { clients = clients; records = [] })) };
 
-    /// Takes a record: a client's next operation.
-    fn take(&mut self, client: u16, op: Op) -> Result<(), Memory>
+    /// Takes a record: a client's next operation, which is seen where its bytes lie.
+    fn take(&mut self, client: u16, op: &OpView<'_>) -> Result<(), Memory>
         requires { (t : ATrace) × took self.old t × MayGrow t client }
-        ensures { (t : ATrace) → took self.old t → OnOk result (took self.new (grown t (record { client = client; op = op }))) };
+        ensures { (t : ATrace) → took self.old t → OnOk result (took self.new (grown t (record { client = client; op = viewed op.now }))) };
+
+    /// Whether it is of use to foresee operations.
+    fn looks_ahead(&self) -> bool;
+
+    /// Gets ready for operations that come, where these come next and in this order.
+    fn foresee(&mut self, coming: &[OpView<'_>])
+        ensures { (t : ATrace) → took self.old t → took self.new t };
 }
 
 /// What took the whole records of a text, and where the text is cut: nowhere where they are all.
@@ -39,11 +47,18 @@ impl Sink for Trace {
         Trace::new(alloc, clients)
     }
 
-    fn take(&mut self, client: u16, op: Op) -> Result<(), Memory> {
-        match self.push(client, op) {
+    fn take(&mut self, client: u16, op: &OpView<'_>) -> Result<(), Memory> {
+        let copied = op.to_op(self.allocator())?;
+        match self.push(client, copied) {
             Ok(()) => Ok(()),
             Err(TypeFault::Memory) => Err(Memory),
             Err(_) => unreachable!(),
         }
     }
+
+    fn looks_ahead(&self) -> bool {
+        false
+    }
+
+    fn foresee(&mut self, _coming: &[OpView<'_>]) {}
 }

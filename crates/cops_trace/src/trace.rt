@@ -64,6 +64,11 @@ impl Trace {
         Ok(())
     }
 
+    /// Where its memory is from.
+    pub(crate) fn allocator(&self) -> Global {
+        *self.arrivals.allocator()
+    }
+
     /// The sessions that the trace records.
     pub fn history(&self) -> &History
         ensures sessions { result.now.sessions ≡ sessions_of self.now }

@@ -12,6 +12,7 @@ pub mod Lists
 pub mod Histories
 pub mod Operations
 pub mod OpRefs
+pub mod OpViews
 pub mod Past
 pub mod Convergence
 pub mod VersionOrder

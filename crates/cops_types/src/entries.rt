@@ -2,6 +2,7 @@ use crate::blocks::Blocks;
 use crate::entry::Entry;
 use crate::fault::Memory;
 use crate::op::OpName;
+use crate::op_view::ValueView;
 use crate::value::Value;
 use crate::version::Version;
 use std::alloc::Global;
@@ -89,7 +90,7 @@ impl Entries {
     }
 
     /// The number of the key of the put of that name, if it is a put of this value and version.
-    pub(crate) fn put_key(&self, name: OpName, value: &Value, version: Version) -> Option<u32>
+    pub(crate) fn put_key(&self, name: OpName, value: &ValueView<'_>, version: Version) -> Option<u32>
         ensures { (key : ℕ) → (result ≡ Some key) ↔ (item_at self.now.all name ≡ Some (Put key value.now version)) }
     {
         match self.get(name)? {
@@ -97,13 +98,13 @@ impl Entries {
                 key,
                 value: put_value,
                 version: put_version,
-            } if *put_version == version && put_value.is(value) => Some(*key),
+            } if *put_version == version && put_value.is_seen(value) => Some(*key),
             _ => None,
         }
     }
 
     /// Whether the entry of that name is a put of this key, value and version.
-    pub(crate) fn is_put(&self, name: OpName, key: u32, value: &Value, version: Version) -> bool
+    pub(crate) fn is_put(&self, name: OpName, key: u32, value: &ValueView<'_>, version: Version) -> bool
         ensures { IsTrue result ↔ (item_at self.now.all name ≡ Some (Put key value.now version)) }
     {
         match self.put_key(name, value, version) {
@@ -121,7 +122,7 @@ impl Entries {
             return true;
         }
         match self.value_put(other) {
-            Some(value) => self.is_put(put, key, value, version),
+            Some(value) => self.is_put(put, key, &value.as_view(), version),
             None => false,
         }
     }

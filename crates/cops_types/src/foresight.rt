@@ -1,8 +1,8 @@
 use crate::entries::Entries;
 use crate::guesses::Guesses;
-use crate::key::Key;
 use crate::key_set::KeySet;
-use crate::op::{Op, OpName};
+use crate::op::OpName;
+use crate::op_view::{KeyView, OpView};
 use crate::version::Version;
 use std::alloc::Global;
 
@@ -77,37 +77,37 @@ impl Foresight {
         self.puts.forget();
     }
 
-    /// Guesses what is needed for operations that come, and fetches it, unless it is at hand anyway.
-    pub(crate) fn foresee(&mut self, keys: &KeySet, entries: &Entries, ops: &[(u16, Op)]) {
+    /// Whether what is needed for operations that come has to be fetched, with so many keys: else it is at hand.
+    pub(crate) fn looks_ahead(&self, keys: &KeySet) -> bool {
+        keys.len() >= FEW_KEYS
+    }
+
+    /// Guesses what is needed for operations that come, and fetches it.
+    pub(crate) fn foresee(&mut self, keys: &KeySet, entries: &Entries, coming: &[OpView<'_>]) {
         self.coming.clear();
         self.come = 0;
-        if keys.len() < FEW_KEYS {
-            return;
-        }
-        for coming in ops {
-            let guess = self.guess(&coming.1);
+        for op in coming {
+            let guess = self.guess(op);
             if self.coming.push(guess).is_err() {
                 return;
             }
         }
-        for (i, coming) in ops.iter().enumerate() {
+        for (i, op) in coming.iter().enumerate() {
             if let Some(guess) = self.coming.get_mut(i) {
-                *guess = right(*guess, keys, entries, &coming.1);
+                *guess = right(*guess, keys, entries, op);
             }
         }
     }
 
     /// What the tables guess of an operation.
-    fn guess(&self, op: &Op) -> Guess {
-        match op {
-            Op::Put { key, .. } | Op::Missed { key } => Guess {
-                key: self.number_of(key),
-                put: None,
-            },
-            Op::Got { key, version, .. } => Guess {
-                key: self.number_of(key),
-                put: self.put_of(*version),
-            },
+    fn guess(&self, op: &OpView<'_>) -> Guess {
+        let put = match op {
+            OpView::Got { version, .. } => self.put_of(*version),
+            OpView::Put { .. } | OpView::Missed { .. } => None,
+        };
+        Guess {
+            key: self.number_of(op.key()),
+            put,
         }
     }
 
@@ -122,12 +122,12 @@ impl Foresight {
     }
 
     /// The number that the key may have.
-    pub(crate) fn number_of(&self, key: &Key) -> Option<u32> {
+    pub(crate) fn number_of(&self, key: &KeyView<'_>) -> Option<u32> {
         self.keys.find(spread(key))
     }
 
     /// Keeps the number of a key.
-    pub(crate) fn note_key(&mut self, key: &Key, number: u32) {
+    pub(crate) fn note_key(&mut self, key: &KeyView<'_>, number: u32) {
         self.keys.note(spread(key), number);
     }
 
@@ -143,14 +143,13 @@ impl Foresight {
 }
 
 /// The guess, without what is seen to be wrong of it.
-fn right(guess: Guess, keys: &KeySet, entries: &Entries, op: &Op) -> Guess {
-    let key = match (guess.key, op) {
-        (Some(number), Op::Put { key, .. } | Op::Got { key, .. } | Op::Missed { key })
-            if keys.may_be_at(number, key) => { Some(number) }
+fn right(guess: Guess, keys: &KeySet, entries: &Entries, op: &OpView<'_>) -> Guess {
+    let key = match guess.key {
+        Some(number) if keys.may_be_at(number, op.key()) => Some(number),
         _ => None,
     };
     let put = match (guess.put, op) {
-        (Some(put), Op::Got { version, .. }) if entries.put_version(put) == Some(*version) => {
+        (Some(put), OpView::Got { version, .. }) if entries.put_version(put) == Some(*version) => {
             Some(put)
         }
         _ => None,
@@ -159,13 +158,14 @@ fn right(guess: Guess, keys: &KeySet, entries: &Entries, op: &Op) -> Guess {
 }
 
 /// Spreads keys over places, by their first and their last bytes.
-fn spread(key: &Key) -> usize {
+fn spread(key: &KeyView<'_>) -> usize {
     let bytes = key.as_bytes();
     let word = if let (Some(first), Some(last)) = (
         bytes.first_chunk::<8>(),
         bytes.last_chunk::<8>(),
     ) {
-        u64::from_le_bytes(*first) ^ u64::from_le_bytes(*last).rotate_left(32)
+        // (the first ones are spread before: of a key of eight bytes they are the last ones too)
+        u64::from_le_bytes(*first).wrapping_mul(SPREAD) ^ u64::from_le_bytes(*last).rotate_left(32)
     } else if let (Some(first), Some(last)) = (bytes.first_chunk::<4>(), bytes.last_chunk::<4>()) {
         u64::from(u32::from_le_bytes(*first)) << 32 | u64::from(u32::from_le_bytes(*last))
     } else {

@@ -1,9 +1,11 @@
-ghost use Rattle.std.specs.Prelude.{◌≡◌, ◌<◌, ℕ, List, [], Some, IfSome, length, slice_get, slice_index_or};
+ghost use Rattle.std.specs.Prelude.{◌≡◌, ◌<◌, ℕ, List, [], Some, IfOk, IfSome, OnErr, OnOk, length, slice_get, slice_index_or};
 ghost use Rattle.cops_types.specs.declared.limits.TheConstants.{MAX_CLIENT_OPS, MAX_OPS};
-ghost use Rattle.cops_types.specs.declared.op.Op.TheVariants.{Got};
-ghost use Rattle.cops_types.specs.Entries.{AreSound, HasSource, IsSound, key_number_of, told};
+ghost use Rattle.cops_types.specs.declared.entry.Entry.TheVariants.{Put};
+ghost use Rattle.cops_types.specs.Entries.{AreSound, IsSound, told};
+ghost use Rattle.cops_types.specs.Lists.{item_at};
 ghost use Rattle.cops_types.specs.KeySets.{AreDistinct, GainsKey};
 ghost use Rattle.cops_types.specs.Operations.{key_of};
+ghost use Rattle.cops_types.specs.OpViews.{viewed};
 
 use crate::entries::Entries;
 use crate::entry::Entry;
@@ -14,6 +16,7 @@ use crate::key_set::KeySet;
 use crate::limits::{MAX_CLIENT_OPS, MAX_OPS};
 use crate::op::{Op, OpName};
 use crate::op_ref::OpRef;
+use crate::op_view::{KeyView, OpView, ValueView};
 use crate::value::Value;
 use crate::version::Version;
 use std::alloc::Global;
@@ -54,6 +57,7 @@ impl History {
     ghost use Rattle.cops_types.specs.Histories.{PutsVersion, SourceStep, op_at, with_op};
     ghost use Rattle.cops_types.specs.Operations.{GetsVersion, key_of};
     ghost use Rattle.cops_types.specs.OpRefs.{seen};
+    ghost use Rattle.cops_types.specs.OpViews.{viewed};
     ghost use Rattle.cops_types.specs.Counts.{count_of};
     ghost use Rattle.cops_types.specs.Recorded.{IsFull, IsWithinLimits, HasRoom};
     ghost use Rattle.cops_types.specs.TypeFaults.{IsHistoryFault};
@@ -79,6 +83,8 @@ impl History {
     pub fn reserve(&mut self, client: u16) -> Result<(), TypeFault>
         ensures same { self.new.sessions ≡ self.old.sessions }
         ensures room { OnOk result (HasRoom self.new client) }
+        ensures admitted { OnOk result (client < length self.old.sessions
+            × length (slice_index_or self.old.sessions client []) < MAX_CLIENT_OPS × count_of self.old.sessions < MAX_OPS) }
         ensures others { (c : ℕ) → HasRoom self.old c → HasRoom self.new c }
         ensures unknown { IsErrOf result TypeFault.UnknownClient ↔ (length self.old.sessions ≤ client) }
         ensures too_many { IsErrOf result TypeFault.TooManyOps ↔ (client < length self.old.sessions × IsFull self.old.sessions client) }
@@ -107,12 +113,17 @@ impl History {
         Ok(())
     }
 
+    /// Whether a look ahead is of use: else what operations that come need is at hand.
+    pub fn looks_ahead(&self) -> bool {
+        self.foresight.looks_ahead(&self.keys)
+    }
+
     /// Fetches from memory what will be needed for operations that come, where these come next and in this order. Nothing that is
     /// said of the history changes.
-    pub fn foresee(&mut self, ops: &[(u16, Op)])
+    pub fn foresee(&mut self, coming: &[OpView<'_>])
         ensures { self.new ≡ self.old }
     {
-        self.foresight.foresee(&self.keys, &self.entries, ops);
+        self.foresight.foresee(&self.keys, &self.entries, coming);
     }
 
     /// Lets go of guesses that only find sooner what operations that come need. Nothing that is said of the history changes.
@@ -189,6 +200,37 @@ impl History {
         self.reserved[client as usize] = false;
         self.reservations -= 1;
         self.len += 1;
+    }
+
+    /// Adds the client's next operation, which is seen, at the place that `reserve` made: what of it is new is copied. For want of
+    /// memory nothing changes.
+    #[inline(always)]
+    pub fn push_seen(&mut self, client: u16, op: &OpView<'_>) -> Result<(), Memory>
+        requires inside { client < length self.old.sessions }
+        requires session { length (slice_index_or self.old.sessions client []) < MAX_CLIENT_OPS }
+        requires all { count_of self.old.sessions < MAX_OPS }
+        requires room { HasRoom self.old client }
+        ensures ok { OnOk result (self.new.sessions ≡ with_op self.old.sessions client (viewed op.now)) }
+        ensures err { OnErr result (self.new.sessions ≡ self.old.sessions) }
+    {
+        let alloc = *self.reserved.allocator();
+        let name = OpName {
+            client,
+            index: self.entries.session_len(client) as u32,
+        };
+        let entry = entry_of_seen(
+            alloc,
+            &mut self.keys,
+            &mut self.foresight,
+            &self.entries,
+            name,
+            op,
+        )?;
+        self.entries.push(client, entry);
+        self.reserved[usize::from(client)] = false;
+        self.reservations -= 1;
+        self.len += 1;
+        Ok(())
     }
 
     /// How many clients there are, at most 65,535.
@@ -308,7 +350,7 @@ impl History {
                 key,
                 value,
                 version,
-            } => self.entries.is_put(put, *key, value, *version),
+            } => self.entries.is_put(put, *key, &value.as_view(), *version),
             Entry::Put { .. } | Entry::Missed { .. } => false,
         }
     }
@@ -332,7 +374,7 @@ fn entry_of(
     ensures gains { GainsKey keys.old keys.new }
 {
     let guess = foresight.next();
-    let known = known_number(keys, foresight, &op, guess.key);
+    let known = known_number(keys, foresight, &op.as_key_view(), guess.key);
     match op {
         Op::Put {
             key,
@@ -352,11 +394,18 @@ fn entry_of(
             version,
         } => {
             let key = number_of(keys, foresight, key, known);
-            let put = match guess.put {
-                Some(put) => Some(put),
-                None => foresight.put_of(version),
-            };
-            got_entry(entries, put, key, value, version)
+            match source_of(foresight, entries, guess.put, key, &value.as_view(), version) {
+                Some(put) => Entry::Sourced {
+                    key,
+                    put,
+                    version,
+                },
+                None => Entry::Got {
+                    key,
+                    value,
+                    version,
+                },
+            }
         }
         Op::Missed { key } => Entry::Missed {
             key: number_of(keys, foresight, key, known),
@@ -364,14 +413,82 @@ fn entry_of(
     }
 }
 
-/// The number of an operation's key, where it is guessed right. The key is looked at where it lies.
+/// The entry of an operation that is seen, of that name, whose key is added where it is not there. For want of memory none is.
 #[inline(always)]
-fn known_number(keys: &KeySet, foresight: &Foresight, op: &Op, guess: Option<u32>) -> Option<u32>
-    ensures { IfSome result (λ number. slice_get keys.now.keys number ≡ Some (key_of op.now)) }
+fn entry_of_seen(
+    alloc: Global,
+    keys: &mut KeySet,
+    foresight: &mut Foresight,
+    entries: &Entries,
+    name: OpName,
+    op: &OpView<'_>,
+) -> Result<Entry, Memory>
+    requires sound { AreSound keys.old.keys entries.now.all }
+    requires distinct { AreDistinct keys.old.keys }
+    requires few { length keys.old.keys < MAX_OPS }
+    requires room { 0 < keys.old.spare }
+    ensures told { IfOk result (λ entry. told keys.new.keys entries.now.all entry ≡ viewed op.now) }
+    ensures sound { IfOk result (λ entry. IsSound keys.new.keys entries.now.all entry) }
+    ensures gains { OnOk result (GainsKey keys.old keys.new) }
+    ensures same { OnErr result (keys.new ≡ keys.old) }
 {
-    let key = match op {
-        Op::Put { key, .. } | Op::Got { key, .. } | Op::Missed { key } => key,
-    };
+    let guess = foresight.next();
+    let known = known_number(keys, foresight, op.key(), guess.key);
+    match op {
+        OpView::Put {
+            key,
+            value,
+            version,
+        } => {
+            let value = value.to_value(alloc)?;
+            let key = number_of_seen(alloc, keys, foresight, key, known)?;
+            foresight.note_put(*version, name);
+            Ok(Entry::Put {
+                key,
+                value,
+                version: *version,
+            })
+        }
+        OpView::Got {
+            key,
+            value,
+            version,
+        } => {
+            if let Some(number) = known {
+                let put = source_of(foresight, entries, guess.put, number, value, *version);
+                if let Some(put) = put {
+                    return Ok(Entry::Sourced {
+                        key: number,
+                        put,
+                        version: *version,
+                    });
+                }
+            }
+            let value = value.to_value(alloc)?;
+            let key = number_of_seen(alloc, keys, foresight, key, known)?;
+            Ok(Entry::Got {
+                key,
+                value,
+                version: *version,
+            })
+        }
+        OpView::Missed { key } => {
+            let key = number_of_seen(alloc, keys, foresight, key, known)?;
+            Ok(Entry::Missed { key })
+        }
+    }
+}
+
+/// The number of a key, where it is guessed right. The key is looked at where it lies.
+#[inline(always)]
+fn known_number(
+    keys: &KeySet,
+    foresight: &Foresight,
+    key: &KeyView<'_>,
+    guess: Option<u32>,
+) -> Option<u32>
+    ensures { IfSome result (λ number. slice_get keys.now.keys number ≡ Some key.now) }
+{
     let number = match guess {
         Some(number) => number,
         None => foresight.number_of(key)?,
@@ -399,34 +516,53 @@ fn number_of(keys: &mut KeySet, foresight: &mut Foresight, key: Key, known: Opti
         return number;
     }
     let number = keys.number(key);
-    foresight.note_key(keys.key(number), number);
+    foresight.note_key(&keys.key(number).as_view(), number);
     number
 }
 
-/// The entry of a get of the key of that number. Where the put that is guessed wrote the key and the value with this
-/// version, the entry names it, and the value is let go.
+/// The number of a key that is seen: the one that is known, or else that of a copy.
 #[inline(always)]
-fn got_entry(
-    entries: &Entries,
-    put: Option<OpName>,
-    key: u32,
-    value: Value,
-    version: Version,
-) -> Entry
-    ensures told { (keys : List (List ℕ)) → told keys entries.now.all result ≡ Got (slice_index_or keys key []) value version }
-    ensures key { key_number_of result ≡ key }
-    ensures source { HasSource entries.now.all result }
+fn number_of_seen(
+    alloc: Global,
+    keys: &mut KeySet,
+    foresight: &mut Foresight,
+    key: &KeyView<'_>,
+    known: Option<u32>,
+) -> Result<u32, Memory>
+    requires known { IfSome known (λ number. slice_get keys.old.keys number ≡ Some key.now) }
+    requires few { length keys.old.keys < MAX_OPS }
+    requires room { 0 < keys.old.spare }
+    requires distinct { AreDistinct keys.old.keys }
+    ensures found { IfOk result (λ number. slice_get keys.new.keys number ≡ Some key.now) }
+    ensures gains { OnOk result (GainsKey keys.old keys.new) }
+    ensures same { OnErr result (keys.new ≡ keys.old) }
 {
-    match put {
-        Some(put) if entries.is_put(put, key, &value, version) => Entry::Sourced {
-            key,
-            put,
-            version,
-        },
-        _ => Entry::Got {
-            key,
-            value,
-            version,
-        },
+    if let Some(number) = known {
+        return Ok(number);
+    }
+    let copied = key.to_key(alloc)?;
+    Ok(number_of(keys, foresight, copied, None))
+}
+
+/// The put that a get of the key of that number returned, where it is guessed right: it wrote the key and the value with this version.
+#[inline(always)]
+fn source_of(
+    foresight: &Foresight,
+    entries: &Entries,
+    guess: Option<OpName>,
+    key: u32,
+    value: &ValueView<'_>,
+    version: Version,
+) -> Option<OpName>
+    ensures { IfSome result (λ put. item_at entries.now.all put ≡ Some (Put key value.now version)) }
+{
+    let put = match guess {
+        Some(put) => put,
+        None => foresight.put_of(version)?,
+    };
+    if entries.is_put(put, key, value, version) {
+        Some(put)
+    } else {
+        None
     }
 }

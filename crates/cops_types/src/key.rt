@@ -5,6 +5,7 @@ ghost use Rattle.cops_types.specs.TypeFaults.{IsKeyFault};
 
 use crate::fault::TypeFault;
 use crate::limits::MAX_KEY;
+use crate::op_view::KeyView;
 use smallvec::SmallVec;
 use std::alloc::{AllocError, Global};
 use std::cmp::Ordering;
@@ -119,15 +120,26 @@ impl Key {
         ensures too_long { IsErrOf result TypeFault.KeyTooLong ↔ (MAX_KEY < length bytes.now) }
         ensures only { IfErr result IsKeyFault }
     {
-        if bytes.is_empty() {
-            return Err(TypeFault::KeyEmpty);
+        match KeyView::new(bytes) {
+            Ok(seen) => Key::of(alloc, &seen).or(Err(TypeFault::Memory)),
+            Err(fault) => Err(fault),
         }
-        if bytes.len() > MAX_KEY {
-            return Err(TypeFault::KeyTooLong);
-        }
-        match SmallVec::from_slice(alloc, bytes) {
-            Ok(bytes) => Ok(Key { bytes }),
-            Err(_) => Err(TypeFault::Memory),
+    }
+
+    /// A copy of what is seen.
+    pub(crate) fn of(alloc: Global, seen: &KeyView<'_>) -> Result<Self, AllocError>
+        ensures { IfOk result (λ key. key ≡ seen.now) }
+    {
+        let bytes = SmallVec::from_slice(alloc, seen.as_bytes())?;
+        Ok(Key { bytes })
+    }
+
+    /// The key, seen where its bytes lie.
+    pub fn as_view(&self) -> KeyView<'_>
+        ensures { result ≡ self.now }
+    {
+        KeyView {
+            bytes: self.bytes.as_slice(),
         }
     }
 
@@ -142,7 +154,14 @@ impl Key {
     pub fn is(&self, other: &Key) -> bool
         ensures { IsTrue result ↔ (self.now ≡ other.now) }
     {
-        self.bytes.as_slice() == other.bytes.as_slice()
+        self.is_seen(&other.as_view())
+    }
+
+    /// Whether the one that is seen has the same bytes.
+    pub fn is_seen(&self, other: &KeyView<'_>) -> bool
+        ensures { IsTrue result ↔ (self.now ≡ other.now) }
+    {
+        self.bytes.as_slice() == other.as_bytes()
     }
 }
 

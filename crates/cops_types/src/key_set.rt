@@ -1,5 +1,6 @@
 use crate::fault::Memory;
 use crate::key::Key;
+use crate::op_view::KeyView;
 use indexmap::IndexSet;
 use std::alloc::Global;
 use std::marker::Model;
@@ -59,7 +60,7 @@ impl KeySet {
     }
 
     /// Whether the key of that number is there and as long as this one, which a look at its length tells.
-    pub(crate) fn may_be_at(&self, number: u32, key: &Key) -> bool {
+    pub(crate) fn may_be_at(&self, number: u32, key: &KeyView<'_>) -> bool {
         match self.keys.as_slice().get(number as usize) {
             Some(there) => there.as_bytes().len() == key.as_bytes().len(),
             None => false,
@@ -67,11 +68,11 @@ impl KeySet {
     }
 
     /// Whether the key of that number is there and is this one.
-    pub(crate) fn is_at(&self, number: u32, key: &Key) -> bool
+    pub(crate) fn is_at(&self, number: u32, key: &KeyView<'_>) -> bool
         ensures { IsTrue result ↔ (slice_get self.now.keys number ≡ Some key.now) }
     {
         match self.keys.as_slice().get(number as usize) {
-            Some(there) => there.is(key),
+            Some(there) => there.is_seen(key),
             None => false,
         }
     }

@@ -22,6 +22,7 @@ mod key_set;
 mod limits;
 mod op;
 mod op_ref;
+mod op_view;
 mod put_record;
 mod refusal;
 mod selection;
@@ -43,6 +44,7 @@ pub use limits::{
 };
 pub use op::{Op, OpName};
 pub use op_ref::OpRef;
+pub use op_view::{KeyView, OpView, ValueView};
 pub use put_record::{NodeStatus, PutRecord};
 pub use refusal::Refusal;
 pub use selection::Selection;

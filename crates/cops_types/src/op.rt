@@ -1,5 +1,6 @@
 use crate::key::Key;
 use crate::op_ref::OpRef;
+use crate::op_view::{KeyView, OpView};
 use crate::value::Value;
 use crate::version::Version;
 use std::alloc::AllocError;
@@ -60,6 +61,8 @@ impl Clone for Op {
 impl Op {
     ghost use Rattle.std.specs.Prelude.{◌≡◌};
     ghost use Rattle.cops_types.specs.OpRefs.{seen};
+    ghost use Rattle.cops_types.specs.OpViews.{viewed};
+    ghost use Rattle.cops_types.specs.Operations.{key_of};
 
     /// The operation, seen where it lies.
     pub fn as_ref(&self) -> OpRef<'_>
@@ -85,6 +88,44 @@ impl Op {
                 version,
             },
             Op::Missed { key } => OpRef::Missed { key },
+        }
+    }
+
+    /// The key that it is on, seen where its bytes lie.
+    pub fn as_key_view(&self) -> KeyView<'_>
+        ensures { result ≡ key_of self.now }
+    {
+        match self {
+            Op::Put { key, .. } | Op::Got { key, .. } | Op::Missed { key } => key.as_view(),
+        }
+    }
+
+    /// The operation, seen as bytes where they lie.
+    pub fn as_view(&self) -> OpView<'_>
+        ensures { viewed result ≡ self.now }
+    {
+        match self {
+            Op::Put {
+                key,
+                value,
+                version,
+            } => OpView::Put {
+                key: key.as_view(),
+                value: value.as_view(),
+                version: *version,
+            },
+            Op::Got {
+                key,
+                value,
+                version,
+            } => OpView::Got {
+                key: key.as_view(),
+                value: value.as_view(),
+                version: *version,
+            },
+            Op::Missed { key } => OpView::Missed {
+                key: key.as_view(),
+            },
         }
     }
 }

@@ -7,6 +7,7 @@ ghost use Rattle.cops_types.specs.TypeFaults.{IsValueFault};
 use crate::fault::TypeFault;
 use crate::format::Format;
 use crate::limits::MAX_VALUE;
+use crate::op_view::ValueView;
 use smallvec::SmallVec;
 use std::alloc::{AllocError, Global};
 use std::marker::Model;
@@ -77,12 +78,26 @@ impl Value {
         ensures too_long { IsErrOf result TypeFault.ValueTooLong ↔ (most_value format < length bytes.now) }
         ensures only { IfErr result IsValueFault }
     {
-        if bytes.len() > format.most_value() {
-            return Err(TypeFault::ValueTooLong);
+        match ValueView::new_in(format, bytes) {
+            Ok(seen) => Value::of(alloc, &seen).or(Err(TypeFault::Memory)),
+            Err(fault) => Err(fault),
         }
-        match SmallVec::from_slice(alloc, bytes) {
-            Ok(bytes) => Ok(Value { bytes }),
-            Err(_) => Err(TypeFault::Memory),
+    }
+
+    /// A copy of what is seen.
+    pub(crate) fn of(alloc: Global, seen: &ValueView<'_>) -> Result<Self, AllocError>
+        ensures { IfOk result (λ value. value ≡ seen.now) }
+    {
+        let bytes = SmallVec::from_slice(alloc, seen.as_bytes())?;
+        Ok(Value { bytes })
+    }
+
+    /// The value, seen where its bytes lie.
+    pub fn as_view(&self) -> ValueView<'_>
+        ensures { result ≡ self.now }
+    {
+        ValueView {
+            bytes: self.bytes.as_slice(),
         }
     }
 
@@ -97,7 +112,14 @@ impl Value {
     pub fn is(&self, other: &Value) -> bool
         ensures { IsTrue result ↔ (self.now ≡ other.now) }
     {
-        self.bytes.as_slice() == other.bytes.as_slice()
+        self.is_seen(&other.as_view())
+    }
+
+    /// Whether the one that is seen has the same bytes.
+    pub fn is_seen(&self, other: &ValueView<'_>) -> bool
+        ensures { IsTrue result ↔ (self.now ≡ other.now) }
+    {
+        self.bytes.as_slice() == other.as_bytes()
     }
 }
 

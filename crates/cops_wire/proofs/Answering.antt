@@ -12,7 +12,11 @@ use Rattle.cops_wire.specs.Field.{Field, spelled_all}
 use Rattle.cops_wire.specs.Answer.{IsBytes, IsAnswer, Answers}
 use Rattle.cops_wire.specs.Grammar.{Grammar, Parts, grammar, fields_of}
 use Rattle.cops_wire.specs.Lengths.{IsGrammar}
-use Rattle.cops_wire.specs.Reading.{known_fields_at, contents_at, frame_at}
+use Rattle.cops_wire.specs.Message.{parts}
+use Rattle.cops_wire.specs.Reading.{body_at, known_fields_at, contents_at, frame_at}
+use Rattle.cops_wire.specs.Records.{seen_message}
+use Rattle.cops_wire.specs.declared.record_view.RecordView.{RecordView}
+use Rattle.std.specs.Prelude.{IfSome}
 use Rattle.cops_wire.proofs.Rows.{fields_stop}
 use Rattle.cops_wire.proofs.Frames.{frame_answers, only_answer}
 
@@ -54,3 +58,9 @@ answers g bytes r fits h = Answers-weaker r (λ a. a ≡ frame_at g bytes) (IsAn
 pub answers_only : (g : Grammar) → IsGrammar g → (bytes : List ℕ) (r : Result Decoded WireFault) → IsBytes bytes → Answers r (λ a. a ≡ frame_at g bytes)
     → (a : Result (Parts × ℕ) WireFault) → IsAnswer g bytes a → Answers r (λ b. b ≡ a)
 answers_only g ok bytes r fits h a is = Answers-weaker r (λ a. a ≡ frame_at g bytes) (λ b. b ≡ a) h (λ b e. e ∙ only_answer g ok bytes fits a is)
+
+-- a record that is seen is the answer of the bytes
+pub seen_answers : (g : Grammar) (bytes text : List ℕ) (o : Option RecordView) → IsBytes bytes → frame_at g bytes ≡ body_at g text
+    → IfSome o (λ r. body_at g text ≡ Ok (parts (seen_message r), r.used)) → IfSome o (λ r. IsAnswer g bytes (Ok (parts (seen_message r), r.used)))
+seen_answers g bytes text None fits reading h = tt
+seen_answers g bytes text (Some r) fits reading h = subst (IsAnswer g bytes) (reading ∙ h) (frame_answers g bytes fits)

@@ -10,5 +10,6 @@ pub mod Answer
 pub mod Reading
 pub mod Written
 pub mod Feeding
+pub mod Records
 pub mod Shown
 pub mod Lines

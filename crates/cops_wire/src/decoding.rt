@@ -1,10 +1,10 @@
 //! The message at the front of some bytes.
-ghost use Rattle.std.specs.Prelude.{◌≡◌, ◌<◌, ◌≤◌, ◌+◌, ℕ, length, Result, IfOk, IfErr, IsTrue};
+ghost use Rattle.std.specs.Prelude.{◌≡◌, ◌<◌, ◌≤◌, ◌+◌, ℕ, length, take, drop, Result, Err, IfOk, IfErr, IsTrue};
 ghost use Rattle.cops_types.specs.Format.{longest_body};
 ghost use Rattle.cops_types.specs.declared.limits.TheConstants.{MAX_BODY};
 ghost use Rattle.cops_wire.specs.declared.fault.WireFault.{WireFault};
 ghost use Rattle.cops_wire.specs.Grammar.{grammar, Parts};
-ghost use Rattle.cops_wire.specs.Answer.{IsAnswer, Answers, BeginsWithTaking, IsPlacedWithin};
+ghost use Rattle.cops_wire.specs.Answer.{IsAnswer, Answers, BeginsWithTaking, HasNoBody, IsPlacedWithin, length_at};
 ghost use Rattle.cops_wire.specs.Reading.{body_at, body_takes, frame_at};
 
 use crate::fault::WireFault;
@@ -59,13 +59,13 @@ pub fn decode_in(format: Format, alloc: Global, bytes: &[u8]) -> Result<Decoded,
     frame(format, alloc, bytes)
 }
 
-/// The first three steps, which look at the length.
+/// The first three steps, which look at the length: they leave a whole body.
 #[tactic(auto, unfolding(crate::specs::Reading::frame_at))]
-fn frame(format: Format, alloc: Global, bytes: &[u8]) -> Result<Decoded, WireFault>
-    ensures reading { Answers result (λ a. a ≡ frame_at (grammar format) bytes.now) }
-    ensures memory { result ≡ Err WireFault.Memory → BeginsWithTaking (grammar format) bytes.now }
-    ensures used { IfOk result (λ decoded. (4 < decoded.used) × (decoded.used ≤ length bytes.now) × (decoded.used ≤ 4 + longest_body format)) }
-    ensures offset { IfErr result (IsPlacedWithin (longest_body format)) }
+pub(crate) fn whole_body(format: Format, bytes: &[u8]) -> Result<&[u8], WireFault>
+    ensures some { IfOk result (λ text. (0 < length text.now) × (length text.now ≤ longest_body format)) }
+    ensures place { IfOk result (λ text. (4 + length text.now ≤ length bytes.now) × (length text.now ≡ length_at bytes.now) × (text.now ≡ take (length_at bytes.now) (drop 4 bytes.now))) }
+    ensures reading { IfOk result (λ text. frame_at (grammar format) bytes.now ≡ body_at (grammar format) text.now) }
+    ensures err { IfErr result (λ fault. HasNoBody fault × (frame_at (grammar format) bytes.now ≡ Err fault)) }
 {
     if bytes.len() < 4 {
         return Err(WireFault::Short);
@@ -79,7 +79,20 @@ fn frame(format: Format, alloc: Global, bytes: &[u8]) -> Result<Decoded, WireFau
         return Err(WireFault::Short);
     }
     let (text, _) = rest.split_at(len);
-    body(format, alloc, text)
+    Ok(text)
+}
+
+/// All steps.
+fn frame(format: Format, alloc: Global, bytes: &[u8]) -> Result<Decoded, WireFault>
+    ensures reading { Answers result (λ a. a ≡ frame_at (grammar format) bytes.now) }
+    ensures memory { result ≡ Err WireFault.Memory → BeginsWithTaking (grammar format) bytes.now }
+    ensures used { IfOk result (λ decoded. (4 < decoded.used) × (decoded.used ≤ length bytes.now) × (decoded.used ≤ 4 + longest_body format)) }
+    ensures offset { IfErr result (IsPlacedWithin (longest_body format)) }
+{
+    match whole_body(format, bytes) {
+        Ok(text) => body(format, alloc, text),
+        Err(fault) => Err(fault),
+    }
 }
 
 /// The last three steps, on a whole body.

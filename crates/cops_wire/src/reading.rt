@@ -9,7 +9,7 @@ ghost use Rattle.cops_wire.specs.Reading.{GivesField, GivesNumber, GivesContents
 
 use crate::message::Message;
 use crate::table::{group, kinds};
-use cops_types::{Dep, Deps, Format, Key, TypeFault, Value, Version};
+use cops_types::{Dep, Deps, Format, Key, KeyView, Value, ValueView, Version};
 use std::alloc::{AllocError, AllocFailed, Global};
 
 /// The fewest bytes that a pair has: a key's length, one byte of a key, and a version.
@@ -174,14 +174,24 @@ impl<'a> Rest<'a> {
         ensures format { self.new.format ≡ self.old.format }
         ensures field { GivesField (λ k. (k, self.new.bytes.now)) key self.old.bytes.now result (string_at u8 1 MAX_KEY self.old.bytes.now) }
     {
+        let seen = self.key_view()?;
+        let key = seen.to_key(self.alloc)?;
+        Ok(key)
+    }
+
+    /// The key, seen where it lies.
+    #[tactic(auto, unfolding(crate::specs::Reading::string_at, crate::specs::Reading::number_in_at))]
+    pub(crate) fn key_view(&mut self) -> Result<KeyView<'a>, ReadFault>
+        ensures format { self.new.format ≡ self.old.format }
+        ensures field { GivesNumber (λ k. (k, self.new.bytes.now)) self.old.bytes.now result (string_at u8 1 MAX_KEY self.old.bytes.now) }
+    {
         let bad = self.bad();
         let len = self.u8()? as usize;
         if self.bytes.len() < len {
             return Err(bad);
         }
-        match Key::new(self.alloc, self.take(len)) {
+        match KeyView::new(self.take(len)) {
             Ok(key) => Ok(key),
-            Err(TypeFault::Memory) => Err(ReadFault::Memory),
             Err(_) => Err(bad),
         }
     }
@@ -191,14 +201,24 @@ impl<'a> Rest<'a> {
         ensures format { self.new.format ≡ self.old.format }
         ensures field { GivesField (λ v. (v, self.new.bytes.now)) (value self.old.format) self.old.bytes.now result (string_at u16 0 (most_value self.old.format) self.old.bytes.now) }
     {
+        let seen = self.value_view()?;
+        let value = seen.to_value(self.alloc)?;
+        Ok(value)
+    }
+
+    /// The value, seen where it lies.
+    #[tactic(auto, unfolding(crate::specs::Reading::string_at, crate::specs::Reading::number_in_at))]
+    pub(crate) fn value_view(&mut self) -> Result<ValueView<'a>, ReadFault>
+        ensures format { self.new.format ≡ self.old.format }
+        ensures field { GivesNumber (λ v. (v, self.new.bytes.now)) self.old.bytes.now result (string_at u16 0 (most_value self.old.format) self.old.bytes.now) }
+    {
         let bad = self.bad();
         let len = self.u16()? as usize;
         if self.bytes.len() < len {
             return Err(bad);
         }
-        match Value::new_in(self.format, self.alloc, self.take(len)) {
+        match ValueView::new_in(self.format, self.take(len)) {
             Ok(value) => Ok(value),
-            Err(TypeFault::Memory) => Err(ReadFault::Memory),
             Err(_) => Err(bad),
         }
     }

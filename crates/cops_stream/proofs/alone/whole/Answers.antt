@@ -8,7 +8,7 @@ use Rattle.cops_stream.proofs.alone.whole.Goals as goal
 pub returns : goal.returns
 returns c = λ t fed.
     let judged = c.in_ok-judged.judged in
-    let is = subst (λ (h : Sessions). IsJudged h judged) (c.in_ok-online.ensures t fed) c.in_ok-judged.ensures in
+    let is = subst (λ (h : Sessions). IsJudged h judged) (c.into_online.ensures t fed) c.in_ok-judged.ensures in
     record {
       verdict = judged.verdict;
       is_report = record { is_verdict = is.verdict; is_report = c.in_ok-text.ensures (sessions_of t) is };

@@ -1,12 +1,16 @@
 use Rattle.std.proofs.Common.{arith}
-use Rattle.cops_audit.proofs.Growing.{at_error, fits_more, fits_on}
+use Rattle.cops_audit.proofs.Growing.{fits_more, fits_on}
 use Rattle.cops_audit.proofs.room.Room.grow.Goals as goal
 
-pub returns-in_err-reserve-clause-err : goal.returns-in_err-reserve-clause-err
-returns-in_err-reserve-clause-err c =
+pub returns-in_err-reserve-clause-kept : goal.returns-in_err-reserve-clause-kept
+returns-in_err-reserve-clause-kept c =
     let reserve = c.in_err-reserve.ensures in
-    at_error c.from_residual.result _
-    (fits_on c.args.history.now.sessions c.args.self.now c.reserve.new.self c.args.notes.now c.reserve.new.notes c.requires reserve.space reserve.kept reserve.same reserve.notes reserve.sessions)
+    fits_on c.args.history.now.sessions c.args.self.now c.reserve.new.self c.args.notes.now c.reserve.new.notes c.requires reserve.space reserve.kept reserve.same reserve.notes reserve.sessions
+
+pub returns-in_ok-reserve-clause-kept : goal.returns-in_ok-reserve-clause-kept
+returns-in_ok-reserve-clause-kept c =
+    let reserve = c.in_ok-reserve.ensures in
+    fits_on c.args.history.now.sessions c.args.self.now c.reserve.new.self c.args.notes.now c.reserve.new.notes c.requires reserve.space reserve.kept reserve.same reserve.notes reserve.sessions
 
 pub returns-in_ok-reserve-clause-ok : goal.returns-in_ok-reserve-clause-ok
 returns-in_ok-reserve-clause-ok c = λ client op inside.

@@ -1,4 +1,4 @@
-use Rattle.std.proofs.Common.{◌<◌, length, map, refl, sym, arith}
+use Rattle.std.proofs.Common.{◌<◌, length, map, refl, arith}
 use Rattle.std.proofs.lemmas.List.{length-map}
 use Rattle.cops_types.specs.Entries.{told}
 use Rattle.cops_types.proofs.Holding.{flags-le, room_kept, flag_kept}

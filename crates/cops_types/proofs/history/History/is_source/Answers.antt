@@ -35,10 +35,11 @@ returns-in-Got-clause-source c =
     let keys = c.self.inside.keys.keys in
     let all = c.self.inside.entries.all in
     let sound = subst (IsSound keys all) c.in-Got.is (c.self.invariant.sound c.args.got c.in-Some.entry.now (sym c.in-Some.ensures)) in
+    let is_put = rw c.as_view.ensures at c.is_put.ensures in
     let got = told_as keys all c.args.got c.in-Some.entry.now (GotOp (get_or keys c.in-Got.key []) c.in-Got.value c.in-Got.version) c.in-Some.ensures (ap (told keys all) c.in-Got.is) in
     rw (← c.self.view_is) (
-      (λ yes. source_there keys all c.args.put c.args.got c.in-Got.key c.in-Got.value c.in-Got.version got (c.is_put.ensures.0 yes)),
-      (λ s. c.is_put.ensures.1 (source_found keys all c.args.put c.args.got c.in-Got.key c.in-Got.value c.in-Got.version got c.self.invariant.sound c.self.invariant.distinct sound.key s)),
+      (λ yes. source_there keys all c.args.put c.args.got c.in-Got.key c.in-Got.value c.in-Got.version got (is_put.0 yes)),
+      (λ s. is_put.1 (source_found keys all c.args.put c.args.got c.in-Got.key c.in-Got.value c.in-Got.version got c.self.invariant.sound c.self.invariant.distinct sound.key s)),
     )
 
 pub returns-in-Got-clause-limit : goal.returns-in-Got-clause-limit

@@ -1,0 +1,129 @@
+//! A record of a trace, seen where its bytes lie.
+ghost use Rattle.std.specs.Prelude.{◌≡◌, ◌<◌, ◌≤◌, Ok, IfOk, IfSome, length};
+ghost use Rattle.cops_types.specs.Format.{longest_body};
+ghost use Rattle.cops_wire.specs.Answer.{IsAnswer};
+ghost use Rattle.cops_wire.specs.Grammar.{grammar};
+ghost use Rattle.cops_wire.specs.Kind.{contents_of, kind_of};
+ghost use Rattle.cops_wire.specs.Message.{parts};
+ghost use Rattle.cops_wire.specs.Reading.{body_at, contents_at, frame_at};
+ghost use Rattle.cops_wire.specs.Records.{seen_message};
+
+use crate::decoding::whole_body;
+use crate::reading::{ReadFault, Rest};
+use cops_types::{Format, OpView};
+use std::alloc::Global;
+
+/// A record of a trace: a client's operation, seen where its bytes lie, and its place in the client's session; and how many bytes its
+/// frame takes.
+#[derive(Debug, Drop)]
+pub struct RecordView<'a> {
+    pub client: u16,
+    pub index: u32,
+    pub op: OpView<'a>,
+    pub used: usize,
+}
+
+impl<'a> Rest<'a> {
+    /// The put whose fields stand at the front.
+    fn put_view(&mut self, used: usize) -> Result<RecordView<'a>, ReadFault>
+        ensures { IfOk result (λ r. (kind_of (seen_message r) ≡ 18) × (r.used ≡ used) × (contents_at (grammar self.old.format) 18 self.old.bytes.now ≡ Ok (contents_of (seen_message r), self.new.bytes.now))) }
+    {
+        let client = self.u16()?;
+        let index = self.u32()?;
+        let key = self.key_view()?;
+        let value = self.value_view()?;
+        let version = self.version()?;
+        let op = OpView::Put {
+            key,
+            value,
+            version,
+        };
+        Ok(RecordView {
+            client,
+            index,
+            op,
+            used,
+        })
+    }
+
+    /// The get that returned a value, whose fields stand at the front.
+    fn got_view(&mut self, used: usize) -> Result<RecordView<'a>, ReadFault>
+        ensures { IfOk result (λ r. (kind_of (seen_message r) ≡ 19) × (r.used ≡ used) × (contents_at (grammar self.old.format) 19 self.old.bytes.now ≡ Ok (contents_of (seen_message r), self.new.bytes.now))) }
+    {
+        let client = self.u16()?;
+        let index = self.u32()?;
+        let key = self.key_view()?;
+        let value = self.value_view()?;
+        let version = self.version()?;
+        let op = OpView::Got {
+            key,
+            value,
+            version,
+        };
+        Ok(RecordView {
+            client,
+            index,
+            op,
+            used,
+        })
+    }
+
+    /// The get that found nothing, whose fields stand at the front.
+    fn missed_view(&mut self, used: usize) -> Result<RecordView<'a>, ReadFault>
+        ensures { IfOk result (λ r. (kind_of (seen_message r) ≡ 20) × (r.used ≡ used) × (contents_at (grammar self.old.format) 20 self.old.bytes.now ≡ Ok (contents_of (seen_message r), self.new.bytes.now))) }
+    {
+        let client = self.u16()?;
+        let index = self.u32()?;
+        let key = self.key_view()?;
+        let op = OpView::Missed { key };
+        Ok(RecordView {
+            client,
+            index,
+            op,
+            used,
+        })
+    }
+
+    /// The record of this kind whose fields stand at the front.
+    fn record_view(&mut self, kind: u8, used: usize) -> Result<RecordView<'a>, ReadFault>
+        ensures { IfOk result (λ r. (kind_of (seen_message r) ≡ kind) × (r.used ≡ used) × (contents_at (grammar self.old.format) kind self.old.bytes.now ≡ Ok (contents_of (seen_message r), self.new.bytes.now))) }
+    {
+        match kind {
+            18 => self.put_view(used),
+            19 => self.got_view(used),
+            20 => self.missed_view(used),
+            _ => Err(ReadFault::UnknownKind),
+        }
+    }
+}
+
+/// The record that a whole body is.
+#[inline(always)]
+fn record_in<'a>(format: Format, alloc: Global, text: &'a [u8]) -> Option<RecordView<'a>>
+    requires some { 0 < length text.now }
+    requires fits { length text.now ≤ longest_body format }
+    ensures { IfSome result (λ r. body_at (grammar format) text.now ≡ Ok (parts (seen_message r), r.used)) }
+{
+    let used = 4 + text.len();
+    let mut rest = Rest {
+        alloc,
+        format,
+        bytes: &text[1..],
+    };
+    match rest.record_view(text[0], used) {
+        Ok(record) if rest.bytes.is_empty() => Some(record),
+        _ => None,
+    }
+}
+
+/// The record of a trace of format 1 at the front of some bytes. It takes no memory. There is none where something else stands there,
+/// nothing whole, or a frame with a fault, which `decode` tells.
+#[inline(always)]
+pub fn record_at<'a>(alloc: Global, bytes: &'a [u8]) -> Option<RecordView<'a>>
+    ensures { IfSome result (λ r. IsAnswer (grammar Format.One) bytes.now (Ok (parts (seen_message r), r.used))) }
+{
+    match whole_body(Format::One, bytes) {
+        Ok(text) => record_in(Format::One, alloc, text),
+        Err(_) => None,
+    }
+}
