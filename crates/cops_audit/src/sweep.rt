@@ -5,7 +5,7 @@ ghost use Rattle.cops_audit.specs.Notes.{above, StandsAt, note_at};
 ghost use Rattle.cops_audit.specs.declared.notes.Note.{Note};
 ghost use Rattle.cops_audit.specs.Sweeps.{ArePlaces, AreRising, Covers, Grows, HasRoom, InRange, IsAbout, IsFresh, IsNewestIn, IsSweeping, NoneFrom, Learns, Raises, TakesPut, work_left};
 
-use crate::notes::{Notes, Seen};
+use crate::notes::{Note, Notes, Seen};
 use crate::table::VersionedPut;
 use crate::tally::Tally;
 use crate::window::Suspect;
@@ -112,8 +112,9 @@ impl Sweep {
         }
     }
 
-    /// Looks at an operation, the last one of those that are left of a range from a place on: whether its mark is above
+    /// Looks at the note on an operation, the last one of those that are left of a range from a place on: whether its mark is above
     /// the floor, so that the one before it is to be looked at too.
+    #[inline(always)]
     fn look_at(
         &mut self,
         table: &[VersionedPut],
@@ -122,7 +123,9 @@ impl Sweep {
         floor: u32,
         from: u32,
         name: OpName,
+        noted: Option<Note>,
     ) -> Result<bool, AllocError>
+        requires noted { noted ≡ note_at notes.now name }
         requires rising { AreRising table.now notes.now }
         requires firsts { ArePlaces table.now firsts.now }
         requires low { from ≤ name.index }
@@ -134,7 +137,7 @@ impl Sweep {
         ensures room { (space : ℕ) → HasRoom space (map length notes.now) self.old
             → IsOk result × HasRoom space (map length notes.now) self.new }
     {
-        let Some(note) = notes.get(name) else {
+        let Some(note) = noted else {
             return Ok(true);
         };
         if note.mark <= floor {
@@ -162,12 +165,14 @@ impl Sweep {
         ensures room { (space : ℕ) → HasRoom space (map length notes.now) self.old
             → IsOk result × HasRoom space (map length notes.now) self.new }
     {
+        let session = notes.session(range.client);
         for index in (range.from..range.to).rev() {
+            let noted = session.get(index as usize).copied();
             let name = OpName {
                 client: range.client,
                 index,
             };
-            let on = self.look_at(table, notes, firsts, floor, range.from, name)?;
+            let on = self.look_at(table, notes, firsts, floor, range.from, name, noted)?;
             if !on {
                 return Ok(());
             }

@@ -13,8 +13,8 @@ use Rattle.cops_trace.specs.Answer.{IsCutAfter, TakesFrom}
 use Rattle.cops_trace.specs.Counts.{ACounts, AreCountsOf, counted, next_of, nothing, progress_from}
 use Rattle.cops_trace.specs.Kept.{grown}
 use Rattle.cops_trace.specs.Next.{Stands}
-use Rattle.cops_trace.specs.Parsing.{FailsAt, FedInto, IsBegunAs, IsSettled, IsSettledAt, IsTakenAs, IsUnderway, ItemHasRoom, SettledInto, StepGives, StepsInto, Stops, stage_of, with_item}
-use Rattle.cops_trace.specs.Reading.{FailsIn, GivesNext, IsNextIn, IsStoppedBy, IsWithinReach, ItemHasTurn, Reading, WaitsIn, counts_with, is_end, past, progress_so_far}
+use Rattle.cops_trace.specs.Parsing.{FailsAt, FedInto, IsBegunAs, IsNextIn, IsSettled, IsSettledAt, IsTakenAs, IsUnderway, ItemHasRoom, SettledInto, StepGives, StepsInto, Stops, stage_of, with_item}
+use Rattle.cops_trace.specs.Reading.{FailsIn, GivesNext, IsStoppedBy, IsWithinReach, ItemHasTurn, Reading, WaitsIn, counts_with, is_end, past, progress_so_far}
 use Rattle.cops_trace.specs.Text.{ATrace, turn}
 use Rattle.cops_trace.proofs.Feeding.{fed_more, fed_none, fed_so_far, fed_whole, none_settled, not_ended, step_fails, step_less, step_takes, step_waits}
 use Rattle.cops_trace.proofs.Founds.{item_room, item_turn, stands_after}

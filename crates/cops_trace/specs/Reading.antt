@@ -55,12 +55,6 @@ abbrev pub FailsIn : Bool → Reading → TraceFault → Type 0
 FailsIn false r e = Stands (progress_so_far r) r.rest (Fails e)
 FailsIn true r e = (r.rest ≢ []) × (e ≡ BytesAfterEnd r.at)
 
--- the item of so many bytes stands at the front of the rest, before the end, where no fault was answered
-pub record IsNextIn (r : Reading) (item : Item) (used : ℕ) : Type 0 where
-  pub fine : r.fault ≡ None
-  pub going : r.ended ≡ false
-  pub stands : Stands (progress_so_far r) r.rest (Gives item used)
-
 -- What is given next: the item that may stand at the front of the rest; nothing, which changes nothing; or the fault that
 -- stands there, which is kept. Want of memory changes nothing.
 abbrev pub GivesNext : Reading → Result (Option Item) TraceFault → Reading → Type 0

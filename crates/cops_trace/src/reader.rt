@@ -38,7 +38,8 @@ impl Model for TraceReader {
 impl TraceReader {
     ghost use Rattle.std.specs.Prelude.{◌≡◌, ◌++◌, [], None, Some, false, true, IfOk, IfSome, OnErr, OnOk, Ok, Err};
     ghost use Rattle.cops_trace.specs.Next.{Stands};
-    ghost use Rattle.cops_trace.specs.Reading.{GivesNext, IsNextIn, closing, progress_so_far};
+    ghost use Rattle.cops_trace.specs.Reading.{GivesNext, closing, progress_so_far};
+    ghost use Rattle.cops_trace.specs.Parsing.{IsNextIn};
     ghost use Rattle.cops_types.specs.OpViews.{viewed};
     ghost use Rattle.cops_types.specs.declared.op.Op.{Op as AnOp};
 

@@ -90,7 +90,12 @@ impl Entries {
     }
 
     /// The number of the key of the put of that name, if it is a put of this value and version.
-    pub(crate) fn put_key(&self, name: OpName, value: &ValueView<'_>, version: Version) -> Option<u32>
+    pub(crate) fn put_key(
+        &self,
+        name: OpName,
+        value: &ValueView<'_>,
+        version: Version,
+    ) -> Option<u32>
         ensures { (key : ℕ) → (result ≡ Some key) ↔ (item_at self.now.all name ≡ Some (Put key value.now version)) }
     {
         match self.get(name)? {
@@ -104,7 +109,13 @@ impl Entries {
     }
 
     /// Whether the entry of that name is a put of this key, value and version.
-    pub(crate) fn is_put(&self, name: OpName, key: u32, value: &ValueView<'_>, version: Version) -> bool
+    pub(crate) fn is_put(
+        &self,
+        name: OpName,
+        key: u32,
+        value: &ValueView<'_>,
+        version: Version,
+    ) -> bool
         ensures { IsTrue result ↔ (item_at self.now.all name ≡ Some (Put key value.now version)) }
     {
         match self.put_key(name, value, version) {

@@ -1,3 +1,5 @@
+ghost use Rattle.std.specs.Prelude.{◌≡◌, Some, IfSome, slice_get};
+
 use crate::entries::Entries;
 use crate::guesses::Guesses;
 use crate::key_set::KeySet;
@@ -13,15 +15,18 @@ const NODE_STEP: usize = 40_503;
 const SPREAD: u64 = 0x9E37_79B9_7F4A_7C15;
 
 /// What a place has that guesses no put: there is no such client.
-const NO_PUT: OpName = OpName {
-    client: u16::MAX,
-    index: u32::MAX,
+const NO_PUT: PutGuess = PutGuess {
+    put: OpName {
+        client: u16::MAX,
+        index: u32::MAX,
+    },
+    tag: 0,
 };
 
 /// What a place has that guesses no key: there are fewer.
 const NO_KEY: u32 = u32::MAX;
 
-/// The most places of the table of keys: of 100,000 keys one in ten shares its place with another.
+/// The most places of the table of keys.
 const MOST_KEYS: usize = 1_048_576;
 
 /// The most places of the table of puts. A get names one of the last puts, as a rule.
@@ -31,7 +36,14 @@ const MOST_PUTS: usize = 262_144;
 const GROWN_AFTER: usize = 64;
 
 /// So many keys, with what they are found by, lie in a processor's caches: what is needed for operations on fewer is at hand.
-const FEW_KEYS: usize = 8_192;
+const FEW_KEYS: usize = 32_768;
+
+/// A put that may bear a version, and a part of that version, so that most of the puts that do not are not looked at.
+#[derive(Clone, Copy, Debug)]
+struct PutGuess {
+    put: OpName,
+    tag: u16,
+}
 
 /// What is guessed of an operation: the number of its key, and which put it returned.
 #[derive(Clone, Copy, Debug)]
@@ -45,7 +57,7 @@ pub(crate) struct Guess {
 #[derive(Debug, Drop)]
 pub(crate) struct Foresight {
     keys: Guesses<u32>,
-    puts: Guesses<OpName>,
+    puts: Guesses<PutGuess>,
     /// Of the operations that come, in their order.
     coming: Vec<Guess>,
     /// How many of those came.
@@ -106,7 +118,7 @@ impl Foresight {
             OpView::Put { .. } | OpView::Missed { .. } => None,
         };
         Guess {
-            key: self.number_of(op.key()),
+            key: self.keys.find(spread(op.key())),
             put,
         }
     }
@@ -121,24 +133,46 @@ impl Foresight {
         })
     }
 
-    /// The number that the key may have.
-    pub(crate) fn number_of(&self, key: &KeyView<'_>) -> Option<u32> {
-        self.keys.find(spread(key))
+    /// The number of a key, where the table tells: at the key's place, or at the one beside it.
+    #[inline(always)]
+    pub(crate) fn number_of(&self, keys: &KeySet, key: &KeyView<'_>) -> Option<u32>
+        ensures { IfSome result (λ number. slice_get keys.now.keys number ≡ Some key.now) }
+    {
+        let place = spread(key);
+        let number = self.keys.find(place)?;
+        if keys.is_at(number, key) {
+            return Some(number);
+        }
+        let beside = self.keys.find(place ^ 1)?;
+        if keys.is_at(beside, key) {
+            return Some(beside);
+        }
+        None
     }
 
-    /// Keeps the number of a key.
+    /// Keeps the number of a key, beside its place where another key has that.
     pub(crate) fn note_key(&mut self, key: &KeyView<'_>, number: u32) {
-        self.keys.note(spread(key), number);
+        let place = spread(key);
+        match self.keys.find(place) {
+            Some(NO_KEY) | None => self.keys.note(place, number),
+            Some(_) => self.keys.note(place ^ 1, number),
+        }
     }
 
     /// Keeps the name of a put of that version.
     pub(crate) fn note_put(&mut self, version: Version, put: OpName) {
-        self.puts.note(place(version), put);
+        let tag = tag(version);
+        self.puts.note(place(version), PutGuess { put, tag });
     }
 
     /// Where the put of that version may be.
     pub(crate) fn put_of(&self, version: Version) -> Option<OpName> {
-        self.puts.find(place(version))
+        let guess = self.puts.find(place(version))?;
+        if guess.tag == tag(version) {
+            Some(guess.put)
+        } else {
+            None
+        }
     }
 }
 
@@ -181,6 +215,11 @@ fn short_word(bytes: &[u8]) -> u64 {
         word = word << 8 | u64::from(*byte);
     }
     word
+}
+
+/// A part of a version that tells most versions of one place apart.
+fn tag(version: Version) -> u16 {
+    (version.as_u64().wrapping_mul(SPREAD) >> 48) as u16
 }
 
 /// The place of a version. The places of a node's puts follow one another, and those of different nodes lie apart.

@@ -214,6 +214,7 @@ impl History {
         ensures err { OnErr result (self.new.sessions ≡ self.old.sessions) }
     {
         let alloc = *self.reserved.allocator();
+        let place = client as usize;
         let name = OpName {
             client,
             index: self.entries.session_len(client) as u32,
@@ -227,7 +228,7 @@ impl History {
             op,
         )?;
         self.entries.push(client, entry);
-        self.reserved[usize::from(client)] = false;
+        self.reserved[place] = false;
         self.reservations -= 1;
         self.len += 1;
         Ok(())
@@ -394,12 +395,15 @@ fn entry_of(
             version,
         } => {
             let key = number_of(keys, foresight, key, known);
-            match source_of(foresight, entries, guess.put, key, &value.as_view(), version) {
-                Some(put) => Entry::Sourced {
-                    key,
-                    put,
-                    version,
-                },
+            match source_of(
+                foresight,
+                entries,
+                guess.put,
+                key,
+                &value.as_view(),
+                version,
+            ) {
+                Some(put) => Entry::Sourced { key, put, version },
                 None => Entry::Got {
                     key,
                     value,
@@ -489,14 +493,9 @@ fn known_number(
 ) -> Option<u32>
     ensures { IfSome result (λ number. slice_get keys.now.keys number ≡ Some key.now) }
 {
-    let number = match guess {
-        Some(number) => number,
-        None => foresight.number_of(key)?,
-    };
-    if keys.is_at(number, key) {
-        Some(number)
-    } else {
-        None
+    match guess {
+        Some(number) if keys.is_at(number, key) => Some(number),
+        _ => foresight.number_of(keys, key),
     }
 }
 

@@ -123,9 +123,7 @@ impl Op {
                 value: value.as_view(),
                 version: *version,
             },
-            Op::Missed { key } => OpView::Missed {
-                key: key.as_view(),
-            },
+            Op::Missed { key } => OpView::Missed { key: key.as_view() },
         }
     }
 }

@@ -131,12 +131,6 @@ IsFromFields (Err (BadField offset)) = Unit {0}
 IsFromFields (Err TrailingBytes) = Unit {0}
 IsFromFields (Err _) = ⊥
 
--- The answer is found without a look at the body: steps 1 to 3.
-abbrev pub HasNoBody : WireFault → Type 0
-HasNoBody Short = Unit {0}
-HasNoBody BadLength = Unit {0}
-HasNoBody _ = ⊥
-
 -- What `decode` returned, apart from its Rust types, is so, unless memory ran out.
 abbrev pub Answers : Result Decoded WireFault → (Result (Parts × ℕ) WireFault → Type 0) → Type 0
 Answers (Ok d) P = P (Ok (parts d.message, d.used))

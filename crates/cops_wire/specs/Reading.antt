@@ -117,6 +117,12 @@ frame_at g bytes =
     else if nat_lt (length bytes) (4 + len) then Err Short
     else body_at g (take len (drop 4 bytes))
 
+-- the faults of a length: no body was looked at
+abbrev pub HasNoBody : WireFault → Type 0
+HasNoBody Short = Unit {0}
+HasNoBody BadLength = Unit {0}
+HasNoBody _ = ⊥
+
 -- whether a field takes memory here: what is read of it first is right
 abbrev pub takes_at : Field → List ℕ → Bool
 takes_at field bytes = takes_memory field && is_some (field_at (first_part field) bytes)

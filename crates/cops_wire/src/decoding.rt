@@ -4,8 +4,8 @@ ghost use Rattle.cops_types.specs.Format.{longest_body};
 ghost use Rattle.cops_types.specs.declared.limits.TheConstants.{MAX_BODY};
 ghost use Rattle.cops_wire.specs.declared.fault.WireFault.{WireFault};
 ghost use Rattle.cops_wire.specs.Grammar.{grammar, Parts};
-ghost use Rattle.cops_wire.specs.Answer.{IsAnswer, Answers, BeginsWithTaking, HasNoBody, IsPlacedWithin, length_at};
-ghost use Rattle.cops_wire.specs.Reading.{body_at, body_takes, frame_at};
+ghost use Rattle.cops_wire.specs.Answer.{IsAnswer, Answers, BeginsWithTaking, IsPlacedWithin, length_at};
+ghost use Rattle.cops_wire.specs.Reading.{HasNoBody, body_at, body_takes, frame_at};
 
 use crate::fault::WireFault;
 use crate::message::Message;

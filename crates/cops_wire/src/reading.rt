@@ -181,6 +181,7 @@ impl<'a> Rest<'a> {
 
     /// The key, seen where it lies.
     #[tactic(auto, unfolding(crate::specs::Reading::string_at, crate::specs::Reading::number_in_at))]
+    #[inline(always)]
     pub(crate) fn key_view(&mut self) -> Result<KeyView<'a>, ReadFault>
         ensures format { self.new.format ≡ self.old.format }
         ensures field { GivesNumber (λ k. (k, self.new.bytes.now)) self.old.bytes.now result (string_at u8 1 MAX_KEY self.old.bytes.now) }
@@ -208,6 +209,7 @@ impl<'a> Rest<'a> {
 
     /// The value, seen where it lies.
     #[tactic(auto, unfolding(crate::specs::Reading::string_at, crate::specs::Reading::number_in_at))]
+    #[inline(always)]
     pub(crate) fn value_view(&mut self) -> Result<ValueView<'a>, ReadFault>
         ensures format { self.new.format ≡ self.old.format }
         ensures field { GivesNumber (λ v. (v, self.new.bytes.now)) self.old.bytes.now result (string_at u16 0 (most_value self.old.format) self.old.bytes.now) }

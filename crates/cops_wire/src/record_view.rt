@@ -25,6 +25,7 @@ pub struct RecordView<'a> {
 
 impl<'a> Rest<'a> {
     /// The put whose fields stand at the front.
+    #[inline(always)]
     fn put_view(&mut self, used: usize) -> Result<RecordView<'a>, ReadFault>
         ensures { IfOk result (λ r. (kind_of (seen_message r) ≡ 18) × (r.used ≡ used) × (contents_at (grammar self.old.format) 18 self.old.bytes.now ≡ Ok (contents_of (seen_message r), self.new.bytes.now))) }
     {
@@ -47,6 +48,7 @@ impl<'a> Rest<'a> {
     }
 
     /// The get that returned a value, whose fields stand at the front.
+    #[inline(always)]
     fn got_view(&mut self, used: usize) -> Result<RecordView<'a>, ReadFault>
         ensures { IfOk result (λ r. (kind_of (seen_message r) ≡ 19) × (r.used ≡ used) × (contents_at (grammar self.old.format) 19 self.old.bytes.now ≡ Ok (contents_of (seen_message r), self.new.bytes.now))) }
     {
@@ -69,6 +71,7 @@ impl<'a> Rest<'a> {
     }
 
     /// The get that found nothing, whose fields stand at the front.
+    #[inline(always)]
     fn missed_view(&mut self, used: usize) -> Result<RecordView<'a>, ReadFault>
         ensures { IfOk result (λ r. (kind_of (seen_message r) ≡ 20) × (r.used ≡ used) × (contents_at (grammar self.old.format) 20 self.old.bytes.now ≡ Ok (contents_of (seen_message r), self.new.bytes.now))) }
     {
@@ -85,6 +88,7 @@ impl<'a> Rest<'a> {
     }
 
     /// The record of this kind whose fields stand at the front.
+    #[inline(always)]
     fn record_view(&mut self, kind: u8, used: usize) -> Result<RecordView<'a>, ReadFault>
         ensures { IfOk result (λ r. (kind_of (seen_message r) ≡ kind) × (r.used ≡ used) × (contents_at (grammar self.old.format) kind self.old.bytes.now ≡ Ok (contents_of (seen_message r), self.new.bytes.now))) }
     {

@@ -1,24 +1,24 @@
-use Rattle.std.proofs.Common.{sym, arith, refl, rules, map, length}
+use Rattle.std.proofs.Common.{◌∙◌, sym, arith, refl, rules, map, length}
 use Rattle.cops_audit.proofs.Fitting.{covered, no_ok}
 use Rattle.cops_audit.proofs.Sweeping.{above_few, sweep_on, sweep_grows, sweep_past, none_open, low_range}
 use Rattle.cops_audit.proofs.sweep.Sweep.look_at.Goals as goal
 
 pub learn-requires-clause-seen : goal.learn-requires-clause-seen
-learn-requires-clause-seen c = above_few c.args.table.now c.args.notes.now c.requires.rising c.args.name c.in-Some.note.seen c.in-Some.note.mark (sym c.in-Some.ensures)
+learn-requires-clause-seen c = above_few c.args.table.now c.args.notes.now c.requires.rising c.args.name c.in-Some.note.seen c.in-Some.note.mark (sym c.requires.noted ∙ c.in-Some.is)
 
 pub returns-clause-on : goal.returns-clause-on
-returns-clause-on c = λ _. sweep_on c.args.table.now c.args.notes.now c.requires.rising c.args.firsts.now c.args.floor c.args.self.now c.learn.new.self c.args.name c.args.from c.in-Some.note c.requires.low (sym c.in-Some.ensures) c.in_ok-learn.ensures.learns c.requires.sweeping
+returns-clause-on c = λ _. sweep_on c.args.table.now c.args.notes.now c.requires.rising c.args.firsts.now c.args.floor c.args.self.now c.learn.new.self c.args.name c.args.from c.in-Some.note c.requires.low (sym c.requires.noted ∙ c.in-Some.is) c.in_ok-learn.ensures.learns c.requires.sweeping
 
 pub returns-clause-grows : goal.returns-clause-grows
-returns-clause-grows c = sweep_grows c.args.table.now c.args.notes.now c.requires.rising c.args.firsts.now c.args.floor c.args.self.now c.learn.new.self c.args.name c.in-Some.note (sym c.in-Some.ensures)
+returns-clause-grows c = sweep_grows c.args.table.now c.args.notes.now c.requires.rising c.args.firsts.now c.args.floor c.args.self.now c.learn.new.self c.args.name c.in-Some.note (sym c.requires.noted ∙ c.in-Some.is)
     (c.requires.sweeping.open_counted c.args.name (refl, c.requires.low, omega arith)) c.in_ok-learn.ensures.learns
 
 pub returns-then-note-floor-clause-done : goal.returns-then-note-floor-clause-done
 returns-then-note-floor-clause-done c = λ _. none_open c.args.table.now c.args.notes.now c.requires.rising c.args.firsts.now c.args.floor c.args.self.now _
-    (low_range c.args.table.now c.args.notes.now c.requires.rising c.args.firsts.now c.args.floor c.args.name c.args.from c.in-Some.note (sym c.in-Some.ensures) c.if-note-floor.true) c.requires.sweeping
+    (low_range c.args.table.now c.args.notes.now c.requires.rising c.args.firsts.now c.args.floor c.args.name c.args.from c.in-Some.note (sym c.requires.noted ∙ c.in-Some.is) c.if-note-floor.true) c.requires.sweeping
 
 pub returns-in_default-clause-on : goal.returns-in_default-clause-on
-returns-in_default-clause-on c = λ _. sweep_past c.args.table.now c.args.notes.now c.requires.rising c.args.firsts.now c.args.floor c.args.self.now c.args.name c.args.from (sym c.in_default.ensures) c.requires.sweeping
+returns-in_default-clause-on c = λ _. sweep_past c.args.table.now c.args.notes.now c.requires.rising c.args.firsts.now c.args.floor c.args.self.now c.args.name c.args.from (sym c.requires.noted ∙ c.in_default.is) c.requires.sweeping
 
 pub returns-clause-room : goal.returns-clause-room
 returns-clause-room c = λ space room. (
