@@ -48,8 +48,7 @@ impl Sink for Trace {
     }
 
     fn take(&mut self, client: u16, op: &OpView<'_>) -> Result<(), Memory> {
-        let copied = op.to_op(self.allocator())?;
-        match self.push(client, copied) {
+        match self.push_seen(client, op) {
             Ok(()) => Ok(()),
             Err(TypeFault::Memory) => Err(Memory),
             Err(_) => unreachable!(),
@@ -57,8 +56,10 @@ impl Sink for Trace {
     }
 
     fn looks_ahead(&self) -> bool {
-        false
+        Trace::looks_ahead(self)
     }
 
-    fn foresee(&mut self, _coming: &[OpView<'_>]) {}
+    fn foresee(&mut self, coming: &[OpView<'_>]) {
+        Trace::foresee(self, coming);
+    }
 }

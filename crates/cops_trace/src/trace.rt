@@ -1,12 +1,13 @@
 ghost use Rattle.std.specs.Prelude.{◌≡◌, ◌++◌, IfOk, OnOk};
 ghost use Rattle.cops_types.specs.declared.format.Format.TheVariants.{One};
 ghost use Rattle.cops_types.specs.OpRefs.{seen};
+ghost use Rattle.cops_types.specs.OpViews.{viewed};
 ghost use Rattle.cops_wire.specs.Grammar.{grammar};
 ghost use Rattle.cops_wire.specs.Legal.{IsMessage};
 ghost use Rattle.cops_wire.specs.Message.{parts, spelled};
 ghost use Rattle.cops_trace.specs.Text.{IsOp, op_message};
 
-use cops_types::{History, Memory, Op, OpName, OpRef, TypeFault};
+use cops_types::{History, Memory, Op, OpName, OpRef, OpView, TypeFault};
 use cops_wire::{Message, encode};
 use std::alloc::Global;
 use std::marker::Model;
@@ -35,6 +36,7 @@ impl Trace {
     ghost use Rattle.cops_types.specs.TypeFaults.{IsHistoryFault};
     ghost use Rattle.cops_trace.specs.Text.{IsTrace, sessions_of, turn, records_text};
     ghost use Rattle.cops_trace.specs.Kept.{grown, IsFull};
+    ghost use Rattle.cops_types.specs.OpViews.{viewed};
 
     /// A trace of so many clients, without operations.
     pub fn new(alloc: Global, clients: u16) -> Result<Self, Memory>
@@ -64,9 +66,35 @@ impl Trace {
         Ok(())
     }
 
-    /// Where its memory is from.
-    pub(crate) fn allocator(&self) -> Global {
-        *self.arrivals.allocator()
+    /// The same with an operation that is seen: what of it is new is copied.
+    pub(crate) fn push_seen(&mut self, client: u16, op: &OpView<'_>) -> Result<(), TypeFault>
+        ensures ok { OnOk result (self.new ≡ grown self.old (record { client = client; op = viewed op.now })) }
+        ensures err { OnErr result (self.new ≡ self.old) }
+        ensures unknown { IsErrOf result TypeFault.UnknownClient ↔ (self.old.clients ≤ client) }
+        ensures too_many { IsErrOf result TypeFault.TooManyOps ↔ (client < self.old.clients × IsFull self.old client) }
+        ensures only { IfErr result IsHistoryFault }
+    {
+        self.history.reserve(client)?;
+        self.arrivals.reserve(1)?;
+        legal_view(op);
+        match self.history.push_seen(client, op) {
+            Ok(()) => {}
+            Err(Memory) => return Err(TypeFault::Memory),
+        }
+        self.arrivals.push_reserved(client);
+        Ok(())
+    }
+
+    /// Whether a look ahead is of use.
+    pub(crate) fn looks_ahead(&self) -> bool {
+        self.history.looks_ahead()
+    }
+
+    /// Fetches what operations that come need.
+    pub(crate) fn foresee(&mut self, coming: &[OpView<'_>])
+        ensures { self.new ≡ self.old }
+    {
+        self.history.foresee(coming);
     }
 
     /// The sessions that the trace records.
@@ -202,6 +230,31 @@ pub(crate) fn legal(op: &OpRef<'_>)
             let _version = version.as_u64();
         }
         OpRef::Missed { key } => {
+            let _key = key.as_bytes();
+        }
+    }
+}
+
+/// The same of an operation that is seen.
+fn legal_view(op: &OpView<'_>)
+    ensures { IsOp (viewed op.now) }
+{
+    match op {
+        OpView::Put {
+            key,
+            value,
+            version,
+        }
+        | OpView::Got {
+            key,
+            value,
+            version,
+        } => {
+            let _key = key.as_bytes();
+            let _value = value.as_bytes();
+            let _version = version.as_u64();
+        }
+        OpView::Missed { key } => {
             let _key = key.as_bytes();
         }
     }
