@@ -112,8 +112,8 @@ impl Sweep {
         }
     }
 
-    /// Looks at the note on an operation, the last one of those that are left of a range from a place on: whether its mark is above
-    /// the floor, so that the one before it is to be looked at too.
+    /// Looks at the note on an operation, the last one of those that are left of a range from a place on: whether its
+    /// mark is above the floor, so that the one before it is to be looked at too.
     #[inline(always)]
     fn look_at(
         &mut self,

@@ -39,7 +39,8 @@ impl Sink for Fed {
     fn take(&mut self, client: u16, op: &OpView<'_>) -> Result<(), Memory> {
         match self.online.feed_seen(client, op) {
             Ok(()) => Ok(()),
-            // An auditor takes as many operations as a trace has, so that memory alone is refused, though not proved so.
+            // An auditor takes as many operations as a trace has, so that memory alone is refused, though not proved
+            // so.
             Err(_) => Err(Memory),
         }
     }

@@ -149,7 +149,8 @@ fn later_message(counts: &Counts, at: u64, message: Message, used: usize) -> Fou
     }
 }
 
-/// The record at the front, seen where its bytes lie, where it may come after the head and the records that were counted.
+/// The record at the front, seen where its bytes lie, where it may come after the head and the records that were
+/// counted.
 #[inline(always)]
 pub(crate) fn record_seen<'a>(
     alloc: Global,

@@ -81,7 +81,8 @@ impl Trace {
             Ok(()) => {}
             Err(Memory) => return Err(TypeFault::Memory),
         }
-        self.arrivals.push_reserved(client);
+        let arrivals = &mut self.arrivals;
+        arrivals.push_reserved(client);
         Ok(())
     }
 

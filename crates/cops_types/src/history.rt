@@ -202,8 +202,8 @@ impl History {
         self.len += 1;
     }
 
-    /// Adds the client's next operation, which is seen, at the place that `reserve` made: what of it is new is copied. For want of
-    /// memory nothing changes.
+    /// Adds the client's next operation, which is seen, at the place that `reserve` made: what of it is new is
+    /// copied. For want of memory nothing changes.
     #[inline(always)]
     pub fn push_seen(&mut self, client: u16, op: &OpView<'_>) -> Result<(), Memory>
         requires inside { client < length self.old.sessions }
@@ -417,7 +417,8 @@ fn entry_of(
     }
 }
 
-/// The entry of an operation that is seen, of that name, whose key is added where it is not there. For want of memory none is.
+/// The entry of an operation that is seen, of that name, whose key is added where it is not there. For want of memory
+/// none is.
 #[inline(always)]
 fn entry_of_seen(
     alloc: Global,
@@ -543,7 +544,8 @@ fn number_of_seen(
     Ok(number_of(keys, foresight, copied, None))
 }
 
-/// The put that a get of the key of that number returned, where it is guessed right: it wrote the key and the value with this version.
+/// The put that a get of the key of that number returned, where it is guessed right: it wrote the key and the value
+/// with this version.
 #[inline(always)]
 fn source_of(
     foresight: &Foresight,

@@ -13,8 +13,8 @@ use crate::reading::{ReadFault, Rest};
 use cops_types::{Format, OpView};
 use std::alloc::Global;
 
-/// A record of a trace: a client's operation, seen where its bytes lie, and its place in the client's session; and how many bytes its
-/// frame takes.
+/// A record of a trace: a client's operation, seen where its bytes lie, and its place in the client's session; and how
+/// many bytes its frame takes.
 #[derive(Debug, Drop)]
 pub struct RecordView<'a> {
     pub client: u16,
@@ -120,8 +120,8 @@ fn record_in<'a>(format: Format, alloc: Global, text: &'a [u8]) -> Option<Record
     }
 }
 
-/// The record of a trace of format 1 at the front of some bytes. It takes no memory. There is none where something else stands there,
-/// nothing whole, or a frame with a fault, which `decode` tells.
+/// The record of a trace of format 1 at the front of some bytes. It takes no memory. There is none where something else
+/// stands there, nothing whole, or a frame with a fault, which `decode` tells.
 #[inline(always)]
 pub fn record_at<'a>(alloc: Global, bytes: &'a [u8]) -> Option<RecordView<'a>>
     ensures { IfSome result (λ r. IsAnswer (grammar Format.One) bytes.now (Ok (parts (seen_message r), r.used))) }
