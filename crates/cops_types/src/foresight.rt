@@ -16,11 +16,9 @@ const SPREAD: u64 = 0x9E37_79B9_7F4A_7C15;
 
 /// What a place has that guesses no put: there is no such client.
 const NO_PUT: PutGuess = PutGuess {
-    put: OpName {
-        client: u16::MAX,
-        index: u32::MAX,
-    },
+    client: u16::MAX,
     tag: 0,
+    index: u32::MAX,
 };
 
 /// What a place has that guesses no key: there are fewer.
@@ -41,8 +39,9 @@ const FEW_KEYS: usize = 32_768;
 /// A put that may bear a version, and a part of that version, so that most of the puts that do not are not looked at.
 #[derive(Clone, Copy, Debug)]
 struct PutGuess {
-    put: OpName,
+    client: u16,
     tag: u16,
+    index: u32,
 }
 
 /// What is guessed of an operation: the number of its key, and which put it returned.
@@ -161,18 +160,22 @@ impl Foresight {
 
     /// Keeps the name of a put of that version.
     pub(crate) fn note_put(&mut self, version: Version, put: OpName) {
-        let tag = tag(version);
-        self.puts.note(place(version), PutGuess { put, tag });
+        let guess = PutGuess {
+            client: put.client,
+            tag: tag(version),
+            index: put.index,
+        };
+        self.puts.note(place(version), guess);
     }
 
     /// Where the put of that version may be.
     pub(crate) fn put_of(&self, version: Version) -> Option<OpName> {
         let guess = self.puts.find(place(version))?;
-        if guess.tag == tag(version) {
-            Some(guess.put)
-        } else {
-            None
+        if guess.tag != tag(version) {
+            return None;
         }
+        let PutGuess { client, index, .. } = guess;
+        Some(OpName { client, index })
     }
 }
 
