@@ -100,6 +100,32 @@ def read_ahead():
         answered("no head", end[len(frames[0]) :], (2, b"faulty: no head at 0\n", b""))
 
 
+def read_ahead_of_each_kind():
+    """Records of each kind, with values of each length, are read ahead of what is fed: a get in the first piece and one in the last have their
+    sources, or one of them returned a value that differs in its last byte, and so has none."""
+    def value_of(number):
+        return "v" * (number * 37 % 4096) + "w"
+
+    lines = ["clients 3"]
+    for number in range(3_000):
+        client, key, version = number % 3, f"k{number % 1_000}", f"{number + 1}.{number % 3}"
+        lines += [f"{client} put {key} {value_of(number)} {version}", f"{(client + 1) % 3} got {key} {value_of(number)} {version}", f"{client} missed no{number}"]
+    accepted = (0, b"accepted: 9000 operations, 3000 puts\n", b"")
+    traces = [("records of each kind", trace(lines), accepted)]
+    for number in (20, 2_990):
+        at, client = 2 + 3 * number, (number + 1) % 3
+        index = sum(line.startswith(f"{client} ") for line in lines[1:at])
+        wrong = lines[at].replace("w ", "x ")
+        text = f"refused: 9000 operations, 3000 puts, 1 faults\nno source ({client},{index}) at {number + 1}.{number % 3}\n"
+        traces.append((f"a get of put {number} without a source", trace([*lines[:at], wrong, *lines[at + 1 :]]), (1, text.encode(), b"")))
+    for name, data, wanted in traces:
+        with tempfile.NamedTemporaryFile(suffix=".trace") as file:
+            file.write(data)
+            file.flush()
+            for workers in ("1", "2", "5"):
+                check(f"{name}, by {workers} workers", cops("audit", file.name, "--workers", workers), wanted)
+
+
 def little_memory():
     """With too little memory the program says so, and writes nothing else; with enough it answers."""
     value = "v" * 4000

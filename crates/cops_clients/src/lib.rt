@@ -6,6 +6,6 @@ pub use cops_cluster::{
     Asked, Client, CloseFault, Closed, Cluster, Holder, Made, OpenFault, Opened, RECEIVER, Share,
     Uncompared, Yes, difference_of_lists,
 };
-pub use cops_outcomes::ClientOutcome;
 pub use cops_replication::{Receiver, Replicas, Sender, Turn, TurnFault, wired};
 pub use cops_run::{Live, Run, RunFault, run, run_live};
+pub use cops_tie::ClientOutcome;

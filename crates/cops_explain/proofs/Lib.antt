@@ -3,3 +3,4 @@ pub mod StepLemmas
 pub mod OtherLemmas
 pub mod TextLemmas
 pub mod Unique
+pub mod FaultsAt

@@ -3,3 +3,4 @@ pub mod Others
 pub mod Steps
 pub mod Paragraphs
 pub mod Explained
+pub mod Pictures

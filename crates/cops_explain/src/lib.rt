@@ -1,18 +1,28 @@
 //! Explanations: for each fault of a refusal a paragraph, which tells what happened, why it is a fault, where to look and what usually
-//! causes it. Stands on the report, whose first line, chains and puts by versions it uses. The layer above uses that the text is exactly
-//! that of the faults that were asked for.
+//! causes it, and of one fault a picture in SVG, with the operations concerned in lanes by their clients. Stands on the report, whose first
+//! line, chains and puts by versions it uses. The layer above uses that the text is exactly that of the faults that were asked for, that the
+//! picture is of the fault that was asked for, and that there is none exactly where there is no such fault.
 #![tactic(auto)]
 
 mod causes;
+mod columns;
+mod drawing;
 mod explaining;
 mod laws;
+mod layout;
 mod limits;
+mod lines;
+mod links;
 mod operation;
 mod others;
 mod paragraphs;
+mod pictures;
+mod sentence;
+mod sizes;
 mod steps;
+mod style;
 
 pub use explaining::explain;
 pub use laws::one_explanation;
 pub use limits::{FIRST_FAULTS, MOST_OTHERS};
-pub use operation::push_told;
+pub use pictures::picture;

@@ -8,7 +8,7 @@ use crate::stage::Stage;
 use cops_cluster::Client;
 use cops_core::ScriptOp;
 use cops_node::Outcome;
-use cops_outcomes::ClientOutcome;
+use cops_tie::ClientOutcome;
 use cops_types::{Gate, GateHeld, Refusal};
 use std::sync::Wait;
 

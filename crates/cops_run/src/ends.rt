@@ -1,7 +1,7 @@
 //! What a thread of a run hands back.
 use cops_cluster::{Holder, Share};
 use cops_core::Setting;
-use cops_outcomes::ClientOutcome;
+use cops_tie::ClientOutcome;
 use cops_types::Gate;
 use std::snapshot::Snapshot;
 use std::thread::Promise;

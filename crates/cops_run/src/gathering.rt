@@ -3,7 +3,7 @@ use crate::ends::{End, Owed, Returned};
 use crate::fault::RunFault;
 use cops_cluster::Share;
 use cops_core::Setting;
-use cops_outcomes::ClientOutcome;
+use cops_tie::ClientOutcome;
 use cops_types::Gate;
 use std::alloc::Global;
 use std::thread::{JoinHandle, PromisedHandle, Threads};

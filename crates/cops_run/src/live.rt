@@ -6,7 +6,7 @@ ghost use Rattle.cops_types.specs.Verdicts.{HasAcceptedVerdict};
 ghost use Rattle.cops_trace.specs.Live.{IsCutBy, IsFrontOf, IsHeardBy, IsLive};
 ghost use Rattle.cops_trace.specs.Text.{sessions_of, text};
 ghost use Rattle.cops_scenario.specs.Scenario.{setting_of};
-ghost use Rattle.cops_outcomes.specs.Runs.{IsRun};
+ghost use Rattle.cops_tie.specs.Runs.{IsRun};
 ghost use Rattle.cops_run.specs.Callers.{AreJobsOf, AreReceiversOf, callers};
 ghost use Rattle.cops_cluster.specs.Close.{holders};
 ghost use Rattle.cops_run.specs.Faults.{WhereUntied};

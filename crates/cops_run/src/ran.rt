@@ -1,6 +1,6 @@
 use cops_book::Entry;
 use cops_core::Event;
-use cops_outcomes::ClientOutcome;
+use cops_tie::ClientOutcome;
 use cops_trace::Trace;
 
 /// A run: the entries of the nodes' books, a list for each node in order of node numbers; the world's events that they are; what

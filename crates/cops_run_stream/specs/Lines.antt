@@ -4,8 +4,8 @@ use Rattle.cops_types.specs.Refusal.{code_of}
 use Rattle.cops_types.specs.Texts.{◌⧺◌}
 use Rattle.cops_node.specs.declared.outcome.Outcome.{Outcome}
 use Rattle.cops_scenario.specs.Lines.{outcome_line}
-use Rattle.cops_outcomes.specs.declared.outcome.ClientOutcome.{ClientOutcome}
-use Rattle.cops_outcomes.specs.declared.outcome.ClientOutcome.TheVariants.{Done, Stopped}
+use Rattle.cops_tie.specs.declared.outcome.ClientOutcome.{ClientOutcome}
+use Rattle.cops_tie.specs.declared.outcome.ClientOutcome.TheVariants.{Done, Stopped}
 
 -- the text of each, one after the other, where the first has this number
 abbrev pub numbered_from : {A : Type 0} → (ℕ → A → List ℕ) → ℕ → List A → List ℕ

@@ -15,8 +15,8 @@ use Rattle.cops_audit.specs.declared.verdict.Verdict.{Verdict}
 use Rattle.cops_scenario.specs.Scenario.{AScenario, setting_of}
 use Rattle.cops_scenario.specs.File.{IsTextOf}
 use Rattle.cops_book.specs.declared.entry.Entry.{Entry}
-use Rattle.cops_outcomes.specs.declared.outcome.ClientOutcome.{ClientOutcome}
-use Rattle.cops_outcomes.specs.Runs.{IsRun}
+use Rattle.cops_tie.specs.declared.outcome.ClientOutcome.{ClientOutcome}
+use Rattle.cops_tie.specs.Runs.{IsRun}
 use Rattle.cops_command.specs.Scenario.{TellsNone}
 use Rattle.cops_command.specs.Status.{number}
 use Rattle.cops_command.specs.Told.{IsReportOf}

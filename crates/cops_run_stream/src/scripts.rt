@@ -10,9 +10,9 @@ ghost use Rattle.cops_run_stream.specs.Lines.{client_line, client_lines};
 ghost use Rattle.cops_run_stream.specs.Parts.{IsRunLeft};
 
 use crate::leaving::{Left, reported_left};
-use cops_outcomes::ClientOutcome;
 use cops_run::{Live, Run, RunFault, run_live};
 use cops_scenario::Scenario;
+use cops_tie::ClientOutcome;
 use cops_types::{Counted, Gate, Memory};
 use std::alloc::{AllocError, Global};
 use std::io::Write;

@@ -7,7 +7,7 @@ use Rattle.cops_audit.specs.Verdicts.{IsVerdict}
 use Rattle.cops_types.specs.declared.selection.Selection.{Selection}
 use Rattle.cops_types.specs.declared.selection.Selection.TheVariants.{First, All, One}
 use Rattle.cops_explain.specs.Explained.{IsExplained}
-use Rattle.cops_picture.specs.Pictures.{IsPicture, fault_at}
+use Rattle.cops_explain.specs.Pictures.{IsPicture, fault_at}
 use Rattle.cops_trace.specs.declared.fault.TraceFault.{TraceFault}
 use Rattle.cops_trace.specs.Text.{ATrace, sessions_of}
 use Rattle.cops_trace.specs.Answer.{Says}

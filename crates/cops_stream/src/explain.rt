@@ -11,8 +11,7 @@ ghost use Rattle.cops_stream.specs.Explain.{ExplainSays, IsDrawing, IsDrawn, IsE
 
 use crate::audit::{Answer, StreamFault, answer_of, faulty};
 use cops_audit::{Verdict, judge};
-use cops_explain::explain;
-use cops_picture::picture;
+use cops_explain::{explain, picture};
 use cops_trace::{Trace, TraceFault, read_trace};
 use cops_types::{Counted, History, Memory, Selection, write_text};
 use std::alloc::Global;

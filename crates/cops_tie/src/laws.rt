@@ -2,9 +2,13 @@ ghost use Rattle.std.specs.Prelude.{◌≡◌, ℕ, List};
 ghost use Rattle.cops_types.specs.Histories.{Sessions};
 ghost use Rattle.cops_core.specs.World.{Setting, World};
 ghost use Rattle.cops_core.specs.declared.event.Event.{Event};
+ghost use Rattle.cops_core.specs.declared.script.ScriptedClient.{ScriptedClient};
 ghost use Rattle.cops_book.specs.declared.entry.Entry.{Entry};
+ghost use Rattle.cops_tie.specs.NoRun.{IsNoRun};
+ghost use Rattle.cops_tie.specs.Runs.{IsRun};
 ghost use Rattle.cops_tie.specs.Tie.{IsTiedTo};
 ghost use Rattle.cops_tie.specs.Untied.{IsTied, IsUntied};
+ghost use Rattle.cops_tie.specs.declared.outcome.ClientOutcome.{ClientOutcome};
 
 use cops_core::every_interleaving_is_accepted;
 
@@ -23,4 +27,13 @@ pub fn tied_books_have_one_end()
         IsTiedTo s books sessions events end → IsTiedTo s books sessions others other → end ≡ other }
 {
     every_interleaving_is_accepted();
+}
+
+/// A law of the definitions: what is no run is none, with whatever events. So a run has one of the two answers, and not both.
+pub fn no_run_is_not_run()
+    ensures { (s : Setting) (clients : List ScriptedClient) (books : List (List Entry)) (sessions : Sessions) (outcomes : List ClientOutcome) (ticket : ℕ) (events : List Event) →
+        IsNoRun s clients books sessions outcomes ticket → IsRun s clients books sessions events outcomes → ⊥ }
+{
+    untied_is_not_tied();
+    tied_books_have_one_end();
 }

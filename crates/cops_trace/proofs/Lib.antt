@@ -10,3 +10,4 @@ pub mod Feeding
 pub mod Underway
 pub mod Begun
 pub mod Waiting
+pub mod Marking

@@ -31,4 +31,4 @@ pub record HasRead (fed : List ℕ) (t : Option ATrace) (items : List Item) (r :
 pub record WaitsInto {S : Type 0} (took : S → ATrace → Type 0) (fed : List ℕ) (u : Underway S) : Type 0 where
   pub trace : Option ATrace
   pub taken : IsTakenAs took u.parser.begun trace
-  pub read : HasRead fed trace u.items.items u.parser.reader
+  pub read : HasRead fed trace u.items u.parser.reader

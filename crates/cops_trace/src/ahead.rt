@@ -5,35 +5,50 @@ ghost use Rattle.cops_trace.specs.Parsing.{FailsAt, Fed, IsBegunAs, IsTakenAs, S
 ghost use Rattle.cops_trace.specs.Text.{ATrace};
 
 use crate::fault::TraceFault;
-use crate::found::Item;
 use crate::parser::{Parser, TOGETHER, take};
+use crate::queue::{ItemView, Queue};
 use crate::reader::TraceReader;
 use crate::sink::Sink;
 use cops_types::Memory;
 use std::alloc::Global;
-use std::collections::VecDeque;
 use std::thread::{Threads, join};
-
-/// How many bytes of a text an item takes at least, as a rule: so many items are made room for.
-const USUAL_FRAME: usize = 32;
 
 /// A text that is read: the parser, and the items that its reader gave out and its sink has not taken.
 #[derive(Drop)]
 pub(crate) struct Underway<S: Drop> {
     pub(crate) parser: Parser<S>,
-    pub(crate) items: VecDeque<Item>,
+    pub(crate) items: Queue,
 }
 
-/// Adds the item that comes next, and says whether a whole one was there.
-fn step(reader: &mut TraceReader, items: &mut VecDeque<Item>) -> Result<bool, TraceFault>
-    ensures ok { IfOk result (λ went. (t : Option ATrace) → IsAhead t items.old.items reader.old
-        → IsAhead t items.new.items reader.new × StepGives (stage_of (with_items items.old.items t) reader.old) (Result.Ok went) (stage_of (with_items items.new.items t) reader.new)) }
-    ensures err { IfErr result (λ e. (t : Option ATrace) → IsAhead t items.old.items reader.old
-        → (e ≡ TraceFault.Memory) ⊎ FailsAt reader.old.ended (stage_of (with_items items.old.items t) reader.old) e) }
+/// Adds the item that comes next, and says whether a whole one was there. A record is seen where its bytes lie.
+fn step(reader: &mut TraceReader, items: &mut Queue) -> Result<bool, TraceFault>
+    ensures ok { IfOk result (λ went. (t : Option ATrace) → IsAhead t items.old reader.old
+        → IsAhead t items.new reader.new × StepGives (stage_of (with_items items.old t) reader.old) (Result.Ok went) (stage_of (with_items items.new t) reader.new)) }
+    ensures err { IfErr result (λ e. (t : Option ATrace) → IsAhead t items.old reader.old
+        → (e ≡ TraceFault.Memory) ⊎ FailsAt reader.old.ended (stage_of (with_items items.old t) reader.old) e) }
+{
+    let Some(record) = reader.record() else {
+        return step_item(reader, items);
+    };
+    let Ok(()) = items.push_record(record.client, &record.op) else {
+        return Err(TraceFault::Memory);
+    };
+    let (client, used) = (record.client, record.used);
+    reader.pass(client, used);
+    Ok(true)
+}
+
+/// Adds the item that comes next, of any kind, and says whether a whole one was there.
+#[inline(never)]
+fn step_item(reader: &mut TraceReader, items: &mut Queue) -> Result<bool, TraceFault>
+    ensures ok { IfOk result (λ went. (t : Option ATrace) → IsAhead t items.old reader.old
+        → IsAhead t items.new reader.new × StepGives (stage_of (with_items items.old t) reader.old) (Result.Ok went) (stage_of (with_items items.new t) reader.new)) }
+    ensures err { IfErr result (λ e. (t : Option ATrace) → IsAhead t items.old reader.old
+        → (e ≡ TraceFault.Memory) ⊎ FailsAt reader.old.ended (stage_of (with_items items.old t) reader.old) e) }
 {
     match reader.next() {
         Ok(Some(item)) => {
-            let Ok(()) = items.push_back(item) else {
+            let Ok(()) = items.push(&item) else {
                 return Err(TraceFault::Memory);
             };
             Ok(true)
@@ -48,16 +63,16 @@ fn read_piece(
     alloc: Global,
     reader: TraceReader,
     piece: &[u8],
-) -> Result<(TraceReader, VecDeque<Item>), TraceFault>
+) -> Result<(TraceReader, Queue), TraceFault>
     requires { (t : Option ATrace) × IsBegunAs t reader.counts }
-    ensures ok { IfOk result (λ read. (fed : List ℕ) (t : Option ATrace) → IsBegunAs t reader.counts → Fed fed (stage_of t reader) → HasRead (fed ++ piece.now) t read.1.items read.0) }
+    ensures ok { IfOk result (λ read. (fed : List ℕ) (t : Option ATrace) → IsBegunAs t reader.counts → Fed fed (stage_of t reader) → HasRead (fed ++ piece.now) t read.1 read.0) }
     ensures err { IfErr result (λ e. (fed : List ℕ) (t : Option ATrace) → IsBegunAs t reader.counts → Fed fed (stage_of t reader) → Stops (fed ++ piece.now) e) }
 {
     let mut reader = reader;
     let Ok(()) = reader.feed(piece) else {
         return Err(TraceFault::Memory);
     };
-    let Ok(mut items) = VecDeque::with_capacity(alloc, piece.len() / USUAL_FRAME) else {
+    let Ok(mut items) = Queue::with_capacity(alloc, piece.len()) else {
         return Err(TraceFault::Memory);
     };
     while step(&mut reader, &mut items)? {}
@@ -65,53 +80,51 @@ fn read_piece(
 }
 
 /// Gives the items to the sink that was begun.
-fn take_items<S: Sink>(
-    alloc: Global,
-    begun: Option<S>,
-    items: VecDeque<Item>,
-) -> Result<Option<S>, Memory>
-    requires { (t : Option ATrace) × IsTakenAs S.took begun t × HaveRoom items.items t }
-    ensures { (t : Option ATrace) → IsTakenAs S.took begun t → HaveRoom items.items t → IfOk result (λ b. IsTakenAs S.took b (with_items items.items t)) }
+fn take_items<S: Sink>(alloc: Global, begun: Option<S>, items: Queue) -> Result<Option<S>, Memory>
+    requires { (t : Option ATrace) × IsTakenAs S.took begun t × HaveRoom items t }
+    ensures { (t : Option ATrace) → IsTakenAs S.took begun t → HaveRoom items t → IfOk result (λ b. IsTakenAs S.took b (with_items items t)) }
 {
-    let (mut begun, mut items) = (begun, items);
-    let mut passed = 0u32;
-    while let Some(item) = items.pop_front() {
-        match take(alloc, &mut begun, item) {
+    let mut begun = begun;
+    for at in 0..items.len() {
+        look_ahead(alloc, &mut begun, &items, at);
+        let Some(item) = items.get(at) else {
+            unreachable!();
+        };
+        match take(alloc, &mut begun, &item) {
             Ok(()) => {}
             Err(Memory) => return Err(Memory),
         }
-        passed = passed.wrapping_add(1);
-        look_ahead(alloc, &mut begun, &items, passed);
     }
     Ok(begun)
 }
 
 /// Lets the sink get ready for some of the items that wait, each time that so many have passed.
-fn look_ahead<S: Sink>(alloc: Global, begun: &mut Option<S>, items: &VecDeque<Item>, passed: u32)
+#[inline(always)]
+fn look_ahead<S: Sink>(alloc: Global, begun: &mut Option<S>, items: &Queue, passed: usize)
     ensures { (t : Option ATrace) → IsTakenAs S.took begun.old t → IsTakenAs S.took begun.new t }
 {
     if passed % TOGETHER == 0 {
         if let Some(sink) = begun {
-            foresee(alloc, sink, items);
+            foresee(alloc, sink, items, passed);
         }
     }
 }
 
-/// Lets a sink get ready for the first of the items that wait.
-fn foresee<S: Sink>(alloc: Global, sink: &mut S, items: &VecDeque<Item>)
+/// Lets a sink get ready for the records that wait from a place on.
+fn foresee<S: Sink>(alloc: Global, sink: &mut S, items: &Queue, from: usize)
     ensures { (t : ATrace) → S.took sink.old t → S.took sink.new t }
 {
     if !sink.looks_ahead() {
         return;
     }
-    let Ok(mut coming) = Vec::with_capacity(alloc, TOGETHER as usize) else {
+    let Ok(mut coming) = Vec::with_capacity(alloc, TOGETHER) else {
         return;
     };
-    for i in 0..TOGETHER as usize {
-        let Some(Item::Op { op, .. }) = items.get(i) else {
+    for i in 0..TOGETHER {
+        let Some(ItemView::Op { op, .. }) = items.get(from.saturating_add(i)) else {
             break;
         };
-        if coming.push(op.as_view()).is_err() {
+        if coming.push(op).is_err() {
             break;
         }
     }
@@ -125,7 +138,7 @@ impl<S: Sink> Underway<S> {
     {
         Underway {
             parser: Parser::new(alloc),
-            items: VecDeque::new(alloc),
+            items: Queue::new(alloc),
         }
     }
 
@@ -163,7 +176,7 @@ impl<S: Sink> Underway<S> {
         };
         match parser.take_piece(piece) {
             Ok(()) => {
-                let items = VecDeque::new(parser.alloc);
+                let items = Queue::new(parser.alloc);
                 Ok(Underway { parser, items })
             }
             Err(fault) => Err(fault),
@@ -188,14 +201,14 @@ impl<S: Sink> Underway<S> {
         } = parser;
         let (read, taken) = join(
             rt,
-            move || -> Result<(TraceReader, VecDeque<Item>), TraceFault>
+            move || -> Result<(TraceReader, Queue), TraceFault>
                 requires { (t : Option ATrace) × IsBegunAs t reader.counts }
-                ensures ok { IfOk result (λ read. (fed : List ℕ) (t : Option ATrace) → IsBegunAs t reader.counts → Fed fed (stage_of t reader) → HasRead (fed ++ piece.entry.now) t read.1.items read.0) }
+                ensures ok { IfOk result (λ read. (fed : List ℕ) (t : Option ATrace) → IsBegunAs t reader.counts → Fed fed (stage_of t reader) → HasRead (fed ++ piece.entry.now) t read.1 read.0) }
                 ensures err { IfErr result (λ e. (fed : List ℕ) (t : Option ATrace) → IsBegunAs t reader.counts → Fed fed (stage_of t reader) → Stops (fed ++ piece.entry.now) e) }
             { read_piece(alloc, reader, piece) },
             move || -> Result<Option<S>, Memory>
-                requires { (t : Option ATrace) × IsTakenAs S.took begun t × HaveRoom items.items t }
-                ensures { (t : Option ATrace) → IsTakenAs S.took begun t → HaveRoom items.items t → IfOk result (λ b. IsTakenAs S.took b (with_items items.items t)) }
+                requires { (t : Option ATrace) × IsTakenAs S.took begun t × HaveRoom items t }
+                ensures { (t : Option ATrace) → IsTakenAs S.took begun t → HaveRoom items t → IfOk result (λ b. IsTakenAs S.took b (with_items items t)) }
             { take_items(alloc, begun, items) },
         );
         let (reader, items) = match read {

@@ -12,6 +12,7 @@ mod lines;
 mod live;
 mod parser;
 mod pieces;
+mod queue;
 mod reader;
 mod reading;
 mod record;

@@ -2,10 +2,12 @@
 ghost use Rattle.std.specs.Prelude.{◌≡◌, Option, OnOk};
 ghost use Rattle.cops_trace.specs.Parsing.{IsTakenAs, ItemHasRoom, with_item};
 ghost use Rattle.cops_trace.specs.Text.{ATrace};
+ghost use Rattle.cops_trace.specs.Queue.{seen_item};
+ghost use Rattle.cops_trace.specs.declared.found.Item.{Item};
 ghost use Rattle.cops_types.specs.OpViews.{viewed};
 
 use crate::fault::TraceFault;
-use crate::found::Item;
+use crate::queue::ItemView;
 use crate::reader::TraceReader;
 use crate::sink::{Sink, Taken};
 use cops_types::{Memory, OpView};
@@ -13,7 +15,7 @@ use cops_wire::record_at;
 use std::alloc::Global;
 
 /// So many records a sink is told of before it takes them.
-pub(crate) const TOGETHER: u32 = 64;
+pub(crate) const TOGETHER: usize = 64;
 
 /// What was read of a text: what took the head and the records so far, and the bytes that no item was taken from.
 #[derive(Drop)]
@@ -67,7 +69,7 @@ impl<S: Sink> Parser<S> {
         let Some(item) = self.reader.next()? else {
             return Ok(false);
         };
-        match take(self.alloc, &mut self.begun, item) {
+        match take(self.alloc, &mut self.begun, &item.as_view()) {
             Ok(()) => Ok(true),
             Err(Memory) => Err(TraceFault::Memory),
         }
@@ -78,7 +80,7 @@ impl<S: Sink> Parser<S> {
         requires { IsUnderway S.took self.old.begun self.old.reader }
         ensures { (fed : List ℕ) → FedInto S.took fed self.old.begun self.old.reader → AdvancesInto S.took fed result self.new.begun self.new.reader }
     {
-        let mut passed = 0u32;
+        let mut passed = 0usize;
         self.look_ahead(passed);
         while self.step()? {
             passed = passed.wrapping_add(1);
@@ -88,7 +90,7 @@ impl<S: Sink> Parser<S> {
     }
 
     /// Lets the sink get ready for some records that come, each time that so many have passed.
-    fn look_ahead(&mut self, passed: u32)
+    fn look_ahead(&mut self, passed: usize)
         ensures reader { self.new.reader ≡ self.old.reader }
         ensures begun { (t : Option ATrace) → IsTakenAs S.took self.old.begun t → IsTakenAs S.took self.new.begun t }
     {
@@ -142,16 +144,20 @@ impl<S: Sink> Parser<S> {
     }
 }
 
-/// Gives an item to the sink that was begun. It is compiled into what calls it, since each call would move the item once more.
+/// Gives an item to the sink that was begun.
 #[inline(always)]
-pub(crate) fn take<S: Sink>(alloc: Global, begun: &mut Option<S>, item: Item) -> Result<(), Memory>
-    requires { (t : Option ATrace) × IsTakenAs S.took begun.old t × ItemHasRoom item t }
-    ensures { (t : Option ATrace) → IsTakenAs S.took begun.old t → OnOk result (IsTakenAs S.took begun.new (with_item item t)) }
+pub(crate) fn take<S: Sink>(
+    alloc: Global,
+    begun: &mut Option<S>,
+    item: &ItemView<'_>,
+) -> Result<(), Memory>
+    requires { (t : Option ATrace) × IsTakenAs S.took begun.old t × ItemHasRoom (seen_item item.now) t }
+    ensures { (t : Option ATrace) → IsTakenAs S.took begun.old t → OnOk result (IsTakenAs S.took begun.new (with_item (seen_item item.now) t)) }
 {
     match item {
-        Item::Head { clients } => begin(alloc, begun, clients),
-        Item::Op { client, op } => push(begun, client, &op.as_view()),
-        Item::End => Ok(()),
+        ItemView::Head { clients } => begin(alloc, begun, *clients),
+        ItemView::Op { client, op } => push(begun, *client, op),
+        ItemView::End => Ok(()),
     }
 }
 
@@ -174,7 +180,7 @@ fn foresee<S: Sink>(alloc: Global, sink: &mut S, bytes: &[u8])
     if !sink.looks_ahead() {
         return;
     }
-    let Ok(mut coming) = Vec::with_capacity(alloc, TOGETHER as usize) else {
+    let Ok(mut coming) = Vec::with_capacity(alloc, TOGETHER) else {
         return;
     };
     let mut rest = bytes;

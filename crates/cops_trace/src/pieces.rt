@@ -17,10 +17,6 @@ const LARGE_PIECE: usize = 524_288;
 /// The least piece that is read ahead: a thread takes longer to make than fewer bytes to read.
 const LEAST_AHEAD: usize = 32_768;
 
-/// How long items are at most, in bytes and on an average, of a text that is read ahead: a long value is sooner read than it goes from
-/// one thread to another.
-const SHORT_ITEM: u32 = 192;
-
 /// Who takes the pieces of a text.
 pub(crate) trait TakesPieces {
     /// How many bytes are asked for in one read.
@@ -72,8 +68,7 @@ impl<T: Threads> TakesPieces for Ahead<'_, T> {
         underway: Underway<S>,
         piece: &[u8],
     ) -> Result<Underway<S>, TraceFault> {
-        let is_worth_it = underway.parser.reader.gave_short_items(SHORT_ITEM);
-        if is_worth_it && piece.len() >= LEAST_AHEAD {
+        if piece.len() >= LEAST_AHEAD {
             underway.read_ahead(self.rt, piece)
         } else {
             underway.take_piece(piece)

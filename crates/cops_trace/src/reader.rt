@@ -192,14 +192,6 @@ impl TraceReader {
         self.at
     }
 
-    /// Whether the items that were given out took so many bytes each at most, on an average: so it is before the first.
-    pub(crate) fn gave_short_items(&self, most: u32) -> bool {
-        match &self.counts {
-            Some(counts) => self.at <= u64::from(counts.total()) * u64::from(most),
-            None => true,
-        }
-    }
-
     /// Whether the end was given out.
     pub(crate) fn has_ended(&self) -> bool
         ensures { result ≡ self.now.ended }

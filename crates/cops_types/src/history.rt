@@ -212,6 +212,7 @@ impl History {
         requires room { HasRoom self.old client }
         ensures ok { OnOk result (self.new.sessions ≡ with_op self.old.sessions client (viewed op.now)) }
         ensures err { OnErr result (self.new.sessions ≡ self.old.sessions) }
+        ensures others { (c : ℕ) → c ≢ client → HasRoom self.old c → HasRoom self.new c }
     {
         let alloc = *self.reserved.allocator();
         let place = client as usize;
@@ -459,23 +460,28 @@ fn entry_of_seen(
             value,
             version,
         } => {
-            if let Some(number) = known {
-                let put = source_of(foresight, entries, guess.put, number, value, *version);
-                if let Some(put) = put {
-                    return Ok(Entry::Sourced {
-                        key: number,
-                        put,
-                        version: *version,
-                    });
-                }
+            let version = *version;
+            if let Some(key) = known {
+                return match source_of(foresight, entries, guess.put, key, value, version) {
+                    Some(put) => Ok(Entry::Sourced { key, put, version }),
+                    None => Ok(Entry::Got {
+                        key,
+                        value: value.to_value(alloc)?,
+                        version,
+                    }),
+                };
             }
-            let value = value.to_value(alloc)?;
+            // (once the key is added nothing may fail; the copy goes where the put is found)
+            let copied = value.to_value(alloc)?;
             let key = number_of_seen(alloc, keys, foresight, key, known)?;
-            Ok(Entry::Got {
-                key,
-                value,
-                version: *version,
-            })
+            match source_of(foresight, entries, guess.put, key, value, version) {
+                Some(put) => Ok(Entry::Sourced { key, put, version }),
+                None => Ok(Entry::Got {
+                    key,
+                    value: copied,
+                    version,
+                }),
+            }
         }
         OpView::Missed { key } => {
             let key = number_of_seen(alloc, keys, foresight, key, known)?;

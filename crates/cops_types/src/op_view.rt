@@ -9,7 +9,6 @@ use crate::fault::TypeFault;
 use crate::format::Format;
 use crate::key::Key;
 use crate::limits::MAX_KEY;
-use crate::op::Op;
 use crate::value::Value;
 use crate::version::Version;
 use std::alloc::{AllocError, Global};
@@ -133,7 +132,7 @@ pub enum OpView<'a> {
 }
 
 impl<'a> OpView<'a> {
-    ghost use Rattle.std.specs.Prelude.{◌≡◌, IfOk};
+    ghost use Rattle.std.specs.Prelude.{◌≡◌};
     ghost use Rattle.cops_types.specs.Operations.{key_of};
     ghost use Rattle.cops_types.specs.OpViews.{viewed};
 
@@ -143,35 +142,6 @@ impl<'a> OpView<'a> {
     {
         match self {
             OpView::Put { key, .. } | OpView::Got { key, .. } | OpView::Missed { key } => key,
-        }
-    }
-
-    /// A copy of the operation.
-    pub fn to_op(&self, alloc: Global) -> Result<Op, AllocError>
-        ensures { IfOk result (λ op. op ≡ viewed self.now) }
-    {
-        match self {
-            OpView::Put {
-                key,
-                value,
-                version,
-            } => Ok(Op::Put {
-                key: key.to_key(alloc)?,
-                value: value.to_value(alloc)?,
-                version: *version,
-            }),
-            OpView::Got {
-                key,
-                value,
-                version,
-            } => Ok(Op::Got {
-                key: key.to_key(alloc)?,
-                value: value.to_value(alloc)?,
-                version: *version,
-            }),
-            OpView::Missed { key } => Ok(Op::Missed {
-                key: key.to_key(alloc)?,
-            }),
         }
     }
 }

@@ -1,6 +1,6 @@
-//! What scripts run. For those in `bench/`, which time a node, a world and the auditor that is fed: `node PAIRS TURNS AMONG`, `world FILE MODE
-//! DATA_CENTRES CLIENTS`, `online TRACE MODE`. For `tests/growths.py`, which refuses growths in turn: `growths SCENARIO LINES TRACE LINES`. With
-//! no words it does nothing.
+//! What scripts and the tests run. Rows of calls of the crates, and the answers that are wanted: `rows FILE..`. For scripts in `bench/`, which time a
+//! node, a world and the auditor that is fed: `node PAIRS TURNS AMONG`, `world FILE MODE DATA_CENTRES CLIENTS`, `online TRACE MODE`. For
+//! `tests/growths.py`, which refuses growths in turn: `growths SCENARIO LINES TRACE LINES`. With no words it does nothing.
 #![tactic(auto)]
 
 mod auditing;
@@ -9,10 +9,12 @@ mod growths;
 mod happening;
 mod node;
 mod online;
+mod rows;
+mod words;
 mod world;
 
+use crate::words::{u8_of, u16_of, u64_of};
 use anyhow::Error;
-use cops_words::{u8_of, u16_of, u64_of};
 use std::env;
 use std::rt::Files;
 use std::sync::Wait;
@@ -34,6 +36,7 @@ fn perform<R: Files + Threads + Wait + Sync + Print + AllocGlobal>(
     words: &[String],
 ) -> Result<(), Error> {
     match words {
+        [what, files @ ..] if what.as_str() == "rows" => rows::say_files(rt, files),
         [what, pairs, turns, among] if what.as_str() == "node" => {
             time_node(rt, &[pairs, turns, among])
         }

@@ -1,9 +1,9 @@
 //! The events of a world, read from a file with a line for each.
 
+use crate::words::world_event;
 use anyhow::Error;
 use cops_core::{Event, World};
 use cops_place::Place;
-use cops_words::world_event;
 use std::alloc::Global;
 use std::fs;
 use std::rt::Files;

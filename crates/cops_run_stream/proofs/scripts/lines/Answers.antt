@@ -1,5 +1,5 @@
 use Rattle.std.proofs.Common.{ℕ, List, ◌++◌, slice_index_or, sym, ap, ◌∙◌}
-use Rattle.cops_outcomes.specs.declared.outcome.ClientOutcome.TheVariants.{Done}
+use Rattle.cops_tie.specs.declared.outcome.ClientOutcome.TheVariants.{Done}
 use Rattle.cops_run_stream.specs.Lines.{client_line}
 use Rattle.cops_run_stream.proofs.LineByLine.{next_line}
 use Rattle.cops_run_stream.proofs.scripts.lines.Goals as goal

@@ -1,15 +1,11 @@
-use Rattle.std.proofs.Common.{Option, Ok, subst}
-use Rattle.cops_trace.specs.declared.found.Item.{Item}
-use Rattle.cops_trace.specs.Ahead.{with_items}
-use Rattle.cops_trace.specs.Reading.{GivesNext}
-use Rattle.cops_trace.proofs.Underway.{step_err}
+use Rattle.cops_types.specs.OpViews.{viewed}
+use Rattle.cops_trace.specs.declared.found.Item.TheVariants.{Op as Entry}
 use Rattle.cops_trace.proofs.Waiting.{gave_item}
 use Rattle.cops_trace.proofs.ahead.step.Goals as goal
 
-pub returns-in-Ok-clause-ok : goal.returns-in-Ok-clause-ok
-returns-in-Ok-clause-ok c = λ t h.
-    let given = subst (λ (o : Option Item). GivesNext c.args.reader.now (Ok o) c.next.new.self) c.in-Ok-Some.field-0-is c.in-Ok-Some.ensures.next in
-    rw c.in-Ok.ensures.items (gave_item c.args.items.now.items c.in-Ok-Some.item t c.args.reader.now c.next.new.self given h)
-
-pub returns-in-Err-clause-err : goal.returns-in-Err-clause-err
-returns-in-Err-clause-err c = λ t h. step_err (with_items c.args.items.now.items t) c.args.reader.now c.next.new.self c.in-Err.fault h.counts c.in-Err.ensures.next
+pub returns-clause-ok : goal.returns-clause-ok
+returns-clause-ok c = λ t h.
+    let r = c.in-Some.record in
+    let item = Entry r.client (viewed r.op) in
+    let given = c.pass.ensures (viewed r.op) c.in-Some.ensures in
+    rw c.in-Ok.ensures.ok (gave_item c.args.items.now item t c.args.reader.now c.pass.new.self given h)

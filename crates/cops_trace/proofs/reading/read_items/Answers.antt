@@ -48,4 +48,4 @@ pub returns-clause-err : goal.returns-clause-err
 returns-clause-err g c =
     let r = c.loop.invariant.read in
     let underway = c.loop.underway in
-    absurd (omega (arith, settled_len r.0 (stage_of (with_items underway.items.items r.2.trace) underway.parser.reader) r.2.read.stage r.2.read.settled, r.3, c.loop-test.false))
+    absurd (omega (arith, settled_len r.0 (stage_of (with_items underway.items r.2.trace) underway.parser.reader) r.2.read.stage r.2.read.settled, r.3, c.loop-test.false))

@@ -1,0 +1,136 @@
+use crate::runs::building::{DONE, HEAD, TWO, fault_of, operations_of, scenario};
+use cops_clients::*;
+use cops_gates::waits_for;
+use cops_stream::{Answer, StreamFault, audit_stream};
+use cops_types::{Counted, FailingWriter, Gate, GateHeld, OpenGate, Point};
+use std::alloc::{AllocGlobal, Global};
+use std::io;
+use std::io::Write;
+use std::sync::Wait;
+use std::sync::atomic::{AtomicBool, AtomicU64, Ordering};
+use std::test::Fail;
+use std::thread::Threads;
+
+/// Whether a text is accepted, and just this is told of it.
+fn is_accepted<R: Threads + Wait + Sync + AllocGlobal>(
+    rt: &R,
+    alloc: Global,
+    text: &[u8],
+    wanted: &[u8],
+) -> Result<bool, StreamFault> {
+    let mut reader = Counted::new(text);
+    let mut told = Counted::new(Vec::new(alloc));
+    let answer = audit_stream(rt, alloc, &mut reader, &mut told, 1, &OpenGate);
+    let is_told = told.into_inner().as_slice() == wanted;
+    Ok(matches!(answer?, Answer::Accepted) && is_told)
+}
+
+#[test]
+fn what_is_written_is_audited(rt: HostRuntime) -> Result<(), Fail> {
+    let scenario = scenario(rt.alloc(), TWO)?;
+    let writer = Counted::new(Vec::new(rt.alloc()));
+    let Live { ran, writer } = run_live(&rt, rt.alloc(), scenario, &OpenGate, writer);
+    let operations = operations_of(ran, &[DONE, DONE]);
+    let text = writer.into_inner();
+    let wanted = b"accepted: 4 operations, 2 puts\n";
+    let is_accepted = is_accepted(&rt, rt.alloc(), &text, wanted);
+    drop(text);
+    assert!(rt; operations == Some(4));
+    assert!(rt; is_accepted?);
+    Ok(())
+}
+
+/// Counts the answers to clients.
+#[derive(Drop)]
+struct Answers {
+    told: AtomicU64,
+}
+
+impl Gate for Answers {
+    ghost may_hold = { λ _ _. ⊥ };
+
+    fn pass<R: Wait>(&self, _rt: &R, point: Point) -> Result<(), GateHeld> {
+        if let Point::Answered { client: 0 | 1, .. } = point {
+            self.told.fetch_add(1, Ordering::SeqCst);
+        }
+        Ok(())
+    }
+}
+
+#[test]
+fn clients_end_though_a_write_failed(rt: HostRuntime) -> Result<(), Fail> {
+    let scenario = scenario(rt.alloc(), TWO)?;
+    let gate = Answers {
+        told: AtomicU64::new(0),
+    };
+    let failing = FailingWriter::new(Vec::new(rt.alloc()), 1, u64::MAX, usize::MAX);
+    let writer = Counted::new(failing);
+    let Live { ran, writer } = run_live(&rt, rt.alloc(), scenario, &gate, writer);
+    let fault = fault_of(ran);
+    let failures = writer.failures();
+    let text = writer.into_inner().into_inner();
+    let is_head = text.as_slice() == HEAD.as_slice();
+    drop(text);
+    assert!(rt; fault == Some(RunFault::WriteFailed { written: 9 }));
+    assert!(rt; failures == 1);
+    assert!(rt; is_head);
+    assert!(rt; gate.told.load(Ordering::SeqCst) == 4);
+    Ok(())
+}
+
+/// Lets client 0 go on from its first answer once a second piece was written.
+#[derive(Drop)]
+struct Waits<'a> {
+    written: &'a AtomicBool,
+}
+
+impl Gate for Waits<'_> {
+    ghost may_hold = { λ _ _. Unit {0} };
+
+    fn pass<R: Wait>(&self, _rt: &R, point: Point) -> Result<(), GateHeld> {
+        match point {
+            Point::Answered { client: 0, .. } => waits_for(self.written),
+            _ => Ok(()),
+        }
+    }
+}
+
+/// Tells of its second write.
+#[derive(Drop)]
+struct Telling<'a> {
+    writes: u64,
+    written: &'a AtomicBool,
+}
+
+impl Write for Telling<'_> {
+    ghost use Rattle.std.specs.Prelude.{None};
+
+    ghost contents = { λ _. None };
+
+    fn write(&mut self, buf: &[u8]) -> io::Result<usize> {
+        self.writes = self.writes.saturating_add(1);
+        if self.writes > 1 {
+            self.written.store(true, Ordering::SeqCst);
+        }
+        Ok(buf.len())
+    }
+
+    fn flush(&mut self) -> io::Result<()> {
+        Ok(())
+    }
+}
+
+/// A trace that is written at the end alone would be held here.
+#[test]
+fn records_are_written_while_clients_run(rt: HostRuntime) -> Result<(), Fail> {
+    let scenario = scenario(rt.alloc(), TWO)?;
+    let written = AtomicBool::new(false);
+    let gate = Waits { written: &written };
+    let writer = Counted::new(Telling {
+        writes: 0,
+        written: &written,
+    });
+    let Live { ran, .. } = run_live(&rt, rt.alloc(), scenario, &gate, writer);
+    assert!(rt; fault_of(ran) == None);
+    Ok(())
+}

@@ -1,0 +1,202 @@
+use crate::runs::building::{DONE, TWO, fault_of, operations_of, ran, scenario};
+use cops_clients::*;
+use cops_core::{Event, World};
+use cops_gates::{HoldsAt, Meeting, TURNS, waits_for};
+use cops_node::Outcome;
+use cops_types::{Gate, GateHeld, OpenGate, Point, Refusal};
+use std::alloc::Global;
+use std::fmt::Write;
+use std::sync::Wait;
+use std::sync::atomic::{AtomicBool, AtomicU64, Ordering};
+use std::test::Fail;
+use std::thread;
+use std::thread::Threads;
+
+/// Two nodes, at each of which a client puts a key, and a client without a script.
+const SPLIT: &str =
+    "{\"data_centres\":1,\"splits\":[\"m\"],\"clients\":[{\"at\":0},{\"at\":0,\"script\":[{\"put\":[\"a\",\"1\"]}]},{\"at\":0,\"script\":[{\"put\":[\"z\",\"1\"]}]}]}";
+
+/// A client puts three keys, which go through a link for one frame, and a loop may make one turn.
+const LIMITED: &str =
+    "{\"data_centres\":2,\"link\":1,\"turns\":1,\"clients\":[{\"at\":0,\"script\":[{\"put\":[\"a\",\"1\"]},{\"put\":[\"b\",\"1\"]},{\"put\":[\"c\",\"1\"]}]}]}";
+
+/// A client puts two keys, whose messages go through a link for one frame, each three times, to a receiver that comes late.
+const LATE: &str =
+    "{\"data_centres\":2,\"link\":1,\"repeat\":2,\"hold\":5,\"clients\":[{\"at\":0,\"script\":[{\"put\":[\"x\",\"1\"]},{\"put\":[\"y\",\"2\"]}]}]}";
+
+/// How many outcomes a run left, and how many operations. What it left is let go.
+fn sizes(ran: Result<Run, RunFault>) -> Option<(usize, usize)> {
+    let sizes = match &ran {
+        Ok(run) => Some((run.outcomes.len(), run.trace.len())),
+        Err(_) => None,
+    };
+    drop(ran);
+    sizes
+}
+
+/// One thread for both clients, or one lock round both nodes, would be held here.
+#[test]
+fn steps_of_two_nodes_stand_side_by_side(rt: HostRuntime) -> Result<(), Fail> {
+    let gate = Meeting::new(
+        Point::InStep { node: 0, client: 1 },
+        Point::InStep { node: 1, client: 2 },
+    );
+    let ran = ran(&rt, rt.alloc(), SPLIT, &gate)?;
+    assert!(rt; sizes(ran) == Some((3, 2)));
+    Ok(())
+}
+
+#[test]
+fn a_gate_holds_a_run(rt: HostRuntime) -> Result<(), Fail> {
+    for point in [
+        Point::InStep { node: 0, client: 0 },
+        Point::Answered {
+            node: 64,
+            client: 1,
+        },
+        Point::InStep {
+            node: 64,
+            client: 65_535,
+        },
+    ] {
+        let ran = ran(&rt, rt.alloc(), TWO, &HoldsAt { point })?;
+        assert!(rt; fault_of(ran) == Some(RunFault::Held), "{point:?}");
+    }
+    Ok(())
+}
+
+/// Keeps a receiver for a while at its first step, in which the clients come to their ends.
+#[derive(Drop)]
+struct Slow {
+    passed: AtomicU64,
+}
+
+impl Gate for Slow {
+    ghost may_hold = { λ _ _. ⊥ };
+
+    fn pass<R: Wait>(&self, _rt: &R, point: Point) -> Result<(), GateHeld> {
+        if let Point::InStep { client: 65_535, .. } = point {
+            if self.passed.fetch_add(1, Ordering::SeqCst) == 0 {
+                for _ in 0..TURNS / 10 {
+                    thread::yield_now();
+                }
+            }
+        }
+        Ok(())
+    }
+}
+
+#[test]
+fn a_sender_makes_its_turns(rt: HostRuntime) -> Result<(), Fail> {
+    let gate = Slow {
+        passed: AtomicU64::new(0),
+    };
+    let ran = ran(&rt, rt.alloc(), LIMITED, &gate)?;
+    assert!(rt; fault_of(ran) == Some(RunFault::TurnLimit));
+    Ok(())
+}
+
+/// Lets client 1 go on from its first answer once client 0 has so many.
+#[derive(Drop)]
+struct Turns {
+    answered: AtomicU64,
+    wanted: u64,
+    reached: AtomicBool,
+}
+
+impl Gate for Turns {
+    ghost may_hold = { λ _ _. Unit {0} };
+
+    fn pass<R: Wait>(&self, _rt: &R, point: Point) -> Result<(), GateHeld> {
+        match point {
+            Point::Answered { client: 0, .. } => {
+                let before = self.answered.fetch_add(1, Ordering::SeqCst);
+                if before >= self.wanted {
+                    self.reached.store(true, Ordering::SeqCst);
+                }
+                Ok(())
+            }
+            Point::Answered { client: 1, .. } => waits_for(&self.reached),
+            _ => Ok(()),
+        }
+    }
+}
+
+/// Writes a scenario in which client 0 puts so many keys and gets the first of them, and client 1 gets a key that nobody
+/// puts, and then them and the first of them again.
+fn write_many(text: &mut String, keys: u32) -> Result<(), Fail> {
+    text.push_str("{\"data_centres\":1,\"clients\":[{\"at\":0,\"script\":[")?;
+    for n in 0..keys {
+        write!(text, "{{\"put\":[\"k{n}\",\"1\"]}},")?;
+    }
+    text.push_str("{\"get\":\"k0\"}]},{\"at\":0,\"script\":[{\"get\":\"none\"},")?;
+    for n in 0..keys {
+        write!(text, "{{\"get\":\"k{n}\"}},")?;
+    }
+    text.push_str("{\"get\":\"k0\"}]}]}")?;
+    Ok(())
+}
+
+/// How a run of such a scenario ends.
+fn ran_many<R: Threads + Wait + Sync, G: Gate>(
+    rt: &R,
+    alloc: Global,
+    keys: u32,
+    gate: &G,
+) -> Result<Result<Run, RunFault>, Fail> {
+    let mut text = String::new(alloc);
+    let ran = match write_many(&mut text, keys) {
+        Ok(()) => ran(rt, alloc, &text, gate),
+        Err(fault) => Err(fault),
+    };
+    drop(text);
+    ran
+}
+
+#[test]
+fn a_client_with_a_full_context_stops(rt: HostRuntime) -> Result<(), Fail> {
+    let gate = Turns {
+        answered: AtomicU64::new(0),
+        wanted: 256,
+        reached: AtomicBool::new(false),
+    };
+    let ran = ran_many(&rt, rt.alloc(), 256, &gate)?;
+    let outcomes = [DONE, ClientOutcome::Stopped(Refusal::ContextFull)];
+    assert!(rt; operations_of(ran, &outcomes) == Some(514));
+    Ok(())
+}
+
+/// A world in the setting of the scenario whose messages come three times.
+fn late_world(alloc: Global) -> Result<World, Fail> {
+    let scenario = scenario(alloc, LATE)?;
+    let setting = scenario.setting(alloc);
+    drop(scenario);
+    Ok(World::of(alloc, setting?)?)
+}
+
+/// How many of the outcomes are like one.
+fn count(outcomes: &[Outcome], like: &Outcome) -> usize {
+    outcomes.iter().filter(|outcome| *outcome == like).count()
+}
+
+/// How many puts such a world holds by these events, how many it has again, and how many it settles.
+fn counts(alloc: Global, events: &[Event]) -> Result<[usize; 3], Fail> {
+    let mut world = late_world(alloc)?;
+    let outcomes = world.run(events);
+    drop(world);
+    let outcomes = outcomes?;
+    let held = count(&outcomes, &Outcome::Held);
+    let repeated = count(&outcomes, &Outcome::Repeat);
+    let settled = count(&outcomes, &Outcome::Settled);
+    drop(outcomes);
+    Ok([held, repeated, settled])
+}
+
+#[test]
+fn each_message_comes_three_times(rt: HostRuntime) -> Result<(), Fail> {
+    let run = ran(&rt, rt.alloc(), LATE, &OpenGate)??;
+    let counts = counts(rt.alloc(), &run.events);
+    drop(run);
+    assert_eq!(rt; counts?, [2, 4, 2]);
+    Ok(())
+}

@@ -1,0 +1,5 @@
+//! The cluster on threads, and what replicates.
+
+mod building;
+mod clients;
+mod replicating;

@@ -1,0 +1,84 @@
+//! What is told of an operation, in a card and where it is pointed at.
+ghost use Rattle.std.specs.Prelude.{◌≤◌, IfOk};
+ghost use Rattle.cops_explain.specs.declared.sizes.TheConstants.{MAX_WIDTH};
+
+use crate::columns::Column;
+use crate::sizes::{CHARACTER, MAX_LINE, MIN_LINE, PADDING, SHOWN_BYTES};
+use cops_types::{History, OpName, OpRef};
+use cops_wire::show_bytes;
+use std::alloc::{AllocError, Global};
+
+/// The first line of a card: what was done, and the key.
+pub fn act_line(alloc: Global, op: OpRef<'_>) -> Result<String, AllocError> {
+    match op {
+        OpRef::Put { key, .. } => shown(alloc, "put ", key.as_bytes()),
+        OpRef::Got { key, .. } => shown(alloc, "got ", key.as_bytes()),
+        OpRef::Missed { key } => shown(alloc, "got ", key.as_bytes()),
+    }
+}
+
+/// The second line: the value.
+pub fn value_line(alloc: Global, op: OpRef<'_>) -> Result<String, AllocError> {
+    match op {
+        OpRef::Put { value, .. } => shown(alloc, "= ", value.as_bytes()),
+        OpRef::Got { value, .. } => shown(alloc, "= ", value.as_bytes()),
+        OpRef::Missed { .. } => String::from_str(alloc, "nothing"),
+    }
+}
+
+/// The third line: the version, and the name.
+pub fn name_line(alloc: Global, name: OpName, op: OpRef<'_>) -> Result<String, AllocError> {
+    match op {
+        OpRef::Put { version, .. } => format!(in alloc; "{version} {name}"),
+        OpRef::Got { version, .. } => format!(in alloc; "{version} {name}"),
+        OpRef::Missed { .. } => format!(in alloc; "{name}"),
+    }
+}
+
+/// The word, and the first bytes of a key or a value.
+fn shown(alloc: Global, word: &str, bytes: &[u8]) -> Result<String, AllocError> {
+    let mut text = String::from_str(alloc, word)?;
+    if bytes.len() <= SHOWN_BYTES {
+        show_bytes(bytes, &mut text)?;
+    } else {
+        show_bytes(&bytes[..SHOWN_BYTES], &mut text)?;
+        text.push_str("..")?;
+    }
+    Ok(text)
+}
+
+/// What stands in place of a card: how many operations are left out.
+pub fn left_out_line(alloc: Global, count: usize) -> Result<String, AllocError> {
+    format!(in alloc; ".. {count} more")
+}
+
+/// The longest line of an operation's card, in characters.
+fn longest_of(alloc: Global, name: OpName, op: OpRef<'_>) -> Result<usize, AllocError> {
+    let act = act_line(alloc, op)?.len();
+    let value = value_line(alloc, op)?.len();
+    let name = name_line(alloc, name, op)?.len();
+    Ok(act.max(value).max(name))
+}
+
+/// The longest line of a column, in characters.
+fn longest_line(alloc: Global, history: &History, column: Column) -> Result<usize, AllocError> {
+    match column {
+        Column::Operation { name, .. } => match history.op(name) {
+            Some(op) => longest_of(alloc, name, op),
+            None => Ok(0),
+        },
+        Column::LeftOut(count) => Ok(left_out_line(alloc, count)?.len()),
+    }
+}
+
+/// The width of cards in which each line of the columns' operations has room, in pixels.
+pub fn card_width(alloc: Global, history: &History, columns: &[Column]) -> Result<u32, AllocError>
+    ensures { IfOk result (λ width. width ≤ MAX_WIDTH) }
+{
+    let mut longest = MIN_LINE;
+    for column in columns {
+        longest = longest.max(longest_line(alloc, history, *column)?);
+    }
+    let characters = longest.min(MAX_LINE) as u32;
+    Ok(2 * PADDING + CHARACTER * characters)
+}

@@ -1,0 +1,118 @@
+ghost use Rattle.std.specs.Prelude.{◌≡◌, ◌<◌, ◌≤◌, ◌^◌, IfOk, MatchOption, None, OnOk, codes, length, string_bytes};
+ghost use Rattle.cops_audit.specs.Faults.{IsFault};
+ghost use Rattle.cops_audit.specs.Verdicts.{IsVerdict};
+ghost use Rattle.cops_explain.specs.Pictures.{Extends, IsEnded, IsPicture, IsPictureOf, fault_at};
+ghost use Rattle.cops_explain.specs.declared.sizes.TheConstants.{MAX_COLUMNS};
+
+use crate::columns::{Column, columns_of};
+use crate::drawing::{push_cards, push_head, push_lanes, push_page};
+use crate::layout::{Place, clients_of, lane_top, places_of};
+use crate::lines::card_width;
+use crate::links::{push_links, push_return};
+use crate::sizes::{CARD_HEIGHT, FIRST_LEFT, FOOT, MARGIN, MIN_RIGHT};
+use cops_audit::{Fault, Verdict};
+use cops_types::{History, Memory};
+use std::alloc::{AllocError, Global};
+
+/// The right end of the last card.
+fn right_of(places: &[Place]) -> u32
+    ensures { result < 2 ^ 17 }
+{
+    match places.last() {
+        Some(place) => place.card.right(),
+        None => FIRST_LEFT,
+    }
+}
+
+/// Draws the arrows that the class has.
+fn push_arrows(
+    out: &mut String,
+    fault: Fault,
+    places: &[Place],
+    lowest: u32,
+) -> Result<(), AllocError>
+    requires { lowest < 2 ^ 17 }
+    ensures { OnOk result (Extends (string_bytes out.old) (string_bytes out.new)) }
+{
+    match fault {
+        Fault::Doubled(_) | Fault::NoSource(_) => Ok(()),
+        Fault::NotAbove(_) => push_links(out, places),
+        Fault::Stale(_) => {
+            push_links(out, places)?;
+            push_return(out, places, lowest)
+        }
+    }
+}
+
+/// What comes behind the beginning of a picture with these columns.
+fn rest_of(
+    alloc: Global,
+    history: &History,
+    fault: Fault,
+    columns: &[Column],
+) -> Result<String, AllocError>
+    requires { length columns.now ≤ MAX_COLUMNS }
+    ensures { IfOk result (λ rest. IsEnded (string_bytes rest)) }
+{
+    let clients = clients_of(alloc, columns)?;
+    let width = card_width(alloc, history, columns)?;
+    let places = places_of(alloc, columns, &clients, width)?;
+    let right = right_of(&places).max(MIN_RIGHT);
+    let lowest = lane_top(clients.len().saturating_sub(1)) + CARD_HEIGHT;
+    let mut out = String::new(alloc);
+    push_page(&mut out, right + 2 * MARGIN, lowest + 2 * FOOT + MARGIN)?;
+    push_head(&mut out, fault)?;
+    push_lanes(&mut out, &clients, right + MARGIN)?;
+    push_arrows(&mut out, fault, &places, lowest)?;
+    push_cards(alloc, &mut out, history, &places)?;
+    out.push_str("</svg>\n")?;
+    Ok(out)
+}
+
+/// The picture of a fault.
+fn picture_of(alloc: Global, history: &History, fault: Fault) -> Result<Vec<u8>, Memory>
+    requires { IsFault history.now.sessions fault }
+    ensures { IfOk result (λ text. IsPictureOf fault text.items) }
+{
+    let columns = columns_of(alloc, history, fault)?;
+    let rest = rest_of(alloc, history, fault, &columns)?;
+    let text = format!(in alloc;
+        "<svg xmlns=\"http://\
+        www.w3.org/2000/svg\" role=\"img\" aria-label=\"{fault}\"{rest}"
+    )?;
+    Ok(text.into_bytes())
+}
+
+/// The fault of that number, counted from 1, in the order of the report.
+fn fault_at(verdict: &Verdict, number: u32) -> Option<Fault>
+    ensures { result ≡ fault_at verdict.now number }
+{
+    match verdict {
+        Verdict::Accepted(_) => None,
+        Verdict::Refused(faults) => faults.of_number(number),
+    }
+}
+
+/// A picture of one fault of the verdict, in SVG: the fault of that number, counted from 1, in the order of the report. None where there
+/// is none, and `Memory` where a growth was refused.
+///
+/// Each client concerned has a lane, and each operation a card, which stand from left to right so that those of one client are in
+/// its order. A stale get's picture has its chain, as that of the report, with an arrow from each operation to the next one, before them the put
+/// that it returned, if any, and of a chain that is longer than 13 the first 6 and the last 6 operations.
+pub fn picture(
+    alloc: Global,
+    history: &History,
+    verdict: &Verdict,
+    fault: u32,
+) -> Result<Option<Vec<u8>>, Memory>
+    requires { IsVerdict history.now.sessions verdict.now }
+    ensures { IfOk result (λ found. MatchOption found
+        (fault_at verdict.now fault ≡ None)
+        (λ text. IsPicture verdict.now fault text.items)) }
+{
+    let Some(fault) = fault_at(verdict, fault) else {
+        return Ok(None);
+    };
+    let text = picture_of(alloc, history, fault)?;
+    Ok(Some(text))
+}

@@ -1,6 +1,0 @@
-use Rattle.std.proofs.Common.{string_bytes}
-use Rattle.cops_picture.specs.Pictures.{Extends}
-use Rattle.cops_picture.proofs.drawing.push_cards.Given as goal
-
-abbrev pub invariant-loop-place : goal.invariant-loop-place
-invariant-loop-place l = Extends (string_bytes l.fn.out) (string_bytes l.out)

@@ -1,0 +1,73 @@
+ghost use Rattle.std.specs.Prelude.{◌≡◌, ◌↔◌, ◌+◌, ◌*◌, length, map, IfOk, IfErr, OnOk, IsTrue};
+ghost use Rattle.cops_types.specs.Verdicts.{HasAcceptedVerdict};
+ghost use Rattle.cops_trace.specs.Text.{sessions_of};
+ghost use Rattle.cops_tie.specs.Runs.{EndsWell, IsRun};
+ghost use Rattle.cops_tie.specs.NoRun.{IsNoRun, WhereNoRun};
+
+use crate::ending::are_outcomes;
+use crate::fault::{CheckFault, TieFault};
+use crate::outcome::ClientOutcome;
+use crate::settling::is_converged;
+use crate::tying::{TiedRun, tied_run};
+use cops_book::Entry;
+use cops_core::{Event, ScriptedClient, Setting, World};
+use cops_trace::Trace;
+use cops_types::{History, Memory};
+use std::alloc::Global;
+
+/// The world's events of a run of these clients whose entries these are, a list for each node: `Untied` where they
+/// are no run of the world in which the clients saw what the trace says, where a client's outcome is not one of its session,
+/// or where a data centre has not settled each put. What the clients of a run saw is accepted. The condition: there is one
+/// list for each node, in order of node numbers.
+pub fn checked(
+    alloc: Global,
+    setting: &Setting,
+    clients: &[ScriptedClient],
+    entries: &[Vec<Entry>],
+    trace: &Trace,
+    outcomes: &[ClientOutcome],
+) -> Result<Vec<Event>, CheckFault>
+    requires { length entries.now ≡ setting.now.place.dcs * (length setting.now.place.splits + 1) }
+    ensures ok { IfOk result (λ events. IsRun setting.now clients.now (map (λ b. b.items) entries.now) (sessions_of trace.now) events.items outcomes.now) }
+    ensures accepted { OnOk result (HasAcceptedVerdict (sessions_of trace.now)) }
+    ensures untied { IfErr result (WhereNoRun (IsNoRun setting.now clients.now (map (λ b. b.items) entries.now) (sessions_of trace.now) outcomes.now)) }
+{
+    let tied = match tied_run(alloc, setting, entries, trace) {
+        Ok(tied) => tied,
+        Err(TieFault::Memory) => return Err(CheckFault::Memory),
+        Err(TieFault::Untied { ticket }) => return Err(CheckFault::Untied { ticket }),
+    };
+    let TiedRun {
+        events,
+        mut world,
+        next,
+    } = tied;
+    let well = ends_well(clients, &mut world, trace.history(), outcomes);
+    drop(world);
+    match well {
+        Ok(true) => Ok(events),
+        Ok(false) => {
+            drop(events);
+            Err(CheckFault::Untied { ticket: next })
+        }
+        Err(Memory) => {
+            drop(events);
+            Err(CheckFault::Memory)
+        }
+    }
+}
+
+/// Whether a run that ends in this world ends well. The world is of no use afterwards.
+fn ends_well(
+    clients: &[ScriptedClient],
+    world: &mut World,
+    history: &History,
+    outcomes: &[ClientOutcome],
+) -> Result<bool, Memory>
+    ensures { IfOk result (λ well. IsTrue well ↔ EndsWell world.old.setting clients.now world.old.world history.now.sessions outcomes.now) }
+{
+    if !is_converged(world) {
+        return Ok(false);
+    }
+    are_outcomes(world, clients, history, outcomes)
+}
