@@ -74,11 +74,27 @@ impl Foresight {
         }
     }
 
-    /// Makes room for guesses of so many keys and operations, as far as there is memory, and now and then.
-    pub(crate) fn grow(&mut self, keys: usize, ops: usize) {
+    /// Makes room for guesses of these keys and of so many operations, as far as there is memory, and now and then.
+    pub(crate) fn grow(&mut self, keys: &KeySet, ops: usize) {
         if ops % GROWN_AFTER == 0 {
-            self.keys.grow(keys.saturating_mul(8), MOST_KEYS, NO_KEY);
             self.puts.grow(ops, MOST_PUTS, NO_PUT);
+            let has_grown = self
+                .keys
+                .grow(keys.len().saturating_mul(8), MOST_KEYS, NO_KEY);
+            if has_grown {
+                self.note_keys(keys);
+            }
+        }
+    }
+
+    /// Keeps the numbers of these keys, and no others.
+    fn note_keys(&mut self, keys: &KeySet) {
+        self.keys.fill(NO_KEY);
+        for (number, key) in keys.as_slice().iter().enumerate() {
+            let Ok(number) = u32::try_from(number) else {
+                return;
+            };
+            self.note_key(&key.as_view(), number);
         }
     }
 

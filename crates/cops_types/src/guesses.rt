@@ -18,18 +18,26 @@ impl<T: Copy> Guesses<T> {
         }
     }
 
-    /// Lets the table have more places than so many, of which those that are new guess nothing. A table of so many places as it may
+    /// Lets the table have more places than so many, and says whether it has more than before. A table of so many places as it may
     /// have at most stays as it is, and so does one where memory is refused.
-    pub(crate) fn grow(&mut self, count: usize, most: usize, nothing: T) {
+    pub(crate) fn grow(&mut self, count: usize, most: usize, nothing: T) -> bool {
         let len = self.places.len();
         let more = len.max(FEWEST);
         if len > count || len >= most || self.places.reserve(more).is_err() {
-            return;
+            return false;
         }
         for i in 0..more {
             // Each guess stands in both halves, so that it is found as before.
             let guess = self.places.get(i).copied().unwrap_or(nothing);
             let _pushed = self.places.push(guess);
+        }
+        true
+    }
+
+    /// Has each place guess this.
+    pub(crate) fn fill(&mut self, guess: T) {
+        for place in self.places.as_mut_slice() {
+            *place = guess;
         }
     }
 

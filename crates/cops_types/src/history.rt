@@ -175,7 +175,7 @@ impl History {
     {
         self.entries.reserve(client)?;
         self.keys.reserve(self.reservations + 1)?;
-        self.foresight.grow(self.keys.len(), self.len);
+        self.foresight.grow(&self.keys, self.len);
         self.reserved[client as usize] = true;
         self.reservations += 1;
         Ok(())

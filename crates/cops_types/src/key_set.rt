@@ -41,6 +41,11 @@ impl KeySet {
         self.keys.len()
     }
 
+    /// The keys, in the order of their numbers.
+    pub(crate) fn as_slice(&self) -> &[Key] {
+        self.keys.as_slice()
+    }
+
     /// The key of that number.
     pub(crate) fn key(&self, number: u32) -> &Key
         requires { number < length self.now.keys }
