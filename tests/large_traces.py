@@ -60,8 +60,8 @@ def put_frames(clients, count):
     return [*frames, frame(TRACE_END, struct.pack(">I", count))]
 
 
-def read_ahead():
-    """A long trace that is read ahead of what is fed has each fault in turn, in the first piece, at its end and in the last."""
+def long_traces():
+    """A long trace has each fault in turn, in the first of its pieces, later, and where one piece ends and the next begins."""
     count = 60_000
     frames = put_frames(3, count)
     size = len(frames[1])
@@ -76,7 +76,7 @@ def read_ahead():
                 check(f"{name}, by {workers} workers", cops("audit", file.name, "--workers", workers), wanted)
 
         answered("a long trace", b"".join(frames), (0, f"accepted: {count} operations, {count} puts\n".encode(), b""), ("1", "2", "5", "64"))
-        # (a piece has 524,288 bytes, so that the 20,972nd record begins in the first and ends in the second)
+        # (a piece has 65,536 bytes, so that the 20,972nd record begins in the eighth and ends in the ninth)
         for at in (10_000, 20_972, 50_000):
             place = len(frames[0]) + (at - 1) * size
             good, rest = frames[at], b"".join(frames[at + 1 :])
@@ -100,9 +100,9 @@ def read_ahead():
         answered("no head", end[len(frames[0]) :], (2, b"faulty: no head at 0\n", b""))
 
 
-def read_ahead_of_each_kind():
-    """Records of each kind, with values of each length, are read ahead of what is fed: a get in the first piece and one in the last have their
-    sources, or one of them returned a value that differs in its last byte, and so has none."""
+def each_kind():
+    """Records of each kind, with values of each length: a get in the first piece and one in the last have their sources, or one of them returned a
+    value that differs in its last byte, and so has none."""
     def value_of(number):
         return "v" * (number * 37 % 4096) + "w"
 
@@ -124,6 +124,27 @@ def read_ahead_of_each_kind():
             file.flush()
             for workers in ("1", "2", "5"):
                 check(f"{name}, by {workers} workers", cops("audit", file.name, "--workers", workers), wanted)
+
+
+def many_suspects():
+    """Two clients get what client 1 puts as soon as it is put, and what client 0 puts a hundred rounds later, or nine thousand: none of these gets is
+    stale, since client 1 knows of nothing that client 0 does. Then it gets a put of client 0, and whoever gets what it puts next knows of that too."""
+    rounds, lags = 12_000, {2: 100, 3: 9_000}
+    lines = ["clients 4"]
+    for number in range(rounds):
+        lines += [f"0 put k{number % 50} 1 {2 * number + 1}.0", f"1 put c{number % 10} 1 {2 * number + 2}.1"]
+        for client, lag in lags.items():
+            lines.append(f"{client} got c{number % 10} 1 {2 * number + 2}.1")
+            if number >= lag:
+                lines.append(f"{client} got k{(number - lag) % 50} 1 {2 * (number - lag) + 1}.0")
+    audited("many gets that may be stale", trace(lines), f"accepted: {len(lines) - 1} operations, {2 * rounds} puts\n", 0)
+    # (the last put on k7 is that of round 11,957)
+    lines += ["1 got k7 1 23915.0", "1 put c0 1 24001.1", "3 got c0 1 24001.1", "3 got k7 1 5915.0"]
+    names = f"(0,11957) (1,{rounds}) (1,{rounds + 1}) (3,{2 * rounds - 9_000}) (3,{2 * rounds - 8_999})"
+    text = f"refused: {len(lines) - 1} operations, {2 * rounds + 1} puts, 1 faults\n"
+    text += f"stale (3,{2 * rounds - 8_999}) returned 5915.0, newer (0,11957) at 23915.0, chain {names}\n"
+    audited("a stale get among many that may be", trace(lines), text, 1)
+    check("the same by 3 workers", cops("audit", "-", "--workers", "3", stdin=trace(lines)), (1, text.encode(), b""))
 
 
 def little_memory():

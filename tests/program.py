@@ -17,7 +17,7 @@ sys.dont_write_bytecode = True
 import plain  # noqa: E402
 import plain_cluster  # noqa: E402
 from cut_traces import cut_traces  # noqa: E402
-from large_traces import generated, little_memory, long_chain, many_rounds, read_ahead, read_ahead_of_each_kind  # noqa: E402
+from large_traces import each_kind, generated, little_memory, long_chain, long_traces, many_rounds, many_suspects  # noqa: E402
 from pictures import pictures  # noqa: E402
 from redis import redis  # noqa: E402
 from traces import ROOT, audited, by_stalling_pipe, check, cops, ended, example, ran, skip, trace  # noqa: E402
@@ -747,7 +747,7 @@ def no_thread():
 for tests in (
     examples, long_chain, many_rounds, faults, cut_traces, shown, scenarios, refusals, faulty_scenarios, scripts, mixed_scripts, working_clusters,
     plain_cluster.random_worlds, many_workers, served, replies, strange_peers, sent_behind, idle_clients, listens_here_alone, words, devices,
-    on_a_terminal, generated, read_ahead, read_ahead_of_each_kind, little_memory, no_thread, imports, pictures, redis, definition_files, wrong_edits,
+    on_a_terminal, generated, long_traces, each_kind, many_suspects, little_memory, no_thread, imports, pictures, redis, definition_files, wrong_edits,
     plain.rows, plain.random_histories,
 ):
     tests()

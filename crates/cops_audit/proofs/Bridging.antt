@@ -111,7 +111,7 @@ module _ (h : Sessions) (table : List VersionedPut) (t : IsVersionTable h table)
   noted_past a {b} (sweep.more {by = by} p s) = more (noted_past a p) (noted_step by b s)
 
 -- each put has a key
-key_at : (h : Sessions) (table : List VersionedPut) → IsVersionTable h table → (place : ℕ) (put : OpName) (version : ℕ) → StandsAt table place put version → (key : List ℕ) × OnKey h table place key
+pub key_at : (h : Sessions) (table : List VersionedPut) → IsVersionTable h table → (place : ℕ) (put : OpName) (version : ℕ) → StandsAt table place put version → (key : List ℕ) × OnKey h table place key
 key_at h table t place put version at = let puts = put_there h table t.table place put version at in (puts.0, (put, version, at, (puts.1, puts.2)))
 
 pub are_places : (h : Sessions) (table : List VersionedPut) → IsVersionTable h table → (firsts : List ℕ) → AreFirsts h table firsts → ArePlaces table firsts

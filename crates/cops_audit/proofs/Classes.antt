@@ -31,7 +31,7 @@ empty_list [] e = refl
 empty_list (x ∷ xs) e = absurd (omega (arith, e))
 
 -- an operation of a suspect
-op_listed : (suspects : List Suspect) (s : Suspect) → Contains suspects s → Contains (map (λ (x : Suspect). x.op) suspects) s.op
+pub op_listed : (suspects : List Suspect) (s : Suspect) → Contains suspects s → Contains (map (λ (x : Suspect). x.op) suspects) s.op
 op_listed suspects s at = (at.0, omega (arith, at.1, length-map suspects (λ (x : Suspect). x.op)), get_or-map (λ (x : Suspect). x.op) suspects at.0 s s.op at.1 ∙ ap (λ (x : Suspect). x.op) at.2)
 
 listed_op : (suspects : List Suspect) (n : OpName) → Contains (map (λ (x : Suspect). x.op) suspects) n → (s : Suspect) × Contains suspects s × (s.op ≡ n)

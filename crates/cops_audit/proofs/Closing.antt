@@ -17,7 +17,7 @@ none_in_nothing [] n e w = omega (arith, w.1.1)
 none_in_nothing (r ∷ rs) n e w = absurd cc
 
 module _ (table : List VersionedPut) (notes : List (List Note)) (rising : AreRising table notes) where
-  own_mark : (n : OpName) (note : Note) → note_at notes n ≡ Some note → above note.seen ≤ note.mark
+  pub own_mark : (n : OpName) (note : Note) → note_at notes n ≡ Some note → above note.seen ≤ note.mark
   own_mark n note at = (rising.marks n.client n.index note at).bounds n.index note (omega arith) at
 
   same_mark : (n : OpName) (x : Note) (seen : Seen) (mark : ℕ) → note_at notes n ≡ Some x → note_at notes n ≡ Some (let y : Note = record { seen = seen; mark = mark } in y) → x.mark ≡ mark
@@ -46,7 +46,7 @@ module _ (table : List VersionedPut) (notes : List (List Note)) (rising : AreRis
   past_noted a b (step s) = step_noted a b s
   past_noted a b (more {by = by} p s) = step_noted by b s
 
-  note_past_mark : (a : OpName) {b : OpName} → NotePast table notes a b → (x y : Note) → note_at notes a ≡ Some x → note_at notes b ≡ Some y → x.mark ≤ y.mark
+  pub note_past_mark : (a : OpName) {b : OpName} → NotePast table notes a b → (x y : Note) → note_at notes a ≡ Some x → note_at notes b ≡ Some y → x.mark ≤ y.mark
   note_past_mark a {b} (step s) x y at_a at_b = note_step_mark a b x y s at_a at_b
   note_past_mark a {b} (more {by = by} p s) x y at_a at_b =
       let there = past_noted a by p in

@@ -100,12 +100,12 @@ note_there h table notes noted name named =
     slice_get_there (slice_index_or notes name.client []) name.index (omega (arith, session.whole, named_index h name named))
 
 -- a list with one element written
-set_here : {A B : Type 0} (f : A → B) (d : B) (xs : List A) (k : ℕ) (x : A) → k < length xs → get_or (map f (slice_set xs k x)) k d ≡ f x
+pub set_here : {A B : Type 0} (f : A → B) (d : B) (xs : List A) (k : ℕ) (x : A) → k < length xs → get_or (map f (slice_set xs k x)) k d ≡ f x
 set_here f d [] k x inside = absurd (omega (arith, inside))
 set_here f d (y ∷ ys) zero x inside = refl
 set_here f d (y ∷ ys) (suc k) x inside = set_here f d ys k x (omega (arith, inside))
 
-set_other : {A B : Type 0} (f : A → B) (d : B) (xs : List A) (k c : ℕ) (x : A) → c ≢ k → get_or (map f (slice_set xs k x)) c d ≡ get_or (map f xs) c d
+pub set_other : {A B : Type 0} (f : A → B) (d : B) (xs : List A) (k c : ℕ) (x : A) → c ≢ k → get_or (map f (slice_set xs k x)) c d ≡ get_or (map f xs) c d
 set_other f d [] k c x differs = refl
 set_other f d (y ∷ ys) zero zero x differs = absurd (differs refl)
 set_other f d (y ∷ ys) zero (suc c) x differs = refl

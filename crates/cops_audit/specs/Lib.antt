@@ -1,3 +1,4 @@
+pub mod Clocks
 pub mod Keys
 pub mod Links
 pub mod Names

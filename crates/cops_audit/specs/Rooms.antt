@@ -7,7 +7,7 @@ use Rattle.cops_types.specs.Recorded.{IsWithinLimits}
 use Rattle.cops_audit.specs.declared.notes.Note.{Note}
 use Rattle.cops_audit.specs.declared.room.Room.{Room}
 use Rattle.cops_audit.specs.Floors.{AreFloors}
-use Rattle.cops_audit.specs.Keys.{AreFirsts}
+use Rattle.cops_audit.specs.Keys.{AreFirsts, AreNexts}
 use Rattle.cops_audit.specs.Notes.{Flat, IsNoted}
 use Rattle.cops_audit.specs.Sweeps.{HasRoom, IsIdle}
 use Rattle.cops_audit.specs.Tables.{IsVersionTable}
@@ -61,6 +61,7 @@ pub record IsNotedIn (h : Sessions) (room : Room) (sessions : List (List Note)) 
 -- the gets that may be stale are found, with what tells whether they are, and the sweep begins anew
 pub record IsSuspected (h : Sessions) (room : Room) (notes : List (List Note)) : Type 0 where
   pub suspects : AreAllSuspects h room.table.items room.suspects.items
+  pub nexts : AreNexts h room.table.items room.nexts.items
   pub firsts : AreFirsts h room.table.items room.firsts.items
   pub floors : AreFloors room.suspects.items room.floors.items
   pub idle : IsIdle (length h) (length room.table.items) room.sweep

@@ -5,10 +5,13 @@ ghost use Rattle.cops_types.specs.Recorded.{IsWithinLimits};
 ghost use Rattle.cops_types.specs.Verdicts.{AllAbove, AllHaveSources};
 ghost use Rattle.cops_types.specs.Faults.{IsStale, Lists};
 ghost use Rattle.cops_audit.specs.Notes.{IsNoted};
-ghost use Rattle.cops_audit.specs.Rooms.{IsNotedIn, IsReady};
+ghost use Rattle.cops_audit.specs.Rooms.{IsNotedIn, IsReady, IsSuspected};
+ghost use Rattle.cops_audit.specs.SoFar.{HaveSourcesOrWait};
 ghost use Rattle.cops_audit.specs.Tables.{IsVersionTable};
 ghost use Rattle.cops_audit.specs.Verdicts.{IsVerdict};
 
+use crate::cleared::clear;
+use crate::floors::set_floors;
 use crate::names::{all_names, set_names};
 use crate::notes::{Notes, SessionNotes, without_source};
 use crate::rising::not_above;
@@ -20,6 +23,36 @@ use cops_types::{History, OpName};
 use std::alloc::{AllocError, Global};
 
 impl Room {
+    /// Takes those away from the suspects that are told to have no newer put in their past.
+    fn clear_suspects(
+        &mut self,
+        alloc: Global,
+        history: &History,
+        notes: &Notes,
+    ) -> Result<(), AllocError>
+        requires suspected { IsSuspected history.now.sessions self.old notes.now }
+        requires noted { IsNotedIn history.now.sessions self.old notes.now }
+        requires sources { HaveSourcesOrWait history.now.sessions }
+        requires above { AllAbove history.now.sessions }
+        ensures suspected { OnOk result (IsSuspected history.now.sessions self.new notes.now) }
+        ensures table { OnOk result (self.new.table ≡ self.old.table) }
+    {
+        let table = self.table.as_slice();
+        let nexts = self.nexts.as_slice();
+        let firsts = self.firsts.as_slice();
+        clear(
+            &mut self.suspects,
+            alloc,
+            history,
+            table,
+            notes,
+            nexts,
+            firsts,
+        )?;
+        set_floors(&mut self.floors, self.suspects.as_slice())?;
+        Ok(())
+    }
+
     /// The stale gets of a history where each get has its source, and each put is above what its session saw, each with the newest
     /// put on its key in its past.
     fn stale(
@@ -35,6 +68,7 @@ impl Room {
         ensures table { OnOk result (self.new.table ≡ self.old.table) }
     {
         self.suspect(history, notes)?;
+        self.clear_suspects(alloc, history, notes)?;
         // The links are let go before the sweep takes memory.
         self.nexts = Vec::new(alloc);
         self.by_key = Vec::new(alloc);

@@ -9,6 +9,8 @@
 
 mod assessing;
 mod beside;
+mod cleared;
+mod clocks;
 mod concluding;
 mod did;
 mod fault;

@@ -297,6 +297,7 @@ impl<'a> Notes<'a> {
     ghost use Rattle.cops_audit.specs.Notes.{note_at};
 
     /// The notes on a client's operations, in their order.
+    #[inline(always)]
     pub fn session(&self, client: u16) -> &[Note]
         ensures { result.now ≡ slice_index_or self.now client [] }
     {
@@ -311,6 +312,7 @@ impl<'a> Notes<'a> {
     }
 
     /// The note on an operation.
+    #[inline(always)]
     pub fn get(&self, name: OpName) -> Option<Note>
         ensures { result ≡ note_at self.now name }
     {

@@ -1,19 +1,20 @@
-ghost use Rattle.std.specs.Prelude.{◌<◌, ℕ, IfOk, IsOk, IsTrue, OnOk, length, map, AllPairs, slice_index_or};
+ghost use Rattle.std.specs.Prelude.{◌<◌, ℕ, List, IfOk, IsOk, IsTrue, OnOk, length, map, AllPairs, slice_index_or};
 ghost use Rattle.cops_types.specs.declared.op.OpName.{OpName};
 ghost use Rattle.cops_types.specs.Faults.{IsBefore, IsNewer, IsStale};
 ghost use Rattle.cops_types.specs.Recorded.{IsWithinLimits};
 ghost use Rattle.cops_types.specs.Verdicts.{AllAbove};
 ghost use Rattle.cops_audit.specs.SoFar.{HaveSourcesOrWait};
 ghost use Rattle.cops_audit.specs.declared.window.Suspect.{Suspect};
-ghost use Rattle.cops_audit.specs.Keys.{AreFirsts};
+ghost use Rattle.cops_audit.specs.Keys.{AreFirsts, AreNexts};
 ghost use Rattle.cops_audit.specs.Links.{AreLinks};
 ghost use Rattle.cops_audit.specs.Names.{ListsAmong};
 ghost use Rattle.cops_audit.specs.Notes.{IsNoted};
 ghost use Rattle.cops_audit.specs.Sweeps.{HasRoom, IsIdle};
 ghost use Rattle.cops_audit.specs.Tables.{IsVersionTable};
 ghost use Rattle.cops_audit.specs.Floors.{AreFloors};
-ghost use Rattle.cops_audit.specs.Windows.{IsSuspect};
+ghost use Rattle.cops_audit.specs.Windows.{AreSuspects, IsSuspect};
 
+use crate::cleared::clear;
 use crate::floors::{judge_next, set_floors};
 use crate::keys::passed_firsts;
 use crate::links::Links;
@@ -64,36 +65,35 @@ pub fn stale_suspects(
     Ok(faults)
 }
 
-/// The same, by a sweep of its own.
+/// The same, by a sweep of its own, of which those are told first that have no newer put in their past.
 fn judge_suspects(
     alloc: Global,
     history: &History,
     table: &[VersionedPut],
     notes: &Notes,
+    nexts: &[Option<u32>],
     firsts: &[u32],
-    suspects: &[Suspect],
+    suspects: Vec<Suspect>,
 ) -> Result<Vec<Stale>, AllocError>
     requires table { IsVersionTable history.now.sessions table.now }
     requires notes { IsNoted history.now.sessions table.now notes.now }
     requires sources { HaveSourcesOrWait history.now.sessions }
     requires above { AllAbove history.now.sessions }
+    requires nexts { AreNexts history.now.sessions table.now nexts.now }
     requires firsts { AreFirsts history.now.sessions table.now firsts.now }
-    requires suspects { (k : ℕ) (d : Suspect) → k < length suspects.now → IsSuspect history.now.sessions table.now (slice_index_or suspects.now k d) }
-    requires in_order { AllPairs (λ s t. IsBefore s.op t.op) suspects.now }
-    ensures { IfOk result (λ v. ListsAmong (λ f. f.op) (λ f. IsStale history.now.sessions f.op f.newer) (map (λ s. s.op) suspects.now) v.items) }
+    requires suspects { (names : List OpName) × AreSuspects history.now.sessions table.now names suspects.items }
+    ensures { (names : List OpName) → AreSuspects history.now.sessions table.now names suspects.items
+        → IfOk result (λ v. ListsAmong (λ f. f.op) (λ f. IsStale history.now.sessions f.op f.newer) names v.items) }
 {
+    let mut left = suspects;
+    clear(&mut left, alloc, history, table, notes, nexts, firsts)?;
+    let suspects = left.as_slice();
     let mut floors = Vec::new(alloc);
     set_floors(&mut floors, suspects)?;
     let mut sweep = Sweep::new(alloc, history.clients(), table.len())?;
+    let floors = floors.as_slice();
     let faults = stale_suspects(
-        alloc,
-        &mut sweep,
-        history,
-        table,
-        notes,
-        firsts,
-        suspects,
-        floors.as_slice(),
+        alloc, &mut sweep, history, table, notes, firsts, suspects, floors,
     )?;
     Ok(faults)
 }
@@ -119,17 +119,23 @@ pub fn stale_among(
     let by_key = links.by_key.as_slice();
     let mut found = Vec::new(alloc);
     push_suspects(&mut found, history, table, notes, nexts, by_key, names)?;
-    let suspects = found.as_slice();
-    if suspects.is_empty() {
+    if found.as_slice().is_empty() {
         return Ok(Vec::new(alloc));
     }
     if let Some(places) = &links.firsts {
-        let faults = judge_suspects(alloc, history, table, notes, places.as_slice(), suspects)?;
-        return Ok(faults);
+        let places = places.as_slice();
+        return judge_suspects(alloc, history, table, notes, nexts, places, found);
     }
     let places = passed_firsts(alloc, table, nexts)?;
-    let faults = judge_suspects(alloc, history, table, notes, places.as_slice(), suspects)?;
-    Ok(faults)
+    judge_suspects(
+        alloc,
+        history,
+        table,
+        notes,
+        nexts,
+        places.as_slice(),
+        found,
+    )
 }
 
 /// Whether a suspect is stale, by a sweep that has looked at nothing or that is through with what it looked at. It takes no

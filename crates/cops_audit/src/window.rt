@@ -111,6 +111,7 @@ fn waiting_suspect(
 }
 
 /// The suspect that an operation is, if it is one: else no put in its past is newer than what it returned.
+#[inline(always)]
 fn find_suspect(
     history: &History,
     table: &[VersionedPut],

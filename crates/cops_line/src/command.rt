@@ -2,7 +2,7 @@
 ghost use Rattle.std.specs.Prelude.{◌≡◌, IfOk, codes, false};
 ghost use Rattle.clap.specs.Words.{app_of, new_app, rule_of, with_rule, with_subcommand};
 ghost use Rattle.clap.specs.declared.builder.command.Command.TheViews.{out-Command as fields_of};
-ghost use Rattle.cops_line.specs.Commands.{audit_app, cops_app, cops_top, explain_app, import_app, judging_app, positional, run_app, serve_app, show_app, tracing_app, versioned};
+ghost use Rattle.cops_line.specs.Commands.{audit_app, cops_app, cops_top, explain_app, import_app, judging_app, port_argument, positional, run_app, serve_app, show_app, tracing_app, versioned};
 
 use crate::arguments::{
     all_arg, fault_arg, file_arg, idle_arg, picture_arg, port_arg, sessions_arg, so_far_arg,
@@ -117,18 +117,21 @@ fn run_command<'a>(alloc: Global) -> Result<Command<'a>, AllocError>
     to_trace(alloc, "run", RUN_ABOUT, RUN_LONG_ABOUT, scenario)
 }
 
+/// The subcommand that serves, without its options.
+fn port_command<'a>(alloc: Global) -> Result<Command<'a>, AllocError>
+    ensures app { IfOk result (λ c. app_of c ≡ with_rule (with_rule (new_app (codes "serve")) port_argument) (positional (codes "scenario"))) }
+    ensures local { IfOk result (λ c. (fields_of c).has_globals ≡ false) }
+{
+    let port = port_arg(alloc);
+    let command = of_argument(alloc, "serve", SERVE_ABOUT, SERVE_LONG_ABOUT, port)?;
+    command.arg(file_arg(alloc, "scenario", "SCENARIO", SCENARIO_HELP))
+}
+
 fn serve_command<'a>(alloc: Global) -> Result<Command<'a>, AllocError>
     ensures app { IfOk result (λ c. app_of c ≡ serve_app) }
     ensures local { IfOk result (λ c. (fields_of c).has_globals ≡ false) }
 {
-    let command = of_argument(
-        alloc,
-        "serve",
-        SERVE_ABOUT,
-        SERVE_LONG_ABOUT,
-        port_arg(alloc),
-    )?;
-    let command = command.arg(file_arg(alloc, "scenario", "SCENARIO", SCENARIO_HELP))?;
+    let command = port_command(alloc)?;
     command.arg(sessions_arg(alloc))?.arg(idle_arg(alloc))
 }
 

@@ -18,7 +18,7 @@ use crate::fed::Fed;
 use cops_audit::Verdict;
 use cops_batch::{BatchFault, judge_with};
 use cops_report::report;
-use cops_trace::{Taken, TraceFault, fault_line, read_ahead_into, read_into};
+use cops_trace::{Taken, TraceFault, fault_line, read_into};
 use cops_types::{Counted, Gate, History, MAX_WORKERS, Memory, write_text};
 use std::alloc::Global;
 use std::io::{Read, Write};
@@ -162,24 +162,6 @@ fn told<T: Threads + Wait + Sync, G: Gate>(
     }
 }
 
-/// An auditor that was fed what a reader gives as it came. For several workers a thread reads ahead of what is fed.
-fn fed<T: Threads, R: Read>(
-    rt: &T,
-    alloc: Global,
-    reader: &mut Counted<R>,
-    workers: u8,
-) -> Result<Taken<Fed>, TraceFault>
-    ensures says { IfSome (R.remaining (inner reader.old)) (λ bytes. AgreesInto WasFed bytes result) }
-    ensures failed { IsErrOf result TraceFault.ReadFailed → Failed (failures reader.old) (failures reader.new) }
-    ensures heard { IsErrOf result TraceFault.ReadFailed ⊎ (failures reader.new ≡ failures reader.old) }
-{
-    if workers == 1 {
-        read_into(alloc, reader)
-    } else {
-        read_ahead_into(rt, alloc, reader)
-    }
-}
-
 /// The answer for what a reader gives, with its text, by so many workers.
 fn read_and_told<T: Threads + Wait + Sync, R: Read, G: Gate>(
     rt: &T,
@@ -195,7 +177,7 @@ fn read_and_told<T: Threads + Wait + Sync, R: Read, G: Gate>(
     ensures read_heard { IsErrOf result StreamFault.ReadFailed ⊎ (failures reader.new ≡ failures reader.old) }
     ensures no_write { ¬ IsErrOf result StreamFault.WriteFailed }
 {
-    told(rt, alloc, fed(rt, alloc, reader, workers), workers, gate)
+    told(rt, alloc, read_into(alloc, reader), workers, gate)
 }
 
 /// Reads a trace to its end or its first fault, judges it by `workers` workers, 1 to 64, and writes the report or the

@@ -9,5 +9,3 @@ pub mod Readings
 pub mod Feeding
 pub mod Underway
 pub mod Begun
-pub mod Waiting
-pub mod Marking

@@ -9,5 +9,3 @@ pub mod Answer
 pub mod Kept
 pub mod Parsing
 pub mod Lines
-pub mod Ahead
-pub mod Queue

@@ -3,7 +3,6 @@
 //! offset, and the sessions that it records.
 #![tactic(auto)]
 
-mod ahead;
 mod counts;
 mod fault;
 mod finding;
@@ -11,8 +10,6 @@ mod found;
 mod lines;
 mod live;
 mod parser;
-mod pieces;
-mod queue;
 mod reader;
 mod reading;
 mod record;
@@ -26,7 +23,7 @@ pub use found::{Found, Item};
 pub use lines::fault_line;
 pub use live::{LiveTrace, Unfinished};
 pub use reader::TraceReader;
-pub use reading::{read_ahead_into, read_into, read_so_far, read_trace};
+pub use reading::{read_into, read_so_far, read_trace};
 pub use record::Record;
 pub use sink::{Sink, Taken};
 pub use trace::{Partial, Trace};

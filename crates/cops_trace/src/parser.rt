@@ -2,12 +2,10 @@
 ghost use Rattle.std.specs.Prelude.{◌≡◌, Option, OnOk};
 ghost use Rattle.cops_trace.specs.Parsing.{IsTakenAs, ItemHasRoom, with_item};
 ghost use Rattle.cops_trace.specs.Text.{ATrace};
-ghost use Rattle.cops_trace.specs.Queue.{seen_item};
-ghost use Rattle.cops_trace.specs.declared.found.Item.{Item};
 ghost use Rattle.cops_types.specs.OpViews.{viewed};
 
 use crate::fault::TraceFault;
-use crate::queue::ItemView;
+use crate::found::Item;
 use crate::reader::TraceReader;
 use crate::sink::{Sink, Taken};
 use cops_types::{Memory, OpView};
@@ -15,13 +13,13 @@ use cops_wire::record_at;
 use std::alloc::Global;
 
 /// So many records a sink is told of before it takes them.
-pub(crate) const TOGETHER: usize = 64;
+const TOGETHER: usize = 64;
 
 /// What was read of a text: what took the head and the records so far, and the bytes that no item was taken from.
 #[derive(Drop)]
 pub(crate) struct Parser<S: Drop> {
-    pub(crate) alloc: Global,
-    pub(crate) reader: TraceReader,
+    alloc: Global,
+    reader: TraceReader,
     pub(crate) begun: Option<S>,
 }
 
@@ -69,7 +67,7 @@ impl<S: Sink> Parser<S> {
         let Some(item) = self.reader.next()? else {
             return Ok(false);
         };
-        match take(self.alloc, &mut self.begun, &item.as_view()) {
+        match take(self.alloc, &mut self.begun, item) {
             Ok(()) => Ok(true),
             Err(Memory) => Err(TraceFault::Memory),
         }
@@ -144,20 +142,16 @@ impl<S: Sink> Parser<S> {
     }
 }
 
-/// Gives an item to the sink that was begun.
+/// Gives an item to the sink that was begun. It is compiled into what calls it, since each call would move the item once more.
 #[inline(always)]
-pub(crate) fn take<S: Sink>(
-    alloc: Global,
-    begun: &mut Option<S>,
-    item: &ItemView<'_>,
-) -> Result<(), Memory>
-    requires { (t : Option ATrace) × IsTakenAs S.took begun.old t × ItemHasRoom (seen_item item.now) t }
-    ensures { (t : Option ATrace) → IsTakenAs S.took begun.old t → OnOk result (IsTakenAs S.took begun.new (with_item (seen_item item.now) t)) }
+fn take<S: Sink>(alloc: Global, begun: &mut Option<S>, item: Item) -> Result<(), Memory>
+    requires { (t : Option ATrace) × IsTakenAs S.took begun.old t × ItemHasRoom item t }
+    ensures { (t : Option ATrace) → IsTakenAs S.took begun.old t → OnOk result (IsTakenAs S.took begun.new (with_item item t)) }
 {
     match item {
-        ItemView::Head { clients } => begin(alloc, begun, *clients),
-        ItemView::Op { client, op } => push(begun, *client, op),
-        ItemView::End => Ok(()),
+        Item::Head { clients } => begin(alloc, begun, clients),
+        Item::Op { client, op } => push(begun, client, &op.as_view()),
+        Item::End => Ok(()),
     }
 }
 

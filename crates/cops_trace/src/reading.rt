@@ -1,5 +1,5 @@
 //! A trace from a reader.
-ghost use Rattle.std.specs.Prelude.{◌≡◌, ◌≢◌, ◌⊎◌, ℕ, ◌<◌, List, length, Result, Ok, IfOk, IfErr, IfSome, IsErrOf};
+ghost use Rattle.std.specs.Prelude.{◌≡◌, ◌≢◌, ◌⊎◌, ℕ, ◌<◌, List, Result, Ok, IfOk, IfErr, IfSome, IsErrOf};
 ghost use Rattle.cops_types.specs.Failures.{Failed};
 ghost use Rattle.cops_types.specs.Counted.{failures, inner};
 ghost use Rattle.cops_trace.specs.declared.fault.TraceFault.{TraceFault as AFault};
@@ -8,53 +8,45 @@ ghost use Rattle.cops_trace.specs.Text.{ATrace};
 ghost use Rattle.cops_trace.specs.Answer.{Says, Agrees, AgreesInto, AgreesSoFar, Gives, HasFault};
 ghost use Rattle.cops_trace.specs.Parsing.{SettledInto};
 
-use crate::ahead::Underway;
 use crate::fault::TraceFault;
 use crate::parser::Parser;
-use crate::pieces::{Ahead, Alone, TakesPieces};
 use crate::sink::{Sink, Taken};
 use crate::trace::{Partial, Trace};
 use cops_types::{Counted, Memory};
 use std::alloc::Global;
 use std::io::Read;
-use std::thread::Threads;
+
+/// How many bytes are asked for in one read.
+const PIECE: usize = 65_536;
 
 /// The most reads. A text has a fault or an end before so many bytes.
 const READS: u64 = 1 << 40;
 
-/// Reads to the end of the input, or to the first fault, by pieces as long as the room for one. A failed read is not tried again.
-fn read_items<S: Sink, R: Read, P: TakesPieces>(
+/// Reads to the end of the input, or to the first fault. A failed read is not tried again.
+fn read_items<S: Sink, R: Read>(
     alloc: Global,
     reader: &mut Counted<R>,
-    pieces: &P,
-    piece: &mut [u8],
 ) -> Result<Parser<S>, TraceFault>
-    requires { 0 < length piece.old }
     ensures ok { IfOk result (λ parser. IfSome (R.remaining (inner reader.old)) (λ bytes. SettledInto S.took bytes parser.begun parser.reader)) }
     ensures err { IfErr result (λ e. (e ≡ TraceFault.Memory) ⊎ (e ≡ TraceFault.ReadFailed) ⊎ IfSome (R.remaining (inner reader.old)) (λ bytes. HasFault bytes e)) }
     ensures no_cut { IfErr result (λ e. (offset : ℕ) → e ≢ TraceFault.Cut offset) }
     ensures failed { IsErrOf result TraceFault.ReadFailed → Failed (failures reader.old) (failures reader.new) }
     ensures heard { IsErrOf result TraceFault.ReadFailed ⊎ (failures reader.new ≡ failures reader.old) }
 {
-    let mut underway = Underway::new(alloc);
+    let mut parser = Parser::new(alloc);
+    let mut piece = [0u8; PIECE];
     for _ in 0..READS {
-        let count = match reader.read(piece) {
+        let count = match reader.read(&mut piece) {
             Ok(count) => count,
             Err(_) => return Err(TraceFault::ReadFailed),
         };
         if count == 0 {
-            return match underway.settled() {
-                Ok(parser) => Ok(parser),
-                Err(fault) => Err(fault),
-            };
+            return Ok(parser);
         }
-        underway = match pieces.take_piece(underway, &piece[..count]) {
-            Ok(underway) => underway,
-            Err(fault) => return Err(fault),
-        };
+        parser.take_piece(&piece[..count])?;
     }
     Err(TraceFault::TooLong {
-        offset: underway.parser.at(),
+        offset: parser.at(),
     })
 }
 
@@ -69,37 +61,7 @@ pub fn read_into<S: Sink, R: Read>(
     ensures failed { IsErrOf result TraceFault.ReadFailed → Failed (failures reader.old) (failures reader.new) }
     ensures heard { IsErrOf result TraceFault.ReadFailed ⊎ (failures reader.new ≡ failures reader.old) }
 {
-    read_by(alloc, reader, &Alone)
-}
-
-/// The same, where the text is read in a thread of its own, ahead of what takes its records, as far as it comes in pieces that are
-/// worth one. A thread is made for each such piece; where none can be made the piece is read after what was read before is taken.
-pub fn read_ahead_into<S: Sink, R: Read, T: Threads>(
-    rt: &T,
-    alloc: Global,
-    reader: &mut Counted<R>,
-) -> Result<Taken<S>, TraceFault>
-    ensures says { IfSome (R.remaining (inner reader.old)) (λ bytes. AgreesInto S.took bytes result) }
-    ensures failed { IsErrOf result TraceFault.ReadFailed → Failed (failures reader.old) (failures reader.new) }
-    ensures heard { IsErrOf result TraceFault.ReadFailed ⊎ (failures reader.new ≡ failures reader.old) }
-{
-    read_by(alloc, reader, &Ahead { rt })
-}
-
-/// The same, by who takes the pieces.
-fn read_by<S: Sink, R: Read, P: TakesPieces>(
-    alloc: Global,
-    reader: &mut Counted<R>,
-    pieces: &P,
-) -> Result<Taken<S>, TraceFault>
-    ensures says { IfSome (R.remaining (inner reader.old)) (λ bytes. AgreesInto S.took bytes result) }
-    ensures failed { IsErrOf result TraceFault.ReadFailed → Failed (failures reader.old) (failures reader.new) }
-    ensures heard { IsErrOf result TraceFault.ReadFailed ⊎ (failures reader.new ≡ failures reader.old) }
-{
-    let Ok(mut piece) = vec![in alloc; 0u8; pieces.piece_len()] else {
-        return Err(TraceFault::Memory);
-    };
-    let parser = read_items::<S, R, P>(alloc, reader, pieces, &mut piece)?;
+    let parser = read_items::<S, R>(alloc, reader)?;
     match parser.closed() {
         Ok(taken) => Ok(taken),
         Err(Memory) => Err(TraceFault::Memory),

@@ -1,12 +1,11 @@
-use Rattle.std.proofs.Common.{ℕ, length, ap, ◌∙◌, arith}
-use Rattle.std.proofs.lemmas.List.{length-replicate}
+use Rattle.cops_audit.proofs.Classes.{each_suspect, of_suspects, seen_suspects}
 use Rattle.cops_audit.proofs.stale.judge_suspects.Goals as goal
 
-pub stale_suspects-requires-clause-idle : goal.stale_suspects-requires-clause-idle
-stale_suspects-requires-clause-idle c =
-    let fresh = c.in_ok-sweep.ensures in
-    record {
-      empty = fresh.pending;
-      clients = ap length fresh.counts ∙ length-replicate {A = ℕ} c.clients.result 0 ∙ c.clients.ensures.count;
-      places = omega (arith, ap length fresh.newest, length-replicate {A = ℕ} (length c.args.table.now) 0);
-    }
+pub stale_suspects-requires-clause-suspects : goal.stale_suspects-requires-clause-suspects
+stale_suspects-requires-clause-suspects c = each_suspect (seen_suspects c.as_slice-suspects.ensures.value (c.in_ok-clear.ensures c.requires.suspects.0 c.requires.suspects.1))
+
+pub stale_suspects-requires-clause-in_order : goal.stale_suspects-requires-clause-in_order
+stale_suspects-requires-clause-in_order c = (seen_suspects c.as_slice-suspects.ensures.value (c.in_ok-clear.ensures c.requires.suspects.0 c.requires.suspects.1)).in_order
+
+pub returns : goal.returns
+returns c = λ names are. of_suspects (seen_suspects c.as_slice-suspects.ensures.value (c.in_ok-clear.ensures names are)) c.in_ok-faults.ensures

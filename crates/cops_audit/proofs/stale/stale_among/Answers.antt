@@ -1,17 +1,14 @@
-use Rattle.std.proofs.Common.{sym, subst, ◌∙◌}
+use Rattle.std.proofs.Common.{◌∙◌, sym, subst}
 use Rattle.std.proofs.lemmas.Bool.{eqb-true}
 use Rattle.cops_audit.specs.Keys.{AreFirsts, AreNexts}
-use Rattle.cops_audit.proofs.Classes.{each_suspect, no_stale, of_suspects, seen_suspects}
+use Rattle.cops_audit.proofs.Classes.{no_stale, seen_suspects}
 use Rattle.cops_audit.proofs.stale.stale_among.Goals as goal
 
 pub returns-then-is_empty : goal.returns-then-is_empty
-returns-then-is_empty c = no_stale (seen_suspects c.as_slice-suspects.ensures.value c.in_ok-push_suspects.ensures.suspects) (eqb-true _ 0 (sym c.is_empty.ensures ∙ c.if-is_empty.true)) c.new.ensures.items
-
-pub judge_suspects-requires-clause-suspects : goal.judge_suspects-requires-clause-suspects
-judge_suspects-requires-clause-suspects c = each_suspect (seen_suspects c.as_slice-suspects.ensures.value c.in_ok-push_suspects.ensures.suspects)
+returns-then-is_empty c = no_stale (seen_suspects c.as_slice.ensures.value c.in_ok-push_suspects.ensures.suspects) (eqb-true _ 0 (sym c.is_empty.ensures ∙ c.if-is_empty.true)) c.new.ensures.items
 
 pub returns-in-Some : goal.returns-in-Some
-returns-in-Some c = of_suspects (seen_suspects c.as_slice-suspects.ensures.value c.in_ok-push_suspects.ensures.suspects) c.in_ok-faults.ensures
+returns-in-Some c = c.judge_suspects.ensures c.args.names.now c.in_ok-push_suspects.ensures.suspects
 
 pub judge_suspects-requires-2-clause-firsts : goal.judge_suspects-requires-2-clause-firsts
 judge_suspects-requires-2-clause-firsts c =
@@ -20,8 +17,5 @@ judge_suspects-requires-2-clause-firsts c =
     subst (AreFirsts h table) (sym c.as_slice-2.ensures.value)
     (c.in_ok-places.ensures h c.requires.table (subst (AreNexts h table) (sym c.as_slice-nexts.ensures.value) c.requires.links.nexts))
 
-pub judge_suspects-requires-2-clause-suspects : goal.judge_suspects-requires-2-clause-suspects
-judge_suspects-requires-2-clause-suspects c = each_suspect (seen_suspects c.as_slice-suspects.ensures.value c.in_ok-push_suspects.ensures.suspects)
-
 pub returns : goal.returns
-returns c = of_suspects (seen_suspects c.as_slice-suspects.ensures.value c.in_ok-push_suspects.ensures.suspects) c.in_ok-faults-2.ensures
+returns c = c.judge_suspects-2.ensures c.args.names.now c.in_ok-push_suspects.ensures.suspects

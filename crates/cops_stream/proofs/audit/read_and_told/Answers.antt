@@ -5,4 +5,4 @@ use Rattle.cops_stream.proofs.Told.{told_of_bytes}
 use Rattle.cops_stream.proofs.audit.read_and_told.Goals as goal
 
 pub returns-clause-says : goal.returns-clause-says
-returns-clause-says g c = told_of_bytes (λ bytes. AgreesInto WasFed bytes c.fed.result) (λ bytes told. AuditSays bytes told.0 told.1.items) _ c.told.result c.fed.ensures.says c.told.ensures.says
+returns-clause-says g c = told_of_bytes (λ bytes. AgreesInto WasFed bytes c.read_into.result) (λ bytes told. AuditSays bytes told.0 told.1.items) _ c.told.result c.read_into.ensures.says c.told.ensures.says

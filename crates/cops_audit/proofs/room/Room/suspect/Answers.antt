@@ -44,6 +44,7 @@ returns-clause-suspected c =
     let nexts = subst (AreNexts h c.as_slice-table.result.now) (sym c.as_slice-nexts.ensures.value) c.in_ok-link.ensures.nexts in
     record {
       suspects = subst (λ (t : List VersionedPut). AreAllSuspects h t c.set_suspects.new.suspects.items) seen c.in_ok-set_suspects.ensures.suspects;
+      nexts = subst (λ (t : List VersionedPut). AreNexts h t c.link.new.nexts.items) seen c.in_ok-link.ensures.nexts;
       firsts = subst (λ (t : List VersionedPut). AreFirsts h t c.set_firsts.new.places.items) seen (c.in_ok-set_firsts.ensures.firsts h table nexts);
       floors = subst (λ (s : List Suspect). AreFloors s c.set_floors.new.floors.items) c.as_slice.ensures.value c.in_ok-set_floors.ensures.floors;
       idle = fresh_idle h c.args.self.now ready c.restart.new.self fresh c.restart.ensures.pending (length c.args.self.now.table.items) c.requires.noted.few;

@@ -21,11 +21,11 @@ pub take-requires : goal.take-requires
 take-requires g c =
     let u = c.requires in
     let given = subst (λ (o : Option Item). GivesNext c.args.self.now.reader (Ok o) c.next.new.self) c.in-Some.is c.in_ok-item.ensures.next in
-    rw c.as_view.ensures (u.trace, u.taken, step_room u.trace c.args.self.now.reader c.next.new.self c.in-Some.item u.counts given)
+    (u.trace, u.taken, step_room u.trace c.args.self.now.reader c.next.new.self c.in-Some.item u.counts given)
 
 pub returns-in-Ok : goal.returns-in-Ok
 returns-in-Ok g c = λ t taken counts.
     let given = subst (λ (o : Option Item). GivesNext c.args.self.now.reader (Ok o) c.next.new.self) c.in-Some.is c.in_ok-item.ensures.next in (
-      record { trace = with_item c.in-Some.item t; taken = rw c.as_view.ensures at (c.in-Ok.ensures t taken); counts = step_begun t c.args.self.now.reader c.next.new.self c.in-Some.item counts given },
+      record { trace = with_item c.in-Some.item t; taken = c.in-Ok.ensures t taken; counts = step_begun t c.args.self.now.reader c.next.new.self c.in-Some.item counts given },
       step_took t c.args.self.now.reader c.next.new.self c.in-Some.item counts given,
     )

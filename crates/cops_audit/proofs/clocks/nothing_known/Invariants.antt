@@ -1,0 +1,8 @@
+use Rattle.std.proofs.Common.{◌≡◌, List, length}
+use Rattle.cops_audit.specs.declared.notes.Note.{Note}
+use Rattle.cops_audit.specs.declared.table.VersionedPut.{VersionedPut}
+use Rattle.cops_audit.specs.Clocks.{AreKnown}
+use Rattle.cops_audit.proofs.clocks.nothing_known.Given as goal
+
+abbrev pub invariant-loop : goal.invariant-loop
+invariant-loop l = (table : List VersionedPut) (notes : List (List Note)) → length notes ≡ l.clients → AreKnown table notes l.all.items

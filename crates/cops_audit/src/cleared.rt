@@ -1,0 +1,313 @@
+ghost use Rattle.std.specs.Prelude.{◌≡◌, ◌<◌, ◌≤◌, ◌+◌, ◌↔◌, ℕ, List, [], false, IfOk, IsTrue, OnOk, Some, length, map, replicate, slice_index, slice_index_or, vec_len, AllPairs};
+ghost use Rattle.cops_types.specs.declared.op.OpName.{OpName};
+ghost use Rattle.cops_types.specs.Histories.{Sessions};
+ghost use Rattle.cops_types.specs.Faults.{IsBefore};
+ghost use Rattle.cops_types.specs.Verdicts.{AllAbove};
+ghost use Rattle.cops_audit.specs.Clocks.{ArePassed, IsClearing, IsLeft, NoneCounted};
+ghost use Rattle.cops_audit.specs.Keys.{AreFirsts, AreNexts};
+ghost use Rattle.cops_audit.specs.Names.{ListsAmong};
+ghost use Rattle.cops_audit.specs.Notes.{IsNoted, note_at};
+ghost use Rattle.cops_audit.specs.SoFar.{HaveSourcesOrWait};
+ghost use Rattle.cops_audit.specs.Sweeps.{AreRising, Counted};
+ghost use Rattle.cops_audit.specs.Tables.{IsVersionTable};
+ghost use Rattle.cops_audit.specs.Windows.{AreSuspects};
+ghost use Rattle.cops_audit.specs.declared.notes.Note.{Note as ANote};
+ghost use Rattle.cops_audit.specs.declared.table.VersionedPut.{VersionedPut as APut};
+ghost use Rattle.cops_audit.specs.declared.window.Suspect.{Suspect as ASuspect};
+
+use crate::clocks::{Clocks, STAGE};
+use crate::notes::{Note, Notes};
+use crate::table::VersionedPut;
+use crate::window::Suspect;
+use cops_types::{History, OpName};
+use std::alloc::{AllocError, Global};
+
+/// Up to so many clients what all sessions know of is told for each operation: beside more a search that goes by suspects costs less.
+const MOST_CLIENTS: usize = 64;
+
+/// It is told where there is a suspect for so many operations, or more of them.
+const OPS_OF_A_SUSPECT: usize = 32;
+
+/// Sessions that are passed side by side, the place of each client's next suspect, and which of the suspects are cleared.
+#[derive(Drop)]
+struct Clearing {
+    clocks: Clocks,
+    next: Vec<usize>,
+    cleared: Vec<bool>,
+}
+
+/// Whether an operation is counted.
+fn is_counted(counts: &[u32], name: OpName) -> bool
+    ensures { IsTrue result ↔ Counted counts.now name }
+{
+    match counts.get(name.client as usize) {
+        Some(count) => name.index < *count,
+        None => false,
+    }
+}
+
+/// Whether none of the puts is counted that would be newer than what a suspect returned, of those below a mark. False too where
+/// the puts on its key are not linked from its place on.
+fn none_counted(
+    table: &[VersionedPut],
+    nexts: &[Option<u32>],
+    firsts: &[u32],
+    counts: &[u32],
+    mark: u32,
+    suspect: &Suspect,
+) -> bool
+    requires { (h : Sessions) × IsVersionTable h table.now × AreNexts h table.now nexts.now × AreFirsts h table.now firsts.now }
+    ensures { IsTrue result → NoneCounted table.now firsts.now counts.now mark suspect.now }
+{
+    match firsts.get(suspect.from as usize) {
+        Some(first) if *first == suspect.first => {}
+        _ => return false,
+    }
+    let mut place = suspect.from;
+    for _ in 0..table.len() {
+        if place >= mark {
+            return true;
+        }
+        let put = table[place as usize];
+        if is_counted(counts, put.name) {
+            return false;
+        }
+        let Some(next) = nexts[place as usize] else {
+            return true;
+        };
+        place = next;
+    }
+    false
+}
+
+/// Of so many clients, the place of each one's first suspect.
+fn first_suspects(
+    alloc: Global,
+    clients: usize,
+    suspects: &[Suspect],
+) -> Result<Vec<usize>, AllocError> {
+    let mut first = Vec::with_capacity(alloc, clients)?;
+    for client in 0..clients {
+        first.push(suspects.partition_point(|suspect| (suspect.op.client as usize) < client))?;
+    }
+    Ok(first)
+}
+
+/// So many suspects, none of which is cleared.
+fn none_cleared(alloc: Global, count: usize) -> Result<Vec<bool>, AllocError>
+    ensures { IfOk result (λ cleared. cleared.items ≡ replicate count false) }
+{
+    Ok(vec![in alloc; false; count]?)
+}
+
+impl Clearing {
+    /// No session was passed, and no suspect cleared.
+    fn new(
+        alloc: Global,
+        clients: usize,
+        puts: usize,
+        suspects: &[Suspect],
+    ) -> Result<Self, AllocError>
+        ensures { (table : List APut) (notes : List (List ANote)) (firsts : List ℕ) → length notes ≡ clients → IfOk result (IsClearing table notes firsts suspects.now) }
+    {
+        let next = first_suspects(alloc, clients, suspects)?;
+        let cleared = none_cleared(alloc, suspects.len())?;
+        let clocks = Clocks::new(alloc, clients, puts)?;
+        Ok(Clearing {
+            clocks,
+            next,
+            cleared,
+        })
+    }
+
+    /// Clears the client's next suspect where it is this operation, and where what its session knows of clears it.
+    fn look(
+        &mut self,
+        table: &[VersionedPut],
+        notes: &Notes,
+        nexts: &[Option<u32>],
+        firsts: &[u32],
+        suspects: &[Suspect],
+        name: OpName,
+        note: Note,
+    )
+        requires links { (h : Sessions) × IsVersionTable h table.now × AreNexts h table.now nexts.now × AreFirsts h table.now firsts.now }
+        requires rising { AreRising table.now notes.now }
+        requires clearing { IsClearing table.now notes.now firsts.now suspects.now self.old }
+        requires noted { note_at notes.now name ≡ Some note }
+        requires inside { name.client < length notes.now }
+        requires passed { slice_index self.old.clocks.passed.items name.client ≡ name.index + 1 }
+        ensures clearing { IsClearing table.now notes.now firsts.now suspects.now self.new }
+        ensures clocks { self.new.clocks ≡ self.old.clocks }
+    {
+        let _ = notes;
+        let Some(next) = self.next.get_mut(name.client as usize) else {
+            return;
+        };
+        let place = *next;
+        let Some(suspect) = suspects.get(place) else {
+            return;
+        };
+        if suspect.op.client != name.client || suspect.op.index != name.index {
+            return;
+        }
+        *next = place + 1;
+        let known = self.clocks.known[name.client as usize].as_slice();
+        if none_counted(table, nexts, firsts, known, note.mark, suspect) {
+            self.cleared[place] = true;
+        }
+    }
+
+    /// Passes the operations of a client up to an index. False where one is not there, or got a put that was not passed before.
+    fn pass_to(
+        &mut self,
+        table: &[VersionedPut],
+        notes: &Notes,
+        nexts: &[Option<u32>],
+        firsts: &[u32],
+        suspects: &[Suspect],
+        client: u16,
+        end: u32,
+    ) -> Result<bool, AllocError>
+        requires links { (h : Sessions) × IsVersionTable h table.now × AreNexts h table.now nexts.now × AreFirsts h table.now firsts.now }
+        requires rising { AreRising table.now notes.now }
+        requires clearing { IsClearing table.now notes.now firsts.now suspects.now self.old }
+        requires inside { client < length notes.now }
+        ensures clearing { IfOk result (λ went. IsTrue went → IsClearing table.now notes.now firsts.now suspects.now self.new) }
+        ensures passed { IfOk result (λ went. IsTrue went → end ≤ slice_index self.new.clocks.passed.items client) }
+        ensures kept { IfOk result (λ went. IsTrue went → (k : ℕ) → slice_index self.old.clocks.passed.items k ≤ slice_index self.new.clocks.passed.items k) }
+    {
+        let session = notes.session(client);
+        for index in self.clocks.passed[client as usize]..end {
+            let Some(note) = session.get(index as usize) else {
+                return Ok(false);
+            };
+            if !self.clocks.pass(table, notes, client as usize, *note)? {
+                return Ok(false);
+            }
+            let name = OpName { client, index };
+            self.look(table, notes, nexts, firsts, suspects, name, *note);
+        }
+        Ok(true)
+    }
+
+    /// Passes all operations of all sessions that are left.
+    fn pass_rest(
+        &mut self,
+        history: &History,
+        table: &[VersionedPut],
+        notes: &Notes,
+        nexts: &[Option<u32>],
+        firsts: &[u32],
+        suspects: &[Suspect],
+    ) -> Result<bool, AllocError>
+        requires links { IsVersionTable history.now.sessions table.now × AreNexts history.now.sessions table.now nexts.now × AreFirsts history.now.sessions table.now firsts.now }
+        requires noted { IsNoted history.now.sessions table.now notes.now }
+        requires rising { AreRising table.now notes.now }
+        requires clearing { IsClearing table.now notes.now firsts.now suspects.now self.old }
+        ensures { IfOk result (λ went. IsTrue went → IsClearing table.now notes.now firsts.now suspects.now self.new) }
+    {
+        for client in 0..history.clients() {
+            let client = client as u16;
+            let end = history.session_len(client) as u32;
+            if !self.pass_to(table, notes, nexts, firsts, suspects, client, end)? {
+                return Ok(false);
+            }
+        }
+        Ok(true)
+    }
+
+    /// Keeps what was passed, now that the puts below a place were, after each so many puts.
+    fn keep_passed(&mut self, alloc: Global, below: u32) -> Result<(), AllocError>
+        ensures clearing { (table : List APut) (notes : List (List ANote)) (firsts : List ℕ) (suspects : List ASuspect) → IsClearing table notes firsts suspects self.old
+            → ArePassed table self.old.clocks.passed.items below → OnOk result (IsClearing table notes firsts suspects self.new) }
+        ensures passed { OnOk result (self.new.clocks.passed ≡ self.old.clocks.passed) }
+    {
+        if below as usize % STAGE != 0 {
+            return Ok(());
+        }
+        self.clocks.keep_passed(alloc, below)?;
+        Ok(())
+    }
+
+    /// Passes all sessions, put by put in order of versions.
+    fn pass_all(
+        &mut self,
+        alloc: Global,
+        history: &History,
+        table: &[VersionedPut],
+        notes: &Notes,
+        nexts: &[Option<u32>],
+        firsts: &[u32],
+        suspects: &[Suspect],
+    ) -> Result<bool, AllocError>
+        requires links { IsVersionTable history.now.sessions table.now × AreNexts history.now.sessions table.now nexts.now × AreFirsts history.now.sessions table.now firsts.now }
+        requires noted { IsNoted history.now.sessions table.now notes.now }
+        requires rising { AreRising table.now notes.now }
+        requires clearing { IsClearing table.now notes.now firsts.now suspects.now self.old }
+        ensures { IfOk result (λ went. IsTrue went → IsClearing table.now notes.now firsts.now suspects.now self.new) }
+    {
+        for place in 0..table.len() {
+            let put = table[place].name;
+            let end = put.index + 1;
+            if !self.pass_to(table, notes, nexts, firsts, suspects, put.client, end)? {
+                return Ok(false);
+            }
+            self.keep_passed(alloc, place as u32 + 1)?;
+        }
+        self.pass_rest(history, table, notes, nexts, firsts, suspects)
+    }
+}
+
+/// The suspects that were not cleared, in their order.
+fn left_suspects(
+    alloc: Global,
+    suspects: &[Suspect],
+    cleared: &[bool],
+) -> Result<Vec<Suspect>, AllocError>
+    requires in_order { AllPairs (λ s t. IsBefore s.op t.op) suspects.now }
+    requires count { length cleared.now ≡ length suspects.now }
+    ensures { IfOk result (λ v. ListsAmong (λ s. s.op) (IsLeft suspects.now cleared.now) (map (λ s. s.op) suspects.now) v.items) }
+{
+    let mut left = Vec::new(alloc);
+    for k in 0..suspects.len() {
+        if !cleared[k] {
+            left.push(suspects[k])?;
+        }
+    }
+    Ok(left)
+}
+
+/// Takes those away from the suspects that have no newer put in their past, as far as that is told by what all sessions know of while
+/// they are passed side by side. That is done where there are few sessions, and many suspects.
+pub fn clear(
+    suspects: &mut Vec<Suspect>,
+    alloc: Global,
+    history: &History,
+    table: &[VersionedPut],
+    notes: &Notes,
+    nexts: &[Option<u32>],
+    firsts: &[u32],
+) -> Result<(), AllocError>
+    requires table { IsVersionTable history.now.sessions table.now }
+    requires notes { IsNoted history.now.sessions table.now notes.now }
+    requires nexts { AreNexts history.now.sessions table.now nexts.now }
+    requires firsts { AreFirsts history.now.sessions table.now firsts.now }
+    requires sources { HaveSourcesOrWait history.now.sessions }
+    requires above { AllAbove history.now.sessions }
+    requires suspects { (names : List OpName) × AreSuspects history.now.sessions table.now names suspects.old.items }
+    ensures { OnOk result ((names : List OpName) → AreSuspects history.now.sessions table.now names suspects.old.items → AreSuspects history.now.sessions table.now names suspects.new.items) }
+{
+    let clients = history.clients();
+    if clients > MOST_CLIENTS || suspects.len() < history.len() / OPS_OF_A_SUSPECT {
+        return Ok(());
+    }
+    let mut clearing = Clearing::new(alloc, clients, table.len(), suspects.as_slice())?;
+    let seen = suspects.as_slice();
+    if !clearing.pass_all(alloc, history, table, notes, nexts, firsts, seen)? {
+        return Ok(());
+    }
+    let left = left_suspects(alloc, suspects.as_slice(), clearing.cleared.as_slice())?;
+    *suspects = left;
+    Ok(())
+}

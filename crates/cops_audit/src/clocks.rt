@@ -1,0 +1,246 @@
+ghost use Rattle.cops_types.specs.declared.limits.TheConstants.{MAX_CLIENT_OPS, MAX_OPS};
+ghost use Rattle.std.specs.Prelude.{◌≡◌, ◌<◌, ◌≤◌, ◌+◌, ℕ, List, IfOk, IfSome, IsTrue, OnOk, Some, length, map, replicate, slice_index, slice_index_or, vec_len, []};
+ghost use Rattle.cops_audit.specs.Clocks.{AreClocks, AreKnown, ArePassed, KnowsPut};
+ghost use Rattle.cops_types.specs.declared.op.OpName.{OpName};
+ghost use Rattle.cops_audit.specs.Notes.{StandsAt, note_at};
+ghost use Rattle.cops_audit.specs.Sweeps.{AreRising};
+ghost use Rattle.cops_audit.specs.declared.notes.Note.{Note as ANote};
+ghost use Rattle.cops_audit.specs.declared.table.VersionedPut.{VersionedPut as APut};
+
+use crate::notes::{Note, Notes, Seen};
+use crate::table::VersionedPut;
+use std::alloc::{AllocError, Global};
+
+/// Of how many puts passed last it is kept what they know of, at most, and how many counts these are together.
+const MOST_RECENT: usize = 16_384;
+
+const RECENT_COUNTS: usize = 524_288;
+
+/// After so many puts it is kept what was passed.
+pub const STAGE: usize = 64;
+
+/// Of each session, how many of its first operations the puts from one place up to another know of, at most.
+#[derive(Drop)]
+struct Known {
+    from: u32,
+    below: u32,
+    counts: Vec<u32>,
+}
+
+/// What the sessions know of while they are passed side by side, operation by operation, so that each get comes after its put:
+/// of each session how many of its operations were passed, and of each how many of all sessions' first operations are in its past.
+/// Of puts passed last it is kept what they know of, and of others what had been passed some puts later.
+#[derive(Drop)]
+pub struct Clocks {
+    pub passed: Vec<u32>,
+    pub known: Vec<Vec<u32>>,
+    recent: Vec<Known>,
+    stages: Vec<Known>,
+}
+
+/// Raises counts to others, where these are higher.
+fn raise_all(counts: &mut Vec<u32>, others: &[u32])
+    requires { length others.now ≡ vec_len counts.old }
+    ensures len { vec_len counts.new ≡ vec_len counts.old }
+    ensures kept { (k : ℕ) → slice_index counts.old.items k ≤ slice_index counts.new.items k }
+    ensures raised { (k : ℕ) → slice_index others.now k ≤ slice_index counts.new.items k }
+{
+    for k in 0..others.len() {
+        counts[k] = counts[k].max(others[k]);
+    }
+}
+
+/// The counts of what the put at a place knows of, where it is known here.
+fn counts_in<'a>(known: &'a Known, place: u32) -> Option<&'a [u32]>
+    ensures { IfSome result (λ counts. (counts.now ≡ known.now.counts.items) × (known.now.from ≤ place) × (place < known.now.below)) }
+{
+    if known.from <= place && place < known.below {
+        Some(known.counts.as_slice())
+    } else {
+        None
+    }
+}
+
+/// The counts of what the put at a place knows of, at most.
+fn counts_at<'a>(recent: &'a [Known], stages: &'a [Known], place: u32) -> Option<&'a [u32]>
+    ensures { (table : List APut) (notes : List (List ANote)) → AreKnown table notes recent.now → AreKnown table notes stages.now
+        → IfSome result (λ counts. (length counts.now ≡ length notes) × KnowsPut table notes counts.now place) }
+{
+    let at = place as usize % recent.len().max(1);
+    if let Some(known) = recent.get(at) {
+        if let Some(counts) = counts_in(known, place) {
+            return Some(counts);
+        }
+    }
+    match stages.get(place as usize / STAGE) {
+        Some(known) => counts_in(known, place),
+        None => None,
+    }
+}
+
+/// Keeps what the put at a place knows of, where that of an earlier one was kept.
+fn remember(recent: &mut Vec<Known>, place: u32, counts: &[u32]) -> Result<(), AllocError>
+    requires { place < MAX_OPS }
+    ensures { (table : List APut) (notes : List (List ANote)) → AreKnown table notes recent.old.items → length counts.now ≡ length notes → KnowsPut table notes counts.now place
+        → OnOk result (AreKnown table notes recent.new.items) }
+{
+    let at = place as usize % recent.len().max(1);
+    if at < recent.len() {
+        let known = &mut recent[at];
+        known.from = place;
+        known.below = place + 1;
+        known.counts.clear();
+        known.counts.extend_from_slice(counts)?;
+    }
+    Ok(())
+}
+
+/// So many counts of nothing.
+fn zeros(alloc: Global, count: usize) -> Result<Vec<u32>, AllocError>
+    ensures { IfOk result (λ counts. counts.items ≡ replicate count 0) }
+{
+    Ok(vec![in alloc; 0u32; count]?)
+}
+
+/// So many counts of what no put knows of.
+fn nothing_known(alloc: Global, count: usize, clients: usize) -> Result<Vec<Known>, AllocError>
+    ensures { (table : List APut) (notes : List (List ANote)) → length notes ≡ clients → IfOk result (λ v. AreKnown table notes v.items) }
+{
+    let mut all = Vec::with_capacity(alloc, count)?;
+    for _ in 0..count {
+        let counts = zeros(alloc, clients)?;
+        all.push(Known {
+            from: 0,
+            below: 0,
+            counts,
+        })?;
+    }
+    Ok(all)
+}
+
+/// For each of so many clients, that nothing is known.
+fn nothing_counted(alloc: Global, clients: usize) -> Result<Vec<Vec<u32>>, AllocError>
+    ensures count { IfOk result (λ v. length v.items ≡ clients) }
+    ensures zero { IfOk result (λ v. (client : ℕ) → client < clients → slice_index_or (map (λ c. c.items) v.items) client [] ≡ replicate clients 0) }
+{
+    let mut all = Vec::with_capacity(alloc, clients)?;
+    for _ in 0..clients {
+        all.push(zeros(alloc, clients)?)?;
+    }
+    Ok(all)
+}
+
+impl Clocks {
+    /// Nothing was passed, of so many clients and puts.
+    pub fn new(alloc: Global, clients: usize, puts: usize) -> Result<Self, AllocError>
+        ensures { (table : List APut) (notes : List (List ANote)) → length notes ≡ clients → IfOk result (AreClocks table notes) }
+    {
+        let kept = (RECENT_COUNTS / clients.max(1)).min(MOST_RECENT).min(puts);
+        let recent = nothing_known(alloc, kept, clients)?;
+        let known = nothing_counted(alloc, clients)?;
+        let passed = zeros(alloc, clients)?;
+        Ok(Clocks {
+            passed,
+            known,
+            recent,
+            stages: Vec::new(alloc),
+        })
+    }
+
+    /// Has a session know of what the put at a place knows of. False where that is not told here.
+    fn learn(&mut self, client: usize, place: u32) -> bool
+        requires client { client < length self.old.known.items }
+        requires clocks { (table : List APut) × (notes : List (List ANote)) × AreClocks table notes self.old }
+        ensures learned { (table : List APut) (notes : List (List ANote)) → AreClocks table notes self.old → IsTrue result
+            → AreClocks table notes self.new × KnowsPut table notes (slice_index_or (map (λ v. v.items) self.new.known.items) client []) place }
+        ensures passed { self.new.passed ≡ self.old.passed }
+    {
+        match counts_at(self.recent.as_slice(), self.stages.as_slice(), place) {
+            Some(counts) => {
+                raise_all(&mut self.known[client], counts);
+                true
+            }
+            None => false,
+        }
+    }
+
+    /// Has a session know of what its next operation saw. False where it got a put that was not passed before.
+    fn learn_seen(&mut self, table: &[VersionedPut], client: usize, seen: Seen) -> bool
+        requires client { client < length self.old.known.items }
+        requires clocks { (notes : List (List ANote)) × AreRising table.now notes × AreClocks table.now notes self.old }
+        requires inside { (place : ℕ) → seen ≡ Seen.Got place → (put : OpName) × (version : ℕ) × StandsAt table.now place put version }
+        ensures learned { (notes : List (List ANote)) → AreClocks table.now notes self.old → IsTrue result
+            → AreClocks table.now notes self.new × ((place : ℕ) → seen ≡ Seen.Got place
+            → KnowsPut table.now notes (slice_index_or (map (λ v. v.items) self.new.known.items) client []) place × KnowsPut table.now notes self.new.passed.items place) }
+        ensures passed { self.new.passed ≡ self.old.passed }
+    {
+        let Seen::Got(place) = seen else {
+            return true;
+        };
+        let put = table[place as usize].name;
+        match self.passed.get(put.client as usize) {
+            Some(count) if *count > put.index => self.learn(client, place),
+            _ => false,
+        }
+    }
+
+    /// Counts the next operation of a client, whose session knows of what it saw.
+    fn count_next(&mut self, client: usize)
+        requires client { client < length self.old.known.items }
+        requires clocks { (table : List APut) × (notes : List (List ANote)) × AreClocks table notes self.old }
+        requires few { slice_index self.old.passed.items client < MAX_CLIENT_OPS }
+        ensures clocks { (table : List APut) (notes : List (List ANote)) → AreClocks table notes self.old
+            → ((place mark : ℕ) → note_at notes (record { client = client; index = slice_index self.old.passed.items client }) ≡ Some (record { seen = Seen.Got place; mark = mark })
+            → KnowsPut table notes (slice_index_or (map (λ v. v.items) self.old.known.items) client []) place × KnowsPut table notes self.old.passed.items place)
+            → AreClocks table notes self.new }
+        ensures next { slice_index self.new.passed.items client ≡ slice_index self.old.passed.items client + 1 }
+        ensures kept { (k : ℕ) → slice_index self.old.passed.items k ≤ slice_index self.new.passed.items k }
+    {
+        let count = self.passed[client] + 1;
+        self.passed[client] = count;
+        let known = &mut self.known[client];
+        known[client] = known[client].max(count);
+    }
+
+    /// Passes the next operation of a client, on which this is the note. False where it got a put that was not passed before.
+    pub fn pass(
+        &mut self,
+        table: &[VersionedPut],
+        notes: &Notes,
+        client: usize,
+        note: Note,
+    ) -> Result<bool, AllocError>
+        requires client { client < length notes.now }
+        requires rising { AreRising table.now notes.now }
+        requires clocks { AreClocks table.now notes.now self.old }
+        requires noted { note_at notes.now (record { client = client; index = slice_index self.old.passed.items client }) ≡ Some note }
+        ensures clocks { IfOk result (λ went. IsTrue went → AreClocks table.now notes.now self.new) }
+        ensures next { IfOk result (λ went. IsTrue went → slice_index self.new.passed.items client ≡ slice_index self.old.passed.items client + 1) }
+        ensures kept { IfOk result (λ went. IsTrue went → (k : ℕ) → slice_index self.old.passed.items k ≤ slice_index self.new.passed.items k) }
+    {
+        let _ = notes;
+        if !self.learn_seen(table, client, note.seen) {
+            return Ok(false);
+        }
+        self.count_next(client);
+        if let Seen::Put(place) = note.seen {
+            remember(&mut self.recent, place, self.known[client].as_slice())?;
+        }
+        Ok(true)
+    }
+
+    /// Keeps what was passed, now that the puts below a place were.
+    pub fn keep_passed(&mut self, alloc: Global, below: u32) -> Result<(), AllocError>
+        ensures clocks { (table : List APut) (notes : List (List ANote)) → AreClocks table notes self.old → ArePassed table self.old.passed.items below → OnOk result (AreClocks table notes self.new) }
+        ensures passed { OnOk result (self.new.passed ≡ self.old.passed) }
+    {
+        let mut counts = Vec::with_capacity(alloc, self.passed.len())?;
+        counts.extend_from_slice(self.passed.as_slice())?;
+        self.stages.push(Known {
+            from: 0,
+            below,
+            counts,
+        })?;
+        Ok(())
+    }
+}
