@@ -28,12 +28,21 @@ const MOST_CLIENTS: usize = 64;
 /// It is told where there is a suspect for so many operations, or more of them.
 const OPS_OF_A_SUSPECT: usize = 32;
 
-/// Sessions that are passed side by side, the place of each client's next suspect, and which of the suspects are cleared.
+/// So many newer puts on a suspect's key are looked at before it is left to such a search.
+const MOST_NEWER: usize = 16;
+
+/// So many more suspects may be left than were cleared: with more it is given up.
+const MOST_LEFT: usize = 4_096;
+
+/// Sessions that are passed side by side, the place of each client's next suspect, which of the suspects are cleared, and how many are and
+/// are not.
 #[derive(Drop)]
 struct Clearing {
     clocks: Clocks,
     next: Vec<usize>,
     cleared: Vec<bool>,
+    told: usize,
+    left: usize,
 }
 
 /// Whether an operation is counted.
@@ -47,7 +56,7 @@ fn is_counted(counts: &[u32], name: OpName) -> bool
 }
 
 /// Whether none of the puts is counted that would be newer than what a suspect returned, of those below a mark. False too where
-/// the puts on its key are not linked from its place on.
+/// the puts on its key are not linked from its place on, or are many.
 fn none_counted(
     table: &[VersionedPut],
     nexts: &[Option<u32>],
@@ -64,7 +73,7 @@ fn none_counted(
         _ => return false,
     }
     let mut place = suspect.from;
-    for _ in 0..table.len() {
+    for _ in 0..MOST_NEWER {
         if place >= mark {
             return true;
         }
@@ -117,6 +126,8 @@ impl Clearing {
             clocks,
             next,
             cleared,
+            told: 0,
+            left: 0,
         })
     }
 
@@ -155,7 +166,15 @@ impl Clearing {
         let known = self.clocks.known[name.client as usize].as_slice();
         if none_counted(table, nexts, firsts, known, note.mark, suspect) {
             self.cleared[place] = true;
+            self.told = self.told.saturating_add(1);
+        } else {
+            self.left = self.left.saturating_add(1);
         }
+    }
+
+    /// Whether so few suspects are cleared that the search from each would have been made sooner.
+    fn is_in_vain(&self) -> bool {
+        self.left.saturating_sub(self.told) > MOST_LEFT
     }
 
     /// Passes the operations of a client up to an index. False where one is not there, or got a put that was not passed before.
@@ -251,6 +270,9 @@ impl Clearing {
             let put = table[place].name;
             let end = put.index + 1;
             if !self.pass_to(table, notes, nexts, firsts, suspects, put.client, end)? {
+                return Ok(false);
+            }
+            if self.is_in_vain() {
                 return Ok(false);
             }
             self.keep_passed(alloc, place as u32 + 1)?;
