@@ -38,6 +38,7 @@ pub mod Bridging
 pub mod Chaining
 pub mod Telling
 pub mod Classes
+pub mod Faultless
 pub mod Leaving
 pub mod Searching
 pub mod Counting

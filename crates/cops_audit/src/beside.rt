@@ -22,7 +22,7 @@ fn notes_in_halves<R: Threads + Sync>(
     requires { IsVersionTable history.now.sessions table.now }
     ensures { IfOk result (λ notes. IsNoted history.now.sessions table.now notes) }
 {
-    let hints = Hints::new(Vec::new(alloc), table)?;
+    let hints = Hints::new(Vec::new(alloc), alloc, history, table)?;
     let clients = history.clients();
     let mid = clients / 2;
     let (low, high) = thread::join(

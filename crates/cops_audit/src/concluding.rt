@@ -12,9 +12,9 @@ ghost use Rattle.cops_audit.specs.Verdicts.{IsVerdict};
 
 use crate::cleared::clear;
 use crate::floors::set_floors;
-use crate::names::{all_names, set_names};
+use crate::names::all_names;
 use crate::notes::{Notes, SessionNotes, without_source};
-use crate::rising::not_above;
+use crate::rising::{is_faultless, not_above};
 use crate::room::Room;
 use crate::stale::stale_suspects;
 use crate::table::{doubled, is_rising, put_names, set_puts};
@@ -115,6 +115,26 @@ impl Room {
         Ok(None)
     }
 
+    /// The same, for which the names of the operations are made where there is a fault alone.
+    fn judge_classes(
+        &self,
+        alloc: Global,
+        history: &History,
+        notes: &Notes,
+    ) -> Result<Option<Verdict>, AllocError>
+        requires table { IsVersionTable history.now.sessions self.now.table.items }
+        requires notes { IsNoted history.now.sessions self.now.table.items notes.now }
+        ensures refused { IfOk result (λ found. IfSome found (IsVerdict history.now.sessions)) }
+        ensures sources { IfOk result (λ found. IfNone found (AllHaveSources history.now.sessions)) }
+        ensures above { IfOk result (λ found. IfNone found (AllAbove history.now.sessions)) }
+    {
+        if is_faultless(history, notes) {
+            return Ok(None);
+        }
+        let names = all_names(alloc, history)?;
+        self.judge_notes(alloc, history, notes, names.as_slice())
+    }
+
     /// The verdict on a history in which no version is borne by two puts.
     fn judge_gets(&mut self, alloc: Global, history: &History) -> Result<Verdict, AllocError>
         requires ready { IsReady history.now.sessions self.old }
@@ -126,12 +146,7 @@ impl Room {
         let hints = std::mem::replace(&mut self.hints, Vec::new(alloc));
         let session_notes = SessionNotes::hinted(alloc, history, self.table.as_slice(), hints)?;
         let notes = session_notes.look();
-        // The names stand where there was room for them, so that all of it is given back.
-        let empty = Vec::with_capacity(alloc, self.space)?;
-        let mut names = std::mem::replace(&mut self.names, empty);
-        set_names(&mut names, history);
-        let found = self.judge_notes(alloc, history, &notes, names.as_slice())?;
-        drop(names);
+        let found = self.judge_classes(alloc, history, &notes)?;
         if let Some(verdict) = found {
             return Ok(verdict);
         }
@@ -144,7 +159,7 @@ impl Room {
     }
 
     /// The verdict on a history. Beside the room it takes memory for the faults, or for the names of the puts; and as long as they
-    /// are gone through, for the names of all operations, and for hints of where versions stand.
+    /// are gone through, for the names of all operations, and for hints of where puts stand.
     pub fn judge(&mut self, alloc: Global, history: &History) -> Result<Verdict, AllocError>
         requires { IsReady history.now.sessions self.old }
         ensures { IfOk result (IsVerdict history.now.sessions) }

@@ -5,7 +5,7 @@ ghost use Rattle.cops_audit.specs.Tables.{VersionsNeverFall};
 
 use crate::did::Did;
 use crate::table::{VersionedPut, place_of};
-use cops_types::Version;
+use cops_types::{History, OpName, Version};
 use std::alloc::{AllocError, Global};
 
 /// A hint that says nothing: no place of a table.
@@ -22,23 +22,82 @@ fn stands_at(table: &[VersionedPut], place: u32, version: Version) -> bool
     }
 }
 
-/// Where the versions of puts may stand in a table of puts in order of versions. The versions are cut into stretches of one
-/// width, about as many as there are puts, and of each it is known where its puts begin. These are but hints: each is
-/// looked up in the table, and a version that does not stand there is searched for.
+/// Where the puts of a history may stand in the table of its puts in order of versions, by their names.
+#[derive(Drop)]
+pub struct Places {
+    /// Where the operations of each session begin among the places.
+    sessions: Vec<usize>,
+    /// Of each operation the place of its put.
+    places: Vec<u32>,
+}
+
+impl Places {
+    /// The places of a history's puts.
+    fn new(alloc: Global, history: &History, table: &[VersionedPut]) -> Result<Self, AllocError>
+        requires { length table.now ≤ MAX_OPS }
+    {
+        let mut sessions = Vec::with_capacity(alloc, history.clients())?;
+        let mut count = 0usize;
+        for client in 0..history.clients() {
+            sessions.push(count)?;
+            count = count.saturating_add(history.session_len(client as u16));
+        }
+        let mut named = Places {
+            sessions,
+            places: Vec::new(alloc),
+        };
+        named.places.resize(history.len(), NONE)?;
+        for place in 0..table.len() {
+            if let Some(at) = named.position(table[place].name) {
+                if let Some(kept) = named.places.get_mut(at) {
+                    *kept = place as u32;
+                }
+            }
+        }
+        Ok(named)
+    }
+
+    /// Where the operation of that name is among the places.
+    fn position(&self, name: OpName) -> Option<usize> {
+        let start = self.sessions.get(name.client as usize)?;
+        Some(start.saturating_add(name.index as usize))
+    }
+
+    /// The place of the put of that name, where it stands there.
+    pub fn of(&self, table: &[VersionedPut], put: OpName) -> Option<usize>
+        ensures inside { IfSome result (λ place. place < length table.now) }
+        ensures named { IfSome result (λ place. (d : VersionedPut) → (slice_index_or table.now place d).name ≡ put) }
+    {
+        let place = *self.places.get(self.position(put)?)? as usize;
+        let there = table.get(place)?;
+        if there.name == put { Some(place) } else { None }
+    }
+}
+
+/// Where puts may stand in a table of puts in order of versions, by their names and by their versions. The versions are cut into
+/// stretches of one width, about as many as there are puts, and of each it is known where its puts begin. These are but hints: each
+/// is looked up in the table, and a version that does not stand there is searched for.
 #[derive(Drop)]
 pub struct Hints {
+    pub places: Places,
     lowest: u64,
     shift: u32,
     starts: Vec<u32>,
 }
 
 impl Hints {
-    /// The hints for a table, in a vector that may have room for them.
-    pub fn new(mut starts: Vec<u32>, table: &[VersionedPut]) -> Result<Self, AllocError>
+    /// The hints for a table, in a vector that may have room for those of versions.
+    pub fn new(
+        mut starts: Vec<u32>,
+        alloc: Global,
+        history: &History,
+        table: &[VersionedPut],
+    ) -> Result<Self, AllocError>
         requires { length table.now ≤ MAX_OPS }
     {
         starts.clear();
         let mut hints = Hints {
+            places: Places::new(alloc, history, table)?,
             lowest: 0,
             shift: 0,
             starts,

@@ -1,6 +1,7 @@
-ghost use Rattle.std.specs.Prelude.{◌≡◌, ◌<◌, ◌≤◌, ◌+◌, ◌^◌, ◌↔◌, List, IfOk, OnOk, IsTrue, length, map, vec_len, vec_capacity, All, AllPairs, slice_index_or, []};
+ghost use Rattle.std.specs.Prelude.{◌≡◌, ◌<◌, ◌≤◌, ◌+◌, ◌^◌, ◌↔◌, List, IfOk, IfSome, OnOk, IsTrue, length, map, vec_len, vec_capacity, All, AllPairs, slice_index_or, []};
 ghost use Rattle.cops_types.specs.declared.limits.TheConstants.{MAX_CLIENTS};
 ghost use Rattle.cops_types.specs.declared.op.OpName.{OpName};
+ghost use Rattle.cops_types.specs.Histories.{IsNamed};
 ghost use Rattle.cops_types.specs.Operations.{GetsVersion};
 ghost use Rattle.cops_types.specs.Faults.{IsBefore};
 ghost use Rattle.cops_audit.specs.Names.{ListsAmong};
@@ -10,7 +11,7 @@ ghost use Rattle.cops_audit.specs.declared.table.VersionedPut.{VersionedPut};
 
 use crate::did::Did;
 use crate::flat::Span;
-use crate::hints::{Hints, hinted_place};
+use crate::hints::{Hints, Places, hinted_place};
 use crate::table::{VersionedPut, first_from};
 use cops_types::{History, OpName};
 use std::alloc::{AllocError, Global};
@@ -74,6 +75,38 @@ fn see_source(history: &History, table: &[VersionedPut], got: OpName, place: usi
     }
 }
 
+/// What an operation did, where it is a put, or a get whose put the history knows.
+fn see_named(
+    history: &History,
+    table: &[VersionedPut],
+    places: &Places,
+    name: OpName,
+) -> Option<Seen>
+    requires { IsVersionTable history.now.sessions table.now }
+    ensures { IfSome result (IsSeen history.now.sessions table.now name) }
+{
+    if let Some(put) = history.known_source(name) {
+        let place = places.of(table, put)?;
+        return Some(Seen::Got(place as u32));
+    }
+    let place = places.of(table, name)?;
+    Some(Seen::Put(place as u32))
+}
+
+/// What an operation did, by the hints.
+fn see_hinted(history: &History, table: &[VersionedPut], hints: &Hints, name: OpName) -> Seen
+    requires table { IsVersionTable history.now.sessions table.now }
+    requires named { IsNamed history.now.sessions name }
+    ensures { IsSeen history.now.sessions table.now name result }
+{
+    if let Some(seen) = see_named(history, table, &hints.places, name) {
+        return seen;
+    }
+    let did = Did::of(history, name);
+    let hint = hints.get(table, &did);
+    see(history, table, hint, name, &did)
+}
+
 impl Seen {
     /// Just above the place of what was seen, 0 where nothing was found.
     pub fn above(self) -> u32
@@ -121,9 +154,7 @@ fn note_on(
             client,
             index: index as u32,
         };
-        let did = Did::of(history, name);
-        let hint = hints.get(table, &did);
-        let seen = see(history, table, hint, name, &did);
+        let seen = see_hinted(history, table, hints, name);
         let above = seen.above();
         if mark < above {
             mark = above;
@@ -205,7 +236,7 @@ impl SessionNotes {
         SessionNotes::hinted(alloc, history, table, Vec::new(alloc))
     }
 
-    /// The same, with the hints in a vector that may have room for them, and that is let go.
+    /// The same, with the hints of versions in a vector that may have room for them, and that is let go.
     pub fn hinted(
         alloc: Global,
         history: &History,
@@ -215,7 +246,7 @@ impl SessionNotes {
         requires { IsVersionTable history.now.sessions table.now }
         ensures { IfOk result (λ notes. IsNoted history.now.sessions table.now notes) }
     {
-        let hints = Hints::new(hints, table)?;
+        let hints = Hints::new(hints, alloc, history, table)?;
         let notes = SessionNotes::on_clients(alloc, history, table, &hints, 0, history.clients())?;
         Ok(notes)
     }

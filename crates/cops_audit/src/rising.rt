@@ -3,12 +3,51 @@ ghost use Rattle.cops_types.specs.declared.op.OpName.{OpName};
 ghost use Rattle.cops_types.specs.Faults.{IsBefore};
 ghost use Rattle.cops_audit.specs.declared.notes.Note.{Note};
 ghost use Rattle.cops_audit.specs.Names.{ListsAmong};
-ghost use Rattle.cops_audit.specs.Notes.{AreMarks, SeesNotAbove, SeesNotBelow};
+ghost use Rattle.cops_audit.specs.Notes.{AreMarks, IsFaultless, IsRight, SeesNotAbove, SeesNotBelow};
 
 use crate::notes::{Note, Notes, Seen};
 use crate::verdict::NotAbove;
-use cops_types::OpName;
+use cops_types::{History, OpName};
 use std::alloc::{AllocError, Global};
+
+/// Whether what an operation saw is no fault, where those before it in its session saw places below this mark.
+fn is_right(mark: u32, seen: Seen) -> bool
+    ensures { IsTrue result → IsRight mark seen }
+{
+    match seen {
+        Seen::Put(place) => mark <= place,
+        Seen::Got(_) | Seen::Missed => true,
+        Seen::Sourceless(_) => false,
+    }
+}
+
+/// Whether each get of a session has its source, and each put is above what the session saw before it.
+fn is_session_faultless(session: &[Note]) -> bool
+    requires { AreMarks session.now }
+    ensures { IsTrue result → IsFaultless session.now }
+{
+    let mut mark = 0;
+    for note in session {
+        if !is_right(mark, note.seen) {
+            return false;
+        }
+        mark = note.mark;
+    }
+    true
+}
+
+/// Whether each get has its source, and each put is above what its session saw before it.
+pub fn is_faultless(history: &History, notes: &Notes) -> bool
+    requires { (client : ℕ) → AreMarks (slice_index_or notes.now client []) }
+    ensures { IsTrue result → (client : ℕ) → client < length history.now.sessions → IsFaultless (slice_index_or notes.now client []) }
+{
+    for client in 0..history.clients() {
+        if !is_session_faultless(notes.session(client as u16)) {
+            return false;
+        }
+    }
+    true
+}
 
 /// The first operation of a session whose mark is above the place.
 fn first_above(session: &[Note], place: u32) -> usize

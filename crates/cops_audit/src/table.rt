@@ -72,7 +72,7 @@ pub fn puts_by_version(
     requires few { length names.now ≤ MAX_OPS }
     ensures { IfOk result (λ v. IsPutTable history.now.sessions v.items) }
 {
-    let mut puts = Vec::with_capacity(alloc, names.len())?;
+    let mut puts = Vec::with_capacity(alloc, history.puts())?;
     set_puts(&mut puts, history, names)?;
     Ok(puts)
 }

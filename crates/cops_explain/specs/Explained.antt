@@ -1,11 +1,11 @@
 -- What is explained of a verdict.
 use Rattle.std.specs.Prelude.{◌≡◌, ◌+◌, ◌-◌, ℕ, zero, suc, List, [], ◌∷◌, ◌++◌, length, take, codes, decimal, Option, Some, None}
-use Rattle.cops_types.specs.Counts.{count_of}
+use Rattle.cops_types.specs.Counts.{count_of, put_count}
 use Rattle.cops_types.specs.Histories.{Sessions}
 use Rattle.cops_types.specs.Texts.{◌⧺◌}
 use Rattle.cops_audit.specs.declared.verdict.Verdict.{Verdict}
 use Rattle.cops_audit.specs.declared.verdict.Verdict.TheVariants.{Accepted, Refused}
-use Rattle.cops_report.specs.Reports.{accepted_line, put_count, refusal}
+use Rattle.cops_report.specs.Reports.{accepted_line, refusal}
 use Rattle.cops_types.specs.declared.selection.Selection.{Selection}
 use Rattle.cops_types.specs.declared.selection.Selection.TheVariants.{First, All, One}
 use Rattle.cops_explain.specs.declared.limits.TheConstants.{FIRST_FAULTS}

@@ -8,7 +8,7 @@ use Rattle.std.proofs.lemmas.Option.{slice_get-map}
 use Rattle.cops_types.specs.declared.op.Op.{Op}
 use Rattle.cops_types.specs.declared.op.Op.TheVariants.{Put, Got, Missed}
 use Rattle.cops_types.specs.declared.op.OpName.{OpName}
-use Rattle.cops_types.specs.Counts.{count_of}
+use Rattle.cops_types.specs.Counts.{count_of, is_put, put_count}
 use Rattle.cops_types.specs.Histories.{Sessions, op_at, IsGot, IsNamed, IsPut, SourceStep}
 use Rattle.cops_types.specs.Past.{Step}
 use Rattle.cops_types.specs.Verdicts.{AllHaveSources}
@@ -21,7 +21,7 @@ use Rattle.cops_audit.specs.declared.verdict.Faults.TheVariants as class
 use Rattle.cops_audit.specs.declared.verdict.NotAbove.{NotAbove}
 use Rattle.cops_audit.specs.declared.verdict.Stale.{Stale}
 use Rattle.cops_report.specs.Chains.{IsChain, IsFirstChain, LeadsTo}
-use Rattle.cops_report.specs.Reports.{AreStaleLines, IsReport, accepted_line, is_put, named_line, not_above_line, op_version, put_count, refused_line, returned_text, stale_line, version_at}
+use Rattle.cops_report.specs.Reports.{AreStaleLines, IsReport, accepted_line, named_line, not_above_line, op_version, refused_line, returned_text, stale_line, version_at}
 use Rattle.cops_report.proofs.NameCases.{name_cases}
 
 -- ---- what is left where the values are left out

@@ -1,12 +1,12 @@
 -- The text of a verdict.
-use Rattle.std.specs.Prelude.{◌≡◌, ℕ, Bool, true, false, List, [], ◌∷◌, ◌++◌, length, codes, decimal, Option, Some, None, sum_by, count_by}
+use Rattle.std.specs.Prelude.{◌≡◌, ℕ, List, [], ◌∷◌, ◌++◌, length, codes, decimal, Option, Some, None}
 use Rattle.std.specs.List.{flat_map}
 use Rattle.cops_types.specs.declared.op.Op.{Op}
 use Rattle.cops_types.specs.declared.op.Op.TheVariants.{Put, Got, Missed}
 use Rattle.cops_types.specs.declared.op.OpName.{OpName}
 use Rattle.cops_types.specs.Histories.{Sessions, op_at}
 use Rattle.cops_types.specs.Faults.{HasVersion}
-use Rattle.cops_types.specs.Counts.{count_of}
+use Rattle.cops_types.specs.Counts.{count_of, put_count}
 use Rattle.cops_types.specs.Texts.{◌⧺◌, name_text, version_text}
 use Rattle.cops_audit.specs.declared.verdict.Verdict.{Verdict}
 use Rattle.cops_audit.specs.declared.verdict.Verdict.TheVariants.{Accepted, Refused}
@@ -15,16 +15,6 @@ use Rattle.cops_audit.specs.declared.verdict.Faults.TheVariants as class
 use Rattle.cops_audit.specs.declared.verdict.NotAbove.{NotAbove}
 use Rattle.cops_audit.specs.declared.verdict.Stale.{Stale}
 use Rattle.cops_report.specs.Chains.{IsFirstChain}
-
--- whether an operation is a put
-abbrev pub is_put : Op → Bool
-is_put (Put key value version) = true
-is_put (Got key value version) = false
-is_put (Missed key) = false
-
--- how many puts there are
-abbrev pub put_count : Sessions → ℕ
-put_count h = sum_by (count_by is_put) h
 
 -- the version of a put or a get, 0 for what has none
 abbrev pub op_version : Option Op → ℕ

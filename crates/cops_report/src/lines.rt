@@ -1,41 +1,16 @@
 //! The lines of reports.
-ghost use Rattle.std.specs.Prelude.{◌≡◌, ◌++◌, ◌≤◌, ℕ, OnOk, IfOk, Contains, [], count_by, slice_index_or, string_bytes};
+ghost use Rattle.std.specs.Prelude.{◌≡◌, ◌++◌, OnOk, IfOk, Contains, string_bytes};
 ghost use Rattle.std.specs.List.{flat_map};
 ghost use Rattle.cops_types.specs.Histories.{op_at};
 ghost use Rattle.cops_types.specs.declared.op.OpName.{OpName};
 ghost use Rattle.cops_audit.specs.declared.verdict.NotAbove.{NotAbove};
 ghost use Rattle.cops_audit.specs.declared.verdict.Stale.{Stale};
 ghost use Rattle.cops_report.specs.Reports.{HasSomeVersion, accepted_line, refused_line, named_line, not_above_line};
-ghost use Rattle.cops_report.specs.Reports.{stale_head, stale_line, chain_text, is_put, put_count, returned_text, version_at};
+ghost use Rattle.cops_report.specs.Reports.{stale_head, stale_line, chain_text, returned_text, version_at};
 
 use cops_audit::{NotAbove, Stale};
 use cops_types::{History, OpName, OpRef, Version};
 use std::alloc::{AllocError, Global};
-
-/// How many puts are in a client's session.
-fn session_puts(history: &History, client: u16) -> usize
-    ensures { result ≡ count_by is_put (slice_index_or history.now.sessions client []) }
-{
-    let mut puts = 0;
-    for index in 0..history.session_len(client) {
-        let index = index as u32;
-        if let Some(_version) = history.put_version(OpName { client, index }) {
-            puts += 1;
-        }
-    }
-    puts
-}
-
-/// How many puts there are.
-pub fn put_count(history: &History) -> usize
-    ensures { result ≡ put_count history.now.sessions }
-{
-    let mut puts = 0;
-    for client in 0..history.clients() {
-        puts += session_puts(history, client as u16);
-    }
-    puts
-}
 
 /// The version of a put, or of what a get returned.
 pub fn version_at(history: &History, name: OpName) -> Version

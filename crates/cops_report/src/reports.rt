@@ -2,13 +2,13 @@ ghost use Rattle.std.specs.Prelude.{◌≡◌, List, [], ℕ, length, OnOk, IfOk
 ghost use Rattle.std.specs.List.{flat_map};
 ghost use Rattle.cops_types.specs.declared.op.OpName.{OpName};
 ghost use Rattle.cops_types.specs.Faults.{IsStale};
-ghost use Rattle.cops_types.specs.Counts.{count_of};
+ghost use Rattle.cops_types.specs.Counts.{count_of, put_count};
 ghost use Rattle.cops_audit.specs.Verdicts.{IsVerdict};
 ghost use Rattle.cops_audit.specs.declared.verdict.NotAbove.{NotAbove};
 ghost use Rattle.cops_audit.specs.declared.verdict.Stale.{Stale};
 ghost use Rattle.cops_report.specs.Puts.{HasAllPuts};
 ghost use Rattle.cops_report.specs.Reports.{AddsStaleLine, AddsStaleLines, AreStaleLines, HasSomeVersion, IsRefusal, IsReport};
-ghost use Rattle.cops_report.specs.Reports.{accepted_line, named_line, not_above_line, put_count, refusal};
+ghost use Rattle.cops_report.specs.Reports.{accepted_line, named_line, not_above_line, refusal};
 
 use crate::chains::chain_by;
 use crate::lines;
@@ -62,13 +62,7 @@ pub fn refused(alloc: Global, history: &History, faults: usize) -> Result<Vec<u8
     ensures { IfOk result (λ text. text.items ≡ refusal history.now.sessions faults []) }
 {
     let mut text = Vec::new(alloc);
-    lines::refused(
-        alloc,
-        &mut text,
-        history.len(),
-        lines::put_count(history),
-        faults,
-    )?;
+    lines::refused(alloc, &mut text, history.len(), history.puts(), faults)?;
     Ok(text)
 }
 
@@ -77,7 +71,7 @@ fn accepted(alloc: Global, history: &History) -> Result<Vec<u8>, Memory>
         ≡ accepted_line (count_of history.now.sessions) (put_count history.now.sessions)) }
 {
     let mut text = Vec::new(alloc);
-    lines::accepted(alloc, &mut text, history.len(), lines::put_count(history))?;
+    lines::accepted(alloc, &mut text, history.len(), history.puts())?;
     Ok(text)
 }
 

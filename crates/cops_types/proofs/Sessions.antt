@@ -1,17 +1,19 @@
 -- Lists of which a client's gains an item, and vectors that keep them.
-use Rattle.std.proofs.Common.{◌≡◌, ◌≢◌, ℕ, zero, suc, ◌+◌, ◌<◌, ◌≤◌, Bool, true, false, eqb, List, [], ◌∷◌, ◌++◌, map, length, get_or, replicate, refl, sym, ap, ◌∙◌, subst, arith, get_or-set_same, get_or-set_other, inl, inr}
-use Rattle.std.specs.Prelude.{◌⊎◌, Result, Ok, Err, OnErr}
+use Rattle.std.proofs.Common.{◌≡◌, ◌≢◌, ℕ, zero, suc, ◌+◌, ◌<◌, ◌≤◌, Bool, true, false, cond, eqb, List, [], ◌∷◌, ◌++◌, map, length, get_or, replicate, refl, sym, ap, ◌∙◌, subst, arith, get_or-set_same, get_or-set_other, inl, inr}
+use Rattle.std.specs.Prelude.{◌⊎◌, Result, Ok, Err, OnErr, count_by}
 use Rattle.std.proofs.Math.ListN.{set, length-set}
 use Rattle.std.proofs.Math.Seq.{map-set_same}
 use Rattle.std.proofs.lemmas.Bool.{cases_Bool, eqb-true, eqb-false}
 use Rattle.std.proofs.lemmas.List.{map-set, get_or-map, length-append, length-replicate, length-map}
-use Rattle.std.proofs.lemmas.List.Sums.{sum_by-set}
+use Rattle.std.proofs.lemmas.List.Sums.{count_by-le-length, sum_by-cons, sum_by-set}
 use Rattle.std.proofs.lemmas.List.Folds.{sum_by-replicate}
 use Rattle.cops_types.specs.declared.op.Op.{Op}
+use Rattle.cops_types.specs.declared.op.Op.TheVariants.{Put, Got, Missed}
 use Rattle.cops_types.specs.Lists.{with_item}
 use Rattle.cops_types.specs.Histories.{Sessions, with_op}
 use Rattle.cops_types.specs.Recorded.{IsWithinLimits}
-use Rattle.cops_types.specs.Counts.{count_of}
+use Rattle.cops_types.specs.Counts.{count_of, is_put, put_count}
+use Rattle.cops_types.specs.Keeping.{flag_count}
 
 -- ---- sessions as lists
 
@@ -40,6 +42,28 @@ pub count-with_op : (h : Sessions) (i : ℕ) (op : Op) → i < length h → coun
 count-with_op h i op inside =
     let s = get_or h i [] in
     omega (arith, sum_by-set length h i (s ++ op ∷ []) [] inside, length-append s (op ∷ []))
+
+-- one operation more of a session
+count-push : (s : List Op) (op : Op) → count_by is_put (s ++ op ∷ []) ≡ count_by is_put s + flag_count (is_put op)
+count-push [] (Put key value version) = refl
+count-push [] (Got key value version) = refl
+count-push [] (Missed key) = refl
+count-push (x ∷ s) op =
+    let f : Op → ℕ = λ y. cond (is_put y) 1 0 in
+    omega (arith, sum_by-cons f x (s ++ op ∷ []), sum_by-cons f x s, count-push s op)
+
+pub puts-with_op : (h : Sessions) (i : ℕ) (op : Op) → i < length h → put_count (with_op h i op) ≡ put_count h + flag_count (is_put op)
+puts-with_op h i op inside =
+    let s = get_or h i [] in
+    omega (arith, sum_by-set (count_by is_put) h i (s ++ op ∷ []) [] inside, count-push s op)
+
+pub puts-none : (n : ℕ) → put_count (replicate n []) ≡ 0
+puts-none n = omega (arith, sum_by-replicate (count_by is_put) n [])
+
+-- the puts are among the operations
+pub puts-le : (h : Sessions) → put_count h ≤ count_of h
+puts-le [] = omega arith
+puts-le (s ∷ h) = omega (arith, sum_by-cons (count_by is_put) s h, sum_by-cons length s h, count_by-le-length is_put s, puts-le h)
 
 pub within_with_op : (h : Sessions) (i : ℕ) (op : Op) → ((i < length h) × (length (get_or h i []) < 1000000) × (count_of h < 16000000)) → IsWithinLimits h → IsWithinLimits (with_op h i op)
 within_with_op h i op ok w =

@@ -51,6 +51,20 @@ pub(crate) struct Guess {
     pub(crate) put: Option<OpName>,
 }
 
+/// An operation that comes: the place of its key, and of the put that it may return, with what is guessed.
+#[derive(Clone, Copy, Debug)]
+struct Coming {
+    key_place: usize,
+    version: Option<Version>,
+    guess: Guess,
+}
+
+/// Of an operation that was not foreseen.
+const NO_GUESS: Guess = Guess {
+    key: None,
+    put: None,
+};
+
 /// Guesses, which no clause speaks of: whoever asks looks whether they are right. What is needed for operations that come is
 /// fetched from memory for many of them at once, where one after the other would wait for each.
 #[derive(Debug, Drop)]
@@ -58,7 +72,7 @@ pub(crate) struct Foresight {
     keys: Guesses<u32>,
     puts: Guesses<PutGuess>,
     /// Of the operations that come, in their order.
-    coming: Vec<Guess>,
+    coming: Vec<Coming>,
     /// How many of those came.
     come: usize,
 }
@@ -109,43 +123,38 @@ impl Foresight {
         keys.len() >= FEW_KEYS
     }
 
-    /// Guesses what is needed for operations that come, and fetches it.
+    /// Guesses what is needed for operations that come, and fetches it. Each loop fetches from one array: so short a one has so many
+    /// turns under way at once that a processor waits for memory once, and not for each operation.
     pub(crate) fn foresee(&mut self, keys: &KeySet, entries: &Entries, coming: &[OpView<'_>]) {
-        self.coming.clear();
         self.come = 0;
+        self.coming.clear();
         for op in coming {
-            let guess = self.guess(op);
-            if self.coming.push(guess).is_err() {
+            if self.coming.push(Coming::of(op)).is_err() {
                 return;
             }
         }
-        for (i, op) in coming.iter().enumerate() {
-            if let Some(guess) = self.coming.get_mut(i) {
-                *guess = right(*guess, keys, entries, op);
-            }
+        for it in self.coming.iter_mut() {
+            it.guess.key = self.keys.find(it.key_place);
         }
-    }
-
-    /// What the tables guess of an operation.
-    fn guess(&self, op: &OpView<'_>) -> Guess {
-        let put = match op {
-            OpView::Got { version, .. } => self.put_of(*version),
-            OpView::Put { .. } | OpView::Missed { .. } => None,
-        };
-        Guess {
-            key: self.keys.find(spread(op.key())),
-            put,
+        for it in self.coming.iter_mut() {
+            it.guess.put = put_among(&self.puts, it.version);
+        }
+        for (it, op) in self.coming.iter_mut().zip(coming) {
+            it.guess.key = key_that_may_be(it.guess.key, keys, op.key());
+        }
+        for it in self.coming.iter_mut() {
+            it.guess.put = put_that_is(it.guess.put, entries, it.version);
         }
     }
 
     /// What was guessed of the operation that comes now.
     pub(crate) fn next(&mut self) -> Guess {
-        let guess = self.coming.get(self.come).copied();
+        let coming = self.coming.get(self.come).copied();
         self.come = self.come.saturating_add(1);
-        guess.unwrap_or(Guess {
-            key: None,
-            put: None,
-        })
+        match coming {
+            Some(Coming { guess, .. }) => guess,
+            None => NO_GUESS,
+        }
     }
 
     /// The number of a key, where the table tells: at the key's place, or at the one beside it.
@@ -186,28 +195,58 @@ impl Foresight {
 
     /// Where the put of that version may be.
     pub(crate) fn put_of(&self, version: Version) -> Option<OpName> {
-        let guess = self.puts.find(place(version))?;
-        if guess.tag != tag(version) {
-            return None;
-        }
-        let PutGuess { client, index, .. } = guess;
-        Some(OpName { client, index })
+        put_among(&self.puts, Some(version))
     }
 }
 
-/// The guess, without what is seen to be wrong of it.
-fn right(guess: Guess, keys: &KeySet, entries: &Entries, op: &OpView<'_>) -> Guess {
-    let key = match guess.key {
-        Some(number) if keys.may_be_at(number, op.key()) => Some(number),
-        _ => None,
-    };
-    let put = match (guess.put, op) {
-        (Some(put), OpView::Got { version, .. }) if entries.put_version(put) == Some(*version) => {
-            Some(put)
+impl Coming {
+    /// An operation of which nothing is guessed yet.
+    fn of(op: &OpView<'_>) -> Self {
+        let version = match op {
+            OpView::Got { version, .. } => Some(*version),
+            OpView::Put { .. } | OpView::Missed { .. } => None,
+        };
+        Coming {
+            key_place: spread(op.key()),
+            version,
+            guess: NO_GUESS,
         }
-        _ => None,
-    };
-    Guess { key, put }
+    }
+}
+
+/// Where the put of a version may be, if there is a version.
+fn put_among(puts: &Guesses<PutGuess>, version: Option<Version>) -> Option<OpName> {
+    let version = version?;
+    let guess = puts.find(place(version))?;
+    if guess.tag != tag(version) {
+        return None;
+    }
+    let PutGuess { client, index, .. } = guess;
+    Some(OpName { client, index })
+}
+
+/// The guess of a key's number, unless it is seen to be wrong.
+fn key_that_may_be(guess: Option<u32>, keys: &KeySet, key: &KeyView<'_>) -> Option<u32> {
+    let number = guess?;
+    if keys.may_be_at(number, key) {
+        Some(number)
+    } else {
+        None
+    }
+}
+
+/// The guess of a put, unless it bears another version.
+fn put_that_is(
+    guess: Option<OpName>,
+    entries: &Entries,
+    version: Option<Version>,
+) -> Option<OpName> {
+    let put = guess?;
+    if entries.put_version(put) == version {
+        Some(put)
+    } else {
+        None
+    }
 }
 
 /// Spreads keys over places, by their first and their last bytes.

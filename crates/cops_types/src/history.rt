@@ -1,11 +1,13 @@
-ghost use Rattle.std.specs.Prelude.{◌≡◌, ◌<◌, ℕ, List, [], Some, IfOk, IfSome, OnErr, OnOk, length, slice_get, slice_index_or};
+ghost use Rattle.std.specs.Prelude.{◌≡◌, ◌<◌, ◌+◌, ℕ, List, [], Some, IfOk, IfSome, OnErr, OnOk, length, slice_get, slice_index_or};
 ghost use Rattle.cops_types.specs.declared.limits.TheConstants.{MAX_CLIENT_OPS, MAX_OPS};
 ghost use Rattle.cops_types.specs.declared.entry.Entry.TheVariants.{Put};
-ghost use Rattle.cops_types.specs.Entries.{AreSound, IsSound, told};
+ghost use Rattle.cops_types.specs.Entries.{AreSound, HasSource, IsSound, key_number_of, told};
+ghost use Rattle.cops_types.specs.Keeping.{flag_count};
 ghost use Rattle.cops_types.specs.Lists.{item_at};
 ghost use Rattle.cops_types.specs.KeySets.{AreDistinct, GainsKey};
 ghost use Rattle.cops_types.specs.Operations.{key_of};
 ghost use Rattle.cops_types.specs.OpViews.{viewed};
+ghost use Rattle.cops_types.specs.declared.op.Op.TheVariants.{Got};
 
 use crate::entries::Entries;
 use crate::entry::Entry;
@@ -32,6 +34,7 @@ pub struct History {
     reserved: Vec<bool>,
     reservations: usize,
     len: usize,
+    puts: usize,
     foresight: Foresight,
 }
 
@@ -48,7 +51,7 @@ impl Model for History {
       keys = a.keys.keys;
     } };
 
-    ghost invariant = { λ a. IsKept a.keys a.entries a.reserved.items a.reservations a.len };
+    ghost invariant = { λ a. IsKept a.keys a.entries a.reserved.items a.reservations a.len a.puts };
 }
 
 impl History {
@@ -58,7 +61,7 @@ impl History {
     ghost use Rattle.cops_types.specs.Operations.{GetsVersion, key_of};
     ghost use Rattle.cops_types.specs.OpRefs.{seen};
     ghost use Rattle.cops_types.specs.OpViews.{viewed};
-    ghost use Rattle.cops_types.specs.Counts.{count_of};
+    ghost use Rattle.cops_types.specs.Counts.{count_of, put_count};
     ghost use Rattle.cops_types.specs.Recorded.{IsFull, IsWithinLimits, HasRoom};
     ghost use Rattle.cops_types.specs.TypeFaults.{IsHistoryFault};
 
@@ -74,6 +77,7 @@ impl History {
             reserved,
             reservations: 0,
             len: 0,
+            puts: 0,
             foresight: Foresight::new(alloc),
         })
     }
@@ -195,11 +199,13 @@ impl History {
             client,
             index: self.entries.session_len(client) as u32,
         };
+        let puts = with_op_counted(self.puts, op.is_put());
         let entry = entry_of(&mut self.keys, &mut self.foresight, &self.entries, name, op);
         self.entries.push(client, entry);
         self.reserved[client as usize] = false;
         self.reservations -= 1;
         self.len += 1;
+        self.puts = puts;
     }
 
     /// Adds the client's next operation, which is seen, at the place that `reserve` made: what of it is new is
@@ -220,6 +226,7 @@ impl History {
             client,
             index: self.entries.session_len(client) as u32,
         };
+        let puts = with_op_counted(self.puts, op.is_put());
         let entry = entry_of_seen(
             alloc,
             &mut self.keys,
@@ -232,6 +239,7 @@ impl History {
         self.reserved[place] = false;
         self.reservations -= 1;
         self.len += 1;
+        self.puts = puts;
         Ok(())
     }
 
@@ -249,6 +257,13 @@ impl History {
         ensures limits { IsWithinLimits self.now.sessions }
     {
         self.len
+    }
+
+    /// How many puts there are.
+    pub fn puts(&self) -> usize
+        ensures { result ≡ put_count self.now.sessions }
+    {
+        self.puts
     }
 
     /// Whether there is no operation.
@@ -334,6 +349,17 @@ impl History {
         }
     }
 
+    /// The put that the get of that name returned, where the history found it as the get came: its key, its value and its version.
+    /// None says nothing of the get. It reads neither key nor value.
+    pub fn known_source(&self, got: OpName) -> Option<OpName>
+        ensures { IfSome result (λ put. SourceStep self.now.sessions put got) }
+    {
+        match self.entries.get(got)? {
+            Entry::Sourced { put, .. } => Some(*put),
+            _ => None,
+        }
+    }
+
     /// Whether the one is a put, and the other a get that returned it: its key, its value and its version.
     pub fn is_source(&self, put: OpName, got: OpName) -> bool
         ensures source { IsTrue result ↔ SourceStep self.now.sessions put got }
@@ -356,6 +382,15 @@ impl History {
             Entry::Put { .. } | Entry::Missed { .. } => false,
         }
     }
+}
+
+/// So many puts, and one more operation, which may be a put.
+#[inline(always)]
+fn with_op_counted(puts: usize, is_put: bool) -> usize
+    requires { puts < MAX_OPS }
+    ensures { result ≡ puts + flag_count is_put }
+{
+    if is_put { puts + 1 } else { puts }
 }
 
 /// The entry of an operation of that name, whose key is added where it is not there.
@@ -396,21 +431,7 @@ fn entry_of(
             version,
         } => {
             let key = number_of(keys, foresight, key, known);
-            match source_of(
-                foresight,
-                entries,
-                guess.put,
-                key,
-                &value.as_view(),
-                version,
-            ) {
-                Some(put) => Entry::Sourced { key, put, version },
-                None => Entry::Got {
-                    key,
-                    value,
-                    version,
-                },
-            }
+            got_entry(foresight, entries, guess.put, key, value, version)
         }
         Op::Missed { key } => Entry::Missed {
             key: number_of(keys, foresight, key, known),
@@ -460,33 +481,67 @@ fn entry_of_seen(
             value,
             version,
         } => {
-            let version = *version;
             if let Some(key) = known {
-                return match source_of(foresight, entries, guess.put, key, value, version) {
-                    Some(put) => Ok(Entry::Sourced { key, put, version }),
-                    None => Ok(Entry::Got {
-                        key,
-                        value: value.to_value(alloc)?,
-                        version,
-                    }),
-                };
+                return known_got_entry(alloc, foresight, entries, guess.put, key, value, *version);
             }
             // (once the key is added nothing may fail; the copy goes where the put is found)
-            let copied = value.to_value(alloc)?;
-            let key = number_of_seen(alloc, keys, foresight, key, known)?;
-            match source_of(foresight, entries, guess.put, key, value, version) {
-                Some(put) => Ok(Entry::Sourced { key, put, version }),
-                None => Ok(Entry::Got {
-                    key,
-                    value: copied,
-                    version,
-                }),
-            }
+            let value = value.to_value(alloc)?;
+            let key = number_of_seen(alloc, keys, foresight, key, None)?;
+            Ok(got_entry(foresight, entries, guess.put, key, value, *version))
         }
         OpView::Missed { key } => {
             let key = number_of_seen(alloc, keys, foresight, key, known)?;
             Ok(Entry::Missed { key })
         }
+    }
+}
+
+/// The entry of a get of the key of that number: it names its put where that is guessed right, and has the value where not.
+#[inline(always)]
+fn got_entry(
+    foresight: &Foresight,
+    entries: &Entries,
+    guess: Option<OpName>,
+    key: u32,
+    value: Value,
+    version: Version,
+) -> Entry
+    ensures told { (keys : List (List ℕ)) → told keys entries.now.all result ≡ Got (slice_index_or keys key []) value version }
+    ensures key { key_number_of result ≡ key }
+    ensures source { HasSource entries.now.all result }
+{
+    match source_of(foresight, entries, guess, key, &value.as_view(), version) {
+        Some(put) => Entry::Sourced { key, put, version },
+        None => Entry::Got {
+            key,
+            value,
+            version,
+        },
+    }
+}
+
+/// The same, where the value is seen and is copied only if no put is named.
+#[inline(always)]
+fn known_got_entry(
+    alloc: Global,
+    foresight: &Foresight,
+    entries: &Entries,
+    guess: Option<OpName>,
+    key: u32,
+    value: &ValueView<'_>,
+    version: Version,
+) -> Result<Entry, Memory>
+    ensures told { IfOk result (λ entry. (keys : List (List ℕ)) → told keys entries.now.all entry ≡ Got (slice_index_or keys key []) value.now version) }
+    ensures key { IfOk result (λ entry. key_number_of entry ≡ key) }
+    ensures source { IfOk result (HasSource entries.now.all) }
+{
+    match source_of(foresight, entries, guess, key, value, version) {
+        Some(put) => Ok(Entry::Sourced { key, put, version }),
+        None => Ok(Entry::Got {
+            key,
+            value: value.to_value(alloc)?,
+            version,
+        }),
     }
 }
 

@@ -5,11 +5,11 @@ use Rattle.cops_audit.proofs.Noting.{few_places, front_noted, higher_note, lower
 use Rattle.cops_audit.proofs.notes.note_on.Goals as goal
 use Rattle.cops_audit.proofs.notes.note_on.Goals.{then-mark-above, else-mark-above}
 
-pub of-did-requires : goal.of-did-requires
-of-did-requires c = slice_get_there (slice_index_or c.args.history.now.sessions c.args.client []) c.loop-index.index (omega (arith, c.session_len-index-end.ensures.count, c.loop-index-test.true))
+pub see_hinted-seen-requires-clause-named : goal.see_hinted-seen-requires-clause-named
+see_hinted-seen-requires-clause-named c = slice_get_there (slice_index_or c.args.history.now.sessions c.args.client []) c.loop-index.index (omega (arith, c.session_len-index-end.ensures.count, c.loop-index-test.true))
 
 pub above-above-requires : goal.above-above-requires
-above-above-requires c = omega (arith, few_places c.args.history.now.sessions c.args.table.now c.requires.table _ c.see-seen.result c.see-seen.ensures, c.requires.table.table.few)
+above-above-requires c = omega (arith, few_places c.args.history.now.sessions c.args.table.now c.requires.table _ c.see_hinted-seen.result c.see_hinted-seen.ensures, c.requires.table.table.few)
 
 pub loop-index-init : goal.loop-index-init
 loop-index-init c =
@@ -27,9 +27,9 @@ loop-index-preserved c =
     record {
       noted = elim c.if-mark-above.branch [
         | then-mark-above w ↦ rw c.in_ok-push.ensures.items
-            (higher_note h c.args.table.now c.args.client old c.loop-index.index c.loop-index.mark c.see-seen.result c.loop-index.invariant.noted c.see-seen.ensures _ c.above-above.result w.mark-is c.above-above.ensures w.if-mark-above.true)
+            (higher_note h c.args.table.now c.args.client old c.loop-index.index c.loop-index.mark c.see_hinted-seen.result c.loop-index.invariant.noted c.see_hinted-seen.ensures _ c.above-above.result w.mark-is c.above-above.ensures w.if-mark-above.true)
         | else-mark-above w ↦ rw c.in_ok-push.ensures.items
-            (lower_note h c.args.table.now c.args.client old c.loop-index.index c.loop-index.mark c.see-seen.result c.loop-index.invariant.noted c.see-seen.ensures _ c.above-above.result w.mark-is c.above-above.ensures w.if-mark-above.false)
+            (lower_note h c.args.table.now c.args.client old c.loop-index.index c.loop-index.mark c.see_hinted-seen.result c.loop-index.invariant.noted c.see_hinted-seen.ensures _ c.above-above.result w.mark-is c.above-above.ensures w.if-mark-above.false)
       ];
       within = omega (arith, c.session_len-index-end.ensures.count, c.loop-index-test.true);
     }
