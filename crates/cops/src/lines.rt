@@ -1,5 +1,5 @@
-//! The lines of an import as a file that can be read twice: the one that has their name, or a copy of what comes by standard input or
-//! by a pipe. No clause speaks of what a file has.
+//! The lines of an import as a file that can be read twice: the one that has their name, or a copy of what comes by
+//! standard input or by a pipe. No clause speaks of what a file has.
 use cops_command::Status;
 use std::fs::{File, OpenOptions};
 use std::io::{Input, Read, Seek, Write};
@@ -58,7 +58,8 @@ impl NoLines {
     }
 }
 
-/// The file of lines of that name, or a copy of standard input where that is `-`. Of what is no plain file, as a pipe, it is a copy too.
+/// The file of lines of that name, or a copy of standard input where that is `-`. Of what is no plain file, as a pipe,
+/// it is a copy too.
 pub fn opened<R>(rt: &R, name: &str, process: u32) -> Result<File, NoLines>
 where
     R: Files<File = File> + Env + Input + AllocGlobal,
@@ -113,8 +114,8 @@ where
     Err(NoLines::Endless)
 }
 
-/// An empty file without a name, in the folder that TMPDIR names, or else in `/tmp`: it is made anew, its name is removed while it is
-/// open, and so the system lets go of it however the program ends.
+/// An empty file without a name, in the folder that TMPDIR names, or else in `/tmp`: it is made anew, its name is
+/// removed while it is open, and so the system lets go of it however the program ends.
 fn created<R>(rt: &R, process: u32) -> Result<File, NoLines>
 where
     R: Files<File = File> + Env + AllocGlobal,

@@ -83,8 +83,8 @@ fn ended<R: Eprint + Clock>(
     }
 }
 
-/// Audits the input by so many workers, and gives the status: accepted only where the bytes spell one history, and it is
-/// causally convergent.
+/// Audits the input by so many workers, and gives the status: accepted only where the bytes spell one history, and it
+/// is causally convergent.
 fn audit<R, I>(rt: &R, input: I, workers: u8, is_told: bool) -> u8
 where
     R: Print + Eprint + AllocGlobal + Threads + Wait + Sync + Clock,
@@ -117,8 +117,8 @@ where
     ended(rt, audited, begun)
 }
 
-/// Explains the faults of the input that are asked for, draws the one of them, or the first, to the file of a name that is given, and
-/// gives the status of an audit.
+/// Explains the faults of the input that are asked for, draws the one of them, or the first, to the file of a name that
+/// is given, and gives the status of an audit.
 fn explain<R, I>(rt: &R, input: I, faults: Selection, name: Option<&str>) -> u8
 where
     R: Files<File = File> + Print + Eprint + AllocGlobal + Clock,
@@ -175,9 +175,9 @@ where
     }
 }
 
-/// Runs the scenario that the input holds, writes its trace to the file of that name, and gives the status: accepted only of a
-/// scenario with a run whose history is accepted. Where the name is `-`, the trace goes to standard output, and all else that is
-/// printed to standard error.
+/// Runs the scenario that the input holds, writes its trace to the file of that name, and gives the status: accepted
+/// only of a scenario with a run whose history is accepted. Where the name is `-`, the trace goes to standard output,
+/// and all else that is printed to standard error.
 fn run_scenario<R, I, E>(rt: &R, input: I, trace: &str, errors: E) -> u8
 where
     R: Files<File = File> + Print + Eprint + AllocGlobal + Threads + Wait + Sync,
@@ -226,9 +226,9 @@ where
     }
 }
 
-/// Imports the lines of the input, of which an earlier reading named so many clients, writes their trace to the file of that name, and
-/// gives the status: accepted only of lines that tell a trace. Where the name is `-`, the trace goes to standard output, and all else
-/// that is printed to standard error.
+/// Imports the lines of the input, of which an earlier reading named so many clients, writes their trace to the file of
+/// that name, and gives the status: accepted only of lines that tell a trace. Where the name is `-`, the trace goes to
+/// standard output, and all else that is printed to standard error.
 fn import<R, I, E>(rt: &R, clients: u16, input: I, trace: &str, errors: E) -> u8
 where
     R: Files<File = File> + Print + Eprint + AllocGlobal,
@@ -343,9 +343,9 @@ where
     }
 }
 
-/// Serves so many sessions of clients of the cluster of the scenario that the input holds, each of which may be idle for so many
-/// seconds, where they are given, and gives the status: accepted only of a scenario with a report on so many sessions, whose history
-/// is accepted.
+/// Serves so many sessions of clients of the cluster of the scenario that the input holds, each of which may be idle
+/// for so many seconds, where they are given, and gives the status: accepted only of a scenario with a report on so
+/// many sessions, whose history is accepted.
 fn serve<R, I, E>(rt: &R, input: I, port: u16, sessions: u16, idle: Option<u16>, errors: E) -> u8
 where
     R: Net<Listener = TcpListener, Stream = TcpStream> + Print + Eprint + AllocGlobal + Wait,
@@ -373,7 +373,8 @@ where
     }
 }
 
-/// Does a job over its input, of which an earlier reading named so many clients where it is an import's, and gives the status.
+/// Does a job over its input, of which an earlier reading named so many clients where it is an import's, and gives the
+/// status.
 fn command<R, I, E>(rt: &R, job: Job<'_>, clients: u16, input: I, errors: E) -> u8
 where
     R: Files<File = File> + Print + Eprint + AllocGlobal + Threads + Wait + Sync + Clock,

@@ -11,8 +11,8 @@ const PATIENCE: u64 = 1;
 /// The length of a head and of an end: each record's is greater.
 const NO_RECORD: u32 = 5;
 
-/// Counts the records of a text byte by byte. A frame is a length of four bytes, the most significant first, and then so many
-/// bytes.
+/// Counts the records of a text byte by byte. A frame is a length of four bytes, the most significant first, and then
+/// so many bytes.
 #[derive(Drop)]
 struct Records {
     ended: u64,

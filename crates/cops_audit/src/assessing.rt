@@ -61,8 +61,8 @@ fn has_mismatched(
 }
 
 impl Room {
-    /// Finds the gets that may be stale, in a history where each get has its source or waits for it, and each put is above what its
-    /// session saw. It takes no memory.
+    /// Finds the gets that may be stale, in a history where each get has its source or waits for it, and each put is
+    /// above what its session saw. It takes no memory.
     pub fn suspect(&mut self, history: &History, notes: &Notes) -> Result<(), AllocError>
         requires noted { IsNotedIn history.now.sessions self.old notes.now }
         requires sources { HaveSourcesOrWait history.now.sessions }

@@ -22,7 +22,8 @@ use crate::window::Suspect;
 use cops_types::{History, OpName};
 use std::alloc::{AllocError, Global};
 
-/// Up to so many clients what all sessions know of is told for each operation: beside more a search that goes by suspects costs less.
+/// Up to so many clients what all sessions know of is told for each operation: beside more a search that goes by
+/// suspects costs less.
 const MOST_CLIENTS: usize = 64;
 
 /// It is told where there is a suspect for so many operations, or more of them.
@@ -34,8 +35,8 @@ const MOST_NEWER: usize = 16;
 /// So many more suspects may be left than were cleared: with more it is given up.
 const MOST_LEFT: usize = 4_096;
 
-/// Sessions that are passed side by side, the place of each client's next suspect, which of the suspects are cleared, and how many are and
-/// are not.
+/// Sessions that are passed side by side, the place of each client's next suspect, which of the suspects are cleared,
+/// and how many are and are not.
 #[derive(Drop)]
 struct Clearing {
     clocks: Clocks,
@@ -55,8 +56,8 @@ fn is_counted(counts: &[u32], name: OpName) -> bool
     }
 }
 
-/// Whether none of the puts is counted that would be newer than what a suspect returned, of those below a mark. False too where
-/// the puts on its key are not linked from its place on, or are many.
+/// Whether none of the puts is counted that would be newer than what a suspect returned, of those below a mark. False
+/// too where the puts on its key are not linked from its place on, or are many.
 fn none_counted(
     table: &[VersionedPut],
     nexts: &[Option<u32>],
@@ -177,7 +178,8 @@ impl Clearing {
         self.left.saturating_sub(self.told) > MOST_LEFT
     }
 
-    /// Passes the operations of a client up to an index. False where one is not there, or got a put that was not passed before.
+    /// Passes the operations of a client up to an index. False where one is not there, or got a put that was not passed
+    /// before.
     fn pass_to(
         &mut self,
         table: &[VersionedPut],
@@ -300,8 +302,8 @@ fn left_suspects(
     Ok(left)
 }
 
-/// Takes those away from the suspects that have no newer put in their past, as far as that is told by what all sessions know of while
-/// they are passed side by side. That is done where there are few sessions, and many suspects.
+/// Takes those away from the suspects that have no newer put in their past, as far as that is told by what all sessions
+/// know of while they are passed side by side. That is done where there are few sessions, and many suspects.
 pub fn clear(
     suspects: &mut Vec<Suspect>,
     alloc: Global,

@@ -27,9 +27,10 @@ struct Known {
     counts: Vec<u32>,
 }
 
-/// What the sessions know of while they are passed side by side, operation by operation, so that each get comes after its put:
-/// of each session how many of its operations were passed, and of each how many of all sessions' first operations are in its past.
-/// Of puts passed last it is kept what they know of, and of others what had been passed some puts later.
+/// What the sessions know of while they are passed side by side, operation by operation, so that each get comes after
+/// its put: of each session how many of its operations were passed, and of each how many of all sessions' first
+/// operations are in its past. Of puts passed last it is kept what they know of, and of others what had been passed
+/// some puts later.
 #[derive(Drop)]
 pub struct Clocks {
     pub passed: Vec<u32>,
@@ -202,7 +203,8 @@ impl Clocks {
         known[client] = known[client].max(count);
     }
 
-    /// Passes the next operation of a client, on which this is the note. False where it got a put that was not passed before.
+    /// Passes the next operation of a client, on which this is the note. False where it got a put that was not passed
+    /// before.
     pub fn pass(
         &mut self,
         table: &[VersionedPut],

@@ -53,8 +53,8 @@ impl Room {
         Ok(())
     }
 
-    /// The stale gets of a history where each get has its source, and each put is above what its session saw, each with the newest
-    /// put on its key in its past.
+    /// The stale gets of a history where each get has its source, and each put is above what its session saw, each with
+    /// the newest put on its key in its past.
     fn stale(
         &mut self,
         alloc: Global,
@@ -158,8 +158,8 @@ impl Room {
         Ok(Verdict::Accepted(puts))
     }
 
-    /// The verdict on a history. Beside the room it takes memory for the faults, or for the names of the puts; and as long as they
-    /// are gone through, for the names of all operations, and for hints of where puts stand.
+    /// The verdict on a history. Beside the room it takes memory for the faults, or for the names of the puts; and as
+    /// long as they are gone through, for the names of all operations, and for hints of where puts stand.
     pub fn judge(&mut self, alloc: Global, history: &History) -> Result<Verdict, AllocError>
         requires { IsReady history.now.sessions self.old }
         ensures { IfOk result (IsVerdict history.now.sessions) }

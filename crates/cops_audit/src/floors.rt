@@ -56,8 +56,8 @@ fn follows(suspects: &[Suspect], k: usize) -> bool
     suspects[k - 1].op.client == suspects[k].op.client
 }
 
-/// The place of the newest put of a suspect's key in its past, if one stands where the suspect says or later; by a sweep
-/// that has come as far as the suspect before.
+/// The place of the newest put of a suspect's key in its past, if one stands where the suspect says or later; by a
+/// sweep that has come as far as the suspect before.
 pub fn judge_next(
     sweep: &mut Sweep,
     table: &[VersionedPut],

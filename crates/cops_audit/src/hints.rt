@@ -74,9 +74,9 @@ impl Places {
     }
 }
 
-/// Where puts may stand in a table of puts in order of versions, by their names and by their versions. The versions are cut into
-/// stretches of one width, about as many as there are puts, and of each it is known where its puts begin. These are but hints: each
-/// is looked up in the table, and a version that does not stand there is searched for.
+/// Where puts may stand in a table of puts in order of versions, by their names and by their versions. The versions are
+/// cut into stretches of one width, about as many as there are puts, and of each it is known where its puts begin.
+/// These are but hints: each is looked up in the table, and a version that does not stand there is searched for.
 #[derive(Drop)]
 pub struct Hints {
     pub places: Places,

@@ -45,8 +45,8 @@ fn set_none(places: &mut Vec<Option<u32>>, count: usize) -> Result<(), AllocErro
     places.resize(count, None)
 }
 
-/// Links each put to the next one on its key, and gives of each key, by its number, the first put on it. It takes no memory
-/// where there is room for as many links as there are puts and as many first puts as there are operations.
+/// Links each put to the next one on its key, and gives of each key, by its number, the first put on it. It takes no
+/// memory where there is room for as many links as there are puts and as many first puts as there are operations.
 pub fn link(
     nexts: &mut Vec<Option<u32>>,
     firsts: &mut Vec<Option<u32>>,

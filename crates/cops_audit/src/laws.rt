@@ -31,8 +31,8 @@ pub fn refused_stays_refused()
     ensures { (h longer : Sessions) (v : Verdict) → IsSoFar h SoFar.Refused → Continues h longer → IsVerdict longer v → ¬ Accepts v }
 {}
 
-/// A law of the definitions: where a verdict is acceptance the history is causally convergent, and it is acceptance exactly
-/// where no version is borne by two puts and the history converges by the order of its versions.
+/// A law of the definitions: where a verdict is acceptance the history is causally convergent, and it is acceptance
+/// exactly where no version is borne by two puts and the history converges by the order of its versions.
 pub fn verdict_on_convergence()
     ensures convergent { (h : Sessions) (v : Verdict) → IsVerdict h v → Accepts v → IsCausallyConvergent h }
     ensures exactly { (h : Sessions) (v : Verdict) → IsVerdict h v → Accepts v ↔ ConvergesByVersions h }

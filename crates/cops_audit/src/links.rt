@@ -3,8 +3,8 @@ use crate::table::VersionedPut;
 use cops_types::History;
 use std::alloc::{AllocError, Global};
 
-/// The puts by their keys: of each put the next one on its key, of each key, by its number, the first put on it, and where
-/// many look for stale gets of each put the place of the first put on its key.
+/// The puts by their keys: of each put the next one on its key, of each key, by its number, the first put on it, and
+/// where many look for stale gets of each put the place of the first put on its key.
 #[derive(Drop)]
 pub struct Links {
     pub nexts: Vec<Option<u32>>,

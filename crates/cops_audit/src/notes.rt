@@ -37,8 +37,8 @@ pub struct Note {
     pub mark: u32,
 }
 
-/// How many places the sessions' marks rise in a round, in which each session is noted on: operations that are near in time
-/// look up what lies near together.
+/// How many places the sessions' marks rise in a round, in which each session is noted on: operations that are near in
+/// time look up what lies near together.
 const STEP: usize = 4096;
 
 /// What an operation did, by the table.
@@ -301,8 +301,8 @@ impl SessionNotes {
     }
 }
 
-/// Notes to look in, by client and index: those of the first sessions each in a vector of its own, then those of the others in
-/// one piece, each from one place up to another.
+/// Notes to look in, by client and index: those of the first sessions each in a vector of its own, then those of the
+/// others in one piece, each from one place up to another.
 #[derive(Drop)]
 pub struct Notes<'a> {
     pub sessions: &'a [Vec<Note>],

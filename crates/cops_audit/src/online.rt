@@ -8,8 +8,8 @@ use std::alloc::Global;
 use std::marker::Model;
 
 /// An auditor that is fed one operation after the other: the clients in any order, and each client's operations in
-/// their own. Beside what was fed it holds the room that an answer takes, some hundred bytes for each operation, which are
-/// not touched before.
+/// their own. Beside what was fed it holds the room that an answer takes, some hundred bytes for each operation, which
+/// are not touched before.
 #[derive(Drop)]
 pub struct Online {
     alloc: Global,
@@ -102,8 +102,8 @@ impl Online {
         self.history.looks_ahead()
     }
 
-    /// Fetches from memory what will be needed for operations that come, where these are fed next and in this order. Nothing that is
-    /// said of what was fed changes.
+    /// Fetches from memory what will be needed for operations that come, where these are fed next and in this order.
+    /// Nothing that is said of what was fed changes.
     pub fn foresee(&mut self, coming: &[OpView<'_>])
         ensures { self.new ≡ self.old }
     {
@@ -138,8 +138,9 @@ impl Online {
         Ok(judged.into_verdict())
     }
 
-    /// The verdict on what was fed, with the sessions that were fed, whose values are left out. It judges in the room that is kept,
-    /// and copies nothing that was fed. While it judges it takes memory for names and for notes, 20 bytes for each operation.
+    /// The verdict on what was fed, with the sessions that were fed, whose values are left out. It judges in the room
+    /// that is kept, and copies nothing that was fed. While it judges it takes memory for names and for notes, 20 bytes
+    /// for each operation.
     pub fn close(self) -> Result<Judged, Memory>
         ensures { IfOk result (IsJudged self) }
     {

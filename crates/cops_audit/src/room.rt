@@ -9,8 +9,8 @@ use crate::window::Suspect;
 use cops_types::{History, OpName};
 use std::alloc::{AllocError, Global};
 
-/// What a look for faults fills, with room for a history as it grows: with the notes 100 bytes for each operation. A vector
-/// doubles as it grows, so that up to twice as much may be held. The room is not touched until the look.
+/// What a look for faults fills, with room for a history as it grows: with the notes 100 bytes for each operation. A
+/// vector doubles as it grows, so that up to twice as much may be held. The room is not touched until the look.
 #[derive(Drop)]
 pub struct Room {
     /// For how many operations there is space.
@@ -27,8 +27,8 @@ pub struct Room {
     pub sweep: Sweep,
 }
 
-/// The least number of operations that there is space for, once there is any. Each vector of so many lies in pages of its own, where the
-/// system lets it grow without a copy of what was never written.
+/// The least number of operations that there is space for, once there is any. Each vector of so many lies in pages of
+/// its own, where the system lets it grow without a copy of what was never written.
 const LEAST_SPACE: usize = 32_768;
 
 /// Empties it, and makes room for so many.
@@ -67,7 +67,8 @@ impl Room {
         })
     }
 
-    /// Makes space for a quarter more than so many operations, which are more than there is space for, and for the least number at least.
+    /// Makes space for a quarter more than so many operations, which are more than there is space for, and for the
+    /// least number at least.
     fn reserve(&mut self, notes: &mut FlatNotes, count: usize) -> Result<(), AllocError>
         requires more { self.old.space < count }
         requires few { count ≤ MAX_OPS + 1 }

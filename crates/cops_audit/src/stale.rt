@@ -26,8 +26,8 @@ use crate::window::{Suspect, push_suspects};
 use cops_types::{History, OpName};
 use std::alloc::{AllocError, Global};
 
-/// The stale gets among the suspects, each with the newest put on its key in its past, by a sweep that has looked at nothing or
-/// that is through with what it looked at.
+/// The stale gets among the suspects, each with the newest put on its key in its past, by a sweep that has looked at
+/// nothing or that is through with what it looked at.
 pub fn stale_suspects(
     alloc: Global,
     sweep: &mut Sweep,
@@ -138,8 +138,8 @@ pub fn stale_among(
     )
 }
 
-/// Whether a suspect is stale, by a sweep that has looked at nothing or that is through with what it looked at. It takes no
-/// memory where the sweep has room.
+/// Whether a suspect is stale, by a sweep that has looked at nothing or that is through with what it looked at. It
+/// takes no memory where the sweep has room.
 pub fn has_stale(
     sweep: &mut Sweep,
     history: &History,

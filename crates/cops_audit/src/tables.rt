@@ -113,8 +113,8 @@ impl<'a> Tables<'a> {
         without_source(alloc, &self.notes.look(), names)
     }
 
-    /// The puts among so many names from a place on that are not above what their sessions saw, each with the first such
-    /// operation.
+    /// The puts among so many names from a place on that are not above what their sessions saw, each with the first
+    /// such operation.
     pub fn not_above(
         &self,
         alloc: Global,
@@ -168,8 +168,8 @@ impl<'a> Tables<'a> {
         stale_among(alloc, self.history, table, &notes, links, names)
     }
 
-    /// The verdict where the classes before the stale gets are empty: the stale gets among all names, or the puts in order
-    /// of versions.
+    /// The verdict where the classes before the stale gets are empty: the stale gets among all names, or the puts in
+    /// order of versions.
     pub fn verdict(&self, alloc: Global, stale: Vec<Stale>) -> Result<Verdict, Memory>
         requires sources { AllHaveSources self.now.sessions }
         requires above { AllAbove self.now.sessions }

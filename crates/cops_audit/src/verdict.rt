@@ -1,6 +1,7 @@
 use cops_types::OpName;
 
-/// A put that has an earlier put or get of its session whose version is not below its own, and the first such operation.
+/// A put that has an earlier put or get of its session whose version is not below its own, and the first such
+/// operation.
 #[derive(Clone, Copy, Debug, PartialEq, Eq)]
 pub struct NotAbove {
     pub op: OpName,

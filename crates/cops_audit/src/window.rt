@@ -171,8 +171,8 @@ pub fn push_suspects(
     Ok(())
 }
 
-/// Adds the suspects of a session, behind those of the sessions before it. It takes no memory where there is room for as many as
-/// there are operations.
+/// Adds the suspects of a session, behind those of the sessions before it. It takes no memory where there is room for
+/// as many as there are operations.
 fn push_session_suspects(
     suspects: &mut Vec<Suspect>,
     history: &History,

@@ -17,10 +17,10 @@ use std::alloc::Global;
 use std::sync::Wait;
 use std::thread::Threads;
 
-/// The verdict on a history, by `workers` workers, 1 to 64: it is the one of `judge`. The operations in order of names are
-/// cut into so many pieces, the longer ones first, their lengths differing by at most one. Each worker passes the gate at
-/// `PieceStart` of its piece's number before its work and at `PieceDone` after it. `BadWorkers` exactly unless there are 1
-/// to 64; `Held` where the gate held a worker; else `Memory` where memory was refused.
+/// The verdict on a history, by `workers` workers, 1 to 64: it is the one of `judge`. The operations in order of names
+/// are cut into so many pieces, the longer ones first, their lengths differing by at most one. Each worker passes the
+/// gate at `PieceStart` of its piece's number before its work and at `PieceDone` after it. `BadWorkers` exactly unless
+/// there are 1 to 64; `Held` where the gate held a worker; else `Memory` where memory was refused.
 pub fn judge_with<R: Threads + Wait + Sync, G: Gate>(
     rt: &R,
     alloc: Global,
@@ -96,8 +96,8 @@ fn judge_doubled<R: Threads + Wait + Sync, G: Gate>(
     Ok(puts.refused_doubled(faults))
 }
 
-/// The verdict where no version is borne by two puts. Whether the stale gets are to be looked for is known only once all
-/// pieces were searched for the classes before them, so there are two rounds.
+/// The verdict where no version is borne by two puts. Whether the stale gets are to be looked for is known only once
+/// all pieces were searched for the classes before them, so there are two rounds.
 fn judge_gets<R: Threads + Wait + Sync, G: Gate>(
     rt: &R,
     alloc: Global,

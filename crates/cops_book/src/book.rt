@@ -52,8 +52,8 @@ impl Book {
         }
     }
 
-    /// The node takes one event, and its entry goes last. Where it is refused 9, for want of memory, nothing changes and
-    /// no entry is made.
+    /// The node takes one event, and its entry goes last. Where it is refused 9, for want of memory, nothing changes
+    /// and no entry is made.
     pub fn step(&mut self, ticket: u64, event: NodeEvent) -> Outcome
         ensures memory { result ≡ Refused OutOfMemory → self.new ≡ self.old }
         ensures stepped { result ≢ Refused OutOfMemory → node_step self.old.node event ≡ (result, self.new.node) }

@@ -57,8 +57,8 @@ impl Book {
     ghost use Rattle.cops_node.specs.Node.{node_step};
     ghost use Rattle.cops_book.specs.Book.{entry, puts_in};
 
-    /// The node takes one event as by `step`, for whoever keeps the entry too: with the answer comes a copy of it, and the entry. Where memory runs out
-    /// for any of these nothing changes, and no entry is made.
+    /// The node takes one event as by `step`, for whoever keeps the entry too: with the answer comes a copy of it, and
+    /// the entry. Where memory runs out for any of these nothing changes, and no entry is made.
     pub fn step_told(&mut self, ticket: u64, event: NodeEvent) -> Result<Told, Memory>
         ensures memory { OnErr result (self.new ≡ self.old) }
         ensures stepped { IfOk result (λ told. node_step self.old.node event ≡ (told.outcome, self.new.node)) }
@@ -84,8 +84,9 @@ impl Book {
         })
     }
 
-    /// Copies of the puts that were issued here, from the entry at a place on, and how many entries there are: from there
-    /// on the next copies are to be made. From a place that is not there on no put was issued. It takes memory only where one was.
+    /// Copies of the puts that were issued here, from the entry at a place on, and how many entries there are: from
+    /// there on the next copies are to be made. From a place that is not there on no put was issued. It takes memory
+    /// only where one was.
     pub fn puts_from(&self, alloc: Global, place: usize) -> Result<Puts, Memory>
         ensures puts { IfOk result (λ r. r.puts.items ≡ puts_in (drop place self.now.entries)) }
         ensures entries { IfOk result (λ r. r.entries ≡ length self.now.entries) }

@@ -1,5 +1,6 @@
-//! A COPS cluster on threads, whole, for who uses one: the cluster with its clients and their shares, what brings its puts into the other
-//! data centres, how a scripted client may end, and the run of a scenario. Each body stands in a crate below, with its contract.
+//! A COPS cluster on threads, whole, for who uses one: the cluster with its clients and their shares, what brings its
+//! puts into the other data centres, how a scripted client may end, and the run of a scenario. Each body stands in a
+//! crate below, with its contract.
 #![tactic(auto)]
 
 pub use cops_cluster::{

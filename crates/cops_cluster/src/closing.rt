@@ -36,10 +36,11 @@ pub struct Uncompared {
 pub enum CloseFault {
     /// Memory was refused. The cluster and the shares come back.
     Memory(Cluster, Vec<Share>),
-    /// There is not one share of each client and of each receiver, or there are others. The cluster and the shares come back.
+    /// There is not one share of each client and of each receiver, or there are others. The cluster and the shares come
+    /// back.
     SharesMissing(Cluster, Vec<Share>),
-    /// The books have other entries than the shares. The least ticket whose entries in the books, which replay, and in the shares
-    /// are not the same, each as often.
+    /// The books have other entries than the shares. The least ticket whose entries in the books, which replay, and in
+    /// the shares are not the same, each as often.
     NotKept { ticket: u64 },
 }
 
@@ -49,9 +50,9 @@ impl Cluster {
     ghost use Rattle.cops_cluster.specs.Close.{AllReplay, AreAll, made_in, told};
     ghost use Rattle.cops_cluster.specs.HandedBack.{HandsBack, HasRooms};
 
-    /// Ends the cluster. The lists replay, and their entries are those of the shares, each as often. `SharesMissing` unless the
-    /// share of each client and of each receiver is there once, then `NotKept` where the entries differ, with the least ticket
-    /// at which they do.
+    /// Ends the cluster. The lists replay, and their entries are those of the shares, each as often. `SharesMissing`
+    /// unless the share of each client and of each receiver is there once, then `NotKept` where the entries differ,
+    /// with the least ticket at which they do.
     pub fn close(self, shares: Vec<Share>) -> Result<Closed, CloseFault>
         ensures len { IfOk result (λ closed. length closed.books.items ≡ self.place.dcs * (length self.place.splits + 1)) }
         ensures replays { IfOk result (λ closed. AllReplay (length self.place.splits + 1) closed.books.items) }
@@ -68,8 +69,9 @@ impl Cluster {
         }
     }
 
-    /// Ends the cluster as `close` does, for whoever compares the books with the shares by `difference_of_lists`, and so never answers
-    /// `NotKept`. The lists replay. `SharesMissing` unless the share of each client and of each receiver is there once.
+    /// Ends the cluster as `close` does, for whoever compares the books with the shares by `difference_of_lists`, and
+    /// so never answers `NotKept`. The lists replay. `SharesMissing` unless the share of each client and of each
+    /// receiver is there once.
     pub fn close_uncompared(self, shares: Vec<Share>) -> Result<Uncompared, CloseFault>
         ensures len { IfOk result (λ u. length u.closed.books.items ≡ self.place.dcs * (length self.place.splits + 1)) }
         ensures replays { IfOk result (λ u. AllReplay (length self.place.splits + 1) u.closed.books.items) }
@@ -99,7 +101,8 @@ impl Cluster {
         self.ended_in(rooms, shares, compares)
     }
 
-    /// Lists with room for what each node gives; `None` unless the share of each client and of each receiver is there once.
+    /// Lists with room for what each node gives; `None` unless the share of each client and of each receiver is there
+    /// once.
     fn rooms_for(&self, shares: &[Share]) -> Result<Option<Rooms>, AllocError>
         ensures some { IfOk result (λ o. IfSome o (λ rooms. HasRooms (vec_len self.now.nodes) rooms × AreAll self.now.clients self.now.place.dcs shares.now)) }
         ensures none { IfOk result (λ o. IfNone o (AreAll self.now.clients self.now.place.dcs shares.now → ⊥)) }

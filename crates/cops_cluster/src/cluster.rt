@@ -17,8 +17,8 @@ use std::alloc::{AllocError, Global};
 use std::sync::atomic::AtomicU64;
 use std::sync::{Mutex, Wait};
 
-/// The nodes of a cluster, each under a lock of its own, by data centre and place; one counter of tickets; and the recorder
-/// of what clients see.
+/// The nodes of a cluster, each under a lock of its own, by data centre and place; one counter of tickets; and the
+/// recorder of what clients see.
 #[derive(Drop)]
 pub struct Cluster {
     pub(crate) place: Place,
@@ -30,8 +30,8 @@ pub struct Cluster {
     ghost sized: { vec_len nodes ≡ place.dcs * (length place.splits + 1) },
 }
 
-/// A cluster in which nothing has happened, its clients in order of their numbers, and a share for the receiver of each data
-/// centre.
+/// A cluster in which nothing has happened, its clients in order of their numbers, and a share for the receiver of each
+/// data centre.
 #[derive(Drop)]
 pub struct Opened {
     pub cluster: Cluster,
@@ -47,8 +47,8 @@ impl Cluster {
     ghost use Rattle.cops_cluster.specs.Opening.{AreClientsAt, AreReceivers};
     ghost use Rattle.cops_cluster.specs.Cluster.{IsNode, IsPutsFrom};
 
-    /// A cluster of these data centres and nodes, with a client at each of these data centres: `BadClient` where one of those
-    /// is not there, or there are more than 65,535 clients.
+    /// A cluster of these data centres and nodes, with a client at each of these data centres: `BadClient` where one of
+    /// those is not there, or there are more than 65,535 clients.
     pub fn open(alloc: Global, place: Place, client_dcs: Vec<u8>) -> Result<Opened, OpenFault>
         ensures place { IfOk result (λ o. o.cluster.place ≡ place) }
         ensures clients { IfOk result (λ o. AreClientsAt client_dcs.items (length client_dcs.items) o.clients.items) }
@@ -114,8 +114,9 @@ impl Cluster {
         Some(status)
     }
 
-    /// Copies of the puts that were issued at the node at a place of a data centre, from the entry at a place of its book on, and
-    /// how many entries that has: from there on the next copies are to be made. `None` where there is no such node.
+    /// Copies of the puts that were issued at the node at a place of a data centre, from the entry at a place of its
+    /// book on, and how many entries that has: from there on the next copies are to be made. `None` where there is no
+    /// such node.
     pub fn puts_from<R: Wait>(
         &self,
         rt: &R,

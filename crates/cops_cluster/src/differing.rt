@@ -15,8 +15,8 @@ use crate::share::Share;
 use cops_book::{Book, Entry};
 use std::alloc::{AllocError, Global};
 
-/// The least ticket whose entries in the books are not those in the shares; `None` where the entries are the same, each as
-/// often.
+/// The least ticket whose entries in the books are not those in the shares; `None` where the entries are the same, each
+/// as often.
 pub(crate) fn difference(
     alloc: Global,
     places: usize,

@@ -1,6 +1,6 @@
-//! A COPS cluster on threads (COPS, sections 3 and 4): each node under a lock of its own, clients that call from threads of
-//! their own, and what each caller was told. Stands on the nodes' books, places, contexts and the recorder. The layers above
-//! use that, where a cluster is closed, what every caller was told is what the books' nodes answered.
+//! A COPS cluster on threads (COPS, sections 3 and 4): each node under a lock of its own, clients that call from
+//! threads of their own, and what each caller was told. Stands on the nodes' books, places, contexts and the recorder.
+//! The layers above use that, where a cluster is closed, what every caller was told is what the books' nodes answered.
 #![tactic(auto)]
 
 mod client;

@@ -68,8 +68,8 @@ impl Cluster {
     ghost use Rattle.cops_cluster.specs.Receiving.{Allows, Forbids, IsAllowedMark, IsAskedOf, IsMarkedAs, IsUnaskedMark, outcome_of};
     ghost use Rattle.cops_cluster.specs.declared.fault.Stop.TheVariants.{Refused};
 
-    /// A put of another data centre comes to its key's node in a data centre. Refused where there is no such data centre,
-    /// and for want of memory.
+    /// A put of another data centre comes to its key's node in a data centre. Refused where there is no such data
+    /// centre, and for want of memory.
     pub fn deliver<R: Wait, G: Gate>(
         &self,
         rt: &R,
@@ -135,10 +135,10 @@ impl Cluster {
         }
     }
 
-    /// Marks a dependency, by its index, of a put that waits at the node of its version in a data centre, for which this
-    /// answer Yes was given. Refused where there is no such data centre, where no put waits at the version, where it has no
-    /// such dependency, where the answer is one for another pair or of another data centre (`NoYes`, and for nothing else), and
-    /// for want of memory.
+    /// Marks a dependency, by its index, of a put that waits at the node of its version in a data centre, for which
+    /// this answer Yes was given. Refused where there is no such data centre, where no put waits at the version, where
+    /// it has no such dependency, where the answer is one for another pair or of another data centre (`NoYes`, and for
+    /// nothing else), and for want of memory.
     pub fn mark<R: Wait, G: Gate>(
         &self,
         rt: &R,
@@ -166,8 +166,8 @@ impl Cluster {
         passed(rt, gate, RECEIVER, replied(spot.number(), answered))
     }
 
-    /// Settles a put that waits at the node of its version in a data centre. Refused where there is no such data centre, where
-    /// no put waits at the version, where not all its dependencies are marked, and for want of memory.
+    /// Settles a put that waits at the node of its version in a data centre. Refused where there is no such data
+    /// centre, where no put waits at the version, where not all its dependencies are marked, and for want of memory.
     pub fn settle<R: Wait, G: Gate>(
         &self,
         rt: &R,
@@ -252,7 +252,8 @@ impl Cluster {
         Ok(gained(share, spot.number(), told))
     }
 
-    /// A mark at a node whose lock is held: refused with `NoYes` exactly where the answer is not one for the dependency that is there.
+    /// A mark at a node whose lock is held: refused with `NoYes` exactly where the answer is not one for the dependency
+    /// that is there.
     fn marked<R: Wait, G: Gate>(
         &self,
         rt: &R,

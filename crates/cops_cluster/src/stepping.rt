@@ -160,8 +160,8 @@ impl Cluster {
     ghost use Rattle.cops_cluster.specs.Outcomes.{IsGetOutcome, IsNodeAnswer, IsPutOutcome, IsWant, StopsWith};
     ghost use Rattle.cops_cluster.specs.Replies.{IsSpent};
 
-    /// A client puts a value. Refused where the client is of another cluster, where its session is full, where the clock of
-    /// the key's node can rise no further, and for want of memory.
+    /// A client puts a value. Refused where the client is of another cluster, where its session is full, where the
+    /// clock of the key's node can rise no further, and for want of memory.
     pub fn put<R: Wait, G: Gate>(
         &self,
         rt: &R,
@@ -191,8 +191,8 @@ impl Cluster {
         passed(rt, gate, number, reply)
     }
 
-    /// A client gets the value of a key. Refused where the client is of another cluster, where its session is full, where its
-    /// context holds 256 pairs, and for want of memory.
+    /// A client gets the value of a key. Refused where the client is of another cluster, where its session is full,
+    /// where its context holds 256 pairs, and for want of memory.
     pub fn get<R: Wait, G: Gate>(
         &self,
         rt: &R,
@@ -304,8 +304,8 @@ impl Cluster {
         }
     }
 
-    /// The key's node in the client's data centre, where the client's context has room for one more pair: else why the get is
-    /// refused.
+    /// The key's node in the client's data centre, where the client's context has room for one more pair: else why the
+    /// get is refused.
     fn spot_with_room(&self, client: &mut Client, key: &Key) -> Result<Spot, Refusal>
         ensures spot { IfOk result (λ spot. (spot.dc ≡ client.old.dc) × (spot.place ≡ primary self.now.place.splits key.now) × IsNode self.now spot.dc spot.place) }
         ensures room { OnOk result ((length client.old.context.pairs < MAX_DEPS) × (client.new.context.room ≡ true)) }

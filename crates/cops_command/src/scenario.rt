@@ -14,8 +14,9 @@ use cops_types::{Counted, Memory};
 use std::alloc::Global;
 use std::io::{Read, Write};
 
-/// The scenario that the reader's bytes tell, or the status of a command that has none: `Faulty` where they tell none, of which a
-/// line on `out` tells, and `Failed` where a read failed, or a write of that line, of which a line on `errors` tells.
+/// The scenario that the reader's bytes tell, or the status of a command that has none: `Faulty` where they tell none,
+/// of which a line on `out` tells, and `Failed` where a read failed, or a write of that line, of which a line on
+/// `errors` tells.
 pub fn read_scenario<R: Read, W: Write, E: Write>(
     alloc: Global,
     reader: &mut Counted<R>,

@@ -140,8 +140,8 @@ impl Context {
         Ok(())
     }
 
-    /// Leaves one pair, that of the client's new put, which depends on all that stood here. It takes no memory, so it is
-    /// never refused.
+    /// Leaves one pair, that of the client's new put, which depends on all that stood here. It takes no memory, so it
+    /// is never refused.
     pub fn replace(&mut self, put: Dep)
         ensures { self.new.pairs ≡ put ∷ [] }
     {

@@ -64,7 +64,8 @@ pub fn drafted(
     })
 }
 
-/// What a put leaves once it has its version: the issued put, its key in the client's context, and what the session tells.
+/// What a put leaves once it has its version: the issued put, its key in the client's context, and what the session
+/// tells.
 #[derive(Drop)]
 pub struct Copies {
     pub issued: Draft,

@@ -123,8 +123,8 @@ impl State {
         self.centres.at(dc, setting.primary(key)).has(key, version)
     }
 
-    /// A client puts a value at a key, in its own data centre. The put depends on the client's context, which then holds
-    /// the new pair alone.
+    /// A client puts a value at a key, in its own data centre. The put depends on the client's context, which then
+    /// holds the new pair alone.
     fn put(&mut self, setting: &Setting, client: u16, key: &Key, value: &Value) -> Outcome
         requires { IsReached setting.now self.old }
         ensures happens { Happens setting.now self.old (PutBy client key.now value.now) result self.new }

@@ -1,7 +1,7 @@
 //! The table of a world's events, which the cases of its step are made from.
 
-/// Calls a macro with what it is given and the events of a world. Each row has an event and the call of the state that answers
-/// it; the outcomes are the node's, and the refusals stand with the calls, in their order.
+/// Calls a macro with what it is given and the events of a world. Each row has an event and the call of the state that
+/// answers it; the outcomes are the node's, and the refusals stand with the calls, in their order.
 macro_rules! events {
     ($make:ident $($given:tt)*) => {
         $make! {

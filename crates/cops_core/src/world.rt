@@ -83,8 +83,8 @@ impl World {
     /// | Mark | Marked | 10 unknown data centre, 5 not held, 6 no such dependency, 7 no answer Yes |
     /// | Settle | Settled | 10 unknown data centre, 5 not held, 8 open dependencies |
     ///
-    /// Each is refused 9 where memory was refused: only in place of an outcome that is no refusal, or of a put's refusal 1
-    /// or a mark's refusal 7, since the other refusals take no memory. A refused event changes nothing.
+    /// Each is refused 9 where memory was refused: only in place of an outcome that is no refusal, or of a put's
+    /// refusal 1 or a mark's refusal 7, since the other refusals take no memory. A refused event changes nothing.
     pub fn apply(&mut self, event: Event) -> Outcome
         ensures setting { self.new.setting ≡ self.old.setting }
         ensures event { Happens self.old.setting self.old.world event result self.new.world }
@@ -104,8 +104,8 @@ impl World {
         self.state.step(&self.setting, event)
     }
 
-    /// Answers events one after the other, each as `apply` does. `Memory` where there is none for the answers: then no event has
-    /// happened.
+    /// Answers events one after the other, each as `apply` does. `Memory` where there is none for the answers: then no
+    /// event has happened.
     pub fn run(&mut self, events: &[Event]) -> Result<Vec<Outcome>, Memory>
         ensures setting { self.new.setting ≡ self.old.setting }
         ensures ok { IfOk result (λ outcomes. Run self.old.setting self.old.world events.now outcomes.items self.new.world) }
@@ -119,8 +119,8 @@ impl World {
         Ok(outcomes)
     }
 
-    /// Copies of the pairs that a client's next put will depend on, in the order in which it met them: none for a client
-    /// that is not there. Where there are none it takes no memory.
+    /// Copies of the pairs that a client's next put will depend on, in the order in which it met them: none for a
+    /// client that is not there. Where there are none it takes no memory.
     pub fn deps(&self, client: u16) -> Result<Deps, Memory>
         ensures ok { IfOk result (λ deps. deps ≡ context_in self.now.world client) }
         ensures err { OnErr result (context_in self.now.world client ≢ []) }

@@ -164,7 +164,8 @@ fn push_middle(columns: &mut Vec<Column>, fault: Fault, names: &[OpName]) -> Res
     }
 }
 
-/// Adds columns for the names: for all of them where they are few, and else for the first, the last, and the one at fault.
+/// Adds columns for the names: for all of them where they are few, and else for the first, the last, and the one at
+/// fault.
 fn push_folded(columns: &mut Vec<Column>, fault: Fault, names: &[OpName]) -> Result<(), AllocError>
     ensures { OnOk result (vec_len columns.new + 1 ≤ vec_len columns.old + MAX_COLUMNS) }
 {

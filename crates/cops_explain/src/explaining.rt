@@ -114,12 +114,13 @@ fn refusal(
     Ok(text)
 }
 
-/// The text that explains a verdict on a history, each line ended by a line feed. Of a history that is accepted it is the report's
-/// line, whatever is asked for. Else it is the report's first line, and behind an empty line each a paragraph for each fault that is
-/// asked for, in order of names: its number, counted from 1, its class and its name; what happened, with keys, values and versions; the
-/// operations that show it, of a stale get the chain of `chain` from the newer put; and in two lines what usually causes it. Keys and
-/// values are escaped as `show` does. Where the first 20 are asked for and there are more, it ends with how many are left out, and where
-/// there is no fault of the number that is asked for, it says so. `Memory` where a growth was refused.
+/// The text that explains a verdict on a history, each line ended by a line feed. Of a history that is accepted it is
+/// the report's line, whatever is asked for. Else it is the report's first line, and behind an empty line each a
+/// paragraph for each fault that is asked for, in order of names: its number, counted from 1, its class and its name;
+/// what happened, with keys, values and versions; the operations that show it, of a stale get the chain of `chain` from
+/// the newer put; and in two lines what usually causes it. Keys and values are escaped as `show` does. Where the first
+/// 20 are asked for and there are more, it ends with how many are left out, and where there is no fault of the number
+/// that is asked for, it says so. `Memory` where a growth was refused.
 pub fn explain(
     alloc: Global,
     history: &History,

@@ -7,7 +7,8 @@ use crate::layout::{Card, Place};
 use crate::sizes::{FOOT, RETURN_AT, TURN};
 use std::alloc::AllocError;
 
-/// Draws an arrow from a card to one that stands to its right: straight in one lane, and else in a bow from lane to lane.
+/// Draws an arrow from a card to one that stands to its right: straight in one lane, and else in a bow from lane to
+/// lane.
 fn push_link(out: &mut String, from: Card, to: Card) -> Result<(), AllocError>
     ensures { OnOk result (Extends (string_bytes out.old) (string_bytes out.new)) }
 {

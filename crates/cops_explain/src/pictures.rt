@@ -93,12 +93,13 @@ fn fault_at(verdict: &Verdict, number: u32) -> Option<Fault>
     }
 }
 
-/// A picture of one fault of the verdict, in SVG: the fault of that number, counted from 1, in the order of the report. None where there
-/// is none, and `Memory` where a growth was refused.
+/// A picture of one fault of the verdict, in SVG: the fault of that number, counted from 1, in the order of the report.
+/// None where there is none, and `Memory` where a growth was refused.
 ///
-/// Each client concerned has a lane, and each operation a card, which stand from left to right so that those of one client are in
-/// its order. A stale get's picture has its chain, as that of the report, with an arrow from each operation to the next one, before them the put
-/// that it returned, if any, and of a chain that is longer than 13 the first 6 and the last 6 operations.
+/// Each client concerned has a lane, and each operation a card, which stand from left to right so that those of one
+/// client are in its order. A stale get's picture has its chain, as that of the report, with an arrow from each
+/// operation to the next one, before them the put that it returned, if any, and of a chain that is longer than 13 the
+/// first 6 and the last 6 operations.
 pub fn picture(
     alloc: Global,
     history: &History,

@@ -5,7 +5,8 @@ pub const SHOWN_START: usize = 6;
 
 pub const SHOWN_END: usize = 6;
 
-/// The most columns: a returned put, those of either end, and between them one operation and what is left out beside it.
+/// The most columns: a returned put, those of either end, and between them one operation and what is left out beside
+/// it.
 pub const MAX_COLUMNS: usize = 16;
 
 /// How many bytes of a key or a value are shown.
@@ -41,8 +42,8 @@ pub const GAP: u32 = 44;
 
 pub const LANE_STEP: u32 = 112;
 
-/// Where the texts stand: from above those of the head, of a card that of what was done, of the value and of the name; and how far below
-/// the middle of a lane its client.
+/// Where the texts stand: from above those of the head, of a card that of what was done, of the value and of the name;
+/// and how far below the middle of a lane its client.
 pub const HEAD_BASE: u32 = 28;
 
 pub const SENTENCE_BASE: u32 = 48;

@@ -31,8 +31,8 @@ pub fn value(alloc: Global, json: &Json) -> Result<Value, Unread>
     Ok(Value::new(alloc, text.as_bytes())?)
 }
 
-/// A text as a version, a clock, a dot and a node, each decimal without leading zeros: `Form` where it is no such text, or its numbers
-/// are no version's. It takes no memory.
+/// A text as a version, a clock, a dot and a node, each decimal without leading zeros: `Form` where it is no such text,
+/// or its numbers are no version's. It takes no memory.
 pub fn version(json: &Json) -> Result<Version, Unread>
     ensures json { IfOk result (λ version. view json.now ≡ text_json (version_text version)) }
     ensures legal { IfOk result IsVersion }

@@ -74,8 +74,8 @@ impl Held {
         Some(held.put())
     }
 
-    /// The dependencies of the put at a version that are not marked yet, by their indexes, ascending. None where no such
-    /// put waits, and that takes no memory.
+    /// The dependencies of the put at a version that are not marked yet, by their indexes, ascending. None where no
+    /// such put waits, and that takes no memory.
     pub fn open_deps(&self, version: Version) -> Result<Vec<u16>, Memory>
         ensures ok { IfOk result (λ deps. deps.items ≡ open_deps (waiting self.now version)) }
         ensures err { OnErr result (is_some (waiting self.now version) ≡ true) }
@@ -100,8 +100,8 @@ impl Held {
         held.mark(dep)
     }
 
-    /// Whether `take_ready` gives the put at a version: `NotHeld` where no such put waits, else `DepsOpen` where not all its
-    /// dependencies are marked.
+    /// Whether `take_ready` gives the put at a version: `NotHeld` where no such put waits, else `DepsOpen` where not
+    /// all its dependencies are marked.
     pub fn ready(&self, version: Version) -> Result<(), HeldFault>
         ensures { result ≡ readiness (waiting self.now version) }
     {

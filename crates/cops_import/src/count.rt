@@ -18,8 +18,9 @@ const CLIENT: &[u8] = b"\"client\"";
 /// Each number of so many digits is below 2^64.
 const MOST_DIGITS: usize = 19;
 
-/// How many clients the lines name, which is what `import_stream` wants to be told: all of them where each line is right, and else at
-/// least as many as those before the first that is wrong; at most 65,535. The same reader gives no lines again.
+/// How many clients the lines name, which is what `import_stream` wants to be told: all of them where each line is
+/// right, and else at least as many as those before the first that is wrong; at most 65,535. The same reader gives no
+/// lines again.
 pub fn count_clients<R: Read>(alloc: Global, lines: &mut Counted<R>) -> Result<u16, ImportFault> {
     let mut names = Names::new(alloc);
     let mut line = Vec::new(alloc);
@@ -47,8 +48,8 @@ pub fn count_clients<R: Read>(alloc: Global, lines: &mut Counted<R>) -> Result<u
     Err(ImportFault::Endless)
 }
 
-/// Takes the name that a line tells, and says whether the names after it matter: not where the line has none, and not where there are
-/// more than there may be.
+/// Takes the name that a line tells, and says whether the names after it matter: not where the line has none, and not
+/// where there are more than there may be.
 fn name_client(
     alloc: Global,
     line: &[u8],
@@ -66,8 +67,8 @@ fn name_client(
     Ok(names.len() <= usize::from(MAX_CLIENTS))
 }
 
-/// The name that can be seen in a line without reading it as JSON, where the line is right: nothing is escaped, and the member stands
-/// there once, with a text or a few digits.
+/// The name that can be seen in a line without reading it as JSON, where the line is right: nothing is escaped, and the
+/// member stands there once, with a text or a few digits.
 fn seen_name(line: &[u8]) -> Option<&[u8]> {
     if memchr(b'\\', line).is_some() {
         return None;

@@ -21,9 +21,9 @@ pub struct Imported<W: Write> {
 }
 
 impl<W: Write> Imported<W> {
-    /// What is told of the import: a line `client N NAME` for each client in the order of their numbers, of whose names the bytes of ASCII
-    /// letters, digits, `-`, `.` and `_` stand as they are, and any other as `%` and two lower case hexadecimal digits; and then
-    /// `imported: N operations, M clients` (`told_text` in `specs/Words.antt`).
+    /// What is told of the import: a line `client N NAME` for each client in the order of their numbers, of whose names
+    /// the bytes of ASCII letters, digits, `-`, `.` and `_` stand as they are, and any other as `%` and two lower case
+    /// hexadecimal digits; and then `imported: N operations, M clients` (`told_text` in `specs/Words.antt`).
     pub fn told(&self, alloc: Global) -> Result<String, AllocError>
         ensures ok { IfOk result (λ text. string_bytes text ≡ told_text self.now.names self.now.operations) }
     {

@@ -22,7 +22,8 @@ pub enum Job<'a> {
     SoFar {
         trace: &'a str,
     },
-    /// Explain these faults of a trace, and draw them to a file, where one is named. `-` as the trace is standard input.
+    /// Explain these faults of a trace, and draw them to a file, where one is named. `-` as the trace is standard
+    /// input.
     Explain {
         trace: &'a str,
         faults: Selection,
@@ -32,20 +33,21 @@ pub enum Job<'a> {
     Show {
         trace: &'a str,
     },
-    /// Make a trace of lines, write it to a file, and print the names of its clients. `-` as the lines is standard input, and as the
-    /// trace standard output.
+    /// Make a trace of lines, write it to a file, and print the names of its clients. `-` as the lines is standard
+    /// input, and as the trace standard output.
     Import {
         lines: &'a str,
         trace: &'a str,
     },
-    /// Run a scenario, print what came of it, and write the trace of it to a file. `-` as the scenario is standard input, and as the
-    /// trace standard output.
+    /// Run a scenario, print what came of it, and write the trace of it to a file. `-` as the scenario is standard
+    /// input, and as the trace standard output.
     Run {
         scenario: &'a str,
         trace: &'a str,
     },
-    /// Serve so many sessions, 1 to 65,535, of a scenario's cluster on a port of 127.0.0.1, and print the report. `-` is standard
-    /// input. A client that is idle for so many seconds, 1 to 65,535, is given up, and none where they are not given.
+    /// Serve so many sessions, 1 to 65,535, of a scenario's cluster on a port of 127.0.0.1, and print the report. `-`
+    /// is standard input. A client that is idle for so many seconds, 1 to 65,535, is given up, and none where they are
+    /// not given.
     Serve {
         port: u16,
         scenario: &'a str,

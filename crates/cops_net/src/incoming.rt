@@ -50,8 +50,8 @@ impl Incoming {
         }
     }
 
-    /// The next message, or nothing where the reader's bytes ended behind the last one. It reads pieces of at most 4,096
-    /// bytes, and only while no whole message is there. A failed read is not tried again.
+    /// The next message, or nothing where the reader's bytes ended behind the last one. It reads pieces of at most
+    /// 4,096 bytes, and only while no whole message is there. A failed read is not tried again.
     pub(crate) fn next<I: Read>(
         &mut self,
         reader: &mut Counted<I>,

@@ -1,13 +1,13 @@
 //! The front door: a client's messages are read from a stream, each is handed to a session or answered at once, and one
 //! reply for each is written back, in order.
 //!
-//! `specs/Protocol.antt` has the protocol as functions of whole lists: which messages are handed over, as which calls, and
-//! the replies told from the messages and those calls. `serve_session` does that and nothing else; `listen` does it for
-//! one connection after the other, and so does `listen_with_idle`, which waits for an idle client no longer than it is
-//! told. Who answers stands behind the trait `Session`, which keeps the list of its calls with their answers.
+//! `specs/Protocol.antt` has the protocol as functions of whole lists: which messages are handed over, as which calls,
+//! and the replies told from the messages and those calls. `serve_session` does that and nothing else; `listen` does it
+//! for one connection after the other, and so does `listen_with_idle`, which waits for an idle client no longer than it
+//! is told. Who answers stands behind the trait `Session`, which keeps the list of its calls with their answers.
 //!
-//! Stands on `cops_types` and on the messages of `cops_wire`. The program uses that the
-//! replies tell the messages and what the session's list gained.
+//! Stands on `cops_types` and on the messages of `cops_wire`. The program uses that the replies tell the messages and
+//! what the session's list gained.
 #![tactic(auto)]
 
 mod answering;

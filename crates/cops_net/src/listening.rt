@@ -20,7 +20,8 @@ use std::net::{Ipv4Addr, Net, TcpListener, TcpStream};
 use std::sync::Wait;
 use std::time::Duration;
 
-/// Serves one client over a reader and a writer. Want of memory alone is told: what else ended the session ended it alone.
+/// Serves one client over a reader and a writer. Want of memory alone is told: what else ended the session ended it
+/// alone.
 fn serve_client<R: Wait, I: Read, W: Write, S: Session>(
     rt: &R,
     alloc: Global,
@@ -52,9 +53,9 @@ fn let_wait(stream: &TcpStream, idle: Option<Duration>) -> io::Result<()> {
     stream.set_write_timeout(idle)
 }
 
-/// Serves one connection, on which a read or a write that waits longer than the time that is given fails. Where the system
-/// does not take that time the session ends before its first read. What was written is read by a client that reads it,
-/// whatever it sends behind the end of its session, within the bounds of `part_from`.
+/// Serves one connection, on which a read or a write that waits longer than the time that is given fails. Where the
+/// system does not take that time the session ends before its first read. What was written is read by a client that
+/// reads it, whatever it sends behind the end of its session, within the bounds of `part_from`.
 fn serve_connection<R: Wait, S: Session>(
     rt: &R,
     alloc: Global,
@@ -76,8 +77,8 @@ fn serve_connection<R: Wait, S: Session>(
 }
 
 /// Listens on a port of 127.0.0.1, and serves so many connections, one after the other, each by `serve_session`. What
-/// ends one session, but `Memory`, ends it alone, and it counts as served. `after_session` stands after each. It ends with
-/// `BindFailed` where the port cannot be bound, with `AcceptFailed` where no connection can be accepted, and with
+/// ends one session, but `Memory`, ends it alone, and it counts as served. `after_session` stands after each. It ends
+/// with `BindFailed` where the port cannot be bound, with `AcceptFailed` where no connection can be accepted, and with
 /// `Memory` behind the session that met it.
 pub fn listen<R: Net<Listener = TcpListener, Stream = TcpStream> + Wait, S: Session>(
     rt: &R,
@@ -86,8 +87,8 @@ pub fn listen<R: Net<Listener = TcpListener, Stream = TcpStream> + Wait, S: Sess
     session: &mut S,
     sessions: u16,
 ) -> Result<(), NetFault>
-    // The session's list gained the calls of so many sessions, and no other, and each of them was ended before the next.
-    // So many more have ended, while their number is below 2 ^ 64.
+    // The session's list gained the calls of so many sessions, and no other, and each of them was ended before the
+    // next. So many more have ended, while their number is below 2 ^ 64.
     ensures sessions { (begun : ℕ) × (gained : List Call) × (S.calls session.new ≡ S.calls session.old ++ gained)
         × AreSessions begun gained × AreServed S.calls S.ends begun session.old session.new × IsCount sessions begun result
         × (S.ended session.old + begun < 2 ^ 64 → S.ended session.new ≡ S.ended session.old + begun) }
@@ -95,8 +96,8 @@ pub fn listen<R: Net<Listener = TcpListener, Stream = TcpStream> + Wait, S: Sess
     listen_with_idle(rt, alloc, port, session, sessions, None)
 }
 
-/// As `listen`. Where a time is given, a client that sends nothing, or takes nothing, for longer than that in mid-session
-/// ends its session alone, as a failed read or a failed write does.
+/// As `listen`. Where a time is given, a client that sends nothing, or takes nothing, for longer than that in
+/// mid-session ends its session alone, as a failed read or a failed write does.
 pub fn listen_with_idle<R: Net<Listener = TcpListener, Stream = TcpStream> + Wait, S: Session>(
     rt: &R,
     alloc: Global,

@@ -38,9 +38,9 @@ fn read_away<I: Read>(reader: &mut I)
     }
 }
 
-/// Ends a connection whose session has ended. Where one is closed while bytes of its client are unread, the system gives
-/// up what the client has not read yet. So the writing side is shut alone at first, and what still comes is read away. A
-/// client that sends nothing more and stays is waited for once. What fails here ends no more than this.
+/// Ends a connection whose session has ended. Where one is closed while bytes of its client are unread, the system
+/// gives up what the client has not read yet. So the writing side is shut alone at first, and what still comes is read
+/// away. A client that sends nothing more and stays is waited for once. What fails here ends no more than this.
 pub(crate) fn part_from(stream: &TcpStream) {
     let wait = Duration::from_secs(LAST_WAIT);
     if stream.shutdown(Shutdown::Write).is_ok() && stream.set_read_timeout(Some(wait)).is_ok() {

@@ -5,8 +5,8 @@ use std::sync::Wait;
 
 /// Who answers a client's messages. It keeps the list of its calls with their answers. Before each of the five calls
 /// that answer stands a `room`, so that none of them is lost for want of memory. A session that says more of its calls
-/// gives for each the relation of the session before it, what was asked and answered, and the session after it; where it
-/// gives none, nothing more is said.
+/// gives for each the relation of the session before it, what was asked and answered, and the session after it; where
+/// it gives none, nothing more is said.
 pub trait Session {
     ghost use Rattle.std.specs.Prelude.{◌≡◌, ◌<◌, ◌+◌, ◌-◌, ◌^◌, ◌++◌, ◌∷◌, [], ℕ, List, Option, Result, OnOk, ⊤};
     ghost use Rattle.cops_types.specs.declared.put_record.NodeStatus.{NodeStatus as Standing};

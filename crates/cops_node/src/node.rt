@@ -9,8 +9,8 @@ use cops_types::{Clock, Dep, Deps, Key, Memory, NodeStatus, PutRecord, Refusal, 
 use std::alloc::Global;
 use std::marker::Model;
 
-/// One node of a data centre: a Lamport clock, the settled pairs, and the puts of other data centres that wait. A node's
-/// number is below 1,024; its data centre is that number divided by 64.
+/// One node of a data centre: a Lamport clock, the settled pairs, and the puts of other data centres that wait. A
+/// node's number is below 1,024; its data centre is that number divided by 64.
 #[derive(Drop)]
 pub struct Node {
     number: u16,
@@ -112,8 +112,8 @@ impl Node {
         }
     }
 
-    /// A put of another data centre comes. It waits from now on, or nothing changes where it does already or is settled.
-    /// Refused for want of memory.
+    /// A put of another data centre comes. It waits from now on, or nothing changes where it does already or is
+    /// settled. Refused for want of memory.
     pub fn deliver(&mut self, put: PutRecord) -> Outcome
         ensures happens { NodeHappens self.old (Deliver put) result self.new }
         ensures memory { result ≡ RefusedWith OutOfMemory → TakesMemory (node_step self.old (Deliver put)).0 }
@@ -141,8 +141,8 @@ impl Node {
         events!(row Mark self.held.mark(version, dep))
     }
 
-    /// A waiting put is settled, and the clock rises to its. Refused where no put waits at the version, where not all its
-    /// dependencies are marked, and for want of memory.
+    /// A waiting put is settled, and the clock rises to its. Refused where no put waits at the version, where not all
+    /// its dependencies are marked, and for want of memory.
     pub fn settle(&mut self, version: Version) -> Outcome
         ensures happens { NodeHappens self.old (Settle version) result self.new }
         ensures memory { result ≡ RefusedWith OutOfMemory → TakesMemory (node_step self.old (Settle version)).0 }

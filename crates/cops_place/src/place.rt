@@ -33,8 +33,8 @@ impl Place {
     ghost use Rattle.cops_types.specs.NodeNumber.{node_number};
     ghost use Rattle.cops_types.specs.declared.limits.TheConstants.{NODES};
 
-    /// So many data centres, and these split keys: `BadCount` unless there are 1 to 16 data centres and at most 63 split
-    /// keys, then `SplitsNotAscending` unless each split key is above the one before it.
+    /// So many data centres, and these split keys: `BadCount` unless there are 1 to 16 data centres and at most 63
+    /// split keys, then `SplitsNotAscending` unless each split key is above the one before it.
     pub fn new(dcs: u8, splits: Vec<Key>) -> Result<Self, PlaceFault>
         ensures ok { IfOk result (λ place. place ≡ record { dcs = dcs; splits = splits.items }) }
         ensures bad_count { IsErrOf result PlaceFault.BadCount ↔ (IsInRange dcs splits.items → ⊥) }

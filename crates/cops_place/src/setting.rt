@@ -5,7 +5,8 @@ use cops_types::{Key, MAX_CLIENTS};
 use std::alloc::AllocError;
 use std::marker::Model;
 
-/// What never changes in a cluster: where keys live, and the data centre of each client, at most 65,535, each of which is there.
+/// What never changes in a cluster: where keys live, and the data centre of each client, at most 65,535, each of which
+/// is there.
 #[derive(Debug, Drop)]
 pub struct Setting {
     place: Place,

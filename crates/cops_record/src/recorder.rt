@@ -44,8 +44,8 @@ impl Recorder {
         Ok(Slot { client })
     }
 
-    /// Fills the slot: its operation takes the next place. It never fails. Where nothing is reserved here for the slot's
-    /// client, as for a slot of another recorder, nothing changes.
+    /// Fills the slot: its operation takes the next place. It never fails. Where nothing is reserved here for the
+    /// slot's client, as for a slot of another recorder, nothing changes.
     pub fn fill<R: Wait>(&self, rt: &R, slot: Slot, op: Op) {
         let Slot { client } = slot;
         self.records.lock(rt).fill(client, op);

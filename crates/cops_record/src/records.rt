@@ -52,8 +52,8 @@ impl Records {
         })
     }
 
-    /// Reserves a slot: `UnknownClient` where there is no such client, then `SessionFull` where its records and slots are
-    /// 1,000,000, or those of all are 16,000,000. A fault changes nothing.
+    /// Reserves a slot: `UnknownClient` where there is no such client, then `SessionFull` where its records and slots
+    /// are 1,000,000, or those of all are 16,000,000. A fault changes nothing.
     pub(crate) fn reserve(&mut self, client: u16) -> Result<(), RecordFault>
         ensures ok { OnOk result (self.new ≡ with_slot self.old client) }
         ensures known { OnOk result (client < length self.old.seats) }

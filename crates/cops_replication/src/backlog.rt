@@ -14,16 +14,16 @@ struct Waiting {
     unmarked: usize,
 }
 
-/// A question to be asked: that of a dependency, by its index, of the put of this version. A put with no dependency has one
-/// question too, for its turn to come.
+/// A question to be asked: that of a dependency, by its index, of the put of this version. A put with no dependency has
+/// one question too, for its turn to come.
 #[derive(Clone, Copy)]
 pub(crate) struct Question {
     pub(crate) version: Version,
     pub(crate) dep: u16,
 }
 
-/// Puts that wait. Each of their open dependencies stands in one of two places: among the questions that are to be asked, or,
-/// once it was answered Wait, at its pair, until that is settled.
+/// Puts that wait. Each of their open dependencies stands in one of two places: among the questions that are to be
+/// asked, or, once it was answered Wait, at its pair, until that is settled.
 #[derive(Drop)]
 pub(crate) struct Backlog {
     waiting: IndexMap<Version, Waiting>,

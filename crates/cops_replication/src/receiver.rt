@@ -7,8 +7,8 @@ use cops_types::{Gate, Memory, PutRecord, Version};
 use std::alloc::Global;
 use std::sync::Wait;
 
-/// What brings the puts of other data centres into one. Of a dependency that was answered Wait it asks again only once it has
-/// settled exactly that pair, so a turn's work is in proportion to what came and to what became ready.
+/// What brings the puts of other data centres into one. Of a dependency that was answered Wait it asks again only once
+/// it has settled exactly that pair, so a turn's work is in proportion to what came and to what became ready.
 #[derive(Drop)]
 pub struct Receiver {
     dc: u8,
@@ -50,9 +50,9 @@ impl Receiver {
         self.dc
     }
 
-    /// Takes at most one frame from each link and delivers its put. Then it asks for each dependency that it has not asked for,
-    /// or whose pair was settled since, marks those with a yes, and settles each put whose dependencies are all marked. What
-    /// met want of memory is tried on the next turn.
+    /// Takes at most one frame from each link and delivers its put. Then it asks for each dependency that it has not
+    /// asked for, or whose pair was settled since, marks those with a yes, and settles each put whose dependencies are
+    /// all marked. What met want of memory is tried on the next turn.
     pub fn turn<R: Wait, G: Gate>(
         &mut self,
         rt: &R,
@@ -71,8 +71,8 @@ impl Receiver {
         Ok(Turn::of(done.saturating_add(delivered)))
     }
 
-    /// Makes turns until one is idle with nothing kept back, which is a put that is not settled: `TurnLimit` where that is none
-    /// of so many turns, and what a turn met where one met a fault.
+    /// Makes turns until one is idle with nothing kept back, which is a put that is not settled: `TurnLimit` where that
+    /// is none of so many turns, and what a turn met where one met a fault.
     pub fn drain<R: Wait, G: Gate>(
         &mut self,
         rt: &R,
@@ -119,7 +119,8 @@ impl Receiver {
         self.arrival.is_none() && self.backlog.is_empty()
     }
 
-    /// Delivers what an earlier turn kept back, and then what comes from each link. It says how many puts were delivered.
+    /// Delivers what an earlier turn kept back, and then what comes from each link. It says how many puts were
+    /// delivered.
     fn take_in<R: Wait, G: Gate>(
         &mut self,
         rt: &R,
@@ -229,7 +230,8 @@ impl Receiver {
         drop(self.arrival.take());
     }
 
-    /// Asks, marks and settles until there is nothing to be asked and to be settled, and says how often it marked and settled.
+    /// Asks, marks and settles until there is nothing to be asked and to be settled, and says how often it marked and
+    /// settled.
     fn work<R: Wait, G: Gate>(
         &mut self,
         rt: &R,

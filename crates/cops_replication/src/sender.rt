@@ -29,8 +29,8 @@ impl Sender {
     ghost use Rattle.cops_replication.specs.Sending.{Carries, CarriesBelow, lanes};
     ghost use Rattle.cops_replication.specs.Turns.{IsTurnOf};
 
-    /// The sender of a data centre, with these links, which has read nothing, and sends each put so many times more than once. Where
-    /// memory runs out the links are gone.
+    /// The sender of a data centre, with these links, which has read nothing, and sends each put so many times more
+    /// than once. Where memory runs out the links are gone.
     pub fn new(alloc: Global, dc: u8, links: Vec<LinkIn>, repeat: u8) -> Result<Self, Memory>
         ensures dc { IfOk result (λ s. s.dc ≡ dc) }
         ensures repeat { IfOk result (λ s. s.repeat ≡ repeat) }
@@ -45,8 +45,9 @@ impl Sender {
         })
     }
 
-    /// Reads the puts that were issued at the nodes of its data centre since it last did, and sends on each link those that it
-    /// was not sent yet, until that is full. What it did not send is kept for the next turn, and want of memory loses nothing.
+    /// Reads the puts that were issued at the nodes of its data centre since it last did, and sends on each link those
+    /// that it was not sent yet, until that is full. What it did not send is kept for the next turn, and want of memory
+    /// loses nothing.
     pub fn turn<R: Wait>(&mut self, rt: &R, cluster: &Cluster) -> Result<Turn, Memory>
         ensures carries { Carries cluster.now self.old self.new }
         ensures all { OnOk result (CarriesBelow PLACES cluster.now self.old self.new) }
@@ -59,8 +60,8 @@ impl Sender {
         Ok(Turn::of(sent))
     }
 
-    /// Makes turns until one is idle with nothing kept back: `TurnLimit` where that is none of so many turns, and `Memory` where
-    /// a turn met it.
+    /// Makes turns until one is idle with nothing kept back: `TurnLimit` where that is none of so many turns, and
+    /// `Memory` where a turn met it.
     pub fn drain<R: Wait>(&mut self, rt: &R, cluster: &Cluster, turns: u32) -> Result<(), TurnFault>
         ensures carries { Carries cluster.now self.old self.new }
         ensures all { OnOk result (CarriesBelow PLACES cluster.now self.old self.new) }

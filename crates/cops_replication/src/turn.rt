@@ -9,8 +9,8 @@ use thiserror::Error;
 /// What one turn did.
 #[derive(Clone, Copy, Debug, PartialEq, Eq)]
 pub enum Turn {
-    /// So many things, at least one: of a sender the frames that it sent, of a receiver the frames that it delivered, and what
-    /// it marked and settled. More than 4,294,967,295 count as so many.
+    /// So many things, at least one: of a sender the frames that it sent, of a receiver the frames that it delivered,
+    /// and what it marked and settled. More than 4,294,967,295 count as so many.
     Did(u32),
     /// Nothing.
     Idle,

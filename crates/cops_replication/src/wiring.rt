@@ -21,9 +21,9 @@ pub struct Replicas {
     pub receivers: Vec<Receiver>,
 }
 
-/// A sender and a receiver for each of so many data centres, in order, with a link of this capacity from each sender to the
-/// receiver of each other one, on which each put is sent so many times more than once. The receivers take the shares in order.
-/// Where shares are missing, the last data centres have no receiver.
+/// A sender and a receiver for each of so many data centres, in order, with a link of this capacity from each sender to
+/// the receiver of each other one, on which each put is sent so many times more than once. The receivers take the
+/// shares in order. Where shares are missing, the last data centres have no receiver.
 pub fn wired(
     alloc: Global,
     dcs: u8,

@@ -57,7 +57,8 @@ fn stale_lines(
     Ok(())
 }
 
-/// The first line of a refusal with so many faults: `refused: N operations, M puts, F faults`. `Memory` where a growth was refused.
+/// The first line of a refusal with so many faults: `refused: N operations, M puts, F faults`. `Memory` where a growth
+/// was refused.
 pub fn refused(alloc: Global, history: &History, faults: usize) -> Result<Vec<u8>, Memory>
     ensures { IfOk result (λ text. text.items ≡ refusal history.now.sessions faults []) }
 {

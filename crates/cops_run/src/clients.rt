@@ -66,8 +66,8 @@ fn follow<R: Wait, G: Gate>(
     Ok(End::Client(ClientOutcome::Done))
 }
 
-/// One operation of a script: why it is refused, where it is. It is tried again while memory is refused to it, so often as the
-/// scenario says.
+/// One operation of a script: why it is refused, where it is. It is tried again while memory is refused to it, so often
+/// as the scenario says.
 fn perform<R: Wait, G: Gate>(
     rt: &R,
     stage: &Stage,

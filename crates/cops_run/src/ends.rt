@@ -28,7 +28,8 @@ pub(crate) struct Returned {
     pub(crate) end: End,
 }
 
-/// The promise that a thread hands back this holder's share, and was held where this gate may hold a step in this setting.
+/// The promise that a thread hands back this holder's share, and was held where this gate may hold a step in this
+/// setting.
 pub(crate) struct Owed<G: Gate> {
     who: Holder,
     gate: Snapshot<G>,

@@ -35,7 +35,8 @@ pub(crate) fn follow<R: Wait, W: Write>(
     Ok(live)
 }
 
-/// Writes the records that came since, and rests where there are none. Want of memory for copies is tried again in the next turn.
+/// Writes the records that came since, and rests where there are none. Want of memory for copies is tried again in the
+/// next turn.
 fn turn<R: Wait, W: Write>(
     rt: &R,
     stage: &Stage,

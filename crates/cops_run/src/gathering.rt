@@ -93,8 +93,8 @@ impl Gathered {
         }
     }
 
-    /// All of it: `Held` where a step was held, then `TurnLimit` where a loop did not end within its turns, and then `Memory` where there
-    /// was none for what came back.
+    /// All of it: `Held` where a step was held, then `TurnLimit` where a loop did not end within its turns, and then
+    /// `Memory` where there was none for what came back.
     pub(crate) fn whole(self) -> Result<Gathered, RunFault>
         ensures ok { IfOk result (λ g. g ≡ self) }
         ensures kept { OnOk result (¬ IsTrue self.lost) }

@@ -38,12 +38,13 @@ pub struct Live<W: Write> {
     pub writer: Counted<W>,
 }
 
-/// Runs the scenario's scripts as `run` does, and writes the trace's text: the head before, the records on one thread more, which
-/// takes copies of them until it sees that the clients were joined, or for the scenario's number of turns, and the rest with the end
-/// once the run was found tied. Where it is handed out, what was written is the text of its trace; at each refusal it is some first
-/// bytes of a trace's text, fewer than all. `WriteFailed` where a write failed, which is not tried again: where it is not that of the
-/// head, the clients run to their ends all the same. `Untied`, one above the greatest ticket, also where the records that were
-/// written are not the first of the run's trace. Where the system refuses that thread, all is written once the clients are joined.
+/// Runs the scenario's scripts as `run` does, and writes the trace's text: the head before, the records on one thread
+/// more, which takes copies of them until it sees that the clients were joined, or for the scenario's number of turns,
+/// and the rest with the end once the run was found tied. Where it is handed out, what was written is the text of its
+/// trace; at each refusal it is some first bytes of a trace's text, fewer than all. `WriteFailed` where a write failed,
+/// which is not tried again: where it is not that of the head, the clients run to their ends all the same. `Untied`,
+/// one above the greatest ticket, also where the records that were written are not the first of the run's trace. Where
+/// the system refuses that thread, all is written once the clients are joined.
 pub fn run_live<R: Threads + Wait + Sync, G: Gate, W: Write + Send + Drop>(
     rt: &R,
     alloc: Global,

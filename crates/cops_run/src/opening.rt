@@ -22,8 +22,8 @@ pub(crate) struct Opening<'a> {
     pub(crate) replicas: Replicas,
 }
 
-/// What a run of a scenario begins with, in its setting: the links are those of the scenario, a loop may make so many turns, an
-/// operation is tried again and a record is sent again so often, and so many turns of a receiver come late.
+/// What a run of a scenario begins with, in its setting: the links are those of the scenario, a loop may make so many
+/// turns, an operation is tried again and a record is sent again so often, and so many turns of a receiver come late.
 pub(crate) fn opened<'a>(
     alloc: Global,
     setting: &Setting,

@@ -3,8 +3,8 @@ use cops_core::Event;
 use cops_tie::ClientOutcome;
 use cops_trace::Trace;
 
-/// A run: the entries of the nodes' books, a list for each node in order of node numbers; the world's events that they are; what
-/// the clients saw; and how each client ended.
+/// A run: the entries of the nodes' books, a list for each node in order of node numbers; the world's events that they
+/// are; what the clients saw; and how each client ended.
 #[derive(Drop)]
 pub struct Run {
     pub entries: Vec<Vec<Entry>>,

@@ -9,8 +9,8 @@ use cops_replication::{Receiver, Sender, Turn, TurnFault};
 use cops_types::Gate;
 use std::sync::Wait;
 
-/// A sender's thread: it turns until the clients are joined, and then for at most so many turns as the stage says, until nothing
-/// is kept back. It says whether that was reached, or it was told to end.
+/// A sender's thread: it turns until the clients are joined, and then for at most so many turns as the stage says,
+/// until nothing is kept back. It says whether that was reached, or it was told to end.
 pub(crate) fn send<R: Wait>(rt: &R, stage: &Stage, mut sender: Sender) -> bool {
     for _ in rt.forever() {
         if stage.are_clients_joined() {
@@ -36,8 +36,9 @@ fn drain<R: Wait>(rt: &R, stage: &Stage, sender: &mut Sender) -> bool {
     false
 }
 
-/// A receiver's thread: it turns until the clients are joined, and then for at most so many turns as the stage says, until the senders
-/// are joined and nothing is kept back. Where turns are to come late it makes none before, and then so many that take no frame.
+/// A receiver's thread: it turns until the clients are joined, and then for at most so many turns as the stage says,
+/// until the senders are joined and nothing is kept back. Where turns are to come late it makes none before, and then
+/// so many that take no frame.
 pub(crate) fn receive<R: Wait, G: Gate>(
     rt: &R,
     stage: &Stage,
@@ -95,8 +96,8 @@ fn settle<R: Wait, G: Gate>(rt: &R, stage: &Stage, gate: &G, receiver: &mut Rece
     End::TurnLimit
 }
 
-/// A counted turn of a receiver, and how its thread ends, if it does. Once the senders are joined all that will come stands on the
-/// links, so only a turn from then on may be the last.
+/// A counted turn of a receiver, and how its thread ends, if it does. Once the senders are joined all that will come
+/// stands on the links, so only a turn from then on may be the last.
 fn counted<R: Wait, G: Gate>(
     rt: &R,
     stage: &Stage,
@@ -126,8 +127,8 @@ fn counted<R: Wait, G: Gate>(
     }
 }
 
-/// One turn of a receiver, and a rest where it did nothing. Want of memory is tried again in the next. It says whether the gate held
-/// a step.
+/// One turn of a receiver, and a rest where it did nothing. Want of memory is tried again in the next. It says whether
+/// the gate held a step.
 fn turn<R: Wait, G: Gate>(rt: &R, stage: &Stage, gate: &G, receiver: &mut Receiver) -> bool
     ensures share { receiver.new.share.holder ≡ receiver.old.share.holder }
     ensures held { IsTrue result → MayHoldReceiving stage.now.cluster (G.may_hold gate.now) }

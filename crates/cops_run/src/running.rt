@@ -29,13 +29,14 @@ use std::sync::Wait;
 use std::thread;
 use std::thread::Threads;
 
-/// Runs the scripts of the scenario's clients, each on a thread of its own, in a cluster with a sender and a receiver for each
-/// data centre, each on a thread of its own too, and a link for each ordered pair of data centres. What it hands out is one run
-/// of the world in which each client ended so and each data centre has settled each put (COPS, section 3: replicas converge),
-/// and what its clients saw is accepted. A client stops at its first operation that is refused; one that memory is refused to is
-/// tried again as often as the scenario says, and leaves no record of the tries that were refused. Turns of senders and receivers
-/// before the clients are joined are not counted against the scenario's number of turns, and want of memory in a turn is tried
-/// again in the next. A scenario with events has clients without scripts, for whom nothing happens.
+/// Runs the scripts of the scenario's clients, each on a thread of its own, in a cluster with a sender and a receiver
+/// for each data centre, each on a thread of its own too, and a link for each ordered pair of data centres. What it
+/// hands out is one run of the world in which each client ended so and each data centre has settled each put (COPS,
+/// section 3: replicas converge), and what its clients saw is accepted. A client stops at its first operation that is
+/// refused; one that memory is refused to is tried again as often as the scenario says, and leaves no record of the
+/// tries that were refused. Turns of senders and receivers before the clients are joined are not counted against the
+/// scenario's number of turns, and want of memory in a turn is tried again in the next. A scenario with events has
+/// clients without scripts, for whom nothing happens.
 pub fn run<R: Threads + Wait + Sync, G: Gate>(
     rt: &R,
     alloc: Global,
@@ -162,8 +163,8 @@ fn tied<R: Threads + Sync>(
     }
 }
 
-/// The world's events of the run that these books are. That their entries are those of the shares is found beside the check that
-/// they are a run. `Untied` has the least ticket at which they differ from the shares, or that of the check.
+/// The world's events of the run that these books are. That their entries are those of the shares is found beside the
+/// check that they are a run. `Untied` has the least ticket at which they differ from the shares, or that of the check.
 fn examined<R: Threads + Sync>(
     rt: &R,
     alloc: Global,
@@ -213,7 +214,8 @@ fn examined<R: Threads + Sync>(
     }
 }
 
-/// `Untied` unless the entries of the books are those of the shares, each as often. The shares are of no use afterwards.
+/// `Untied` unless the entries of the books are those of the shares, each as often. The shares are of no use
+/// afterwards.
 fn compare(
     alloc: Global,
     places: u8,

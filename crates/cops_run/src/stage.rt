@@ -6,8 +6,8 @@ use std::time::Duration;
 /// How long an idle loop rests before its next turn, in microseconds.
 const REST: u64 = 50;
 
-/// What the threads of a run share: the cluster, how many turns a loop may make, how often an operation is tried again, how many
-/// turns of a receiver come late, and what they tell each other.
+/// What the threads of a run share: the cluster, how many turns a loop may make, how often an operation is tried again,
+/// how many turns of a receiver come late, and what they tell each other.
 #[derive(Drop)]
 pub(crate) struct Stage {
     cluster: Cluster,

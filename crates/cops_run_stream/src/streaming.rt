@@ -33,11 +33,12 @@ pub struct Streamed<T: Write> {
     pub trace: Counted<T>,
 }
 
-/// Runs a scenario: its events in a world, or the scripts of its clients on threads. It writes the trace of what the clients saw,
-/// and prints a line for each event, or for each client, and then the report. The trace of scripts is written while they run. The
-/// answer is the status: 0 for a run, whose history is accepted; 2 for a faulty scenario, which a line on `out` tells; and 4 where a
-/// read or a write failed, or the run on threads did, which a line on `errors` tells. Where a run failed nothing was written but
-/// that line and some first bytes of a trace's text, fewer than all.
+/// Runs a scenario: its events in a world, or the scripts of its clients on threads. It writes the trace of what the
+/// clients saw, and prints a line for each event, or for each client, and then the report. The trace of scripts is
+/// written while they run. The answer is the status: 0 for a run, whose history is accepted; 2 for a faulty scenario,
+/// which a line on `out` tells; and 4 where a read or a write failed, or the run on threads did, which a line on
+/// `errors` tells. Where a run failed nothing was written but that line and some first bytes of a trace's text, fewer
+/// than all.
 pub fn run_stream<S, R, T, W, E, G>(
     rt: &S,
     alloc: Global,
@@ -106,8 +107,8 @@ fn tell_events<T: Write, W: Write, E: Write>(
     }
 }
 
-/// Prints the lines of a run whose trace is written, or tells why there is none, and gives the status. Only where the writer of the
-/// trace did not fail may memory be refused.
+/// Prints the lines of a run whose trace is written, or tells why there is none, and gives the status. Only where the
+/// writer of the trace did not fail may memory be refused.
 fn tell_scripts<W: Write, E: Write>(
     alloc: Global,
     ran: Result<Left, RunFault>,

@@ -6,8 +6,8 @@ use cops_node::Outcome;
 use cops_types::Memory;
 use std::alloc::{AllocError, Global};
 
-/// Appends the line of the event with this number, from 0: the number, a space, and the outcome's words. Where memory is
-/// refused nothing is appended.
+/// Appends the line of the event with this number, from 0: the number, a space, and the outcome's words. Where memory
+/// is refused nothing is appended.
 pub fn outcome_line(
     alloc: Global,
     n: usize,

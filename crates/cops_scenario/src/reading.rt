@@ -30,8 +30,8 @@ impl Scenario {
     ghost use Rattle.cops_scenario.specs.File.{IsTextOf, IsNoText, IsWrongText};
 
     /// The scenario of a JSON text, as docs/FORMATS.md has it: `NotJson` where the bytes are no JSON text, else
-    /// `BadField` with the first field, in the order of `Field`, that is missing and has no default, is not of its form,
-    /// or is not within its limits.
+    /// `BadField` with the first field, in the order of `Field`, that is missing and has no default, is not of its
+    /// form, or is not within its limits.
     pub fn from_json(alloc: Global, bytes: &[u8]) -> Result<Scenario, ScenarioFault>
         ensures ok { IfOk result (IsTextOf bytes.now) }
         ensures not_json { result ≡ Err ScenarioFault.NotJson → IsNoText bytes.now }

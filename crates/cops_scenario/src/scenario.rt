@@ -53,9 +53,10 @@ pub const MAX_HOLD: u16 = 1_000;
 /// How many they are where a file says nothing.
 pub const DEFAULT_HOLD: u16 = 0;
 
-/// What a cluster is made of, and what happens in it: where keys live; how many frames a link holds, 1 to 1,024; how many
-/// turns a loop may make, 1 to 1,000,000,000; how often a client's operation is tried again which memory was refused to, 0
-/// to 3; how often each record is sent again on each link, 0 to 3; how many turns of a receiver come late, 0 to 1,000; at most 64 clients; and, where no client has a script, at most 100,000 events.
+/// What a cluster is made of, and what happens in it: where keys live; how many frames a link holds, 1 to 1,024; how
+/// many turns a loop may make, 1 to 1,000,000,000; how often a client's operation is tried again which memory was
+/// refused to, 0 to 3; how often each record is sent again on each link, 0 to 3; how many turns of a receiver come
+/// late, 0 to 1,000; at most 64 clients; and, where no client has a script, at most 100,000 events.
 #[derive(Debug, Drop)]
 pub struct Scenario {
     place: Place,
@@ -161,8 +162,8 @@ impl Scenario {
         self.repeat
     }
 
-    /// How many turns a receiver makes first that take no frame, once the clients are joined, 0 to 1,000. Where it is above 0 it makes
-    /// none before.
+    /// How many turns a receiver makes first that take no frame, once the clients are joined, 0 to 1,000. Where it is
+    /// above 0 it makes none before.
     pub fn hold(&self) -> u16
         ensures value { result ≡ self.now.hold }
         ensures scenario { IsScenario self.now }

@@ -20,8 +20,9 @@ impl FrontEnd {
     ghost use Rattle.std.specs.Prelude.{IfOk};
     ghost use Rattle.cops_serve.specs.Serving.{IsReportOn};
 
-    /// The report of what the clients saw in this scenario's world: `Untied` where the books of the nodes are no run of that
-    /// world with it, at the least ticket that does not continue one, or 0 where there are other nodes than the scenario's.
+    /// The report of what the clients saw in this scenario's world: `Untied` where the books of the nodes are no run of
+    /// that world with it, at the least ticket that does not continue one, or 0 where there are other nodes than the
+    /// scenario's.
     pub fn finish(self, scenario: &Scenario) -> Result<Vec<u8>, ServeFault>
         ensures { IfOk result (λ text. IsReportOn scenario.now self text.items) }
     {

@@ -39,8 +39,8 @@ impl Room {
 }
 
 /// A cluster behind the front door: its clients, one of whom has greeted in a session; the senders and receivers that
-/// replicate what was put, on this thread, after each session, in at most so many rounds of turns; the calls so far; and
-/// how many sessions have ended.
+/// replicate what was put, on this thread, after each session, in at most so many rounds of turns; the calls so far;
+/// and how many sessions have ended.
 #[derive(Drop)]
 pub struct FrontEnd {
     pub(crate) turns: u32,
@@ -112,8 +112,8 @@ impl FrontEnd {
         }
     }
 
-    /// The client that has greeted gets the value of a key: the outcome of the cluster's get, which the client's share and
-    /// context show. It is refused where nobody has greeted, and for want of memory. No other client changes.
+    /// The client that has greeted gets the value of a key: the outcome of the cluster's get, which the client's share
+    /// and context show. It is refused where nobody has greeted, and for want of memory. No other client changes.
     fn get_outcome<R: Wait>(&mut self, rt: &R, key: &Key) -> Outcome
         ensures outcome { IsGetOutcome result }
         ensures done { GetsAs self.old key.now result self.new }
@@ -134,8 +134,8 @@ impl FrontEnd {
         }
     }
 
-    /// Whether a put is there, in the data centre of the client that has greeted: the outcome of the cluster's question,
-    /// which the client's share shows; not yet, where nobody has greeted. No other client changes.
+    /// Whether a put is there, in the data centre of the client that has greeted: the outcome of the cluster's
+    /// question, which the client's share shows; not yet, where nobody has greeted. No other client changes.
     fn checked<R: Wait>(&mut self, rt: &R, key: &Key, version: Version) -> Replies
         ensures twice { result.told ≡ result.kept }
         ensures reply { IsCheckReply result.told }

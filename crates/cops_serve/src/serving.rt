@@ -32,10 +32,11 @@ struct Door {
 }
 
 /// Reads a scenario, serves so many sessions of clients of its cluster on a port of 127.0.0.1, one after the other, and
-/// prints the report of what the clients saw. A client that is idle for so many seconds, where they are given, is given up: its session
-/// alone ends, and counts as served. The answer is the status: 0 for a report, which is of an accepted history; 2 for a faulty
-/// scenario, which a line on `out` tells; and 4 where a read or a write failed, the port could not be bound, no connection
-/// could be accepted, or the nodes' books are not tied to what was recorded, which a line on `errors` tells.
+/// prints the report of what the clients saw. A client that is idle for so many seconds, where they are given, is given
+/// up: its session alone ends, and counts as served. The answer is the status: 0 for a report, which is of an accepted
+/// history; 2 for a faulty scenario, which a line on `out` tells; and 4 where a read or a write failed, the port could
+/// not be bound, no connection could be accepted, or the nodes' books are not tied to what was recorded, which a line
+/// on `errors` tells.
 pub fn serve_stream<R, I, W, E>(
     rt: &R,
     alloc: Global,
@@ -51,7 +52,8 @@ where
     I: Read,
     W: Write,
     E: Write,
-    // The status is that of the reader's bytes, of so many sessions and of the text that was printed, unless something failed.
+    // The status is that of the reader's bytes, of so many sessions and of the text that was printed, unless something
+    // failed.
     ensures ended { IfOk result (λ status. (status ≡ number Failed) ⊎ IfSome (I.remaining (inner reader.old)) (λ bytes.
         EndsAs bytes sessions status (W.contents (inner out.old)) (W.contents (inner out.new)))) }
     ensures heard { (result ≡ Ok (number Failed)) ⊎ ((failures reader.new ≡ failures reader.old) × (failures out.new ≡ failures out.old)) }

@@ -181,9 +181,10 @@ fn read_and_told<T: Threads + Wait + Sync, R: Read, G: Gate>(
 }
 
 /// Reads a trace to its end or its first fault, judges it by `workers` workers, 1 to 64, and writes the report or the
-/// fault's line, and nothing else. `BadWorkers` exactly unless there are 1 to 64, and then nothing is read. `Held` where
-/// the gate held a worker at a point of its piece. `ReadFailed` where a read failed, and `WriteFailed` where a write
-/// failed: neither is tried again. Nothing is written before the input's end. Where memory is refused nothing is written.
+/// fault's line, and nothing else. `BadWorkers` exactly unless there are 1 to 64, and then nothing is read. `Held`
+/// where the gate held a worker at a point of its piece. `ReadFailed` where a read failed, and `WriteFailed` where a
+/// write failed: neither is tried again. Nothing is written before the input's end. Where memory is refused nothing is
+/// written.
 pub fn audit_stream<T: Threads + Wait + Sync, R: Read, W: Write, G: Gate>(
     rt: &T,
     alloc: Global,

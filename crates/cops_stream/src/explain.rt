@@ -119,11 +119,11 @@ fn told_faulty(alloc: Global, fault: &TraceFault) -> Result<Told, StreamFault>
     })
 }
 
-/// Reads a trace to its end or its first fault, judges it by one worker, and answers as `audit_stream` does. It writes the text of
-/// `explain` for the faults that are asked for, or the fault's line, and nothing else. Where it is to be drawn too, the picture of the
-/// one fault that is asked for, or else of the first, comes back, if there is such a fault. `ReadFailed` where a read failed, and
-/// `WriteFailed` where a write failed: neither is tried again. Nothing is written before the input's end. Where memory is refused
-/// nothing is written.
+/// Reads a trace to its end or its first fault, judges it by one worker, and answers as `audit_stream` does. It writes
+/// the text of `explain` for the faults that are asked for, or the fault's line, and nothing else. Where it is to be
+/// drawn too, the picture of the one fault that is asked for, or else of the first, comes back, if there is such a
+/// fault. `ReadFailed` where a read failed, and `WriteFailed` where a write failed: neither is tried again. Nothing is
+/// written before the input's end. Where memory is refused nothing is written.
 pub fn explain_stream<R: Read, W: Write>(
     alloc: Global,
     reader: &mut Counted<R>,

@@ -14,8 +14,8 @@ pub fn one_audit()
         AuditSays bytes answer told → AuditSays bytes other text → (answer ≡ other) × (told ≡ text) }
 {}
 
-/// A law of the definitions: bytes have one answer and one text also where they may be cut, and where they are not cut it is
-/// that of an audit.
+/// A law of the definitions: bytes have one answer and one text also where they may be cut, and where they are not cut
+/// it is that of an audit.
 pub fn one_audit_so_far()
     ensures one { (bytes : List ℕ) → IsBytes bytes → (answer other : Answer) (told text : List ℕ) →
         SaysSoFar bytes answer told → SaysSoFar bytes other text → (answer ≡ other) × (told ≡ text) }
@@ -23,8 +23,8 @@ pub fn one_audit_so_far()
         SaysSoFar bytes answer told ↔ AuditSays bytes answer told }
 {}
 
-/// A law of the definitions: bytes have one answer and one text of what is explained for what is asked, and the answer is that
-/// of an audit.
+/// A law of the definitions: bytes have one answer and one text of what is explained for what is asked, and the answer
+/// is that of an audit.
 pub fn one_explanation()
     ensures one { (bytes : List ℕ) → IsBytes bytes → (asked : ASelection) (answer other : Answer) (told text : List ℕ) →
         ExplainSays asked bytes answer told → ExplainSays asked bytes other text → (answer ≡ other) × (told ≡ text) }

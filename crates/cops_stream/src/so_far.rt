@@ -81,11 +81,11 @@ fn told(
     }
 }
 
-/// Reads a trace to its end or its first fault, and answers and writes what `audit_stream` does of it, by one worker, unless
-/// it is cut. Then two lines are written: `cut at OFFSET`, and what is said so far of the whole records before that, `so
-/// far: clean`, `so far: waiting N` or `so far: refused`. The last is refused, and the others are accepted. `ReadFailed`
-/// where a read failed, and `WriteFailed` where a write failed: neither is tried again. Nothing is written before the
-/// input's end. Where memory is refused nothing is written.
+/// Reads a trace to its end or its first fault, and answers and writes what `audit_stream` does of it, by one worker,
+/// unless it is cut. Then two lines are written: `cut at OFFSET`, and what is said so far of the whole records before
+/// that, `so far: clean`, `so far: waiting N` or `so far: refused`. The last is refused, and the others are accepted.
+/// `ReadFailed` where a read failed, and `WriteFailed` where a write failed: neither is tried again. Nothing is written
+/// before the input's end. Where memory is refused nothing is written.
 pub fn audit_so_far<R: Read, W: Write>(
     alloc: Global,
     reader: &mut Counted<R>,

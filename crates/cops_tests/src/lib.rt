@@ -1,7 +1,7 @@
-//! Tests of what no contract and no text of an audit says, of devices, streams, links, the world, the auditor, its workers and the
-//! reports, through their public calls alone: refused reads, writes and growths, threads, and workers that are held. They stand in a
-//! crate above all others, so that each crate is proved once and not with its tests again. What an audit says of a whole trace stands
-//! as rows beside the tests of the program.
+//! Tests of what no contract and no text of an audit says, of devices, streams, links, the world, the auditor, its
+//! workers and the reports, through their public calls alone: refused reads, writes and growths, threads, and workers
+//! that are held. They stand in a crate above all others, so that each crate is proved once and not with its tests
+//! again. What an audit says of a whole trace stands as rows beside the tests of the program.
 #![tactic(auto)]
 
 #[cfg(test)]

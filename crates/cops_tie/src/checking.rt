@@ -15,10 +15,10 @@ use cops_trace::Trace;
 use cops_types::{History, Memory};
 use std::alloc::Global;
 
-/// The world's events of a run of these clients whose entries these are, a list for each node: `Untied` where they
-/// are no run of the world in which the clients saw what the trace says, where a client's outcome is not one of its session,
-/// or where a data centre has not settled each put. What the clients of a run saw is accepted. The condition: there is one
-/// list for each node, in order of node numbers.
+/// The world's events of a run of these clients whose entries these are, a list for each node: `Untied` where they are
+/// no run of the world in which the clients saw what the trace says, where a client's outcome is not one of its
+/// session, or where a data centre has not settled each put. What the clients of a run saw is accepted. The condition:
+/// there is one list for each node, in order of node numbers.
 pub fn checked(
     alloc: Global,
     setting: &Setting,

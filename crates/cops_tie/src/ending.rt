@@ -93,8 +93,8 @@ fn is_seen_as(op: &ScriptOp, seen: &OpRef<'_>) -> bool
     }
 }
 
-/// Whether a client may have stopped for this reason before the operation that is next in its script. Where it may, the world
-/// is as it was.
+/// Whether a client may have stopped for this reason before the operation that is next in its script. Where it may, the
+/// world is as it was.
 fn is_stop(
     world: &mut World,
     client: u16,

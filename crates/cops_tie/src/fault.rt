@@ -12,9 +12,9 @@ pub enum TieFault {
     /// 0: out of memory.
     #[error("out of memory")]
     Memory,
-    /// 1: the books are no run of the world in which the clients saw what the trace says. The ticket is the least one whose
-    /// entry does not continue the run; where the sessions alone differ from the trace's, the one above the greatest: 0
-    /// where there is no entry, and the greatest `u64` where that is a ticket.
+    /// 1: the books are no run of the world in which the clients saw what the trace says. The ticket is the least one
+    /// whose entry does not continue the run; where the sessions alone differ from the trace's, the one above the
+    /// greatest: 0 where there is no entry, and the greatest `u64` where that is a ticket.
     #[error("untied at ticket {ticket}")]
     Untied { ticket: u64 },
 }
@@ -49,9 +49,10 @@ pub enum CheckFault {
     /// Memory was refused.
     #[error("out of memory")]
     Memory,
-    /// The books are no such run. The ticket is the least one whose entry does not continue the world's run; where only the
-    /// sessions differ from the trace's, a client's outcome is not one of its session, or a data centre has not settled a
-    /// put, the one above the greatest: 0 where there is no entry, and the greatest `u64` where that is a ticket.
+    /// The books are no such run. The ticket is the least one whose entry does not continue the world's run; where only
+    /// the sessions differ from the trace's, a client's outcome is not one of its session, or a data centre has not
+    /// settled a put, the one above the greatest: 0 where there is no entry, and the greatest `u64` where that is a
+    /// ticket.
     #[error("untied at ticket {ticket}")]
     Untied { ticket: u64 },
 }

@@ -12,8 +12,8 @@ ghost use Rattle.cops_tie.specs.declared.outcome.ClientOutcome.{ClientOutcome};
 
 use cops_core::every_interleaving_is_accepted;
 
-/// A law of the definitions: books that stop somewhere, or whose run shows the clients something else, are no run of the
-/// world with these sessions. So the books and a trace have one of the two answers, and not both.
+/// A law of the definitions: books that stop somewhere, or whose run shows the clients something else, are no run of
+/// the world with these sessions. So the books and a trace have one of the two answers, and not both.
 pub fn untied_is_not_tied()
     ensures { (s : Setting) (books : List (List Entry)) (sessions : Sessions) (ticket : ℕ) (events : List Event) →
         IsUntied s books sessions ticket → IsTied s books sessions events → ⊥ }
@@ -29,7 +29,8 @@ pub fn tied_books_have_one_end()
     every_interleaving_is_accepted();
 }
 
-/// A law of the definitions: what is no run is none, with whatever events. So a run has one of the two answers, and not both.
+/// A law of the definitions: what is no run is none, with whatever events. So a run has one of the two answers, and not
+/// both.
 pub fn no_run_is_not_run()
     ensures { (s : Setting) (clients : List ScriptedClient) (books : List (List Entry)) (sessions : Sessions) (outcomes : List ClientOutcome) (ticket : ℕ) (events : List Event) →
         IsNoRun s clients books sessions outcomes ticket → IsRun s clients books sessions events outcomes → ⊥ }

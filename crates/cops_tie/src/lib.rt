@@ -1,7 +1,8 @@
-//! What it is for books to be one run of the world, and what a run of scripted clients has to be, decided on plain values: the books are one
-//! run of the world, its clients saw what the trace says, each client ended as its session and the world at the end of the run say, and each
-//! data centre has settled each put. Stands on the books of nodes and on the world and its readers. The layer above uses that a run passes
-//! exactly where this holds, and that what its clients saw is accepted.
+//! What it is for books to be one run of the world, and what a run of scripted clients has to be, decided on plain
+//! values: the books are one run of the world, its clients saw what the trace says, each client ended as its session
+//! and the world at the end of the run say, and each data centre has settled each put. Stands on the books of nodes and
+//! on the world and its readers. The layer above uses that a run passes exactly where this holds, and that what its
+//! clients saw is accepted.
 #![tactic(auto)]
 
 mod checking;

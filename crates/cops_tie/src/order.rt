@@ -7,7 +7,8 @@ ghost use Rattle.cops_tie.specs.Ticketed.{HasItsTicket, shown};
 use cops_book::Entry;
 use std::alloc::{AllocError, Global};
 
-/// An entry, in the book of the node at a place of a data centre, with its ticket, by which it is sorted without a look at it.
+/// An entry, in the book of the node at a place of a data centre, with its ticket, by which it is sorted without a look
+/// at it.
 #[derive(Clone, Copy)]
 pub struct Ticketed<'a> {
     pub dc: u8,

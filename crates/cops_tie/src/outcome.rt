@@ -5,7 +5,7 @@ use cops_types::Refusal;
 pub enum ClientOutcome {
     /// Each operation of its script was answered.
     Done,
-    /// An operation was refused for this reason, and those before it were answered: `ClockExhausted` where the clock of the
-    /// key's node can rise no further, `ContextFull`, or `Memory`.
+    /// An operation was refused for this reason, and those before it were answered: `ClockExhausted` where the clock of
+    /// the key's node can rise no further, `ContextFull`, or `Memory`.
     Stopped(Refusal),
 }

@@ -17,8 +17,8 @@ use cops_trace::Trace;
 use cops_types::{Deps, History, Memory, OpName, PutRecord};
 use std::alloc::{AllocError, Global};
 
-/// A run of the world that books are: its events, the world in which it ends, and the ticket above the greatest: 0 where
-/// there is no entry, and the greatest `u64` where that is a ticket.
+/// A run of the world that books are: its events, the world in which it ends, and the ticket above the greatest: 0
+/// where there is no entry, and the greatest `u64` where that is a ticket.
 #[derive(Drop)]
 pub struct TiedRun {
     pub events: Vec<Event>,
@@ -26,10 +26,10 @@ pub struct TiedRun {
     pub next: u64,
 }
 
-/// The world's events of a run whose books these are: `Untied` where the entries of all books, in order of their tickets, are
-/// no run of a world of this setting, or one whose clients saw something else than the trace says. Each entry of a put has
-/// to have its client's context, each delivered put has to be the issued one, and each entry has to stand with the node
-/// that the world asks. The condition: there is one book for each node, in order of node numbers.
+/// The world's events of a run whose books these are: `Untied` where the entries of all books, in order of their
+/// tickets, are no run of a world of this setting, or one whose clients saw something else than the trace says. Each
+/// entry of a put has to have its client's context, each delivered put has to be the issued one, and each entry has to
+/// stand with the node that the world asks. The condition: there is one book for each node, in order of node numbers.
 pub fn tie(
     alloc: Global,
     setting: &Setting,

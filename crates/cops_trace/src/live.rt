@@ -9,8 +9,8 @@ use std::alloc::Global;
 use std::io::Write;
 use std::snapshot::Snapshot;
 
-/// Writes the text of a trace that nobody has whole yet: its head at once, and each record as it comes. It keeps what it wrote,
-/// so that the rest can be written once the trace is there.
+/// Writes the text of a trace that nobody has whole yet: its head at once, and each record as it comes. It keeps what
+/// it wrote, so that the rest can be written once the trace is there.
 #[derive(Drop)]
 pub struct LiveTrace<W: Write> {
     writer: TraceWriter<W>,
@@ -117,8 +117,8 @@ impl<W: Write> LiveTrace<W> {
         writer.into_writer()
     }
 
-    /// Writes the rest of the trace's text, in one piece, and gives the writer back: `OfAnother` where what was written is not the
-    /// text's front. A failed write is not tried again.
+    /// Writes the rest of the trace's text, in one piece, and gives the writer back: `OfAnother` where what was written
+    /// is not the text's front. A failed write is not tried again.
     pub fn finish(self, alloc: Global, trace: &Trace) -> Result<Counted<W>, Unfinished<W>>
         requires { IsLive W.contents self }
         ensures ok { IfOk result (λ w. Appends (W.contents (inner self.begun.value)) (W.contents (inner w)) (text trace.now)) }

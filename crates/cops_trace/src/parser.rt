@@ -142,7 +142,8 @@ impl<S: Sink> Parser<S> {
     }
 }
 
-/// Gives an item to the sink that was begun. It is compiled into what calls it, since each call would move the item once more.
+/// Gives an item to the sink that was begun. It is compiled into what calls it, since each call would move the item
+/// once more.
 #[inline(always)]
 fn take<S: Sink>(alloc: Global, begun: &mut Option<S>, item: Item) -> Result<(), Memory>
     requires { (t : Option ATrace) × IsTakenAs S.took begun.old t × ItemHasRoom item t }
@@ -155,7 +156,8 @@ fn take<S: Sink>(alloc: Global, begun: &mut Option<S>, item: Item) -> Result<(),
     }
 }
 
-/// Begins a sink. It is kept apart from what each record takes, since the room for a sink is made, and cleared, wherever one may be begun.
+/// Begins a sink. It is kept apart from what each record takes, since the room for a sink is made, and cleared,
+/// wherever one may be begun.
 #[cold]
 #[inline(never)]
 fn begin<S: Sink>(alloc: Global, begun: &mut Option<S>, clients: u16) -> Result<(), Memory>

@@ -11,8 +11,8 @@ use cops_wire::{Buffer, RecordView};
 use std::alloc::Global;
 use std::marker::Model;
 
-/// Reads the items of a trace's text that comes in pieces: the head, the records one after the other, and the end. It keeps the
-/// bytes that no item was taken from, and of the items that it gave out nothing but counts.
+/// Reads the items of a trace's text that comes in pieces: the head, the records one after the other, and the end. It
+/// keeps the bytes that no item was taken from, and of the items that it gave out nothing but counts.
 #[derive(Debug, Drop)]
 pub struct TraceReader {
     alloc: Global,
@@ -66,8 +66,8 @@ impl TraceReader {
         Ok(())
     }
 
-    /// The item at the front of the rest, which is taken off, or nothing while no whole one is there. A fault that stands there
-    /// is answered again by every later call. For want of memory nothing changes.
+    /// The item at the front of the rest, which is taken off, or nothing while no whole one is there. A fault that
+    /// stands there is answered again by every later call. For want of memory nothing changes.
     pub fn next(&mut self) -> Result<Option<Item>, TraceFault>
         ensures next { GivesNext self.old result self.new }
         ensures again { IfSome self.old.fault (λ fault. result ≡ Err fault) }

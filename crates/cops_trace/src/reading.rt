@@ -50,9 +50,9 @@ fn read_items<S: Sink, R: Read>(
     })
 }
 
-/// Gives the trace whose text a reader gives to a sink as it comes, and keeps nothing else of it: the sink that took the whole
-/// records, and the cut's place where the text is cut; each other fault as `read_trace` answers it. Where the head is cut the
-/// sink took one of no clients.
+/// Gives the trace whose text a reader gives to a sink as it comes, and keeps nothing else of it: the sink that took
+/// the whole records, and the cut's place where the text is cut; each other fault as `read_trace` answers it. Where the
+/// head is cut the sink took one of no clients.
 pub fn read_into<S: Sink, R: Read>(
     alloc: Global,
     reader: &mut Counted<R>,

@@ -8,8 +8,8 @@ use cops_wire::Message;
 use std::alloc::Global;
 use std::io::Write;
 
-/// Writes a trace's text a frame at a time: the head, each record as it comes, and the end. Of the records it keeps nothing but
-/// counts. A failed write is not tried again, and leaves a text that is cut.
+/// Writes a trace's text a frame at a time: the head, each record as it comes, and the end. Of the records it keeps
+/// nothing but counts. A failed write is not tried again, and leaves a text that is cut.
 #[derive(Drop)]
 pub struct TraceWriter<W: Write> {
     writer: Counted<W>,
@@ -68,7 +68,8 @@ impl<W: Write> TraceWriter<W> {
         }
     }
 
-    /// Writes the next record of a client, which is there and has one operation fewer than it may have at least, as have all.
+    /// Writes the next record of a client, which is there and has one operation fewer than it may have at least, as
+    /// have all.
     pub fn op(&mut self, client: u16, op: &Op) -> Result<(), WriteFault>
         requires { HasTurn self.old.counts client }
         ensures ok { OnOk result (Appends (W.contents (inner self.old.writer)) (W.contents (inner self.new.writer)) (record_frame self.old.counts client op.now)) }

@@ -33,7 +33,8 @@ const MOST_PUTS: usize = 262_144;
 /// After how many operations the tables may grow.
 const GROWN_AFTER: usize = 64;
 
-/// So many keys, with what they are found by, lie in a processor's caches: what is needed for operations on fewer is at hand.
+/// So many keys, with what they are found by, lie in a processor's caches: what is needed for operations on fewer is at
+/// hand.
 const FEW_KEYS: usize = 32_768;
 
 /// A put that may bear a version, and a part of that version, so that most of the puts that do not are not looked at.
@@ -65,8 +66,8 @@ const NO_GUESS: Guess = Guess {
     put: None,
 };
 
-/// Guesses, which no clause speaks of: whoever asks looks whether they are right. What is needed for operations that come is
-/// fetched from memory for many of them at once, where one after the other would wait for each.
+/// Guesses, which no clause speaks of: whoever asks looks whether they are right. What is needed for operations that
+/// come is fetched from memory for many of them at once, where one after the other would wait for each.
 #[derive(Debug, Drop)]
 pub(crate) struct Foresight {
     keys: Guesses<u32>,
@@ -123,8 +124,8 @@ impl Foresight {
         keys.len() >= FEW_KEYS
     }
 
-    /// Guesses what is needed for operations that come, and fetches it. Each loop fetches from one array: so short a one has so many
-    /// turns under way at once that a processor waits for memory once, and not for each operation.
+    /// Guesses what is needed for operations that come, and fetches it. Each loop fetches from one array: so short a
+    /// one has so many turns under way at once that a processor waits for memory once, and not for each operation.
     pub(crate) fn foresee(&mut self, keys: &KeySet, entries: &Entries, coming: &[OpView<'_>]) {
         self.come = 0;
         self.coming.clear();

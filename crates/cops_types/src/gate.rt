@@ -1,4 +1,5 @@
-//! Points of a call at which it may be held, so that a test can show which steps of a call on threads stand side by side.
+//! Points of a call at which it may be held, so that a test can show which steps of a call on threads stand side by
+//! side.
 use std::sync::Wait;
 
 /// A point that a call passes.
@@ -8,7 +9,8 @@ pub enum Point {
     PieceStart(u32),
     /// A worker has judged the piece of this number, 0 to 63.
     PieceDone(u32),
-    /// A step of this client stands under the lock of this node, which it has not asked yet. A receiver's client is 65,535.
+    /// A step of this client stands under the lock of this node, which it has not asked yet. A receiver's client is
+    /// 65,535.
     InStep {
         /// The node, 0 to 1,023.
         node: u16,

@@ -3,8 +3,8 @@ use std::alloc::Global;
 /// The fewest places that a table has, once it has any.
 const FEWEST: usize = 16;
 
-/// A table of guesses: each stands at the place that the low bits of a number name, where a later one takes the place of an
-/// earlier one. Whoever asks looks whether what was guessed is so.
+/// A table of guesses: each stands at the place that the low bits of a number name, where a later one takes the place
+/// of an earlier one. Whoever asks looks whether what was guessed is so.
 #[derive(Debug, Drop)]
 pub(crate) struct Guesses<T: Copy> {
     places: Vec<T>,
@@ -18,8 +18,8 @@ impl<T: Copy> Guesses<T> {
         }
     }
 
-    /// Lets the table have more places than so many, and says whether it has more than before. A table of so many places as it may
-    /// have at most stays as it is, and so does one where memory is refused.
+    /// Lets the table have more places than so many, and says whether it has more than before. A table of so many
+    /// places as it may have at most stays as it is, and so does one where memory is refused.
     pub(crate) fn grow(&mut self, count: usize, most: usize, nothing: T) -> bool {
         let len = self.places.len();
         let more = len.max(FEWEST);

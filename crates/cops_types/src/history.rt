@@ -122,15 +122,16 @@ impl History {
         self.foresight.looks_ahead(&self.keys)
     }
 
-    /// Fetches from memory what will be needed for operations that come, where these come next and in this order. Nothing that is
-    /// said of the history changes.
+    /// Fetches from memory what will be needed for operations that come, where these come next and in this order.
+    /// Nothing that is said of the history changes.
     pub fn foresee(&mut self, coming: &[OpView<'_>])
         ensures { self.new ≡ self.old }
     {
         self.foresight.foresee(&self.keys, &self.entries, coming);
     }
 
-    /// Lets go of guesses that only find sooner what operations that come need. Nothing that is said of the history changes.
+    /// Lets go of guesses that only find sooner what operations that come need. Nothing that is said of the history
+    /// changes.
     pub fn forget_guesses(&mut self)
         ensures { self.new ≡ self.old }
     {
@@ -325,7 +326,8 @@ impl History {
         Some(self.entries.get(name)?.key())
     }
 
-    /// The version that the put of that name bears: none where there is no put of that name. It reads neither key nor value.
+    /// The version that the put of that name bears: none where there is no put of that name. It reads neither key nor
+    /// value.
     pub fn put_version(&self, name: OpName) -> Option<Version>
         ensures put { IfSome result (λ v. PutsVersion self.now.sessions name v) }
         ensures none { IfNone result ((v : ℕ) → ¬ PutsVersion self.now.sessions name v) }
@@ -336,8 +338,8 @@ impl History {
         }
     }
 
-    /// The version of what the get of that name returned: none where there is no get of that name, or it missed. It reads
-    /// neither key nor value.
+    /// The version of what the get of that name returned: none where there is no get of that name, or it missed. It
+    /// reads neither key nor value.
     pub fn got_version(&self, name: OpName) -> Option<Version>
         ensures got { IfSome result (λ v. GetsVersion self.now.sessions name v) }
         ensures none { IfNone result ((v : ℕ) → ¬ GetsVersion self.now.sessions name v) }
@@ -349,8 +351,8 @@ impl History {
         }
     }
 
-    /// The put that the get of that name returned, where the history found it as the get came: its key, its value and its version.
-    /// None says nothing of the get. It reads neither key nor value.
+    /// The put that the get of that name returned, where the history found it as the get came: its key, its value and
+    /// its version. None says nothing of the get. It reads neither key nor value.
     pub fn known_source(&self, got: OpName) -> Option<OpName>
         ensures { IfSome result (λ put. SourceStep self.now.sessions put got) }
     {
@@ -496,7 +498,8 @@ fn entry_of_seen(
     }
 }
 
-/// The entry of a get of the key of that number: it names its put where that is guessed right, and has the value where not.
+/// The entry of a get of the key of that number: it names its put where that is guessed right, and has the value where
+/// not.
 #[inline(always)]
 fn got_entry(
     foresight: &Foresight,

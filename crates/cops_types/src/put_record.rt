@@ -29,8 +29,8 @@ impl Clone for PutRecord {
     }
 }
 
-/// What a node tells of itself: its clock, how many keys show a value, how many pairs are settled, and how many puts are
-/// held.
+/// What a node tells of itself: its clock, how many keys show a value, how many pairs are settled, and how many puts
+/// are held.
 #[derive(Clone, Copy, Debug, PartialEq, Eq)]
 pub struct NodeStatus {
     pub clock: u64,

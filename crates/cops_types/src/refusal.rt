@@ -1,7 +1,7 @@
 //! Why an event, or a client's message, was refused.
 
-/// Why an event, or a client's message, was refused. The numbers are its codes, in outcomes and in messages: those up to
-/// `SessionFull` are the cluster's, and the others are the front door's own.
+/// Why an event, or a client's message, was refused. The numbers are its codes, in outcomes and in messages: those up
+/// to `SessionFull` are the cluster's, and the others are the front door's own.
 #[derive(Clone, Copy, Debug, PartialEq, Eq)]
 pub enum Refusal {
     /// The clock can rise no further.

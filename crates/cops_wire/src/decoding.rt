@@ -33,11 +33,11 @@ pub fn decode(alloc: Global, bytes: &[u8]) -> Result<Decoded, WireFault>
     decode_in(Format::One, alloc, bytes)
 }
 
-/// The message of a format at the front of some bytes, and how many bytes its frame takes. What follows its frame is not
-/// looked at. It looks in this order: fewer than 4 bytes are `Short`; a length of 0 or above the format's most is
+/// The message of a format at the front of some bytes, and how many bytes its frame takes. What follows its frame is
+/// not looked at. It looks in this order: fewer than 4 bytes are `Short`; a length of 0 or above the format's most is
 /// `BadLength`; a frame that is not whole is `Short`; then `UnknownKind`; then `BadField`, at the first field from the
-/// left that runs past the body's end or is not legal; then `TrailingBytes`. `Memory` is answered only where it comes to
-/// a legal key or value, or to dependencies whose count is legal: of no other field, and of no kind without one.
+/// left that runs past the body's end or is not legal; then `TrailingBytes`. `Memory` is answered only where it comes
+/// to a legal key or value, or to dependencies whose count is legal: of no other field, and of no kind without one.
 pub fn decode_in(format: Format, alloc: Global, bytes: &[u8]) -> Result<Decoded, WireFault>
     // What is answered is so by that order, unless memory runs out.
     ensures answer { Answers result (IsAnswer (grammar format) bytes.now) }

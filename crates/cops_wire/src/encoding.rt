@@ -55,8 +55,8 @@ pub fn encode(message: &Message, out: &mut Vec<u8>) -> Result<(), Memory>
     kinds!(append message, out)
 }
 
-/// Appends the frame of the message that replicates a put, which is always legal, or where memory runs out nothing. It is
-/// what `encode` appends for that message, without a copy of the put.
+/// Appends the frame of the message that replicates a put, which is always legal, or where memory runs out nothing. It
+/// is what `encode` appends for that message, without a copy of the put.
 pub fn encode_put_after(put: &PutRecord, out: &mut Vec<u8>) -> Result<(), Memory>
     ensures legal { IsMessage (grammar Format.One) (parts (put_after put.now)) }
     ensures ok { OnOk result (out.new.items ≡ out.old.items ++ spelling (grammar Format.One) (parts (put_after put.now))) }

@@ -207,8 +207,9 @@ fn push_byte(line: &mut String, byte: u8) -> Result<(), AllocError>
     }
 }
 
-/// Appends the bytes of a key or a value: those of ASCII letters, digits, `-`, `.` and `_` as they are, and any other as `%` and two
-/// lower case hexadecimal digits (`bytes_text` in `specs/Shown.antt`). Where memory runs out, some of them may be there.
+/// Appends the bytes of a key or a value: those of ASCII letters, digits, `-`, `.` and `_` as they are, and any other
+/// as `%` and two lower case hexadecimal digits (`bytes_text` in `specs/Shown.antt`). Where memory runs out, some of
+/// them may be there.
 pub fn show_bytes(bytes: &[u8], line: &mut String) -> Result<(), AllocError>
     ensures { OnOk result (string_bytes line.new ≡ string_bytes line.old ++ bytes_text bytes.now) }
 {

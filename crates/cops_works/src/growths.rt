@@ -37,8 +37,8 @@ fn go<R: Threads + Wait + Sync + AllocGlobal>(rt: &R, inputs: &Inputs) -> Result
     )
 }
 
-/// Says whether all works go as is wanted by the files: a scenario with events and what is told of them, a trace and what is told of
-/// it. It fails where memory is refused to a work that has that for an answer.
+/// Says whether all works go as is wanted by the files: a scenario with events and what is told of them, a trace and
+/// what is told of it. It fails where memory is refused to a work that has that for an answer.
 pub fn say<R: Files + Threads + Wait + Sync + Print + AllocGlobal>(
     rt: &R,
     paths: &[&String; 4],

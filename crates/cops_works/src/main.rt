@@ -1,6 +1,7 @@
-//! What scripts and the tests run. Rows of calls of the crates, and the answers that are wanted: `rows FILE..`. For scripts in `bench/`, which time a
-//! node, a world and the auditor that is fed: `node PAIRS TURNS AMONG`, `world FILE MODE DATA_CENTRES CLIENTS`, `online TRACE MODE`. For
-//! `tests/growths.py`, which refuses growths in turn: `growths SCENARIO LINES TRACE LINES`. With no words it does nothing.
+//! What scripts and the tests run. Rows of calls of the crates, and the answers that are wanted: `rows FILE..`. For
+//! scripts in `bench/`, which time a node, a world and the auditor that is fed: `node PAIRS TURNS AMONG`, `world FILE
+//! MODE DATA_CENTRES CLIENTS`, `online TRACE MODE`. For `tests/growths.py`, which refuses growths in turn: `growths
+//! SCENARIO LINES TRACE LINES`. With no words it does nothing.
 #![tactic(auto)]
 
 mod auditing;

@@ -161,8 +161,8 @@ fn say_file<R: Files + Print + AllocGlobal>(rt: &R, name: &str) -> Result<u64, E
     say_count(rt, name, counts)
 }
 
-/// Makes the calls of the rows of all files, each on subjects of its own, and prints of each that all is as wanted, or each row that
-/// differs. An error where rows differ, or a file cannot be read.
+/// Makes the calls of the rows of all files, each on subjects of its own, and prints of each that all is as wanted, or
+/// each row that differs. An error where rows differ, or a file cannot be read.
 pub fn say_files<R: Files + Print + AllocGlobal>(rt: &R, names: &[String]) -> Result<(), Error> {
     let mut differing = 0u64;
     for name in names {

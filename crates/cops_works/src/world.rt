@@ -52,7 +52,8 @@ fn say<R: Print + AllocGlobal>(rt: &R, events: &[Event], of: (u8, u16)) -> Resul
     Ok(())
 }
 
-/// Reads the events of a file and, where the mode is `run`, lets them happen in a world of so many data centres and clients.
+/// Reads the events of a file and, where the mode is `run`, lets them happen in a world of so many data centres and
+/// clients.
 pub fn happen<R: Files + Print + AllocGlobal>(
     rt: &R,
     path: &str,

@@ -20,7 +20,8 @@ const SPLIT: &str =
 const LIMITED: &str =
     "{\"data_centres\":2,\"link\":1,\"turns\":1,\"clients\":[{\"at\":0,\"script\":[{\"put\":[\"a\",\"1\"]},{\"put\":[\"b\",\"1\"]},{\"put\":[\"c\",\"1\"]}]}]}";
 
-/// A client puts two keys, whose messages go through a link for one frame, each three times, to a receiver that comes late.
+/// A client puts two keys, whose messages go through a link for one frame, each three times, to a receiver that comes
+/// late.
 const LATE: &str =
     "{\"data_centres\":2,\"link\":1,\"repeat\":2,\"hold\":5,\"clients\":[{\"at\":0,\"script\":[{\"put\":[\"x\",\"1\"]},{\"put\":[\"y\",\"2\"]}]}]}";
 
@@ -122,8 +123,8 @@ impl Gate for Turns {
     }
 }
 
-/// Writes a scenario in which client 0 puts so many keys and gets the first of them, and client 1 gets a key that nobody
-/// puts, and then them and the first of them again.
+/// Writes a scenario in which client 0 puts so many keys and gets the first of them, and client 1 gets a key that
+/// nobody puts, and then them and the first of them again.
 fn write_many(text: &mut String, keys: u32) -> Result<(), Fail> {
     text.push_str("{\"data_centres\":1,\"clients\":[{\"at\":0,\"script\":[")?;
     for n in 0..keys {

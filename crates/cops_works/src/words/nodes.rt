@@ -1,5 +1,5 @@
-//! The events of a node: `put CLIENT KEY VALUE DEPS`, `get CLIENT KEY`, `deliver KEY VALUE VERSION DEPS`, `ask KEY VERSION`,
-//! `mark VERSION DEP`, `settle VERSION`.
+//! The events of a node: `put CLIENT KEY VALUE DEPS`, `get CLIENT KEY`, `deliver KEY VALUE VERSION DEPS`, `ask KEY
+//! VERSION`, `mark VERSION DEP`, `settle VERSION`.
 
 use crate::words::reading::{deps, key, key_and_value, no_row, put, u16_of, version};
 use anyhow::Error;

@@ -1,5 +1,5 @@
-//! The events of a world: `put CLIENT KEY VALUE`, `get CLIENT KEY`, `deliver DATA_CENTRE VERSION`, `ask DATA_CENTRE KEY VERSION`,
-//! `mark DATA_CENTRE VERSION DEP`, `settle DATA_CENTRE VERSION`.
+//! The events of a world: `put CLIENT KEY VALUE`, `get CLIENT KEY`, `deliver DATA_CENTRE VERSION`, `ask DATA_CENTRE KEY
+//! VERSION`, `mark DATA_CENTRE VERSION DEP`, `settle DATA_CENTRE VERSION`.
 
 use crate::words::reading::{key, key_and_value, no_row, u8_of, u16_of, version};
 use anyhow::Error;
