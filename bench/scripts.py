@@ -49,8 +49,7 @@ def took(status, *command):
 
 def run_round(scenario, cut, trace, operations):
     """How many operations a second a run makes, and how many cores it keeps busy."""
-    # (a run of a faulty scenario leaves an empty trace)
-    whole, read, audited = took(0, COPS, "run", scenario, trace), took(2, COPS, "run", cut, f"{trace}.cut"), took(0, COPS, "audit", trace)
+    whole, read, audited = took(0, COPS, "run", scenario, trace), took(2, COPS, "run", cut, trace), took(0, COPS, "audit", trace)
     wall, busy = (whole[at] - read[at] - audited[at] for at in (0, 1))
     return operations / max(1e-9, wall), busy / max(1e-9, wall)
 

@@ -170,18 +170,25 @@ def plain_import(data):
     return 0, "".join(lines).encode(), b"".join(trace)
 
 
+def write(path, data):
+    with open(path, "wb") as file:
+        file.write(data)
+
+
+def read(path):
+    with open(path, "rb") as file:
+        return file.read()
+
+
 def imported(data):
     """What `cops import` of lines answers, and the trace that it writes: by files, and by standard input and output."""
     with tempfile.TemporaryDirectory() as folder:
         lines, trace = os.path.join(folder, "lines"), os.path.join(folder, "trace")
-        with open(lines, "wb") as file:
-            file.write(data)
+        write(lines, data)
         status, out, errors = cops("import", lines, trace)
-        with open(trace, "rb") as file:
-            written = file.read()
+        written = read(trace)
         from_input = cops("import", "-", trace, stdin=data)
-        with open(trace, "rb") as file:
-            also_written = file.read()
+        also_written = read(trace)
         to_output = cops("import", lines, "-")
         both = cops("import", "-", "-", stdin=data)
     same = from_input == (status, out, errors) and also_written == written and to_output == both == (status, written, out + errors)
@@ -234,6 +241,25 @@ def wrong_lines():
         as_plain(f"import of {last[:60]}", last)
         later = FIRST + b"\r\n" + last + b"\n" + b"also wrong"
         check(f"import of {last[:60]}, later", imported(later)[:3], (2, f"faulty: line {number + 2}: {words}\n".encode(), b""))
+
+
+def replaced():
+    """A trace that is there stays where a line is wrong, also behind many that are not, and is replaced as a whole where none is."""
+    old = b"what was there\n" * 100_000
+    with tempfile.TemporaryDirectory() as folder:
+        lines, trace = os.path.join(folder, "lines"), os.path.join(folder, "trace")
+        for data, answer in (
+            (b"wrong", (2, b"faulty: line 1: no JSON\n", b"")),
+            (FIRST * 100_000 + b"wrong", (2, b"faulty: line 100001: no JSON\n", b"")),
+        ):
+            write(trace, old)
+            write(lines, data)
+            check("an import of a line that is wrong", cops("import", lines, trace), answer)
+            check("the trace that was there", read(trace) == old, True)
+        write(lines, FIRST)
+        check("an import over a longer file", cops("import", lines, trace), (0, b"client 0 1\nimported: 1 operations, 1 clients\n", b""))
+        check("the trace in its place", cops("audit", trace), (0, b"accepted: 1 operations, 0 puts\n", b""))
+        check("what is left in the folder", sorted(os.listdir(folder)), ["lines", "trace"])
 
 
 def limits():
@@ -337,6 +363,7 @@ def generated(seed):
 def imports():
     worked()
     wrong_lines()
+    replaced()
     limits()
     devices()
     for seed in range(150):

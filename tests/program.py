@@ -344,6 +344,19 @@ def scripted(*scripts, data_centres=1, **more):
     return json.dumps({"data_centres": data_centres, "clients": clients, **more}).encode()
 
 
+def replaced():
+    """A trace that is there stays where a scenario is faulty, and is replaced as a whole where it runs."""
+    old = b"what was there\n" * 1_000
+    with tempfile.NamedTemporaryFile(suffix=".trace") as file:
+        file.write(old)
+        file.flush()
+        check("a faulty scenario", cops("run", "-", file.name, stdin=b"{}"), (2, b"faulty: scenario field data_centres\n", b""))
+        with open(file.name, "rb") as there:
+            check("the trace that was there", there.read() == old, True)
+        check("a scenario that runs", cops("run", "-", file.name, stdin=scripted(data_centres=2)), (0, b"accepted: 0 operations, 0 puts\n", b""))
+        check("the trace in its place", cops("audit", file.name), (0, b"accepted: 0 operations, 0 puts\n", b""))
+
+
 def random_script(pick, operations, keys):
     return [{"put": [pick.choice(keys), "1"]} if pick.random() < 0.5 else {"get": pick.choice(keys)} for _ in range(operations)]
 
@@ -745,7 +758,7 @@ def no_thread():
 
 
 for tests in (
-    examples, long_chain, many_rounds, faults, cut_traces, shown, scenarios, refusals, faulty_scenarios, scripts, mixed_scripts, working_clusters,
+    examples, long_chain, many_rounds, faults, cut_traces, shown, scenarios, refusals, faulty_scenarios, replaced, scripts, mixed_scripts, working_clusters,
     plain_cluster.random_worlds, many_workers, served, replies, strange_peers, sent_behind, idle_clients, listens_here_alone, words, devices,
     on_a_terminal, generated, long_traces, each_kind, many_suspects, little_memory, no_thread, imports, pictures, redis, definition_files, wrong_edits,
     plain.rows, plain.random_histories,

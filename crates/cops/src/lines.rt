@@ -7,7 +7,7 @@ use std::os::unix::fs::{MetadataExt, OpenOptionsExt};
 use std::rt::{Env, Files};
 use std::{env, fs};
 
-/// How the name of a copy begins; behind it stands the number of the process.
+/// How the name of a copy, or of a draft, begins; behind it stands the number of the process.
 const COPY: &str = "cops-lines-";
 
 /// Its owner alone may read and write a copy.
@@ -116,7 +116,7 @@ where
 
 /// An empty file without a name, in the folder that TMPDIR names, or else in `/tmp`: it is made anew, its name is
 /// removed while it is open, and so the system lets go of it however the program ends.
-fn created<R>(rt: &R, process: u32) -> Result<File, NoLines>
+pub fn created<R>(rt: &R, process: u32) -> Result<File, NoLines>
 where
     R: Files<File = File> + Env + AllocGlobal,
 {

@@ -12,9 +12,11 @@ ghost use Rattle.cops_command.specs.declared.status.Status.TheVariants.{Accepted
 ghost use Rattle.cops.specs.Status.{EndsFaulty, EndsRefused, EndsWell, IsLine, MayWork, TellsExplained, TellsFaultyLine, TellsImport, TellsNoTrace, TellsOtherFault, TellsRefused, TellsRefusedSoFar, TellsRun, TellsServed, TellsTrace, status_of};
 
 mod lines;
+mod output;
 mod progress;
 
-use crate::lines::{has_name, opened, rewound};
+use crate::lines::{NoLines, created, has_name, opened, rewound};
+use crate::output::{Draft, Renewed};
 use crate::progress::{Cleared, Watched, begun, remove};
 use cops_command::{Status, print};
 use cops_import::{
@@ -190,10 +192,10 @@ where
     if trace == "-" {
         return run_over(rt, input, io::writer(rt), errors, errors);
     }
-    let Ok(file) = File::create(rt, trace) else {
+    let Ok(output) = Renewed::open(rt, trace) else {
         return failed(rt, "open", Status::Failed);
     };
-    run_over(rt, input, file, io::writer(rt), errors)
+    run_over(rt, input, output, io::writer(rt), errors)
 }
 
 /// The same over the writers of the trace, of what is printed, and of what failed.
@@ -229,9 +231,9 @@ where
 /// Imports the lines of the input, of which an earlier reading named so many clients, writes their trace to the file of
 /// that name, and gives the status: accepted only of lines that tell a trace. Where the name is `-`, the trace goes to
 /// standard output, and all else that is printed to standard error.
-fn import<R, I, E>(rt: &R, clients: u16, input: I, trace: &str, errors: E) -> u8
+fn import<R, I, E>(rt: &R, clients: u16, input: I, trace: &str, errors: E, process: u32) -> u8
 where
-    R: Files<File = File> + Print + Eprint + AllocGlobal,
+    R: Files<File = File> + Print + Eprint + AllocGlobal + Env,
     I: Read + Drop,
     E: Write + Copy + Drop,
     ensures imported { result ≡ number Accepted → IfSome (I.remaining input) TellsImport }
@@ -241,10 +243,16 @@ where
     if trace == "-" {
         return import_over(rt, clients, input, io::writer(rt), errors, errors);
     }
-    let Ok(file) = File::create(rt, trace) else {
+    let Ok(output) = Renewed::open(rt, trace) else {
         return failed(rt, "open", Status::Failed);
     };
-    import_over(rt, clients, input, file, io::writer(rt), errors)
+    let waiting = match created(rt, process) {
+        Ok(waiting) => waiting,
+        Err(NoLines::Memory) => return failed(rt, "memory", Status::NoMemory),
+        Err(_) => return failed(rt, "create", Status::Failed),
+    };
+    let draft = Draft::new(waiting, output);
+    import_over(rt, clients, input, draft, io::writer(rt), errors)
 }
 
 /// The same over the writers of the trace, of what is printed, and of what failed.
@@ -375,9 +383,9 @@ where
 
 /// Does a job over its input, of which an earlier reading named so many clients where it is an import's, and gives the
 /// status.
-fn command<R, I, E>(rt: &R, job: Job<'_>, clients: u16, input: I, errors: E) -> u8
+fn command<R, I, E>(rt: &R, job: Job<'_>, clients: u16, input: I, errors: E, process: u32) -> u8
 where
-    R: Files<File = File> + Print + Eprint + AllocGlobal + Threads + Wait + Sync + Clock,
+    R: Files<File = File> + Print + Eprint + AllocGlobal + Env + Threads + Wait + Sync + Clock,
     R: Net<Listener = TcpListener, Stream = TcpStream>,
     I: Read + Drop,
     E: Write + IsTerminal + Copy + Drop,
@@ -394,7 +402,7 @@ where
             ..
         } => explain(rt, input, faults, picture),
         Job::Show { .. } => show(rt, input, errors),
-        Job::Import { trace, .. } => import(rt, clients, input, trace, errors),
+        Job::Import { trace, .. } => import(rt, clients, input, trace, errors, process),
         Job::Run { trace, .. } => run_scenario(rt, input, trace, errors),
         Job::Serve {
             port,
@@ -445,7 +453,7 @@ where
     }
     let input = input_of(job);
     if input == "-" {
-        return command(rt, job, 0, rt.reader(), errors);
+        return command(rt, job, 0, rt.reader(), errors, process);
     }
     let Ok(file) = File::open(rt, input) else {
         return failed(rt, "open", Status::Failed);
@@ -453,7 +461,7 @@ where
     if writes_over(rt, job, &file) {
         return failed(rt, SAME_FILE, Status::Failed);
     }
-    command(rt, job, 0, file, errors)
+    command(rt, job, 0, file, errors, process)
 }
 
 /// Runs an import of the lines of that name, which are read twice: first their clients are counted.
@@ -480,7 +488,14 @@ where
         }
     };
     match rewound(file.into_inner()) {
-        Ok(file) => command(rt, Job::Import { lines, trace }, clients, file, errors),
+        Ok(file) => command(
+            rt,
+            Job::Import { lines, trace },
+            clients,
+            file,
+            errors,
+            process,
+        ),
         Err(why) => failed(rt, why.word(), why.status()),
     }
 }

@@ -14,6 +14,7 @@ pub mod Unique
 pub mod Consequences
 pub mod Differing
 pub mod Places
+pub mod Positions
 pub mod Gets
 pub mod Marks
 pub mod Noting

@@ -182,15 +182,12 @@ place_for h table t p v k put inside at =
     let e : own.0 ≡ k = same_place table t.rising own.0 k p (get_or table k d).name v stands_own here in
     subst (λ j. StandsAt table j p v) e stands_own
 
--- the put whose name stands at a place
-module _ (h : Sessions) (table : List VersionedPut) (t : IsVersionTable h table) (p : OpName) (k : ℕ) (inside : k < length table) (named : (d : VersionedPut) → (get_or table k d).name ≡ p) where
-  -- it bears the version that stands there
-  pub named_puts : (d : VersionedPut) → PutsVersion h p (get_or table k d).version
-  named_puts d = subst (λ (n : OpName). PutsVersion h n (get_or table k d).version) (named d) (put_at h table t.table k d inside)
-
-  -- and stands there with its version
-  pub named_at : (v : ℕ) → PutsVersion h p v → StandsAt table k p v
-  named_at v puts = place_for h table t p v k puts inside (λ d. one_version h p p (get_or table k d).version v (named_puts d) puts refl)
+-- a put stands somewhere with its version
+pub stands_put : (h : Sessions) (table : List VersionedPut) → IsPutTable h table → (p : OpName) (v : ℕ) → PutsVersion h p v → (k : ℕ) × StandsAt table k p v
+stands_put h table t p v puts =
+    let d : VersionedPut = record { version = v; name = p } in
+    let own = place_of_put h table t p v puts in
+    (own.0, stands table own.0 d own.1 ∙ ap (λ (x : VersionedPut). Some x) (own.2 d))
 
 pub never_falls : (table : List VersionedPut) → VersionsNeverFall table → IsNonDecreasingBy (λ (p : VersionedPut). p.version) table
 never_falls table in_order i j d le inside = elim (eq-or-lt_of_le le) [

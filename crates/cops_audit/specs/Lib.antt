@@ -4,6 +4,7 @@ pub mod Links
 pub mod Names
 pub mod Noted
 pub mod Notes
+pub mod Placing
 pub mod Rooms
 pub mod Searches
 pub mod SoFar

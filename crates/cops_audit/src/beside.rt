@@ -1,6 +1,7 @@
 ghost use Rattle.std.specs.Prelude.{◌≤◌, IfOk, length};
 ghost use Rattle.cops_audit.specs.Links.{AreLinks};
 ghost use Rattle.cops_audit.specs.Notes.{AreNoted, IsNoted};
+ghost use Rattle.cops_audit.specs.Placing.{HintPlaces};
 ghost use Rattle.cops_audit.specs.Tables.{IsVersionTable};
 
 use crate::hints::Hints;
@@ -29,11 +30,13 @@ fn notes_in_halves<R: Threads + Sync>(
         rt,
         || -> Result<SessionNotes, AllocError>
             requires table { IsVersionTable history.now.sessions table.now }
+            requires hints { HintPlaces table.now hints }
             requires inside { mid ≤ length history.now.sessions }
             ensures { IfOk result (AreNoted history.entry.now.sessions table.entry.now 0 mid) }
         { SessionNotes::on_clients(alloc, history, table, &hints, 0, mid) },
         || -> Result<SessionNotes, AllocError>
             requires table { IsVersionTable history.now.sessions table.now }
+            requires hints { HintPlaces table.now hints }
             requires inside { (mid ≤ clients) × (clients ≤ length history.now.sessions) }
             ensures { IfOk result (AreNoted history.entry.now.sessions table.entry.now mid clients) }
         { SessionNotes::on_clients(alloc, history, table, &hints, mid, clients) },

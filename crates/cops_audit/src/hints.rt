@@ -1,7 +1,9 @@
 ghost use Rattle.cops_types.specs.declared.limits.TheConstants.{MAX_OPS};
-ghost use Rattle.std.specs.Prelude.{◌≡◌, ◌≢◌, ◌<◌, ◌≤◌, ℕ, IfSome, IfNone, IsTrue, length, slice_index_or};
+ghost use Rattle.std.specs.Prelude.{◌≡◌, ◌≢◌, ◌<◌, ◌≤◌, ℕ, List, IfOk, IfSome, IfNone, IsTrue, Some, length, slice_get, slice_index_or};
 ghost use Rattle.cops_audit.specs.declared.table.VersionedPut.{VersionedPut};
-ghost use Rattle.cops_audit.specs.Tables.{VersionsNeverFall};
+ghost use Rattle.cops_audit.specs.Notes.{StandsAt};
+ghost use Rattle.cops_audit.specs.Placing.{AreStarts, HintPlaces, TellPlaces};
+ghost use Rattle.cops_audit.specs.Tables.{IsVersionTable, VersionsNeverFall};
 
 use crate::did::Did;
 use crate::table::{VersionedPut, place_of};
@@ -22,100 +24,108 @@ fn stands_at(table: &[VersionedPut], place: u32, version: Version) -> bool
     }
 }
 
-/// Where the puts of a history may stand in the table of its puts in order of versions, by their names.
+/// How many operations stand before those of each session.
+fn session_starts(alloc: Global, history: &History) -> Result<Vec<usize>, AllocError>
+    ensures count { IfOk result (λ v. length v.items ≡ length history.now.sessions) }
+    ensures starts { IfOk result (λ v. AreStarts history.now.sessions v.items) }
+{
+    let mut starts = Vec::with_capacity(alloc, history.clients())?;
+    let mut count = 0;
+    for client in 0..history.clients() {
+        starts.push(count)?;
+        count += history.session_len(client as u16);
+    }
+    Ok(starts)
+}
+
+/// Where the puts of a history stand in the table of its puts in order of versions, by their names.
 #[derive(Drop)]
 pub struct Places {
-    /// Where the operations of each session begin among the places.
-    sessions: Vec<usize>,
-    /// Of each operation the place of its put.
-    places: Vec<u32>,
+    /// How many operations stand before those of each session.
+    pub starts: Vec<usize>,
+    /// Of each operation the place of its put, where it is one.
+    pub places: Vec<u32>,
 }
 
 impl Places {
     /// The places of a history's puts.
     fn new(alloc: Global, history: &History, table: &[VersionedPut]) -> Result<Self, AllocError>
-        requires { length table.now ≤ MAX_OPS }
+        requires { IsVersionTable history.now.sessions table.now }
+        ensures { IfOk result (λ p. TellPlaces table.now p.starts.items p.places.items) }
     {
-        let mut sessions = Vec::with_capacity(alloc, history.clients())?;
-        let mut count = 0usize;
-        for client in 0..history.clients() {
-            sessions.push(count)?;
-            count = count.saturating_add(history.session_len(client as u16));
-        }
-        let mut named = Places {
-            sessions,
-            places: Vec::new(alloc),
-        };
-        named.places.resize(history.len(), NONE)?;
+        let starts = session_starts(alloc, history)?;
+        let mut places = Vec::new(alloc);
+        places.resize(history.len(), NONE)?;
         for place in 0..table.len() {
-            if let Some(at) = named.position(table[place].name) {
-                if let Some(kept) = named.places.get_mut(at) {
-                    *kept = place as u32;
-                }
-            }
+            let put = table[place].name;
+            let at = starts[put.client as usize] + put.index as usize;
+            places[at] = place as u32;
         }
-        Ok(named)
+        Ok(Places { starts, places })
     }
 
-    /// Where the operation of that name is among the places.
-    fn position(&self, name: OpName) -> Option<usize> {
-        let start = self.sessions.get(name.client as usize)?;
-        Some(start.saturating_add(name.index as usize))
-    }
-
-    /// The place of the put of that name, where it stands there.
-    pub fn of(&self, table: &[VersionedPut], put: OpName) -> Option<usize>
-        ensures inside { IfSome result (λ place. place < length table.now) }
-        ensures named { IfSome result (λ place. (d : VersionedPut) → (slice_index_or table.now place d).name ≡ put) }
+    /// How many operations stand before those of a client's session: none where there is no such client.
+    fn start(&self, client: u16) -> usize
+        ensures { result ≡ slice_index_or self.now.starts.items client 0 }
     {
-        let place = *self.places.get(self.position(put)?)? as usize;
-        let there = table.get(place)?;
-        if there.name == put { Some(place) } else { None }
+        match self.starts.get(client as usize) {
+            Some(start) => *start,
+            None => 0,
+        }
+    }
+
+    /// The place of the put of that name.
+    pub fn of(&self, put: OpName) -> Option<u32>
+        ensures { (table : List VersionedPut) (place version : ℕ) → TellPlaces table self.now.starts.items self.now.places.items → StandsAt table place put version
+            → result ≡ Some place }
+    {
+        let at = self.start(put.client).saturating_add(put.index as usize);
+        place_at(&self.places, at)
     }
 }
 
-/// Where puts may stand in a table of puts in order of versions, by their names and by their versions. The versions are
-/// cut into stretches of one width, about as many as there are puts, and of each it is known where its puts begin.
-/// These are but hints: each is looked up in the table, and a version that does not stand there is searched for.
+/// The place at a position, if there is one.
+fn place_at(places: &[u32], at: usize) -> Option<u32>
+    ensures { result ≡ slice_get places.now at }
+{
+    places.get(at).copied()
+}
+
+/// Where puts of a version may stand in a table of puts in order of versions. The versions are cut into stretches of one
+/// width, about as many as there are puts, and of each it is known where its puts begin. These are but hints: each is
+/// looked up in the table, and a version that does not stand there is searched for.
 #[derive(Drop)]
-pub struct Hints {
-    pub places: Places,
+pub struct Stretches {
     lowest: u64,
     shift: u32,
     starts: Vec<u32>,
 }
 
-impl Hints {
-    /// The hints for a table, in a vector that may have room for those of versions.
-    pub fn new(
-        mut starts: Vec<u32>,
-        alloc: Global,
-        history: &History,
-        table: &[VersionedPut],
-    ) -> Result<Self, AllocError>
+impl Stretches {
+    /// The stretches of a table, in a vector that may have room for them.
+    fn new(mut starts: Vec<u32>, table: &[VersionedPut]) -> Result<Self, AllocError>
         requires { length table.now ≤ MAX_OPS }
     {
         starts.clear();
-        let mut hints = Hints {
-            places: Places::new(alloc, history, table)?,
+        let mut stretches = Stretches {
             lowest: 0,
             shift: 0,
             starts,
         };
         if let (Some(first), Some(last)) = (table.first(), table.last()) {
-            hints.lowest = first.version.as_u64();
-            hints.shift = shift_for(hints.offset(last.version), table.len() as u64);
+            stretches.lowest = first.version.as_u64();
+            stretches.shift = shift_for(stretches.offset(last.version), table.len() as u64);
         }
         for place in 0..table.len() {
-            let stretch = hints.stretch(table[place].version);
-            if hints.starts.len() <= stretch {
-                hints
+            let stretch = stretches.stretch(table[place].version);
+            if stretches.starts.len() <= stretch {
+                stretches
                     .starts
                     .resize(stretch.saturating_add(1), place as u32)?;
             }
         }
-        hints.starts.push(table.len() as u32)?;
-        Ok(hints)
+        stretches.starts.push(table.len() as u32)?;
+        Ok(stretches)
     }
 
     /// How far above the lowest version this one is.
@@ -141,6 +151,30 @@ impl Hints {
             return NONE;
         };
         first_within(table, *start, *end, version)
+    }
+}
+
+/// Where puts stand in a table of puts in order of versions, by their names, and where they may stand, by their versions.
+#[derive(Drop)]
+pub struct Hints {
+    pub places: Places,
+    pub stretches: Stretches,
+}
+
+impl Hints {
+    /// The hints for a table, in a vector that may have room for those of versions.
+    pub fn new(
+        starts: Vec<u32>,
+        alloc: Global,
+        history: &History,
+        table: &[VersionedPut],
+    ) -> Result<Self, AllocError>
+        requires { IsVersionTable history.now.sessions table.now }
+        ensures { IfOk result (HintPlaces table.now) }
+    {
+        let stretches = Stretches::new(starts, table)?;
+        let places = Places::new(alloc, history, table)?;
+        Ok(Hints { places, stretches })
     }
 }
 

@@ -6,6 +6,7 @@ ghost use Rattle.cops_types.specs.Operations.{GetsVersion};
 ghost use Rattle.cops_types.specs.Faults.{IsBefore};
 ghost use Rattle.cops_audit.specs.Names.{ListsAmong};
 ghost use Rattle.cops_audit.specs.Notes.{above as above_of, AreFrontsNoted, AreLongEnough, AreMarks, HasDone, IsFrontNoted, IsMark, IsSeen, IsSessionNoted, IsSourceless};
+ghost use Rattle.cops_audit.specs.Placing.{HintPlaces, TellPlaces};
 ghost use Rattle.cops_audit.specs.Tables.{IsVersionTable};
 ghost use Rattle.cops_audit.specs.declared.table.VersionedPut.{VersionedPut};
 
@@ -82,20 +83,23 @@ fn see_named(
     places: &Places,
     name: OpName,
 ) -> Option<Seen>
-    requires { IsVersionTable history.now.sessions table.now }
+    requires table { IsVersionTable history.now.sessions table.now }
+    requires places { TellPlaces table.now places.now.starts.items places.now.places.items }
     ensures { IfSome result (IsSeen history.now.sessions table.now name) }
 {
     if let Some(put) = history.known_source(name) {
-        let place = places.of(table, put)?;
-        return Some(Seen::Got(place as u32));
+        let place = places.of(put)?;
+        return Some(Seen::Got(place));
     }
-    let place = places.of(table, name)?;
-    Some(Seen::Put(place as u32))
+    let _version = history.put_version(name)?;
+    let place = places.of(name)?;
+    Some(Seen::Put(place))
 }
 
 /// What an operation did, by the hints.
 fn see_hinted(history: &History, table: &[VersionedPut], hints: &Hints, name: OpName) -> Seen
     requires table { IsVersionTable history.now.sessions table.now }
+    requires hints { HintPlaces table.now hints.now }
     requires named { IsNamed history.now.sessions name }
     ensures { IsSeen history.now.sessions table.now name result }
 {
@@ -103,7 +107,7 @@ fn see_hinted(history: &History, table: &[VersionedPut], hints: &Hints, name: Op
         return seen;
     }
     let did = Did::of(history, name);
-    let hint = hints.get(table, &did);
+    let hint = hints.stretches.get(table, &did);
     see(history, table, hint, name, &did)
 }
 
@@ -141,6 +145,7 @@ fn note_on(
     place: usize,
 ) -> Result<(), AllocError>
     requires table { IsVersionTable history.now.sessions table.now }
+    requires hints { HintPlaces table.now hints.now }
     requires front { IsFrontNoted history.now.sessions table.now client notes.old.items }
     ensures front { OnOk result (IsFrontNoted history.now.sessions table.now client notes.new.items) }
     ensures whole { OnOk result (length table.now ≤ place → length (slice_index_or history.now.sessions client []) ≤ vec_len notes.new) }
@@ -174,6 +179,7 @@ fn note_all(
     place: usize,
 ) -> Result<(), AllocError>
     requires table { IsVersionTable history.now.sessions table.now }
+    requires hints { HintPlaces table.now hints.now }
     requires few { first + length sessions.old.items ≤ MAX_CLIENTS }
     requires fronts { AreFrontsNoted history.now.sessions table.now first (map (λ s. s.items) sessions.old.items) }
     ensures count { length sessions.new.items ≡ length sessions.old.items }
@@ -226,6 +232,7 @@ impl SessionNotes {
     ghost use Rattle.cops_audit.specs.declared.table.VersionedPut.{VersionedPut};
     ghost use Rattle.std.specs.Prelude.{◌≡◌, ◌≤◌, ℕ, List, IfOk, length};
     ghost use Rattle.cops_audit.specs.Notes.{AreNoted, IsNoted};
+    ghost use Rattle.cops_audit.specs.Placing.{HintPlaces};
     ghost use Rattle.cops_audit.specs.Tables.{IsVersionTable};
 
     /// The notes on all operations.
@@ -261,6 +268,7 @@ impl SessionNotes {
         end: usize,
     ) -> Result<Self, AllocError>
         requires table { IsVersionTable history.now.sessions table.now }
+        requires hints { HintPlaces table.now hints.now }
         requires first { first ≤ end }
         requires end { end ≤ length history.now.sessions }
         ensures some { IfOk result (AreNoted history.now.sessions table.now first end) }

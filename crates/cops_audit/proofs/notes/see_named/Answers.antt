@@ -1,19 +1,23 @@
-use Rattle.cops_audit.specs.declared.table.VersionedPut.{VersionedPut}
-use Rattle.cops_audit.proofs.Places.{named_at, named_puts}
-use Rattle.std.proofs.Common.{get_or}
+use Rattle.std.proofs.Common.{◌≡◌, ℕ, subst, Some}
+use Rattle.cops_audit.specs.Notes.{StandsAt}
+use Rattle.cops_audit.proofs.Places.{stands_put}
 use Rattle.cops_audit.proofs.notes.see_named.Goals as goal
 
 pub returns-in-Some : goal.returns-in-Some
 returns-in-Some c =
+    let table = c.args.table.now in
     let source = c.in-Some.ensures in
-    let there = named_at c.args.history.now.sessions c.args.table.now c.requires c.in-Some.put c.in_ok-place.place c.in_ok-place.ensures.inside c.in_ok-place.ensures.named source.version (source.key, source.value, source.put) in
-    (c.in-Some.put, source.version, there, (source.key, source.value, source.got), source)
+    let at = stands_put c.args.history.now.sessions table c.requires.table.table c.in-Some.put source.version (source.key, source.value, source.put) in
+    let found : Some c.in_ok-place.place ≡ Some at.0 = c.in_ok-place.ensures table at.0 source.version c.requires.places at.1 in
+    let same : at.0 ≡ c.in_ok-place.place = cc in
+    (c.in-Some.put, source.version, subst (λ (k : ℕ). StandsAt table k c.in-Some.put source.version) same at.1, (source.key, source.value, source.got), source)
 
 pub returns : goal.returns
 returns c =
-    let h = c.args.history.now.sessions in
     let table = c.args.table.now in
-    let place = c.in_ok-place-2.place in
-    let d : VersionedPut = record { version = 0; name = c.args.name } in
-    let puts = named_puts h table c.requires c.args.name place c.in_ok-place-2.ensures.inside c.in_ok-place-2.ensures.named d in
-    ((get_or table place d).version, puts, named_at h table c.requires c.args.name place c.in_ok-place-2.ensures.inside c.in_ok-place-2.ensures.named (get_or table place d).version puts)
+    let version = c.in_ok-_version._version in
+    let puts = c.in_ok-_version.ensures.put in
+    let at = stands_put c.args.history.now.sessions table c.requires.table.table c.args.name version puts in
+    let found : Some c.in_ok-place-2.place ≡ Some at.0 = c.in_ok-place-2.ensures table at.0 version c.requires.places at.1 in
+    let same : at.0 ≡ c.in_ok-place-2.place = cc in
+    (version, puts, subst (λ (k : ℕ). StandsAt table k c.args.name version) same at.1)
