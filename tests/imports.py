@@ -181,7 +181,8 @@ def read(path):
 
 
 def imported(data):
-    """What `cops import` of lines answers, and the trace that it writes: by files, and by standard input and output."""
+    """What `cops import` of lines answers, and the trace that it writes: by files, and by standard input and output. Where a line is wrong, a front of
+    the trace goes to standard output, and nothing to a file."""
     with tempfile.TemporaryDirectory() as folder:
         lines, trace = os.path.join(folder, "lines"), os.path.join(folder, "trace")
         write(lines, data)
@@ -191,8 +192,10 @@ def imported(data):
         also_written = read(trace)
         to_output = cops("import", lines, "-")
         both = cops("import", "-", "-", stdin=data)
-    same = from_input == (status, out, errors) and also_written == written and to_output == both == (status, written, out + errors)
-    return (status, out, errors, written) if same else ("the four ways differ", from_input, to_output, both)
+    trace = to_output[1]
+    same = from_input == (status, out, errors) and also_written == written and to_output == both == (status, trace, out + errors)
+    is_whole = written == (trace if status == 0 else b"")
+    return (status, out, errors, trace) if same and is_whole else ("the four ways differ", from_input, to_output, both, written, also_written)
 
 
 def as_plain(name, data):
