@@ -7,7 +7,7 @@ use Rattle.std.proofs.lemmas.List.Folds.{sum_by-replicate}
 use Rattle.cops_types.specs.declared.op.Op.{Op}
 use Rattle.cops_types.specs.declared.entry.Entry.{Entry}
 use Rattle.cops_types.specs.Counts.{count_of, is_put, put_count}
-use Rattle.cops_types.specs.Entries.{EntryLists, KeptEntries, IsSound, AreSound, told, told_by}
+use Rattle.cops_types.specs.Entries.{EntryLists, KeptEntries, KeepsEntries, GainsEntry, IsSound, AreSound, told, told_by}
 use Rattle.cops_types.specs.Lists.{item_at, with_item}
 use Rattle.cops_types.specs.Histories.{with_op}
 use Rattle.cops_types.specs.Keeping.{IsKept, flag_count}
@@ -37,8 +37,8 @@ no_flag (suc n) (suc c) = no_flag n c
 
 -- ---- a history with no operation
 
-pub new_kept : (keys : KeptKeys) (entries : KeptEntries) (n : ℕ) → n ≤ 65535 → keys.keys ≡ [] → entries.all ≡ replicate n [] → IsKept keys entries (replicate n false) 0 0 0
-new_kept keys entries n le no_keys no_entries =
+pub new_kept : (keys : KeptKeys) (entries : KeptEntries) (n : ℕ) → n ≤ 65535 → keys.keys ≡ [] → entries.all ≡ replicate n [] → entries.names ≡ [] → entries.gets ≡ 0 → IsKept keys entries (replicate n false) 0 0 0
+new_kept keys entries n le no_keys no_entries no_names no_gets =
     let none : told_by keys.keys entries.all ≡ replicate n [] = ap (λ (all : EntryLists). map (map (told keys.keys entries.all)) all) no_entries ∙ told-none keys.keys entries.all n in
     record {
       limits = subst IsWithinLimits (sym none) (none_within n le);
@@ -51,12 +51,19 @@ new_kept keys entries n le no_keys no_entries =
       room = λ client flag. let gone : true ≡ false = sym flag ∙ no_flag n client in cc;
       held = omega (arith, sum_by-replicate flag_count n false);
       places = omega arith;
+      put_places = omega arith;
+      get_places = omega arith;
+      few_names = omega (arith, ap length no_names);
+      few_gets = omega (arith, no_gets);
     }
 
 -- ---- places that are held
 
-module _ (k k' : KeptKeys) (e e' : KeptEntries) (reserved : List Bool) (reservations len puts : ℕ) (keys : k'.keys ≡ k.keys) (spare : k.spare ≤ k'.spare) (all : e'.all ≡ e.all)
-    (room : (c : ℕ) → get_or e.room c false ≡ true → get_or e'.room c false ≡ true) (kept : IsKept k e reserved reservations len puts) where
+module _ (k k' : KeptKeys) (e e' : KeptEntries) (reserved : List Bool) (reservations len puts : ℕ) (keys : k'.keys ≡ k.keys) (spare : k.spare ≤ k'.spare) (keeps : KeepsEntries e e')
+    (kept : IsKept k e reserved reservations len puts) where
+  abbrev all : e'.all ≡ e.all
+  all = keeps.all
+
   pub same_told : told_by k'.keys e'.all ≡ told_by k.keys e.all
   same_told = λ j. told_by (keys j) (all j)
 
@@ -70,14 +77,19 @@ module _ (k k' : KeptKeys) (e e' : KeptEntries) (reserved : List Bool) (reservat
     distinct = subst AreDistinct (sym keys) kept.distinct;
     few = omega (arith, ap length keys, kept.few);
     flags = kept.flags ∙ ap length (sym all);
-    room = λ c flag. room c (kept.room c flag);
+    room = λ c flag. keeps.others c (kept.room c flag);
     held = kept.held;
     places = omega (arith, kept.places);
+    put_places = omega (arith, kept.put_places, keeps.more_puts);
+    get_places = omega (arith, kept.get_places, keeps.more_gets);
+    few_names = omega (arith, kept.few_names, ap length keeps.names);
+    few_gets = omega (arith, kept.few_gets, keeps.gets);
   }
 
   -- one more place is held
-  pub flag_kept : (client : ℕ) → client < length e.all → get_or reserved client false ≡ false → get_or e'.room client false ≡ true → reservations + 1 ≤ k'.spare → IsKept k' e' (set reserved client true) (reservations + 1) len puts
-  flag_kept client inside was has places = record {
+  pub flag_kept : (client : ℕ) → client < length e.all → get_or reserved client false ≡ false → get_or e'.room client false ≡ true → reservations + 1 ≤ k'.spare → reservations + 1 ≤ e'.more_puts → reservations + 1 ≤ e'.more_gets
+      → IsKept k' e' (set reserved client true) (reservations + 1) len puts
+  flag_kept client inside was has places put_places get_places = record {
     limits = room_kept.limits;
     count = room_kept.count;
     counted = room_kept.counted;
@@ -87,16 +99,20 @@ module _ (k k' : KeptKeys) (e e' : KeptEntries) (reserved : List Bool) (reservat
     flags = length-set reserved client true ∙ kept.flags ∙ ap length (sym all);
     room = λ c flag. elim (at_or_other client c) [
       | inl p ↦ subst (λ (d : ℕ). get_or e'.room d false ≡ true) p has
-      | inr p ↦ room c (kept.room c (sym (get_or-set_other reserved client c true false p) ∙ flag))
+      | inr p ↦ keeps.others c (kept.room c (sym (get_or-set_other reserved client c true false p) ∙ flag))
     ];
     held = omega (arith, kept.held, set_flag reserved client (omega (arith, kept.flags)) was);
     places = places;
+    put_places = put_places;
+    get_places = get_places;
+    few_names = room_kept.few_names;
+    few_gets = room_kept.few_gets;
   }
 
 -- ---- one more operation
 
 module _ (k k' : KeptKeys) (e e' : KeptEntries) (reserved : List Bool) (reservations len puts client : ℕ) (entry : Entry) (op : Op) (inside : client < length e.all) (kept : IsKept k e reserved reservations len puts)
-    (gains : GainsKey k k') (fits : IsSound k'.keys e.all entry) (is : told k'.keys e.all entry ≡ op) (all : e'.all ≡ with_item e.all client entry) where
+    (gains : GainsKey k k') (fits : IsSound k'.keys e.all entry) (is : told k'.keys e.all entry ≡ op) (all : e'.all ≡ with_item e.all client entry) (more : GainsEntry e e') where
   pub put_told : told_by k'.keys e'.all ≡ with_op (told_by k.keys e.all) client op
   put_told = ap (told_by k'.keys) all ∙ told_by-with_item k.keys k'.keys gains.places e.all client entry inside kept.sound fits op is
 
@@ -121,4 +137,8 @@ module _ (k k' : KeptKeys) (e e' : KeptEntries) (reserved : List Bool) (reservat
         ];
         held = omega (arith, kept.held, clear_flag reserved client flags flag);
         places = omega (arith, kept.held, kept.places, gains.spare, clear_flag reserved client flags flag);
+        put_places = omega (arith, kept.held, kept.put_places, more.more_puts, clear_flag reserved client flags flag);
+        get_places = omega (arith, kept.held, kept.get_places, more.more_gets, clear_flag reserved client flags flag);
+        few_names = omega (arith, kept.few_names, more.names);
+        few_gets = omega (arith, kept.few_gets, more.gets);
       }

@@ -3,6 +3,7 @@ pub mod Sessions
 pub mod Keys
 pub mod Telling
 pub mod Sources
+pub mod Showing
 mod Joining
 pub mod Holding
 pub mod Devices

@@ -1,5 +1,5 @@
 -- What is told of an entry by its name, and when the one entry is the source of the other.
-use Rattle.std.proofs.Common.{◌≡◌, ◌<◌, ℕ, List, [], length, get_or, slice_get, Option, Some, None, refl, sym, ap, ◌∙◌, inl, inr}
+use Rattle.std.proofs.Common.{◌≡◌, ◌<◌, ℕ, List, [], length, get_or, slice_get, Bor, Option, Some, None, refl, sym, ap, ◌∙◌, inl, inr}
 use Rattle.std.specs.Prelude.{◌⊎◌}
 use Rattle.std.specs.Option.{option_map}
 use Rattle.std.proofs.lemmas.Option.{slice_get-get_or}
@@ -7,11 +7,16 @@ use Rattle.cops_types.specs.declared.op.Op.{Op}
 use Rattle.cops_types.specs.declared.op.Op.TheVariants.{Put as PutOp, Got as GotOp, Missed as MissedOp}
 use Rattle.cops_types.specs.declared.op.OpName.{OpName}
 use Rattle.cops_types.specs.declared.entry.Entry.{Entry}
+use Rattle.cops_types.specs.declared.entry.EntryRef.{EntryRef}
+use Rattle.cops_types.specs.declared.entry.EntryRef.TheVariants.{Put as PutRef, Got as GotRef, Sourced as SourcedRef, Missed as MissedRef}
+use Rattle.cops_types.specs.declared.entry.NumberedPut.{NumberedPut}
+use Rattle.cops_types.specs.declared.value.Value.{Value}
+use Rattle.cops_types.specs.declared.version.Version.{Version}
 use Rattle.cops_types.specs.declared.entry.Entry.TheVariants.{Put, Got, Sourced, Missed}
 use Rattle.cops_types.specs.Lists.{item_at}
 use Rattle.cops_types.specs.Histories.{PutsVersion, SourceStep, op_at}
 use Rattle.cops_types.specs.Operations.{GetsVersion, key_of}
-use Rattle.cops_types.specs.Entries.{EntryLists, AreSound, IsSound, value_in, told, told_by, key_number_of}
+use Rattle.cops_types.specs.Entries.{EntryLists, AreSound, IsSound, referred, value_in, told, told_by, key_number_of}
 use Rattle.cops_types.specs.KeySets.{AreDistinct}
 use Rattle.cops_types.proofs.Telling.{op_at-told}
 
@@ -44,21 +49,36 @@ module _ (keys : List (List ℕ)) (all : EntryLists) (name : OpName) where
   no_put (Missed key) at not version puts = let both = told_as (Missed key) _ at refl ∙ puts.2 in cc
 
   -- and what is no entry of a get that returned a value is no such get
-  pub no_got : (e : Entry) → Some e ≡ item_at all name → ((key : ℕ) (value : List ℕ) (version : ℕ) → e ≡ Got key value version → ⊥) → ((key : ℕ) (put : OpName) (version : ℕ) → e ≡ Sourced key put version → ⊥)
+  pub no_got : (e : Entry) → Some e ≡ item_at all name → ((key : ℕ) (value : List ℕ) (version : ℕ) → e ≡ Got key value version → ⊥) → ((key : ℕ) (put : NumberedPut) (version : ℕ) → e ≡ Sourced key put version → ⊥)
       → (version : ℕ) → ¬ GetsVersion (told_by keys all) name version
   no_got (Put key value own) at not nor version gets = let both = told_as (Put key value own) _ at refl ∙ gets.2 in cc
   no_got (Got key value own) at not nor version gets = not key value own refl
   no_got (Sourced key put own) at not nor version gets = nor key put own refl
   no_got (Missed key) at not nor version gets = let both = told_as (Missed key) _ at refl ∙ gets.2 in cc
 
+  -- the same of what is referred to
+  pub no_put_there : (e : EntryRef) → Some (referred e) ≡ item_at all name → ((key : ℕ) (value : Bor Value) (version : Bor Version) → e ≡ PutRef key value version → ⊥)
+      → (version : ℕ) → ¬ PutsVersion (told_by keys all) name version
+  no_put_there (PutRef key value own) at not = absurd (not key value own refl)
+  no_put_there (GotRef key value own) at not = no_put (Got key value.now own.now) at (λ k v w e. cc)
+  no_put_there (SourcedRef key put value own) at not = no_put (Sourced key put own.now) at (λ k v w e. cc)
+  no_put_there (MissedRef key) at not = no_put (Missed key) at (λ k v w e. cc)
+
+  pub no_got_there : (e : EntryRef) → Some (referred e) ≡ item_at all name → ((key : ℕ) (value : Bor Value) (version : Bor Version) → e ≡ GotRef key value version → ⊥)
+      → ((key : ℕ) (put : NumberedPut) (value : Bor Value) (version : Bor Version) → e ≡ SourcedRef key put value version → ⊥) → (version : ℕ) → ¬ GetsVersion (told_by keys all) name version
+  no_got_there (PutRef key value own) at not nor = no_got (Put key value.now own.now) at (λ k v w e. cc) (λ k p w e. cc)
+  no_got_there (GotRef key value own) at not nor = absurd (not key value own refl)
+  no_got_there (SourcedRef key put value own) at not nor = absurd (nor key put value own refl)
+  no_got_there (MissedRef key) at not nor = no_got (Missed key) at (λ k v w e. cc) (λ k p w e. cc)
+
 -- an entry that names its source stands for a get of what that put wrote
-module _ (keys : List (List ℕ)) (all : EntryLists) (put : OpName) (number : ℕ) (value : List ℕ) (version : ℕ) (at : item_at all put ≡ Some (Put number value version)) where
+module _ (keys : List (List ℕ)) (all : EntryLists) (put : NumberedPut) (number : ℕ) (value : List ℕ) (version : ℕ) (at : item_at all put.name ≡ Some (Put number value version)) where
   pub named_told : (key : List ℕ) → get_or keys number [] ≡ key → told keys all (Sourced number put version) ≡ GotOp key value version
   named_told key is = λ j. GotOp (is j) (ap value_in at j) version
 
   pub named_sound : AreSound keys all → IsSound keys all (Sourced number put version)
   named_sound sound = record {
-    key = (sound put (Put number value version) at).key;
+    key = (sound put.name (Put number value version) at).key;
     source = at ∙ ap (λ (v : List ℕ). Some (Put number v version)) (sym (ap value_in at));
   }
 
@@ -102,3 +122,12 @@ no_source keys all put got e at is s =
       | inl p ↦ let both = told_as keys all got e (PutOp (get_or keys p.0 []) p.1 p.2) at (ap (told keys all) p.3) ∙ s.got in cc
       | inr p ↦ let both = told_as keys all got e (MissedOp (get_or keys p.0 [])) at (ap (told keys all) p.1) ∙ s.got in cc
     ]
+
+-- the same of what is referred to
+pub no_source_there : (keys : List (List ℕ)) (all : EntryLists) (put got : OpName) (e : EntryRef) → Some (referred e) ≡ item_at all got
+    → ((key : ℕ) × (value : Bor Value) × (version : Bor Version) × (e ≡ PutRef key value version)) ⊎ ((key : ℕ) × (e ≡ MissedRef key)) → SourceStep (told_by keys all) put got → ⊥
+no_source_there keys all put got e at is =
+    no_source keys all put got (referred e) at (elim is [
+      | inl p ↦ inl (p.0, p.1.now, p.2.now, ap referred p.3)
+      | inr p ↦ inr (p.0, ap referred p.1)
+    ])

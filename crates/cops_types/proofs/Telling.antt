@@ -20,7 +20,7 @@ use Rattle.cops_types.proofs.Sessions.{at_or_other}
 -- ---- lists
 
 -- functions that agree on a list's elements
-map-same : {X Y : Type 0} (f g : X → Y) (xs : List X) → ((i : ℕ) (x : X) → slice_get xs i ≡ Some x → f x ≡ g x) → map f xs ≡ map g xs
+pub map-same : {X Y : Type 0} (f g : X → Y) (xs : List X) → ((i : ℕ) (x : X) → slice_get xs i ≡ Some x → f x ≡ g x) → map f xs ≡ map g xs
 map-same f g [] same = refl
 map-same f g (x ∷ xs) same = λ j. same zero x refl j ∷ map-same f g xs (λ i y at. same (suc i) y at) j
 
@@ -73,14 +73,14 @@ module _ (keys new : List (List ℕ)) (places : KeepsPlaces keys new) (all : Ent
   told-same : (e : Entry) → IsSound keys all e → told new (with_item all client entry) e ≡ told keys all e
   told-same (Put key value version) s = ap (λ (k : List ℕ). PutOp k value version) (places.same key s.key)
   told-same (Got key value version) s = ap (λ (k : List ℕ). GotOp k value version) (places.same key s.key)
-  told-same (Sourced key put version) s = λ j. GotOp (places.same key s.key j) (value-same put key version s.source j) version
+  told-same (Sourced key put version) s = λ j. GotOp (places.same key s.key j) (value-same put.name key version s.source j) version
   told-same (Missed key) s = ap (λ (k : List ℕ). MissedOp k) (places.same key s.key)
 
   source-same : (e : Entry) → HasSource all e → HasSource (with_item all client entry) e
   source-same (Put key value version) s = tt
   source-same (Got key value version) s = tt
   source-same (Sourced key put version) s =
-      item_stays all client entry inside put (Put key (value_put all put) version) s ∙ ap (λ (v : List ℕ). Some (Put key v version)) (sym (value-same put key version s))
+      item_stays all client entry inside put.name (Put key (value_put all put.name) version) s ∙ ap (λ (v : List ℕ). Some (Put key v version)) (sym (value-same put.name key version s))
   source-same (Missed key) s = tt
 
   -- and is sound

@@ -1,7 +1,9 @@
 -- Entries: operations as a history keeps them, which name their keys by number, and some gets' values by the put that wrote them.
-use Rattle.std.specs.Prelude.{◌≡◌, ◌<◌, ℕ, List, [], length, map, Option, Some, slice_index_or, Bool}
+use Rattle.std.specs.Prelude.{◌≡◌, ◌<◌, ◌≤◌, ◌+◌, ℕ, List, [], length, map, Option, Some, slice_get, slice_index_or, Bool, true, false}
 use Rattle.cops_types.specs.declared.entry.Entry.{Entry}
 use Rattle.cops_types.specs.declared.entry.Entry.TheVariants.{Put, Got, Sourced, Missed}
+use Rattle.cops_types.specs.declared.entry.EntryRef.{EntryRef}
+use Rattle.cops_types.specs.declared.entry.EntryRef.TheVariants.{Put as PutRef, Got as GotRef, Sourced as SourcedRef, Missed as MissedRef}
 use Rattle.cops_types.specs.declared.op.Op.{Op}
 use Rattle.cops_types.specs.declared.op.Op.TheVariants.{Put as PutOp, Got as GotOp, Missed as MissedOp}
 use Rattle.cops_types.specs.declared.op.OpName.{OpName}
@@ -12,10 +14,15 @@ use Rattle.cops_types.specs.Histories.{Sessions}
 abbrev pub EntryLists : Type 0
 EntryLists = List (List Entry)
 
--- the entries, and of each client whether its next one takes no memory
+-- the entries, of each client whether its next one takes no memory, the names of the puts in the order in which they came, how many gets are kept with what they
+-- returned, and for how many more puts and such gets there is room
 pub record KeptEntries : Type 0 where
   pub all : EntryLists
   pub room : List Bool
+  pub names : List OpName
+  pub gets : ℕ
+  pub more_puts : ℕ
+  pub more_gets : ℕ
 
 -- the number of its key
 abbrev pub key_number_of : Entry → ℕ
@@ -37,7 +44,7 @@ value_put all put = value_in (item_at all put)
 abbrev pub told : List (List ℕ) → EntryLists → Entry → Op
 told keys all (Put key value version) = PutOp (slice_index_or keys key []) value version
 told keys all (Got key value version) = GotOp (slice_index_or keys key []) value version
-told keys all (Sourced key put version) = GotOp (slice_index_or keys key []) (value_put all put) version
+told keys all (Sourced key put version) = GotOp (slice_index_or keys key []) (value_put all put.name) version
 told keys all (Missed key) = MissedOp (slice_index_or keys key [])
 
 -- the history that the entries stand for
@@ -46,7 +53,7 @@ told_by keys all = map (map (told keys all)) all
 
 -- the put that it names is there, with its key and version
 abbrev pub HasSource : EntryLists → Entry → Type 0
-HasSource all (Sourced key put version) = item_at all put ≡ Some (Put key (value_put all put) version)
+HasSource all (Sourced key put version) = item_at all put.name ≡ Some (Put key (value_put all put.name) version)
 HasSource all _ = Unit {0}
 
 -- its key is there, and the put that it names, if it names one
@@ -56,3 +63,36 @@ pub record IsSound (keys : List (List ℕ)) (all : EntryLists) (entry : Entry) :
 
 abbrev pub AreSound : List (List ℕ) → EntryLists → Type 0
 AreSound keys all = (name : OpName) (entry : Entry) → item_at all name ≡ Some entry → IsSound keys all entry
+
+-- the put that it names has that number
+abbrev pub IsNumbered : List OpName → Entry → Type 0
+IsNumbered names (Sourced key put version) = slice_get names put.number ≡ Some put.name
+IsNumbered names _ = Unit {0}
+
+-- the entry that is referred to
+abbrev pub referred : EntryRef → Entry
+referred (PutRef key value version) = Put key value.now version.now
+referred (GotRef key value version) = Got key value.now version.now
+referred (SourcedRef key put value version) = Sourced key put version.now
+referred (MissedRef key) = Missed key
+
+-- the value of the put that it names stands with it
+abbrev pub HasValue : EntryLists → EntryRef → Type 0
+HasValue all (SourcedRef key put value version) = value.now ≡ value_put all put.name
+HasValue all _ = Unit {0}
+
+-- what stays as room is made
+pub record KeepsEntries (old new : KeptEntries) : Type 0 where
+  pub all : new.all ≡ old.all
+  pub names : new.names ≡ old.names
+  pub gets : new.gets ≡ old.gets
+  pub more_puts : old.more_puts ≤ new.more_puts
+  pub more_gets : old.more_gets ≤ new.more_gets
+  pub others : (client : ℕ) → slice_index_or old.room client false ≡ true → slice_index_or new.room client false ≡ true
+
+-- at most one put and one such get came, and took at most one place of the room for each
+pub record GainsEntry (old new : KeptEntries) : Type 0 where
+  pub names : length new.names ≤ length old.names + 1
+  pub gets : new.gets ≤ old.gets + 1
+  pub more_puts : old.more_puts ≤ new.more_puts + 1
+  pub more_gets : old.more_gets ≤ new.more_gets + 1

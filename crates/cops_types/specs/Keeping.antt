@@ -22,3 +22,7 @@ pub record IsKept (keys : KeptKeys) (entries : KeptEntries) (reserved : List Boo
   pub room : (client : ℕ) → slice_index_or reserved client false ≡ true → slice_index_or entries.room client false ≡ true
   pub held : reservations ≡ sum_by flag_count reserved
   pub places : reservations ≤ keys.spare
+  pub put_places : reservations ≤ entries.more_puts
+  pub get_places : reservations ≤ entries.more_gets
+  pub few_names : length entries.names ≤ len
+  pub few_gets : entries.gets ≤ len

@@ -23,6 +23,7 @@ pub mod Recorded
 pub mod KeySets
 pub mod Blocks
 pub mod Entries
+pub mod Slots
 pub mod Keeping
 pub mod Failures
 pub mod Counted

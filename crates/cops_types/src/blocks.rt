@@ -1,6 +1,6 @@
 ghost use Rattle.std.specs.Prelude.{◌≡◌, slice_get, option_copied};
 
-use crate::entry::Entry;
+use crate::slot::Slot;
 use crate::fault::Memory;
 use std::alloc::Global;
 use std::marker::Model;
@@ -12,8 +12,8 @@ const BLOCK: usize = 64;
 /// Entries, one after the other, in blocks: those of a full one stay where they are, and no larger room is looked for.
 #[derive(Debug, Drop)]
 pub(crate) struct Blocks {
-    full: Vec<Vec<Entry>>,
-    last: Vec<Entry>,
+    full: Vec<Vec<Slot>>,
+    last: Vec<Slot>,
 }
 
 impl Model for Blocks {
@@ -49,7 +49,7 @@ impl Blocks {
     }
 
     /// The entry at an index, if there is one.
-    pub(crate) fn get(&self, index: usize) -> Option<&Entry>
+    pub(crate) fn get(&self, index: usize) -> Option<&Slot>
         ensures { option_copied result ≡ slice_get self.now.items index }
     {
         match self.full.get(index / BLOCK) {
@@ -76,17 +76,17 @@ impl Blocks {
     }
 
     /// Adds the next entry. It takes no memory.
-    pub(crate) fn push(&mut self, entry: Entry)
+    pub(crate) fn push(&mut self, slot: Slot)
         requires room { self.old.room ≡ true }
         requires few { length self.old.items < MAX_CLIENT_OPS }
-        ensures { self.new.items ≡ self.old.items ++ entry ∷ [] }
+        ensures { self.new.items ≡ self.old.items ++ slot ∷ [] }
     {
-        self.last.push(entry).unwrap();
+        self.last.push(slot).unwrap();
     }
 }
 
 /// The entry at an index, if there is one.
-fn entry_at(entries: &[Entry], index: usize) -> Option<&Entry>
+fn entry_at(entries: &[Slot], index: usize) -> Option<&Slot>
     ensures { option_copied result ≡ slice_get entries.now index }
 {
     entries.get(index)

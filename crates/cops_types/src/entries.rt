@@ -1,47 +1,67 @@
+ghost use Rattle.std.specs.Prelude.{◌≡◌, [], length, map, option_copied, replicate, slice_index_or, IfOk};
+ghost use Rattle.cops_types.specs.Lists.{item_at};
+ghost use Rattle.cops_types.specs.Entries.{referred};
+ghost use Rattle.cops_types.specs.Slots.{IsFrom, IsThere, shown};
+
 use crate::blocks::Blocks;
-use crate::entry::Entry;
+use crate::entry::{Entry, EntryRef, NumberedPut};
 use crate::fault::Memory;
 use crate::op::OpName;
 use crate::op_view::ValueView;
+use crate::slot::{KeptGot, KeptPut, Slot};
 use crate::value::Value;
 use crate::version::Version;
 use std::alloc::Global;
 use std::marker::Model;
 
-/// The entries of each client, in their order.
+/// The entries of each client, in their order. Each put lies in one list for all clients, in the order in which they
+/// came, and so does what a get returned whose put is not known: in a session stands a number.
 #[derive(Debug, Drop)]
 pub(crate) struct Entries {
     sessions: Vec<Blocks>,
+    puts: Vec<KeptPut>,
+    gets: Vec<KeptGot>,
 }
 
 impl Model for Entries {
-    ghost use Rattle.std.specs.Prelude.{map};
+    ghost use Rattle.std.specs.Prelude.{◌-◌, map, length, vec_len, vec_capacity};
     ghost use Rattle.cops_types.specs.Entries.{KeptEntries};
+    ghost use Rattle.cops_types.specs.Slots.{AreKept, shown_by};
 
     ghost Value = { KeptEntries };
 
     ghost view = { λ a. record {
-      all = map (λ s. s.items) a.sessions.items;
+      all = shown_by a.puts.items a.gets.items (map (λ s. s.items) a.sessions.items);
       room = map (λ s. s.room) a.sessions.items;
+      names = map (λ p. p.name) a.puts.items;
+      gets = length a.gets.items;
+      more_puts = vec_capacity a.puts - vec_len a.puts;
+      more_gets = vec_capacity a.gets - vec_len a.gets;
     } };
+
+    ghost invariant = { λ a. AreKept a.puts.items a.gets.items (map (λ s. s.items) a.sessions.items) };
 }
 
 impl Entries {
-    ghost use Rattle.std.specs.Prelude.{◌≡◌, ◌≢◌, ◌<◌, ◌↔◌, ℕ, length, slice_index_or, [], Some, OnOk, IfOk, IfSome, IsSome, IsTrue, replicate, true, false, option_copied};
+    ghost use Rattle.std.specs.Prelude.{◌≡◌, ◌≢◌, ◌<◌, ◌≤◌, ◌↔◌, ℕ, List, length, slice_get, slice_index_or, [], Some, OnOk, IfOk, IfSome, IfNone, IsTrue, replicate, true, false};
+    ghost use Rattle.std.specs.Option.{option_map};
     ghost use Rattle.cops_types.specs.Lists.{item_at, with_item};
-    ghost use Rattle.cops_types.specs.Entries.{value_put};
-    ghost use Rattle.cops_types.specs.declared.entry.Entry.TheVariants.{Put};
-    ghost use Rattle.cops_types.specs.declared.limits.TheConstants.{MAX_CLIENT_OPS};
+    ghost use Rattle.cops_types.specs.Entries.{GainsEntry, HasSource, HasValue, IsNumbered, KeepsEntries, referred, value_put};
+    ghost use Rattle.cops_types.specs.declared.entry.Entry.TheVariants.{Put, Got, Sourced, Missed};
+    ghost use Rattle.cops_types.specs.declared.limits.TheConstants.{MAX_CLIENT_OPS, MAX_OPS};
 
     /// No entry of so many clients.
     pub(crate) fn new(alloc: Global, clients: u16) -> Result<Self, Memory>
-        ensures { IfOk result (λ entries. entries.all ≡ replicate clients []) }
+        ensures entries { IfOk result (λ entries. entries.all ≡ replicate clients []) }
+        ensures names { IfOk result (λ entries. entries.names ≡ []) }
+        ensures gets { IfOk result (λ entries. entries.gets ≡ 0) }
     {
-        let mut sessions = Vec::new(alloc);
-        for _ in 0..clients {
-            sessions.push(Blocks::new(alloc))?;
-        }
-        Ok(Entries { sessions })
+        let sessions = no_slots(alloc, clients)?;
+        Ok(Entries {
+            sessions,
+            puts: Vec::new(alloc),
+            gets: Vec::new(alloc),
+        })
     }
 
     /// How many clients there are.
@@ -55,55 +75,32 @@ impl Entries {
     pub(crate) fn session_len(&self, client: u16) -> usize
         ensures { result ≡ length (slice_index_or self.now.all client []) }
     {
-        match self.sessions.get(client as usize) {
-            Some(session) => session.len(),
-            None => 0,
-        }
+        slot_count(&self.sessions, client)
+    }
+
+    /// How many puts there are: the number of the next one.
+    pub(crate) fn puts(&self) -> usize
+        ensures { result ≡ length self.now.names }
+    {
+        self.puts.len()
     }
 
     /// The entry of that name, if there is one.
-    pub(crate) fn get(&self, name: OpName) -> Option<&Entry>
-        ensures { option_copied result ≡ item_at self.now.all name }
+    pub(crate) fn get(&self, name: OpName) -> Option<EntryRef<'_>>
+        ensures entry { option_map referred result ≡ item_at self.now.all name }
+        ensures value { IfSome result (HasValue self.now.all) }
     {
-        self.sessions
-            .get(name.client as usize)?
-            .get(name.index as usize)
+        let slot = slot_at(&self.sessions, name)?;
+        Some(refer(&self.puts, &self.gets, *slot))
     }
 
-    /// The value that the put of that name wrote.
-    pub(crate) fn value_put(&self, put: OpName) -> Option<&Value>
-        ensures value { IfSome result (λ value. value.now ≡ value_put self.now.all put) }
-        ensures put { (key version : ℕ) → item_at self.now.all put ≡ Some (Put key (value_put self.now.all put) version) → IsSome result }
-    {
-        match self.get(put)? {
-            Entry::Put { value, .. } => Some(value),
-            _ => None,
-        }
-    }
-
-    /// The version of the put of that name, if there is one.
-    pub(crate) fn put_version(&self, put: OpName) -> Option<Version> {
-        match self.get(put)? {
-            Entry::Put { version, .. } => Some(*version),
-            _ => None,
-        }
-    }
-
-    /// The number of the key of the put of that name, if it is a put of this value and version.
-    pub(crate) fn put_key(
-        &self,
-        name: OpName,
-        value: &ValueView<'_>,
-        version: Version,
-    ) -> Option<u32>
-        ensures { (key : ℕ) → (result ≡ Some key) ↔ (item_at self.now.all name ≡ Some (Put key value.now version)) }
+    /// The value of the put of that name, if there is one.
+    fn put_value(&self, name: OpName) -> Option<&Value>
+        ensures value { IfSome result (λ value. value.now ≡ value_put self.now.all name) }
+        ensures none { IfNone result ((key version : ℕ) (value : List ℕ) → item_at self.now.all name ≢ Some (Put key value version)) }
     {
         match self.get(name)? {
-            Entry::Put {
-                key,
-                value: put_value,
-                version: put_version,
-            } if *put_version == version && put_value.is_seen(value) => Some(*key),
+            EntryRef::Put { value, .. } => Some(value),
             _ => None,
         }
     }
@@ -118,9 +115,13 @@ impl Entries {
     ) -> bool
         ensures { IsTrue result ↔ (item_at self.now.all name ≡ Some (Put key value.now version)) }
     {
-        match self.put_key(name, value, version) {
-            Some(number) => number == key,
-            None => false,
+        match self.get(name) {
+            Some(EntryRef::Put {
+                key: put_key,
+                value: put_value,
+                version: put_version,
+            }) => put_key == key && *put_version == version && put_value.is_seen(value),
+            _ => false,
         }
     }
 
@@ -132,18 +133,66 @@ impl Entries {
         if put == other {
             return true;
         }
-        match self.value_put(other) {
+        match self.put_value(other) {
             Some(value) => self.is_put(put, key, &value.as_view(), version),
             None => false,
         }
     }
 
-    /// Makes room for a client's next entry. A refusal changes nothing.
-    pub(crate) fn reserve(&mut self, client: u16) -> Result<(), Memory>
+    /// The put of that number, if it is a put of this key, value and version.
+    pub(crate) fn source(
+        &self,
+        number: u32,
+        key: u32,
+        value: &ValueView<'_>,
+        version: Version,
+    ) -> Option<NumberedPut>
+        ensures put { IfSome result (λ put. item_at self.now.all put.name ≡ Some (Put key value.now version)) }
+        ensures number { IfSome result (λ put. slice_get self.now.names put.number ≡ Some put.name) }
+    {
+        let put = self.puts.get(number as usize)?;
+        if put.version == version && put.key == key && put.value.is_seen(value) {
+            let name = put.name;
+            return Some(NumberedPut { name, number });
+        }
+        None
+    }
+
+    /// The version of the put of that number, if there is one.
+    pub(crate) fn version_of(&self, number: u32) -> Option<Version> {
+        let put = self.puts.get(number as usize)?;
+        Some(put.version)
+    }
+
+    /// Makes room for a client's next entry, and for so many more puts and gets of all clients. A refusal changes
+    /// nothing.
+    pub(crate) fn reserve(&mut self, client: u16, more: usize) -> Result<(), Memory>
         requires { client < length self.old.all }
-        ensures same { self.new.all ≡ self.old.all }
+        ensures keeps { KeepsEntries self.old self.new }
         ensures room { OnOk result (slice_index_or self.new.room client false ≡ true) }
-        ensures others { (c : ℕ) → slice_index_or self.old.room c false ≡ true → slice_index_or self.new.room c false ≡ true }
+        ensures more_puts { OnOk result (more ≤ self.new.more_puts) }
+        ensures more_gets { OnOk result (more ≤ self.new.more_gets) }
+    {
+        self.reserve_lists(more)?;
+        self.reserve_slot(client)
+    }
+
+    /// Makes room for so many more puts and gets.
+    fn reserve_lists(&mut self, more: usize) -> Result<(), Memory>
+        ensures keeps { KeepsEntries self.old self.new }
+        ensures more_puts { OnOk result (more ≤ self.new.more_puts) }
+        ensures more_gets { OnOk result (more ≤ self.new.more_gets) }
+    {
+        self.puts.reserve(more)?;
+        self.gets.reserve(more)?;
+        Ok(())
+    }
+
+    /// Makes room in a client's session.
+    fn reserve_slot(&mut self, client: u16) -> Result<(), Memory>
+        requires { client < length self.old.all }
+        ensures keeps { KeepsEntries self.old self.new }
+        ensures room { OnOk result (slice_index_or self.new.room client false ≡ true) }
     {
         let session = &mut self.sessions[client as usize];
         session.reserve()?;
@@ -151,14 +200,185 @@ impl Entries {
     }
 
     /// Adds a client's next entry. It takes no memory.
+    #[inline(always)]
     pub(crate) fn push(&mut self, client: u16, entry: Entry)
         requires inside { client < length self.old.all }
         requires room { slice_index_or self.old.room client false ≡ true }
         requires few { length (slice_index_or self.old.all client []) < MAX_CLIENT_OPS }
+        requires more_puts { 0 < self.old.more_puts }
+        requires more_gets { 0 < self.old.more_gets }
+        requires few_names { length self.old.names < MAX_OPS }
+        requires few_gets { self.old.gets < MAX_OPS }
+        requires numbered { IsNumbered self.old.names entry }
+        requires source { HasSource self.old.all entry }
         ensures all { self.new.all ≡ with_item self.old.all client entry }
+        ensures gains { GainsEntry self.old self.new }
+        ensures others { (c : ℕ) → c ≢ client → slice_index_or self.old.room c false ≡ true → slice_index_or self.new.room c false ≡ true }
+    {
+        match entry {
+            Entry::Put {
+                key,
+                value,
+                version,
+            } => self.push_put(client, key, value, version),
+            Entry::Got {
+                key,
+                value,
+                version,
+            } => self.push_got(client, key, value, version),
+            Entry::Sourced { key, put, version } => self.push_sourced(client, key, put, version),
+            Entry::Missed { key } => self.push_missed(client, key),
+        }
+    }
+
+    /// Adds a put.
+    #[inline(always)]
+    fn push_put(&mut self, client: u16, key: u32, value: Value, version: Version)
+        requires inside { client < length self.old.all }
+        requires room { slice_index_or self.old.room client false ≡ true }
+        requires few { length (slice_index_or self.old.all client []) < MAX_CLIENT_OPS }
+        requires more_puts { 0 < self.old.more_puts }
+        requires few_names { length self.old.names < MAX_OPS }
+        ensures all { self.new.all ≡ with_item self.old.all client (Put key value version) }
+        ensures gains { GainsEntry self.old self.new }
+        ensures others { (c : ℕ) → c ≢ client → slice_index_or self.old.room c false ≡ true → slice_index_or self.new.room c false ≡ true }
+    {
+        let number = self.puts.len() as u32;
+        let session = &mut self.sessions[client as usize];
+        let name = OpName {
+            client,
+            index: session.len() as u32,
+        };
+        session.push(Slot::Put(number));
+        self.puts.push_reserved(KeptPut {
+            name,
+            key,
+            version,
+            value,
+        });
+    }
+
+    /// Adds a get of which it is kept what it returned.
+    #[inline(always)]
+    fn push_got(&mut self, client: u16, key: u32, value: Value, version: Version)
+        requires inside { client < length self.old.all }
+        requires room { slice_index_or self.old.room client false ≡ true }
+        requires few { length (slice_index_or self.old.all client []) < MAX_CLIENT_OPS }
+        requires more_gets { 0 < self.old.more_gets }
+        requires few_gets { self.old.gets < MAX_OPS }
+        ensures all { self.new.all ≡ with_item self.old.all client (Got key value version) }
+        ensures gains { GainsEntry self.old self.new }
+        ensures others { (c : ℕ) → c ≢ client → slice_index_or self.old.room c false ≡ true → slice_index_or self.new.room c false ≡ true }
+    {
+        let number = self.gets.len() as u32;
+        let session = &mut self.sessions[client as usize];
+        session.push(Slot::Got(number));
+        self.gets.push_reserved(KeptGot {
+            key,
+            version,
+            value,
+        });
+    }
+
+    /// Adds a get that returned what that put wrote.
+    #[inline(always)]
+    fn push_sourced(&mut self, client: u16, key: u32, put: NumberedPut, version: Version)
+        requires inside { client < length self.old.all }
+        requires room { slice_index_or self.old.room client false ≡ true }
+        requires few { length (slice_index_or self.old.all client []) < MAX_CLIENT_OPS }
+        requires numbered { slice_get self.old.names put.number ≡ Some put.name }
+        requires source { item_at self.old.all put.name ≡ Some (Put key (value_put self.old.all put.name) version) }
+        ensures all { self.new.all ≡ with_item self.old.all client (Sourced key put version) }
+        ensures gains { GainsEntry self.old self.new }
         ensures others { (c : ℕ) → c ≢ client → slice_index_or self.old.room c false ≡ true → slice_index_or self.new.room c false ≡ true }
     {
         let session = &mut self.sessions[client as usize];
-        session.push(entry);
+        session.push(Slot::Sourced(put.number));
+    }
+
+    /// Adds a get that found nothing.
+    #[inline(always)]
+    fn push_missed(&mut self, client: u16, key: u32)
+        requires inside { client < length self.old.all }
+        requires room { slice_index_or self.old.room client false ≡ true }
+        requires few { length (slice_index_or self.old.all client []) < MAX_CLIENT_OPS }
+        ensures all { self.new.all ≡ with_item self.old.all client (Missed key) }
+        ensures gains { GainsEntry self.old self.new }
+        ensures others { (c : ℕ) → c ≢ client → slice_index_or self.old.room c false ≡ true → slice_index_or self.new.room c false ≡ true }
+    {
+        let session = &mut self.sessions[client as usize];
+        session.push(Slot::Missed(key));
+    }
+}
+
+/// No slot of so many clients.
+fn no_slots(alloc: Global, clients: u16) -> Result<Vec<Blocks>, Memory>
+    ensures { IfOk result (λ sessions. map (λ s. s.items) sessions.items ≡ replicate clients []) }
+{
+    let mut sessions = Vec::new(alloc);
+    for _ in 0..clients {
+        sessions.push(Blocks::new(alloc))?;
+    }
+    Ok(sessions)
+}
+
+/// How many slots a client has: none where it is not there.
+#[inline(always)]
+fn slot_count(sessions: &[Blocks], client: u16) -> usize
+    ensures { result ≡ length (slice_index_or (map (λ s. s.items) sessions.now) client []) }
+{
+    match sessions.get(client as usize) {
+        Some(session) => session.len(),
+        None => 0,
+    }
+}
+
+/// What stands under that name, if something does.
+#[inline(always)]
+fn slot_at(sessions: &[Blocks], name: OpName) -> Option<&Slot>
+    ensures { option_copied result ≡ item_at (map (λ s. s.items) sessions.now) name }
+{
+    sessions
+        .get(name.client as usize)?
+        .get(name.index as usize)
+}
+
+/// The entry that a slot stands for, of these puts and gets.
+#[inline(always)]
+fn refer<'a>(puts: &'a [KeptPut], gets: &'a [KeptGot], slot: Slot) -> EntryRef<'a>
+    requires { IsThere (length puts.now) (length gets.now) slot }
+    ensures entry { referred result ≡ shown puts.now gets.now slot }
+    ensures put { IsFrom puts.now result }
+{
+    match slot {
+        Slot::Put(number) => {
+            let put = &puts[number as usize];
+            EntryRef::Put {
+                key: put.key,
+                value: &put.value,
+                version: &put.version,
+            }
+        }
+        Slot::Sourced(number) => {
+            let put = &puts[number as usize];
+            EntryRef::Sourced {
+                key: put.key,
+                put: NumberedPut {
+                    name: put.name,
+                    number,
+                },
+                value: &put.value,
+                version: &put.version,
+            }
+        }
+        Slot::Got(number) => {
+            let got = &gets[number as usize];
+            EntryRef::Got {
+                key: got.key,
+                value: &got.value,
+                version: &got.version,
+            }
+        }
+        Slot::Missed(key) => EntryRef::Missed { key },
     }
 }

@@ -2,7 +2,14 @@ use crate::op::OpName;
 use crate::value::Value;
 use crate::version::Version;
 
-/// An operation as a history keeps it: its key is named by its number.
+/// A put of a history, with its number among the puts in the order in which they came.
+#[derive(Clone, Copy, Debug)]
+pub(crate) struct NumberedPut {
+    pub(crate) name: OpName,
+    pub(crate) number: u32,
+}
+
+/// An operation that a history gains: its key is named by its number.
 #[derive(Debug, Drop)]
 pub(crate) enum Entry {
     /// A put, which was given this version.
@@ -17,10 +24,10 @@ pub(crate) enum Entry {
         value: Value,
         version: Version,
     },
-    /// A get that returned the value of the put of that name.
+    /// A get that returned the value of that put.
     Sourced {
         key: u32,
-        put: OpName,
+        put: NumberedPut,
         version: Version,
     },
     /// A get that found nothing.
@@ -29,19 +36,44 @@ pub(crate) enum Entry {
     },
 }
 
-impl Entry {
+/// The same of an operation that a history has, seen where its parts lie.
+#[derive(Clone, Copy, Debug)]
+pub(crate) enum EntryRef<'a> {
+    Put {
+        key: u32,
+        value: &'a Value,
+        version: &'a Version,
+    },
+    Got {
+        key: u32,
+        value: &'a Value,
+        version: &'a Version,
+    },
+    /// With the value that the put wrote.
+    Sourced {
+        key: u32,
+        put: NumberedPut,
+        value: &'a Value,
+        version: &'a Version,
+    },
+    Missed {
+        key: u32,
+    },
+}
+
+impl EntryRef<'_> {
     ghost use Rattle.std.specs.Prelude.{◌≡◌};
-    ghost use Rattle.cops_types.specs.Entries.{key_number_of};
+    ghost use Rattle.cops_types.specs.Entries.{key_number_of, referred};
 
     /// The number of its key.
     pub(crate) fn key(&self) -> u32
-        ensures { result ≡ key_number_of self.now }
+        ensures { result ≡ key_number_of (referred self.now) }
     {
         match self {
-            Entry::Put { key, .. }
-            | Entry::Got { key, .. }
-            | Entry::Sourced { key, .. }
-            | Entry::Missed { key } => *key,
+            EntryRef::Put { key, .. }
+            | EntryRef::Got { key, .. }
+            | EntryRef::Sourced { key, .. }
+            | EntryRef::Missed { key } => *key,
         }
     }
 }

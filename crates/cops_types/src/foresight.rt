@@ -3,7 +3,6 @@ ghost use Rattle.std.specs.Prelude.{◌≡◌, Some, IfSome, slice_get};
 use crate::entries::Entries;
 use crate::guesses::Guesses;
 use crate::key_set::KeySet;
-use crate::op::OpName;
 use crate::op_view::{KeyView, OpView};
 use crate::version::Version;
 use std::alloc::Global;
@@ -14,11 +13,10 @@ const NODE_STEP: usize = 40_503;
 /// An odd number whose multiples spread over all bits.
 const SPREAD: u64 = 0x9E37_79B9_7F4A_7C15;
 
-/// What a place has that guesses no put: there is no such client.
+/// What a place has that guesses no put: there are fewer.
 const NO_PUT: PutGuess = PutGuess {
-    client: u16::MAX,
     tag: 0,
-    index: u32::MAX,
+    number: u32::MAX,
 };
 
 /// What a place has that guesses no key: there are fewer.
@@ -40,16 +38,15 @@ const FEW_KEYS: usize = 32_768;
 /// A put that may bear a version, and a part of that version, so that most of the puts that do not are not looked at.
 #[derive(Clone, Copy, Debug)]
 struct PutGuess {
-    client: u16,
-    tag: u16,
-    index: u32,
+    tag: u32,
+    number: u32,
 }
 
-/// What is guessed of an operation: the number of its key, and which put it returned.
+/// What is guessed of an operation: the numbers of its key and of the put that it returned.
 #[derive(Clone, Copy, Debug)]
 pub(crate) struct Guess {
     pub(crate) key: Option<u32>,
-    pub(crate) put: Option<OpName>,
+    pub(crate) put: Option<u32>,
 }
 
 /// An operation that comes: the place of its key, and of the put that it may return, with what is guessed.
@@ -184,18 +181,20 @@ impl Foresight {
         }
     }
 
-    /// Keeps the name of a put of that version.
-    pub(crate) fn note_put(&mut self, version: Version, put: OpName) {
+    /// Keeps the number of a put of that version.
+    pub(crate) fn note_put(&mut self, version: Version, number: usize) {
+        let Ok(number) = u32::try_from(number) else {
+            return;
+        };
         let guess = PutGuess {
-            client: put.client,
             tag: tag(version),
-            index: put.index,
+            number,
         };
         self.puts.note(place(version), guess);
     }
 
-    /// Where the put of that version may be.
-    pub(crate) fn put_of(&self, version: Version) -> Option<OpName> {
+    /// The number of the put that may be of that version.
+    pub(crate) fn put_of(&self, version: Version) -> Option<u32> {
         put_among(&self.puts, Some(version))
     }
 }
@@ -215,15 +214,14 @@ impl Coming {
     }
 }
 
-/// Where the put of a version may be, if there is a version.
-fn put_among(puts: &Guesses<PutGuess>, version: Option<Version>) -> Option<OpName> {
+/// The number of the put that may be of a version, if there is a version.
+fn put_among(puts: &Guesses<PutGuess>, version: Option<Version>) -> Option<u32> {
     let version = version?;
     let guess = puts.find(place(version))?;
     if guess.tag != tag(version) {
         return None;
     }
-    let PutGuess { client, index, .. } = guess;
-    Some(OpName { client, index })
+    Some(guess.number)
 }
 
 /// The guess of a key's number, unless it is seen to be wrong.
@@ -237,14 +235,10 @@ fn key_that_may_be(guess: Option<u32>, keys: &KeySet, key: &KeyView<'_>) -> Opti
 }
 
 /// The guess of a put, unless it bears another version.
-fn put_that_is(
-    guess: Option<OpName>,
-    entries: &Entries,
-    version: Option<Version>,
-) -> Option<OpName> {
-    let put = guess?;
-    if entries.put_version(put) == version {
-        Some(put)
+fn put_that_is(guess: Option<u32>, entries: &Entries, version: Option<Version>) -> Option<u32> {
+    let number = guess?;
+    if entries.version_of(number) == version {
+        Some(number)
     } else {
         None
     }
@@ -277,8 +271,8 @@ fn short_word(bytes: &[u8]) -> u64 {
 }
 
 /// A part of a version that tells most versions of one place apart.
-fn tag(version: Version) -> u16 {
-    (version.as_u64().wrapping_mul(SPREAD) >> 48) as u16
+fn tag(version: Version) -> u32 {
+    (version.as_u64().wrapping_mul(SPREAD) >> 32) as u32
 }
 
 /// The place of a version. The places of a node's puts follow one another, and those of different nodes lie apart.

@@ -1,7 +1,7 @@
 ghost use Rattle.std.specs.Prelude.{◌≡◌, ◌<◌, ◌+◌, ℕ, List, [], Some, IfOk, IfSome, OnErr, OnOk, length, slice_get, slice_index_or};
 ghost use Rattle.cops_types.specs.declared.limits.TheConstants.{MAX_CLIENT_OPS, MAX_OPS};
 ghost use Rattle.cops_types.specs.declared.entry.Entry.TheVariants.{Put};
-ghost use Rattle.cops_types.specs.Entries.{AreSound, HasSource, IsSound, key_number_of, told};
+ghost use Rattle.cops_types.specs.Entries.{AreSound, HasSource, IsNumbered, IsSound, key_number_of, told};
 ghost use Rattle.cops_types.specs.Keeping.{flag_count};
 ghost use Rattle.cops_types.specs.Lists.{item_at};
 ghost use Rattle.cops_types.specs.KeySets.{AreDistinct, GainsKey};
@@ -10,7 +10,7 @@ ghost use Rattle.cops_types.specs.OpViews.{viewed};
 ghost use Rattle.cops_types.specs.declared.op.Op.TheVariants.{Got};
 
 use crate::entries::Entries;
-use crate::entry::Entry;
+use crate::entry::{Entry, EntryRef, NumberedPut};
 use crate::fault::{Memory, TypeFault};
 use crate::foresight::{Foresight, Guess};
 use crate::key::Key;
@@ -178,11 +178,12 @@ impl History {
         ensures room { OnOk result (HasRoom self.new client) }
         ensures others { (c : ℕ) → HasRoom self.old c → HasRoom self.new c }
     {
-        self.entries.reserve(client)?;
-        self.keys.reserve(self.reservations + 1)?;
+        let more = self.reservations + 1;
+        self.entries.reserve(client, more)?;
+        self.keys.reserve(more)?;
         self.foresight.grow(&self.keys, self.len);
         self.reserved[client as usize] = true;
-        self.reservations += 1;
+        self.reservations = more;
         Ok(())
     }
 
@@ -196,12 +197,8 @@ impl History {
         ensures ok { self.new.sessions ≡ with_op self.old.sessions client op }
         ensures others { (c : ℕ) → c ≢ client → HasRoom self.old c → HasRoom self.new c }
     {
-        let name = OpName {
-            client,
-            index: self.entries.session_len(client) as u32,
-        };
         let puts = with_op_counted(self.puts, op.is_put());
-        let entry = entry_of(&mut self.keys, &mut self.foresight, &self.entries, name, op);
+        let entry = entry_of(&mut self.keys, &mut self.foresight, &self.entries, op);
         self.entries.push(client, entry);
         self.reserved[client as usize] = false;
         self.reservations -= 1;
@@ -223,17 +220,12 @@ impl History {
     {
         let alloc = *self.reserved.allocator();
         let place = client as usize;
-        let name = OpName {
-            client,
-            index: self.entries.session_len(client) as u32,
-        };
         let puts = with_op_counted(self.puts, op.is_put());
         let entry = entry_of_seen(
             alloc,
             &mut self.keys,
             &mut self.foresight,
             &self.entries,
-            name,
             op,
         )?;
         self.entries.push(client, entry);
@@ -299,22 +291,22 @@ impl History {
         let entry = self.entries.get(name)?;
         let key = self.keys.key(entry.key());
         match entry {
-            Entry::Put { value, version, .. } => Some(OpRef::Put {
+            EntryRef::Put { value, version, .. } => Some(OpRef::Put {
                 key,
                 value,
                 version,
             }),
-            Entry::Got { value, version, .. } => Some(OpRef::Got {
+            EntryRef::Got { value, version, .. } => Some(OpRef::Got {
                 key,
                 value,
                 version,
             }),
-            Entry::Sourced { put, version, .. } => Some(OpRef::Got {
+            EntryRef::Sourced { value, version, .. } => Some(OpRef::Got {
                 key,
-                value: self.entries.value_put(*put)?,
+                value,
                 version,
             }),
-            Entry::Missed { .. } => Some(OpRef::Missed { key }),
+            EntryRef::Missed { .. } => Some(OpRef::Missed { key }),
         }
     }
 
@@ -333,7 +325,7 @@ impl History {
         ensures none { IfNone result ((v : ℕ) → ¬ PutsVersion self.now.sessions name v) }
     {
         match self.entries.get(name)? {
-            Entry::Put { version, .. } => Some(*version),
+            EntryRef::Put { version, .. } => Some(*version),
             _ => None,
         }
     }
@@ -345,8 +337,8 @@ impl History {
         ensures none { IfNone result ((v : ℕ) → ¬ GetsVersion self.now.sessions name v) }
     {
         match self.entries.get(name)? {
-            Entry::Got { version, .. } => Some(*version),
-            Entry::Sourced { version, .. } => Some(*version),
+            EntryRef::Got { version, .. } => Some(*version),
+            EntryRef::Sourced { version, .. } => Some(*version),
             _ => None,
         }
     }
@@ -357,7 +349,7 @@ impl History {
         ensures { IfSome result (λ put. SourceStep self.now.sessions put got) }
     {
         match self.entries.get(got)? {
-            Entry::Sourced { put, .. } => Some(*put),
+            EntryRef::Sourced { put, .. } => Some(put.name),
             _ => None,
         }
     }
@@ -371,17 +363,18 @@ impl History {
             return false;
         };
         match entry {
-            Entry::Sourced {
+            EntryRef::Sourced {
                 key,
                 put: source,
                 version,
-            } => self.entries.is_same_put(put, *source, *key, *version),
-            Entry::Got {
+                ..
+            } => self.entries.is_same_put(put, source.name, key, *version),
+            EntryRef::Got {
                 key,
                 value,
                 version,
-            } => self.entries.is_put(put, *key, &value.as_view(), *version),
-            Entry::Put { .. } | Entry::Missed { .. } => false,
+            } => self.entries.is_put(put, key, &value.as_view(), *version),
+            EntryRef::Put { .. } | EntryRef::Missed { .. } => false,
         }
     }
 }
@@ -395,13 +388,12 @@ fn with_op_counted(puts: usize, is_put: bool) -> usize
     if is_put { puts + 1 } else { puts }
 }
 
-/// The entry of an operation of that name, whose key is added where it is not there.
+/// The entry of an operation, whose key is added where it is not there.
 #[inline(always)]
 fn entry_of(
     keys: &mut KeySet,
     foresight: &mut Foresight,
     entries: &Entries,
-    name: OpName,
     op: Op,
 ) -> Entry
     requires sound { AreSound keys.old.keys entries.now.all }
@@ -410,6 +402,7 @@ fn entry_of(
     requires room { 0 < keys.old.spare }
     ensures told { told keys.new.keys entries.now.all result ≡ op }
     ensures sound { IsSound keys.new.keys entries.now.all result }
+    ensures numbered { IsNumbered entries.now.names result }
     ensures gains { GainsKey keys.old keys.new }
 {
     let guess = foresight.next();
@@ -420,7 +413,7 @@ fn entry_of(
             value,
             version,
         } => {
-            foresight.note_put(version, name);
+            foresight.note_put(version, entries.puts());
             Entry::Put {
                 key: number_of(keys, foresight, key, known),
                 value,
@@ -441,15 +434,13 @@ fn entry_of(
     }
 }
 
-/// The entry of an operation that is seen, of that name, whose key is added where it is not there. For want of memory
-/// none is.
+/// The entry of an operation that is seen, whose key is added where it is not there. For want of memory none is.
 #[inline(always)]
 fn entry_of_seen(
     alloc: Global,
     keys: &mut KeySet,
     foresight: &mut Foresight,
     entries: &Entries,
-    name: OpName,
     op: &OpView<'_>,
 ) -> Result<Entry, Memory>
     requires sound { AreSound keys.old.keys entries.now.all }
@@ -458,6 +449,7 @@ fn entry_of_seen(
     requires room { 0 < keys.old.spare }
     ensures told { IfOk result (λ entry. told keys.new.keys entries.now.all entry ≡ viewed op.now) }
     ensures sound { IfOk result (λ entry. IsSound keys.new.keys entries.now.all entry) }
+    ensures numbered { IfOk result (IsNumbered entries.now.names) }
     ensures gains { OnOk result (GainsKey keys.old keys.new) }
     ensures same { OnErr result (keys.new ≡ keys.old) }
 {
@@ -471,7 +463,7 @@ fn entry_of_seen(
         } => {
             let value = value.to_value(alloc)?;
             let key = number_of_seen(alloc, keys, foresight, key, known)?;
-            foresight.note_put(*version, name);
+            foresight.note_put(*version, entries.puts());
             Ok(Entry::Put {
                 key,
                 value,
@@ -504,7 +496,7 @@ fn entry_of_seen(
 fn got_entry(
     foresight: &Foresight,
     entries: &Entries,
-    guess: Option<OpName>,
+    guess: Option<u32>,
     key: u32,
     value: Value,
     version: Version,
@@ -512,6 +504,7 @@ fn got_entry(
     ensures told { (keys : List (List ℕ)) → told keys entries.now.all result ≡ Got (slice_index_or keys key []) value version }
     ensures key { key_number_of result ≡ key }
     ensures source { HasSource entries.now.all result }
+    ensures numbered { IsNumbered entries.now.names result }
 {
     match source_of(foresight, entries, guess, key, &value.as_view(), version) {
         Some(put) => Entry::Sourced { key, put, version },
@@ -529,7 +522,7 @@ fn known_got_entry(
     alloc: Global,
     foresight: &Foresight,
     entries: &Entries,
-    guess: Option<OpName>,
+    guess: Option<u32>,
     key: u32,
     value: &ValueView<'_>,
     version: Version,
@@ -537,6 +530,7 @@ fn known_got_entry(
     ensures told { IfOk result (λ entry. (keys : List (List ℕ)) → told keys entries.now.all entry ≡ Got (slice_index_or keys key []) value.now version) }
     ensures key { IfOk result (λ entry. key_number_of entry ≡ key) }
     ensures source { IfOk result (HasSource entries.now.all) }
+    ensures numbered { IfOk result (IsNumbered entries.now.names) }
 {
     match source_of(foresight, entries, guess, key, value, version) {
         Some(put) => Ok(Entry::Sourced { key, put, version }),
@@ -614,20 +608,17 @@ fn number_of_seen(
 fn source_of(
     foresight: &Foresight,
     entries: &Entries,
-    guess: Option<OpName>,
+    guess: Option<u32>,
     key: u32,
     value: &ValueView<'_>,
     version: Version,
-) -> Option<OpName>
-    ensures { IfSome result (λ put. item_at entries.now.all put ≡ Some (Put key value.now version)) }
+) -> Option<NumberedPut>
+    ensures put { IfSome result (λ put. item_at entries.now.all put.name ≡ Some (Put key value.now version)) }
+    ensures number { IfSome result (λ put. slice_get entries.now.names put.number ≡ Some put.name) }
 {
-    let put = match guess {
-        Some(put) => put,
+    let number = match guess {
+        Some(number) => number,
         None => foresight.put_of(version)?,
     };
-    if entries.is_put(put, key, value, version) {
-        Some(put)
-    } else {
-        None
-    }
+    entries.source(number, key, value, version)
 }

@@ -26,6 +26,7 @@ mod op_view;
 mod put_record;
 mod refusal;
 mod selection;
+mod slot;
 mod value;
 mod version;
 

@@ -7,22 +7,17 @@ use Rattle.cops_types.proofs.history.History.hold_anew.Goals as goal
 pub invariant_of-self : goal.invariant_of-self
 invariant_of-self c =
     room_kept c.self.inside.keys c.self.inside.keys c.self.inside.entries c.reserve.new.self c.self.inside.reserved.items c.self.inside.reservations c.self.inside.len c.self.inside.puts
-    refl (omega arith) c.in_err-reserve.ensures.same c.in_err-reserve.ensures.others c.self.invariant
+    refl (omega arith) c.in_err-reserve.ensures.keeps c.self.invariant
 
-pub overflow_add-self-inside : goal.overflow_add-self-inside
-overflow_add-self-inside c =
+pub overflow_add-more : goal.overflow_add-more
+overflow_add-more c =
     let all = c.self.inside.entries.all in
     omega (arith, c.self.invariant.held, c.self.invariant.flags, flags-le c.self.inside.reserved.items, length-map all (map (told c.self.inside.keys.keys all)), c.self.invariant.limits.clients)
 
 pub invariant_of-self-in_err-reserve-2 : goal.invariant_of-self-in_err-reserve-2
 invariant_of-self-in_err-reserve-2 c =
     room_kept c.self.inside.keys c.reserve-2.new.self c.self.inside.entries c.reserve.new.self c.self.inside.reserved.items c.self.inside.reservations c.self.inside.len c.self.inside.puts
-    c.in_err-reserve-2.ensures.same c.in_err-reserve-2.ensures.kept c.in_ok-reserve.ensures.same c.in_ok-reserve.ensures.others c.self.invariant
-
-pub overflow_add-self : goal.overflow_add-self
-overflow_add-self c =
-    let all = c.self.inside.entries.all in
-    omega (arith, c.self.invariant.held, c.self.invariant.flags, flags-le c.self.inside.reserved.items, length-map all (map (told c.self.inside.keys.keys all)), c.self.invariant.limits.clients)
+    c.in_err-reserve-2.ensures.same c.in_err-reserve-2.ensures.kept c.in_ok-reserve.ensures.keeps c.self.invariant
 
 pub invariant_of-self-2 : goal.invariant_of-self-2
 invariant_of-self-2 c =
@@ -30,5 +25,5 @@ invariant_of-self-2 c =
     let inside : c.args.client < length all = omega (arith, rw (← c.self.view_is) at c.requires.inside, length-map all (map (told c.self.inside.keys.keys all))) in
     let was = rw (← c.self.view_is) at c.requires.none in
     flag_kept c.self.inside.keys c.reserve-2.new.self c.self.inside.entries c.reserve.new.self c.self.inside.reserved.items c.self.inside.reservations c.self.inside.len c.self.inside.puts
-    c.in_ok-reserve-2.ensures.same c.in_ok-reserve-2.ensures.kept c.in_ok-reserve.ensures.same c.in_ok-reserve.ensures.others c.self.invariant
-    c.args.client inside was c.in_ok-reserve.ensures.room c.in_ok-reserve-2.ensures.ok
+    c.in_ok-reserve-2.ensures.same c.in_ok-reserve-2.ensures.kept c.in_ok-reserve.ensures.keeps c.self.invariant
+    c.args.client inside was c.in_ok-reserve.ensures.room c.in_ok-reserve-2.ensures.ok c.in_ok-reserve.ensures.more_puts c.in_ok-reserve.ensures.more_gets

@@ -1,30 +1,30 @@
 use Rattle.std.proofs.Common.{◌≡◌, [], get_or, Some, None, sym, ap, ◌∙◌, subst, true≢false}
 use Rattle.cops_types.specs.declared.op.Op.TheVariants.{Got as GotOp}
-use Rattle.cops_types.specs.Entries.{IsSound, told, value_put}
-use Rattle.cops_types.proofs.Sources.{none_told, told_as, source_there, source_found, no_source}
+use Rattle.cops_types.specs.Entries.{IsSound, referred, told, value_put}
+use Rattle.cops_types.proofs.Sources.{none_told, told_as, source_there, source_found, no_source_there}
 use Rattle.cops_types.proofs.Telling.{limit_at}
 use Rattle.cops_types.proofs.history.History.is_source.Goals as goal
 
 pub returns-in_default-clause-source : goal.returns-in_default-clause-source
 returns-in_default-clause-source c =
-    let none = none_told c.self.inside.keys.keys c.self.inside.entries.all c.args.got c.in_default.ensures in
+    let none = none_told c.self.inside.keys.keys c.self.inside.entries.all c.args.got c.in_default.ensures.entry in
     rw (← c.self.view_is) ((λ no. absurd (true≢false (sym no))), (λ s. let gone : None ≡ Some (GotOp s.key s.value s.version) = none ∙ s.got in cc))
 
 pub is_same_put-requires : goal.is_same_put-requires
 is_same_put-requires c =
-    let sound = c.self.invariant.sound c.args.got c.in-Some.entry.now (sym c.in-Some.ensures) in
-    (subst (IsSound c.self.inside.keys.keys c.self.inside.entries.all) c.in-Sourced.is sound).source
+    let sound = c.self.invariant.sound c.args.got (referred c.in-Some.entry) (sym c.in-Some.ensures.entry) in
+    (subst (λ e. IsSound c.self.inside.keys.keys c.self.inside.entries.all (referred e)) c.in-Sourced.is sound).source
 
 pub returns-in-Sourced-clause-source : goal.returns-in-Sourced-clause-source
 returns-in-Sourced-clause-source c =
     let keys = c.self.inside.keys.keys in
     let all = c.self.inside.entries.all in
-    let value = value_put all c.in-Sourced.source in
-    let sound = subst (IsSound keys all) c.in-Sourced.is (c.self.invariant.sound c.args.got c.in-Some.entry.now (sym c.in-Some.ensures)) in
-    let got = told_as keys all c.args.got c.in-Some.entry.now (GotOp (get_or keys c.in-Sourced.key []) value c.in-Sourced.version) c.in-Some.ensures (ap (told keys all) c.in-Sourced.is) in
+    let value = value_put all c.in-Sourced.source.name in
+    let sound = subst (λ e. IsSound keys all (referred e)) c.in-Sourced.is (c.self.invariant.sound c.args.got (referred c.in-Some.entry) (sym c.in-Some.ensures.entry)) in
+    let got = told_as keys all c.args.got (referred c.in-Some.entry) (GotOp (get_or keys c.in-Sourced.key []) value c.in-Sourced.version.now) c.in-Some.ensures.entry (ap (λ e. told keys all (referred e)) c.in-Sourced.is) in
     rw (← c.self.view_is) (
-      (λ yes. source_there keys all c.args.put c.args.got c.in-Sourced.key value c.in-Sourced.version got (c.is_same_put.ensures.0 yes)),
-      (λ s. c.is_same_put.ensures.1 (source_found keys all c.args.put c.args.got c.in-Sourced.key value c.in-Sourced.version got c.self.invariant.sound c.self.invariant.distinct sound.key s)),
+      (λ yes. source_there keys all c.args.put c.args.got c.in-Sourced.key value c.in-Sourced.version.now got (c.is_same_put.ensures.0 yes)),
+      (λ s. c.is_same_put.ensures.1 (source_found keys all c.args.put c.args.got c.in-Sourced.key value c.in-Sourced.version.now got c.self.invariant.sound c.self.invariant.distinct sound.key s)),
     )
 
 pub returns-in-Sourced-clause-limit : goal.returns-in-Sourced-clause-limit
@@ -34,12 +34,12 @@ pub returns-in-Got-clause-source : goal.returns-in-Got-clause-source
 returns-in-Got-clause-source c =
     let keys = c.self.inside.keys.keys in
     let all = c.self.inside.entries.all in
-    let sound = subst (IsSound keys all) c.in-Got.is (c.self.invariant.sound c.args.got c.in-Some.entry.now (sym c.in-Some.ensures)) in
+    let sound = subst (λ e. IsSound keys all (referred e)) c.in-Got.is (c.self.invariant.sound c.args.got (referred c.in-Some.entry) (sym c.in-Some.ensures.entry)) in
     let is_put = rw c.as_view.ensures at c.is_put.ensures in
-    let got = told_as keys all c.args.got c.in-Some.entry.now (GotOp (get_or keys c.in-Got.key []) c.in-Got.value c.in-Got.version) c.in-Some.ensures (ap (told keys all) c.in-Got.is) in
+    let got = told_as keys all c.args.got (referred c.in-Some.entry) (GotOp (get_or keys c.in-Got.key []) c.in-Got.value.now c.in-Got.version.now) c.in-Some.ensures.entry (ap (λ e. told keys all (referred e)) c.in-Got.is) in
     rw (← c.self.view_is) (
-      (λ yes. source_there keys all c.args.put c.args.got c.in-Got.key c.in-Got.value c.in-Got.version got (is_put.0 yes)),
-      (λ s. is_put.1 (source_found keys all c.args.put c.args.got c.in-Got.key c.in-Got.value c.in-Got.version got c.self.invariant.sound c.self.invariant.distinct sound.key s)),
+      (λ yes. source_there keys all c.args.put c.args.got c.in-Got.key c.in-Got.value.now c.in-Got.version.now got (is_put.0 yes)),
+      (λ s. is_put.1 (source_found keys all c.args.put c.args.got c.in-Got.key c.in-Got.value.now c.in-Got.version.now got c.self.invariant.sound c.self.invariant.distinct sound.key s)),
     )
 
 pub returns-in-Got-clause-limit : goal.returns-in-Got-clause-limit
@@ -49,12 +49,5 @@ pub returns-in-Put-clause-source : goal.returns-in-Put-clause-source
 returns-in-Put-clause-source c =
     rw (← c.self.view_is) (
       (λ no. absurd (true≢false (sym no))),
-      (λ s. absurd (no_source c.self.inside.keys.keys c.self.inside.entries.all c.args.put c.args.got c.in-Some.entry.now c.in-Some.ensures c.in-Put.is s)),
-    )
-
-pub returns-in-Put-2-clause-source : goal.returns-in-Put-2-clause-source
-returns-in-Put-2-clause-source c =
-    rw (← c.self.view_is) (
-      (λ no. absurd (true≢false (sym no))),
-      (λ s. absurd (no_source c.self.inside.keys.keys c.self.inside.entries.all c.args.put c.args.got c.in-Some.entry.now c.in-Some.ensures c.in-Put.is s)),
+      (λ s. absurd (no_source_there c.self.inside.keys.keys c.self.inside.entries.all c.args.put c.args.got c.in-Some.entry c.in-Some.ensures.entry c.in-Put.is s)),
     )

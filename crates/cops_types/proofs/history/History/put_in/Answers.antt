@@ -18,7 +18,7 @@ invariant_of-self c =
     let same = c.with_op_counted-puts.ensures ∙ ap (λ (b : Bool). c.self.inside.puts + flag_count b) c.is_put.ensures in
     subst (IsKept c.entry_of-entry.new.keys c.push.new.self (set c.self.inside.reserved.items c.args.client false) (c.self.inside.reservations - 1) (c.self.inside.len + 1)) (sym same)
     (put_kept c.self.inside.keys c.entry_of-entry.new.keys c.self.inside.entries c.push.new.self c.self.inside.reserved.items c.self.inside.reservations c.self.inside.len c.self.inside.puts c.args.client c.entry_of-entry.result c.args.op
-    inside c.self.invariant made.gains made.sound made.told c.push.ensures.all (rw (← c.self.view_is) at c.requires.room) c.push.ensures.others
+    inside c.self.invariant made.gains made.sound made.told c.push.ensures.all c.push.ensures.gains (rw (← c.self.view_is) at c.requires.room) c.push.ensures.others
     (rw (← c.self.view_is) at c.requires.session) (rw (← c.self.view_is) at c.requires.all))
 
 pub returns-clause-ok : goal.returns-clause-ok
@@ -27,4 +27,4 @@ returns-clause-ok c =
     let inside : c.args.client < length all = omega (arith, rw (← c.self.view_is) at c.requires.inside, length-map all (map (told c.self.inside.keys.keys all))) in
     let made = c.entry_of-entry.ensures in
     rw (← c.self.view_is) (put_told c.self.inside.keys c.entry_of-entry.new.keys c.self.inside.entries c.push.new.self c.self.inside.reserved.items c.self.inside.reservations c.self.inside.len c.self.inside.puts c.args.client c.entry_of-entry.result c.args.op
-    inside c.self.invariant made.gains made.sound made.told c.push.ensures.all)
+    inside c.self.invariant made.gains made.sound made.told c.push.ensures.all c.push.ensures.gains)

@@ -1,23 +1,23 @@
 use Rattle.std.proofs.Common.{[], get_or, sym, ap}
 use Rattle.cops_types.specs.declared.op.Op.TheVariants.{Put as PutOp}
-use Rattle.cops_types.specs.Entries.{told}
-use Rattle.cops_types.proofs.Sources.{no_put, none_told, told_as}
+use Rattle.cops_types.specs.Entries.{referred, told}
+use Rattle.cops_types.proofs.Sources.{no_put_there, none_told, told_as}
 use Rattle.cops_types.proofs.history.History.put_version.Goals as goal
 
 pub returns-in_err-version-clause-none : goal.returns-in_err-version-clause-none
 returns-in_err-version-clause-none c =
-    rw (c.from_residual.ensures, ← c.self.view_is) (λ v puts. let none = none_told c.self.inside.keys.keys c.self.inside.entries.all c.args.name c.in_err-version.ensures in let there = puts.2 in cc)
+    rw (c.from_residual.ensures, ← c.self.view_is) (λ v puts. let none = none_told c.self.inside.keys.keys c.self.inside.entries.all c.args.name c.in_err-version.ensures.entry in let there = puts.2 in cc)
 
 pub returns-in-Put-clause-put : goal.returns-in-Put-clause-put
 returns-in-Put-clause-put c =
     let keys = c.self.inside.keys.keys in
     let all = c.self.inside.entries.all in
     let key = get_or keys c.in-Put.key [] in
-    rw (← c.self.view_is) (key, c.in-Put.value, sym (told_as keys all c.args.name c.in_ok-version.field-0.now (PutOp key c.in-Put.value c.in-Put.version) c.in_ok-version.ensures (ap (told keys all) c.in-Put.is)))
+    rw (← c.self.view_is) (key, c.in-Put.value.now, sym (told_as keys all c.args.name (referred c.in_ok-version.field-0) (PutOp key c.in-Put.value.now c.in-Put.version.now) c.in_ok-version.ensures.entry (ap (λ e. told keys all (referred e)) c.in-Put.is)))
 
 pub returns-in_default : goal.returns-in_default
 returns-in_default c =
     rw (← c.self.view_is) (record {
       put = tt;
-      none = no_put c.self.inside.keys.keys c.self.inside.entries.all c.args.name c.in_ok-version.field-0.now c.in_ok-version.ensures (λ k x v e. c.in_default.not-Put k x v e);
+      none = no_put_there c.self.inside.keys.keys c.self.inside.entries.all c.args.name c.in_ok-version.field-0 c.in_ok-version.ensures.entry (λ k x v e. c.in_default.not-Put k x v e);
     })

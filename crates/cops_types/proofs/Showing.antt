@@ -1,0 +1,241 @@
+-- The entries that slots stand for, as one more comes.
+use Rattle.std.proofs.Common.{◌≡◌, ◌≢◌, ℕ, zero, suc, ◌+◌, ◌<◌, ◌≤◌, List, [], ◌∷◌, ◌++◌, map, length, length-append, get_or, replicate, slice_get, Option, Some, None, refl, sym, ap, ◌∙◌, subst, arith, get_or-set_same, inl, inr}
+use Rattle.std.specs.Prelude.{◌⊎◌}
+use Rattle.std.specs.Option.{option_map}
+use Rattle.std.proofs.Math.ListN.{set, get_or-map, length-set}
+use Rattle.std.proofs.lemmas.List.{map-set, map-append, length-map, get_or-map as get_or-map-inside}
+use Rattle.std.proofs.lemmas.Option.{slice_get-map, get_or_from_slice_get, slice_get_within, slice_get-get_or}
+use Rattle.cops_types.specs.declared.entry.Entry.{Entry}
+use Rattle.cops_types.specs.declared.entry.Entry.TheVariants.{Put, Sourced}
+use Rattle.cops_types.specs.declared.entry.EntryRef.{EntryRef}
+use Rattle.cops_types.specs.declared.entry.EntryRef.TheVariants.{Put as PutRef, Got as GotRef, Sourced as SourcedRef, Missed as MissedRef}
+use Rattle.cops_types.specs.declared.entry.NumberedPut.{NumberedPut}
+use Rattle.cops_types.specs.declared.op.OpName.{OpName}
+use Rattle.cops_types.specs.declared.slot.KeptGot.{KeptGot}
+use Rattle.cops_types.specs.declared.slot.KeptPut.{KeptPut}
+use Rattle.cops_types.specs.declared.slot.Slot.{Slot}
+use Rattle.cops_types.specs.declared.slot.Slot.TheVariants.{Put as PutSlot, Got as GotSlot, Sourced as SourcedSlot, Missed as MissedSlot}
+use Rattle.cops_types.specs.Entries.{EntryLists, HasValue, value_in, value_put}
+use Rattle.cops_types.specs.Lists.{item_at, with_item}
+use Rattle.cops_types.specs.Slots.{AreKept, IsFrom, IsThere, put_shown, source_shown, got_shown, shown, shown_by}
+use Rattle.cops_types.specs.Blocks.{KeptBlocks}
+use Rattle.cops_types.proofs.Sessions.{more_items, none_of}
+use Rattle.cops_types.proofs.Telling.{item_came, item_stays, map-same}
+
+-- ---- lists
+
+-- what stands under a name, where each item is replaced
+pub item_at-map : {X Y : Type 0} (f : X → Y) (lists : List (List X)) (name : OpName) → item_at (map (map f) lists) name ≡ option_map f (item_at lists name)
+item_at-map f lists name =
+    ap (λ l. slice_get l name.index) (get_or-map (map f) lists name.client [])
+    ∙ slice_get-map f (get_or lists name.client []) name.index
+
+-- what stands in a list with one more item stood there, or is that item at the end
+pub slice_get-end : {X : Type 0} (xs : List X) (y : X) (i : ℕ) (x : X) → slice_get (xs ++ y ∷ []) i ≡ Some x → (slice_get xs i ≡ Some x) ⊎ ((i ≡ length xs) × (y ≡ x))
+slice_get-end [] y zero x at = let e : y ≡ x = cc in inr (refl, e)
+slice_get-end [] y (suc i) x at = cc
+slice_get-end (z ∷ xs) y zero x at = inl at
+slice_get-end (z ∷ xs) y (suc i) x at = elim (slice_get-end xs y i x at) [ inl p ↦ inl p | inr p ↦ inr (ap suc p.0, p.1) ]
+
+-- the item at the end
+pub end_of : {X : Type 0} (xs : List X) (y : X) → slice_get (xs ++ y ∷ []) (length xs) ≡ Some y
+end_of [] y = refl
+end_of (x ∷ xs) y = end_of xs y
+
+stays_left : {X : Type 0} (xs ys : List X) (i : ℕ) (x : X) → slice_get xs i ≡ Some x → slice_get (xs ++ ys) i ≡ Some x
+stays_left [] ys i x at = cc
+stays_left (y ∷ xs) ys zero x at = at
+stays_left (y ∷ xs) ys (suc i) x at = stays_left xs ys i x at
+
+-- what stands in the one stands in the other
+abbrev pub IsFront : {X : Type 0} → List X → List X → Type 0
+IsFront {X} xs ys = (i : ℕ) (x : X) → slice_get xs i ≡ Some x → slice_get ys i ≡ Some x
+
+pub front_same : {X : Type 0} (xs : List X) → IsFront xs xs
+front_same xs = λ i x at. at
+
+pub front_more : {X : Type 0} (xs : List X) (y : X) → IsFront xs (xs ++ y ∷ [])
+front_more xs y = stays_left xs (y ∷ [])
+
+-- the item that comes last in a client's list
+pub item_last : {X : Type 0} (lists : List (List X)) (client : ℕ) (item : X) (name : OpName) → client < length lists → name.client ≡ client → name.index ≡ length (get_or lists client [])
+    → item_at (with_item lists client item) name ≡ Some item
+item_last {X} lists client item name inside of at =
+    let own = get_or lists client [] in
+    let there : get_or (with_item lists client item) client [] ≡ own ++ item ∷ [] = get_or-set_same lists client (own ++ item ∷ []) [] inside in
+    (λ j. slice_get (get_or (with_item lists client item) (of j) []) (at j)) ∙ ap (λ (l : List X). slice_get l (length own)) there ∙ end_of own item
+
+-- ---- slots
+
+no_items : (puts : List KeptPut) (gets : List KeptGot) (n : ℕ) → shown_by puts gets (replicate n []) ≡ replicate n []
+no_items puts gets zero = refl
+no_items puts gets (suc n) = ap (λ (l : EntryLists). [] ∷ l) (no_items puts gets n)
+
+pub shown-none : (puts : List KeptPut) (gets : List KeptGot) (slots : List (List Slot)) (n : ℕ) → slots ≡ replicate n [] → shown_by puts gets slots ≡ replicate n []
+shown-none puts gets slots n none = ap (shown_by puts gets) none ∙ no_items puts gets n
+
+-- nothing is kept of nothing
+pub none_kept : (slots : List (List Slot)) (n : ℕ) → slots ≡ replicate n [] → AreKept [] [] slots
+none_kept slots n none = record {
+  there = λ name s at. let gone : None ≡ Some s = ap (λ (l : List Slot). slice_get l name.index) (sym (none_of n name.client)) ∙ ap (λ (l : List (List Slot)). item_at l name) (sym none) ∙ at in cc;
+  named = λ m p at. let gone : None ≡ Some p = at in cc;
+}
+
+pub item_at-shown : (puts : List KeptPut) (gets : List KeptGot) (slots : List (List Slot)) (name : OpName) → item_at (shown_by puts gets slots) name ≡ option_map (shown puts gets) (item_at slots name)
+item_at-shown puts gets slots name = item_at-map (shown puts gets) slots name
+
+pub length-shown : (puts : List KeptPut) (gets : List KeptGot) (slots : List (List Slot)) (client : ℕ) → length (get_or (shown_by puts gets slots) client []) ≡ length (get_or slots client [])
+length-shown puts gets slots client = ap length (get_or-map (map (shown puts gets)) slots client []) ∙ length-map (get_or slots client []) (shown puts gets)
+
+-- something stands within
+pub found : {X : Type 0} (xs : List X) (i : ℕ) → i < length xs → (x : X) × (slice_get xs i ≡ Some x)
+found [] i inside = absurd (omega (arith, inside))
+found (x ∷ xs) zero inside = (x, refl)
+found (x ∷ xs) (suc i) inside = found xs i (omega (arith, inside))
+
+module _ (puts puts' : List KeptPut) (gets gets' : List KeptGot) (more_puts : IsFront puts puts') (more_gets : IsFront gets gets') where
+  -- a slot stands for the same entry
+  shown-same : (s : Slot) → IsThere (length puts) (length gets) s → shown puts' gets' s ≡ shown puts gets s
+  shown-same (PutSlot n) there = let p = found puts n there in ap put_shown (more_puts n p.0 p.1 ∙ sym p.1)
+  shown-same (SourcedSlot n) there = let p = found puts n there in ap (source_shown n) (more_puts n p.0 p.1 ∙ sym p.1)
+  shown-same (GotSlot n) there = let g = found gets n there in ap got_shown (more_gets n g.0 g.1 ∙ sym g.1)
+  shown-same (MissedSlot key) there = refl
+
+  module _ (slots : List (List Slot)) (kept : AreKept puts gets slots) (client : ℕ) (slot : Slot) (inside : client < length slots) where
+    shown_by-same : shown_by puts' gets' slots ≡ shown_by puts gets slots
+    shown_by-same =
+        map-same (map (shown puts' gets')) (map (shown puts gets)) slots (λ c s at.
+        map-same (shown puts' gets') (shown puts gets) s (λ i x here.
+        shown-same x (kept.there (record { client = c; index = i }) x (ap (λ (l : List Slot). slice_get l i) (get_or_from_slice_get slots c s [] at) ∙ here))))
+
+    -- the client gains the entry that the slot stands for
+    pub shown_by-more : (entry : Entry) → shown puts' gets' slot ≡ entry → shown_by puts' gets' (with_item slots client slot) ≡ with_item (shown_by puts gets slots) client entry
+    shown_by-more entry is =
+        let f = shown puts' gets' in
+        let s = get_or slots client [] in
+        map-set (map f) slots client (s ++ slot ∷ [])
+        ∙ ap (set (map (map f) slots) client) (map-append f s (slot ∷ []) ∙ ap (λ (l : List Entry). l ++ f slot ∷ []) (sym (get_or-map (map f) slots client [])))
+        ∙ ap (λ (all : EntryLists). with_item all client (f slot)) shown_by-same
+        ∙ ap (with_item (shown_by puts gets slots) client) is
+
+    -- and all is kept as it was
+    pub kept_more : length puts ≤ length puts' → length gets ≤ length gets' → IsThere (length puts') (length gets') slot
+        → ((n : ℕ) (p : KeptPut) → slice_get puts' n ≡ Some p → (slice_get puts n ≡ Some p) ⊎ (item_at (with_item slots client slot) p.name ≡ Some (PutSlot n)))
+        → AreKept puts' gets' (with_item slots client slot)
+    kept_more longer_puts longer_gets fits named = record {
+      there = λ name s at. elim (item_came slots client slot inside name s at) [
+        | inl p ↦ still s (kept.there name s p)
+        | inr p ↦ subst (IsThere (length puts') (length gets')) p fits
+      ];
+      named = λ n p at. elim (named n p at) [
+        | inl was ↦ item_stays slots client slot inside p.name (PutSlot n) (kept.named n p was)
+        | inr is ↦ is
+      ];
+    }
+      where
+        still : (s : Slot) → IsThere (length puts) (length gets) s → IsThere (length puts') (length gets') s
+        still (PutSlot n) there = omega (arith, there, longer_puts)
+        still (SourcedSlot n) there = omega (arith, there, longer_puts)
+        still (GotSlot n) there = omega (arith, there, longer_gets)
+        still (MissedSlot key) there = tt
+
+module _ (puts : List KeptPut) (gets : List KeptGot) (slots : List (List Slot)) (kept : AreKept puts gets slots) where
+  -- a put stands under its name
+  pub put_at : (n : ℕ) (p : KeptPut) → slice_get puts n ≡ Some p → item_at (shown_by puts gets slots) p.name ≡ Some (Put p.key p.value p.version)
+  put_at n p at = item_at-shown puts gets slots p.name ∙ ap (option_map (shown puts gets)) (kept.named n p at) ∙ ap (λ (o : Option KeptPut). Some (put_shown o)) at
+
+  -- what is referred to has its put's value
+  pub has_value : (e : EntryRef) → IsFrom puts e → HasValue (shown_by puts gets slots) e
+  has_value (PutRef key value version) from = tt
+  has_value (GotRef key value version) from = tt
+  has_value (SourcedRef key put value version) from =
+      let at = put_at put.number from.0 from.1 in
+      let there : item_at (shown_by puts gets slots) put.name ≡ Some (Put from.0.key from.0.value from.0.version) = ap (item_at (shown_by puts gets slots)) (sym from.2) ∙ at in
+      sym from.3 ∙ sym (ap value_in there)
+  has_value (MissedRef key) from = tt
+
+  -- what a slot stands for that names a put
+  pub sourced : (put : NumberedPut) (key version : ℕ) → slice_get (map (λ (p : KeptPut). p.name) puts) put.number ≡ Some put.name
+      → item_at (shown_by puts gets slots) put.name ≡ Some (Put key (value_put (shown_by puts gets slots) put.name) version)
+      → (put.number < length puts) × (shown puts gets (SourcedSlot put.number) ≡ Sourced key put version)
+  sourced put key version at source =
+      let names = map (λ (p : KeptPut). p.name) puts in
+      let inside : put.number < length puts = omega (arith, slice_get_within names put.number put.name at, length-map puts (λ (p : KeptPut). p.name)) in
+      let p = found puts put.number inside in
+      let both : Some put.name ≡ Some p.0.name = sym at ∙ slice_get-map (λ (q : KeptPut). q.name) puts put.number ∙ ap (option_map (λ (q : KeptPut). q.name)) p.1 in
+      let name : put.name ≡ p.0.name = cc in
+      let there : Some (Put p.0.key p.0.value p.0.version) ≡ Some (Put key (value_put (shown_by puts gets slots) put.name) version) =
+          sym (put_at put.number p.0 p.1) ∙ ap (item_at (shown_by puts gets slots)) (sym name) ∙ source in
+      let same_key : p.0.key ≡ key = cc in
+      let same_version : p.0.version ≡ version = cc in
+      (inside, ap (source_shown put.number) p.1 ∙ (λ j. Sourced (same_key j) (record { name = sym name j; number = put.number }) (same_version j)))
+
+-- ---- one more operation
+
+module _ (puts : List KeptPut) (gets : List KeptGot) (slots : List (List Slot)) (kept : AreKept puts gets slots) (client : ℕ) (inside : client < length slots) where
+  -- a put
+  module _ (put : KeptPut) (of : put.name.client ≡ client) (at : put.name.index ≡ length (get_or slots client [])) where
+    abbrev slot_put : Slot
+    slot_put = PutSlot (length puts)
+
+    pub all_with_put : (entry : Entry) → put_shown (Some put) ≡ entry → shown_by (puts ++ put ∷ []) gets (with_item slots client slot_put) ≡ with_item (shown_by puts gets slots) client entry
+    all_with_put entry is =
+        shown_by-more puts (puts ++ put ∷ []) gets gets (front_more puts put) (front_same gets) slots kept client slot_put inside entry (ap put_shown (end_of puts put) ∙ is)
+
+    pub kept_with_put : AreKept (puts ++ put ∷ []) gets (with_item slots client slot_put)
+    kept_with_put =
+        kept_more puts (puts ++ put ∷ []) gets gets (front_more puts put) (front_same gets) slots kept client slot_put inside
+        (omega (arith, length-append puts (put ∷ []))) (omega arith) (omega (arith, length-append puts (put ∷ [])))
+        (λ n p there. elim (slice_get-end puts put n p there) [
+          | inl was ↦ inl was
+          | inr end ↦
+              let here = item_last slots client slot_put put.name inside of at in
+              inr (subst (λ (q : KeptPut). item_at (with_item slots client slot_put) q.name ≡ Some (PutSlot n)) end.1 (here ∙ ap (λ (k : ℕ). Some (PutSlot k)) (sym end.0)))
+        ])
+
+  -- a get that is kept with what it returned
+  module _ (got : KeptGot) where
+    abbrev slot_got : Slot
+    slot_got = GotSlot (length gets)
+
+    pub all_with_got : (entry : Entry) → got_shown (Some got) ≡ entry → shown_by puts (gets ++ got ∷ []) (with_item slots client slot_got) ≡ with_item (shown_by puts gets slots) client entry
+    all_with_got entry is =
+        shown_by-more puts puts gets (gets ++ got ∷ []) (front_same puts) (front_more gets got) slots kept client slot_got inside entry (ap got_shown (end_of gets got) ∙ is)
+
+    pub kept_with_got : AreKept puts (gets ++ got ∷ []) (with_item slots client slot_got)
+    kept_with_got =
+        kept_more puts puts gets (gets ++ got ∷ []) (front_same puts) (front_more gets got) slots kept client slot_got inside
+        (omega arith) (omega (arith, length-append gets (got ∷ []))) (omega (arith, length-append gets (got ∷ []))) (λ n p there. inl there)
+
+  -- another get
+  module _ (slot : Slot) (fits : IsThere (length puts) (length gets) slot) where
+    pub all_with_slot : (entry : Entry) → shown puts gets slot ≡ entry → shown_by puts gets (with_item slots client slot) ≡ with_item (shown_by puts gets slots) client entry
+    all_with_slot entry is = shown_by-more puts puts gets gets (front_same puts) (front_same gets) slots kept client slot inside entry is
+
+    pub kept_with_slot : AreKept puts gets (with_item slots client slot)
+    kept_with_slot = kept_more puts puts gets gets (front_same puts) (front_same gets) slots kept client slot inside (omega arith) (omega arith) fits (λ n p there. inl there)
+
+-- ---- sessions as they are kept
+
+module _ (puts : List KeptPut) (gets : List KeptGot) (sessions : List KeptBlocks) (client : ℕ) (session : KeptBlocks) (at : session ≡ get_or sessions client session) where
+  abbrev slots_of : List (List Slot)
+  slots_of = map (λ (b : KeptBlocks). b.items) sessions
+
+  -- a client that is there
+  pub is_there : client < length (shown_by puts gets slots_of) → client < length sessions
+  is_there inside = omega (arith, inside, length-map slots_of (map (shown puts gets)), length-map sessions (λ (b : KeptBlocks). b.items))
+
+  pub has_slots : client < length (shown_by puts gets slots_of) → client < length slots_of
+  has_slots inside = omega (arith, inside, length-map slots_of (map (shown puts gets)))
+
+  -- its slots
+  pub own_slots : client < length sessions → get_or slots_of client [] ≡ session.items
+  own_slots inside = get_or-map-inside (λ (b : KeptBlocks). b.items) sessions client session [] inside ∙ ap (λ (b : KeptBlocks). b.items) (sym at)
+
+  pub own_len : client < length sessions → length (get_or (shown_by puts gets slots_of) client []) ≡ length session.items
+  own_len inside = length-shown puts gets slots_of client ∙ ap length (own_slots inside)
+
+  -- with one more
+  pub slots_more : (new : KeptBlocks) (slot : Slot) → client < length sessions → new.items ≡ session.items ++ slot ∷ []
+      → map (λ (b : KeptBlocks). b.items) (set sessions client new) ≡ with_item slots_of client slot
+  slots_more new slot inside more = more_items (λ b. b.items) (λ b. b.room) sessions client session new slot inside at more

@@ -1,0 +1,32 @@
+use Rattle.std.proofs.Common.{◌≡◌, ◌<◌, List, map, Some, length, get_or, slice_get, refl, ap, sym, ◌∙◌, subst}
+use Rattle.std.proofs.lemmas.Option.{slice_get_read, slice_get-map}
+use Rattle.std.proofs.lemmas.Bool.{eqb-true}
+use Rattle.std.specs.Option.{option_map}
+use Rattle.cops_types.specs.Blocks.{KeptBlocks}
+use Rattle.cops_types.specs.declared.entry.Entry.TheVariants.{Put}
+use Rattle.cops_types.specs.declared.slot.KeptPut.{KeptPut}
+use Rattle.cops_types.proofs.Showing.{put_at}
+use Rattle.cops_types.proofs.entries.Entries.source.Goals as goal
+
+pub returns-then-is_seen-clause-put : goal.returns-then-is_seen-clause-put
+returns-then-is_seen-clause-put c =
+    let puts = c.self.inside.puts.items in
+    let slots = map (λ (b : KeptBlocks). b.items) c.self.inside.sessions.items in
+    let put = c.in_ok-put.put.now in
+    let inside : c.args.number < length puts = subst (λ (l : List KeptPut). c.args.number < length l) c.deref.ensures.value c.in_ok-put.ensures.lookup.3.0 in
+    let is : put ≡ get_or puts c.args.number put = subst (λ (l : List KeptPut). put ≡ get_or l c.args.number put) c.deref.ensures.value c.in_ok-put.ensures.lookup.1 in
+    let at = slice_get_read puts (length puts) c.args.number put refl inside is in
+    let key : put.key ≡ c.args.key = c.if-put-key.true in
+    let version : put.version ≡ c.args.version = eqb-true put.version c.args.version (sym c.if-eq.ensures) in
+    let value : put.value ≡ c.args.value.now = c.if-is_seen.ensures.0 refl in
+    let same : Some (Put put.key put.value put.version) ≡ Some (Put c.args.key c.args.value.now c.args.version) = cc in
+    rw (← c.self.view_is) (put_at puts c.self.inside.gets.items slots c.self.invariant c.args.number put at ∙ same)
+
+pub returns-then-is_seen-clause-number : goal.returns-then-is_seen-clause-number
+returns-then-is_seen-clause-number c =
+    let puts = c.self.inside.puts.items in
+    let put = c.in_ok-put.put.now in
+    let inside : c.args.number < length puts = subst (λ (l : List KeptPut). c.args.number < length l) c.deref.ensures.value c.in_ok-put.ensures.lookup.3.0 in
+    let is : put ≡ get_or puts c.args.number put = subst (λ (l : List KeptPut). put ≡ get_or l c.args.number put) c.deref.ensures.value c.in_ok-put.ensures.lookup.1 in
+    let at = slice_get_read puts (length puts) c.args.number put refl inside is in
+    rw (← c.self.view_is) (slice_get-map (λ (p : KeptPut). p.name) puts c.args.number ∙ ap (option_map (λ (p : KeptPut). p.name)) at)

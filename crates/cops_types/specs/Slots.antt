@@ -1,0 +1,53 @@
+-- Slots: what stands in a session for an operation, and the lists of puts and of gets whose numbers they name.
+use Rattle.std.specs.Prelude.{◌≡◌, ◌<◌, ℕ, List, length, map, Option, Some, None, slice_get}
+use Rattle.cops_types.specs.declared.entry.Entry.{Entry}
+use Rattle.cops_types.specs.declared.entry.Entry.TheVariants.{Put, Got, Sourced, Missed}
+use Rattle.cops_types.specs.declared.entry.EntryRef.{EntryRef}
+use Rattle.cops_types.specs.declared.entry.EntryRef.TheVariants.{Sourced as SourcedRef}
+use Rattle.cops_types.specs.declared.op.OpName.{OpName}
+use Rattle.cops_types.specs.declared.slot.KeptGot.{KeptGot}
+use Rattle.cops_types.specs.declared.slot.KeptPut.{KeptPut}
+use Rattle.cops_types.specs.declared.slot.Slot.{Slot}
+use Rattle.cops_types.specs.declared.slot.Slot.TheVariants.{Put as PutSlot, Got as GotSlot, Sourced as SourcedSlot, Missed as MissedSlot}
+use Rattle.cops_types.specs.Entries.{EntryLists}
+use Rattle.cops_types.specs.Lists.{item_at}
+
+abbrev pub put_shown : Option KeptPut → Entry
+put_shown (Some p) = Put p.key p.value p.version
+put_shown None = Missed 0
+
+abbrev pub source_shown : ℕ → Option KeptPut → Entry
+source_shown number (Some p) = Sourced p.key (record { name = p.name; number = number }) p.version
+source_shown number None = Missed 0
+
+abbrev pub got_shown : Option KeptGot → Entry
+got_shown (Some g) = Got g.key g.value g.version
+got_shown None = Missed 0
+
+-- the entry that a slot stands for
+abbrev pub shown : List KeptPut → List KeptGot → Slot → Entry
+shown puts gets (PutSlot number) = put_shown (slice_get puts number)
+shown puts gets (SourcedSlot number) = source_shown number (slice_get puts number)
+shown puts gets (GotSlot number) = got_shown (slice_get gets number)
+shown puts gets (MissedSlot key) = Missed key
+
+-- the entries of each client
+abbrev pub shown_by : List KeptPut → List KeptGot → List (List Slot) → EntryLists
+shown_by puts gets slots = map (map (shown puts gets)) slots
+
+-- what it names is among so many puts and gets
+abbrev pub IsThere : ℕ → ℕ → Slot → Type 0
+IsThere puts gets (PutSlot number) = number < puts
+IsThere puts gets (SourcedSlot number) = number < puts
+IsThere puts gets (GotSlot number) = number < gets
+IsThere puts gets (MissedSlot key) = Unit {0}
+
+-- what each slot names is there, and each put stands where its name says
+pub record AreKept (puts : List KeptPut) (gets : List KeptGot) (slots : List (List Slot)) : Type 0 where
+  pub there : (name : OpName) (slot : Slot) → item_at slots name ≡ Some slot → IsThere (length puts) (length gets) slot
+  pub named : (number : ℕ) (put : KeptPut) → slice_get puts number ≡ Some put → item_at slots put.name ≡ Some (PutSlot number)
+
+-- the put that it names is the one of that number, with the value that stands with it
+abbrev pub IsFrom : List KeptPut → EntryRef → Type 0
+IsFrom puts (SourcedRef key put value version) = (kept : KeptPut) × (slice_get puts put.number ≡ Some kept) × (kept.name ≡ put.name) × (kept.value ≡ value.now)
+IsFrom puts _ = Unit {0}
