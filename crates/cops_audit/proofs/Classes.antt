@@ -8,7 +8,7 @@ use Rattle.cops_types.specs.Faults.{HasNoSource, IsNewer, IsNotAbove, IsStale, L
 use Rattle.cops_types.specs.VersionOrder.{IsDoubled, NoneDoubled}
 use Rattle.cops_types.specs.Verdicts.{AllHaveSources, NoneStale}
 use Rattle.cops_audit.specs.SoFar.{HaveSourcesOrWait}
-use Rattle.cops_audit.specs.declared.table.VersionedPut.{VersionedPut}
+use Rattle.cops_types.specs.declared.versioned_put.VersionedPut.{VersionedPut}
 use Rattle.cops_audit.specs.declared.notes.Note.{Note}
 use Rattle.cops_audit.specs.declared.verdict.NotAbove.{NotAbove}
 use Rattle.cops_audit.specs.declared.verdict.Stale.{Stale}

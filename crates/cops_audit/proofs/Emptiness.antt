@@ -7,7 +7,7 @@ use Rattle.cops_types.specs.Histories.{Sessions, Puts, PutsVersion}
 use Rattle.cops_types.specs.Convergence.{StandsBefore}
 use Rattle.cops_types.specs.VersionOrder.{IsVersionOrder}
 use Rattle.cops_types.specs.Faults.{Lists}
-use Rattle.cops_audit.specs.declared.table.VersionedPut.{VersionedPut}
+use Rattle.cops_types.specs.declared.versioned_put.VersionedPut.{VersionedPut}
 use Rattle.cops_audit.specs.Tables.{IsVersionTable}
 use Rattle.cops_audit.proofs.Acyclic.{one_version}
 use Rattle.cops_audit.proofs.Collect.{get_or-default}

@@ -6,7 +6,7 @@ use Rattle.std.proofs.lemmas.List.Elements.{All-push}
 use Rattle.cops_types.specs.Histories.{Sessions}
 use Rattle.cops_audit.specs.declared.flat.Span.{Span}
 use Rattle.cops_audit.specs.declared.notes.Note.{Note}
-use Rattle.cops_audit.specs.declared.table.VersionedPut.{VersionedPut}
+use Rattle.cops_types.specs.declared.versioned_put.VersionedPut.{VersionedPut}
 use Rattle.cops_audit.specs.Notes.{IsSessionNoted, IsWithin, span_of}
 use Rattle.cops_audit.proofs.Noting.{get_high, get_low}
 

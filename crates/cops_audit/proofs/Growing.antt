@@ -14,7 +14,7 @@ use Rattle.cops_audit.specs.declared.notes.Note.{Note}
 use Rattle.cops_audit.specs.declared.room.Room.{Room}
 use Rattle.cops_audit.specs.declared.sweep.Range.{Range}
 use Rattle.cops_audit.specs.declared.sweep.Sweep.{Sweep}
-use Rattle.cops_audit.specs.declared.table.VersionedPut.{VersionedPut}
+use Rattle.cops_types.specs.declared.versioned_put.VersionedPut.{VersionedPut}
 use Rattle.cops_audit.specs.Notes.{Flat, IsNoted}
 use Rattle.cops_audit.specs.Rooms.{Fits, HasSpace, IsReady, IsSameButSpace}
 use Rattle.cops_audit.specs.Sweeps.{HasRoom, IsFresh, IsIdle}

@@ -6,7 +6,7 @@ use Rattle.cops_types.specs.Faults.{HasNoSource, Lists}
 use Rattle.cops_types.specs.Verdicts.{AllAbove, NoneStale}
 use Rattle.cops_types.specs.VersionOrder.{NoneDoubled}
 use Rattle.cops_audit.specs.declared.notes.Note.{Note}
-use Rattle.cops_audit.specs.declared.table.VersionedPut.{VersionedPut}
+use Rattle.cops_types.specs.declared.versioned_put.VersionedPut.{VersionedPut}
 use Rattle.cops_audit.specs.Names.{ListsAmong}
 use Rattle.cops_audit.specs.Notes.{IsNoted, IsSourceless, SeesNotBelow}
 use Rattle.cops_audit.specs.Tables.{IsVersionTable}

@@ -2,7 +2,7 @@
 use Rattle.std.proofs.Common.{◌≡◌, ◌<◌, ◌+◌, ◌-◌, ◌^◌, ℕ, List, length, get_or, Some, refl, sym, ◌∙◌, ap, subst, inl, inr, arith, slice_get, vec_len, Vec, Global}
 use Rattle.std.specs.Prelude.{sum_by}
 use Rattle.cops_types.specs.declared.op.OpName.{OpName}
-use Rattle.cops_audit.specs.declared.table.VersionedPut.{VersionedPut}
+use Rattle.cops_types.specs.declared.versioned_put.VersionedPut.{VersionedPut}
 use Rattle.cops_audit.specs.declared.notes.Seen.{Seen}
 use Rattle.cops_audit.specs.declared.notes.Seen.TheVariants.{Put, Got}
 use Rattle.cops_audit.specs.declared.sweep.Range.{Range}

@@ -4,7 +4,7 @@ use Rattle.std.proofs.Math.Nat.{eq-or-lt_of_le}
 use Rattle.cops_types.specs.declared.op.Op.TheVariants.{Put}
 use Rattle.cops_types.specs.declared.op.OpName.{OpName}
 use Rattle.cops_types.specs.Histories.{Sessions, op_at, PutsKey}
-use Rattle.cops_audit.specs.declared.table.VersionedPut.{VersionedPut}
+use Rattle.cops_types.specs.declared.versioned_put.VersionedPut.{VersionedPut}
 use Rattle.cops_audit.specs.Keys.{AreNexts, IsFirstFrom, IsNext, OnKey}
 use Rattle.cops_audit.specs.Tables.{IsVersionTable, Rises}
 use Rattle.cops_audit.proofs.Places.{inside_table, same_put_at, stands_item}

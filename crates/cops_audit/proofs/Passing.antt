@@ -3,7 +3,7 @@ use Rattle.std.proofs.Common.{◌≡◌, ◌≢◌, ◌<◌, ◌≤◌, ◌+◌,
 use Rattle.std.proofs.Math.ListN.{length-set}
 use Rattle.std.proofs.Math.Nat.{eq-or-lt_of_le}
 use Rattle.cops_types.specs.Histories.{Sessions}
-use Rattle.cops_audit.specs.declared.table.VersionedPut.{VersionedPut}
+use Rattle.cops_types.specs.declared.versioned_put.VersionedPut.{VersionedPut}
 use Rattle.cops_audit.specs.Keys.{AreFirsts, AreNexts, IsFirstOn, IsNext, OnKey}
 use Rattle.cops_audit.specs.Tables.{IsVersionTable}
 use Rattle.cops_audit.proofs.Linking.{same_key, written}

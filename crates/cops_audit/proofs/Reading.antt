@@ -6,7 +6,7 @@ use Rattle.cops_types.specs.Histories.{Sessions, IsMissed, IsNamed, PutsVersion,
 use Rattle.cops_types.specs.Operations.{GetsVersion}
 use Rattle.cops_types.specs.Faults.{HasNoSource, HasVersion, IsNotAbove, IsNotBelow}
 use Rattle.cops_audit.specs.SoFar.{HaveSourcesOrWait}
-use Rattle.cops_audit.specs.declared.table.VersionedPut.{VersionedPut}
+use Rattle.cops_types.specs.declared.versioned_put.VersionedPut.{VersionedPut}
 use Rattle.cops_audit.specs.declared.notes.Note.{Note}
 use Rattle.cops_audit.specs.declared.notes.Seen.{Seen}
 use Rattle.cops_audit.specs.declared.notes.Seen.TheVariants.{Put, Got, Missed, Sourceless}

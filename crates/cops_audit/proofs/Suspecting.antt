@@ -4,7 +4,7 @@ use Rattle.cops_types.specs.declared.op.Op.TheVariants.{Got, Missed}
 use Rattle.cops_types.specs.declared.op.OpName.{OpName}
 use Rattle.cops_types.specs.Histories.{Sessions, IsGot, IsMissed, PutsKey, PutsVersion}
 use Rattle.cops_types.specs.Operations.{GetsVersion}
-use Rattle.cops_audit.specs.declared.table.VersionedPut.{VersionedPut}
+use Rattle.cops_types.specs.declared.versioned_put.VersionedPut.{VersionedPut}
 use Rattle.cops_audit.specs.declared.notes.Seen.TheVariants as seen
 use Rattle.cops_audit.specs.SoFar.{IsWaiting}
 use Rattle.cops_audit.specs.Tables.{IsVersionTable}

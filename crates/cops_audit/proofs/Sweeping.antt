@@ -2,7 +2,7 @@
 use Rattle.std.proofs.Common.{◌≡◌, ◌<◌, ◌≤◌, ◌+◌, ◌⊎◌, ℕ, List, [], ◌∷◌, ◌++◌, length, get_or, Some, None, refl, sym, ◌∙◌, ap, subst, inl, inr, arith, slice_get, slice_index_or, append-nil, Vec, Global}
 use Rattle.std.proofs.Math.Nat.{eq-or-lt_of_le}
 use Rattle.cops_types.specs.declared.op.OpName.{OpName}
-use Rattle.cops_audit.specs.declared.table.VersionedPut.{VersionedPut}
+use Rattle.cops_types.specs.declared.versioned_put.VersionedPut.{VersionedPut}
 use Rattle.cops_audit.specs.declared.notes.Note.{Note}
 use Rattle.cops_audit.specs.declared.notes.Seen.{Seen}
 use Rattle.cops_audit.specs.declared.notes.Seen.TheVariants.{Put, Got, Missed, Sourceless}

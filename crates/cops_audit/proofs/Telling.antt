@@ -5,7 +5,7 @@ use Rattle.cops_types.specs.declared.op.OpName.{OpName}
 use Rattle.cops_types.specs.Histories.{Sessions}
 use Rattle.cops_types.specs.Faults.{IsBefore, IsNewer, IsStale}
 use Rattle.cops_audit.specs.SoFar.{HaveSourcesOrWait}
-use Rattle.cops_audit.specs.declared.table.VersionedPut.{VersionedPut}
+use Rattle.cops_types.specs.declared.versioned_put.VersionedPut.{VersionedPut}
 use Rattle.cops_audit.specs.declared.notes.Note.{Note}
 use Rattle.cops_audit.specs.declared.verdict.Stale.{Stale}
 use Rattle.cops_audit.specs.declared.window.Suspect.{Suspect}

@@ -1,7 +1,7 @@
 -- What sessions know of as they go on side by side.
 use Rattle.std.specs.Prelude.{◌≡◌, ◌<◌, ◌≤◌, ◌+◌, ℕ, Bool, true, false, List, [], length, map, slice_get, slice_index, slice_index_or, Some}
 use Rattle.cops_types.specs.declared.op.OpName.{OpName}
-use Rattle.cops_audit.specs.declared.table.VersionedPut.{VersionedPut}
+use Rattle.cops_types.specs.declared.versioned_put.VersionedPut.{VersionedPut}
 use Rattle.cops_audit.specs.declared.notes.Note.{Note}
 use Rattle.cops_audit.specs.declared.clocks.Clocks.{Clocks}
 use Rattle.cops_audit.specs.declared.clocks.Known.{Known}

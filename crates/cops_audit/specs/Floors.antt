@@ -1,6 +1,6 @@
 -- Suspects that are judged one after the other, each client's by one sweep.
 use Rattle.std.specs.Prelude.{◌≡◌, ◌<◌, ◌≤◌, ◌+◌, ℕ, List, [], length, slice_index, slice_index_or, Some}
-use Rattle.cops_audit.specs.declared.table.VersionedPut.{VersionedPut}
+use Rattle.cops_types.specs.declared.versioned_put.VersionedPut.{VersionedPut}
 use Rattle.cops_audit.specs.declared.notes.Note.{Note}
 use Rattle.cops_audit.specs.declared.notes.Seen.TheVariants.{Got}
 use Rattle.cops_audit.specs.declared.sweep.Sweep.{Sweep}

@@ -5,7 +5,7 @@ use Rattle.cops_types.specs.declared.op.OpName.{OpName}
 use Rattle.cops_types.specs.Histories.{Sessions, PutsKey, op_at}
 use Rattle.cops_types.specs.Operations.{key_of}
 use Rattle.cops_types.specs.Recorded.{Recorded}
-use Rattle.cops_audit.specs.declared.table.VersionedPut.{VersionedPut}
+use Rattle.cops_types.specs.declared.versioned_put.VersionedPut.{VersionedPut}
 use Rattle.cops_audit.specs.Notes.{StandsAt}
 
 -- a put on this key stands at this place

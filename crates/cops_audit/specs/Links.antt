@@ -2,7 +2,7 @@
 use Rattle.std.specs.Prelude.{List, IfSome}
 use Rattle.cops_types.specs.Recorded.{Recorded}
 use Rattle.cops_audit.specs.declared.links.Links.{Links}
-use Rattle.cops_audit.specs.declared.table.VersionedPut.{VersionedPut}
+use Rattle.cops_types.specs.declared.versioned_put.VersionedPut.{VersionedPut}
 use Rattle.cops_audit.specs.Keys.{AreFirsts, AreNexts, KnowsFirsts}
 
 -- of each put the next one on its key and, where they are there, the first one, and of each key the first put on it

@@ -7,7 +7,7 @@ use Rattle.cops_types.specs.Faults.{HasNoSource}
 use Rattle.cops_audit.specs.declared.did.Did.{Did}
 use Rattle.cops_audit.specs.declared.did.Did.TheVariants as did
 use Rattle.cops_audit.specs.declared.flat.Span.{Span}
-use Rattle.cops_audit.specs.declared.table.VersionedPut.{VersionedPut}
+use Rattle.cops_types.specs.declared.versioned_put.VersionedPut.{VersionedPut}
 use Rattle.cops_audit.specs.declared.notes.Note.{Note}
 use Rattle.cops_audit.specs.declared.notes.Seen.{Seen}
 use Rattle.cops_audit.specs.declared.notes.Seen.TheVariants.{Put, Got, Missed, Sourceless}

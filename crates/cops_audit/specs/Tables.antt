@@ -3,7 +3,7 @@ use Rattle.std.specs.Prelude.{◌≢◌, ◌<◌, ◌≤◌, ◌+◌, ◌↔◌,
 use Rattle.cops_types.specs.declared.limits.TheConstants.{MAX_OPS}
 use Rattle.cops_types.specs.Histories.{Sessions, PutsVersion}
 use Rattle.cops_types.specs.VersionOrder.{IsDoubled}
-use Rattle.cops_audit.specs.declared.table.VersionedPut.{VersionedPut}
+use Rattle.cops_types.specs.declared.versioned_put.VersionedPut.{VersionedPut}
 
 -- in order of versions, where one may stand twice
 abbrev pub VersionsNeverFall : List VersionedPut → Type 0

@@ -16,10 +16,10 @@ use crate::notes::{Notes, count_sourceless, is_sourceless};
 use crate::rising::has_not_above;
 use crate::room::Room;
 use crate::stale::has_stale;
-use crate::table::{VersionedPut, is_rising, place_of, set_puts};
+use crate::table::{is_rising, place_of, set_puts};
 use crate::verdict::SoFar;
 use crate::window::set_suspects;
-use cops_types::{History, OpName};
+use cops_types::{History, OpName, VersionedPut};
 use std::alloc::AllocError;
 
 /// Whether a put bears the version of a get that has no source.
@@ -165,7 +165,7 @@ impl Room {
         ensures fits { OnOk result (Fits history.now.sessions self.new flat.new) }
     {
         set_names(&mut self.names, history);
-        set_puts(&mut self.table, history, self.names.as_slice())?;
+        set_puts(&mut self.table, history)?;
         if !is_rising(self.table.as_slice()) {
             return Ok(SoFar::Refused);
         }

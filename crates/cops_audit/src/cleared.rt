@@ -12,14 +12,13 @@ ghost use Rattle.cops_audit.specs.Sweeps.{AreRising, Counted};
 ghost use Rattle.cops_audit.specs.Tables.{IsVersionTable};
 ghost use Rattle.cops_audit.specs.Windows.{AreSuspects};
 ghost use Rattle.cops_audit.specs.declared.notes.Note.{Note as ANote};
-ghost use Rattle.cops_audit.specs.declared.table.VersionedPut.{VersionedPut as APut};
+ghost use Rattle.cops_types.specs.declared.versioned_put.VersionedPut.{VersionedPut as APut};
 ghost use Rattle.cops_audit.specs.declared.window.Suspect.{Suspect as ASuspect};
 
 use crate::clocks::{Clocks, STAGE};
 use crate::notes::{Note, Notes};
-use crate::table::VersionedPut;
 use crate::window::Suspect;
-use cops_types::{History, OpName};
+use cops_types::{History, OpName, VersionedPut};
 use std::alloc::{AllocError, Global};
 
 /// Up to so many clients what all sessions know of is told for each operation: beside more a search that goes by

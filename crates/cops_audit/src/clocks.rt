@@ -5,10 +5,10 @@ ghost use Rattle.cops_types.specs.declared.op.OpName.{OpName};
 ghost use Rattle.cops_audit.specs.Notes.{StandsAt, note_at};
 ghost use Rattle.cops_audit.specs.Sweeps.{AreRising};
 ghost use Rattle.cops_audit.specs.declared.notes.Note.{Note as ANote};
-ghost use Rattle.cops_audit.specs.declared.table.VersionedPut.{VersionedPut as APut};
+ghost use Rattle.cops_types.specs.declared.versioned_put.VersionedPut.{VersionedPut as APut};
 
 use crate::notes::{Note, Notes, Seen};
-use crate::table::VersionedPut;
+use cops_types::VersionedPut;
 use std::alloc::{AllocError, Global};
 
 /// Of how many puts passed last it is kept what they know of, at most, and how many counts these are together.

@@ -158,20 +158,19 @@ impl Room {
         Ok(Verdict::Accepted(puts))
     }
 
-    /// The verdict on a history. Beside the room it takes memory for the faults, or for the names of the puts; and as
-    /// long as they are gone through, for the names of all operations, and for hints of where puts stand.
+    /// The verdict on a history. Beside the room it takes memory for the faults, and then for the names of all operations, or for
+    /// the names of the puts; and as long as they are gone through, for hints of where puts stand.
     pub fn judge(&mut self, alloc: Global, history: &History) -> Result<Verdict, AllocError>
         requires { IsReady history.now.sessions self.old }
         ensures { IfOk result (IsVerdict history.now.sessions) }
     {
-        let names = all_names(alloc, history)?;
-        set_puts(&mut self.table, history, names.as_slice())?;
+        set_puts(&mut self.table, history)?;
         let table = self.table.as_slice();
         if !is_rising(table) {
+            let names = all_names(alloc, history)?;
             let faults = doubled(alloc, history, names.as_slice(), table)?;
             return Ok(Verdict::Refused(Faults::Doubled(faults)));
         }
-        drop(names);
         self.judge_gets(alloc, history)
     }
 }

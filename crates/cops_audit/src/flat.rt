@@ -6,8 +6,7 @@ ghost use Rattle.cops_audit.specs.declared.notes.Note.{Note};
 use crate::did::Did;
 use crate::hints::hint_near;
 use crate::notes::{Note, Notes, see};
-use crate::table::VersionedPut;
-use cops_types::{History, OpName};
+use cops_types::{History, OpName, VersionedPut};
 use std::alloc::{AllocError, Global};
 use std::marker::Model;
 

@@ -6,8 +6,8 @@ ghost use Rattle.cops_audit.specs.Floors.{AreFloors, IsAfter, IsNotedSuspect};
 
 use crate::notes::Notes;
 use crate::sweep::Sweep;
-use crate::table::VersionedPut;
 use crate::window::Suspect;
+use cops_types::VersionedPut;
 use std::alloc::{AllocError, Global};
 
 /// Whether the next suspect is of the same client.

@@ -1,13 +1,13 @@
 ghost use Rattle.cops_types.specs.declared.limits.TheConstants.{MAX_OPS};
 ghost use Rattle.std.specs.Prelude.{◌≡◌, ◌≢◌, ◌<◌, ◌≤◌, ℕ, List, IfOk, IfSome, IfNone, IsTrue, Some, length, slice_get, slice_index_or};
-ghost use Rattle.cops_audit.specs.declared.table.VersionedPut.{VersionedPut};
+ghost use Rattle.cops_types.specs.declared.versioned_put.VersionedPut.{VersionedPut};
 ghost use Rattle.cops_audit.specs.Notes.{StandsAt};
 ghost use Rattle.cops_audit.specs.Placing.{AreStarts, HintPlaces, TellPlaces};
 ghost use Rattle.cops_audit.specs.Tables.{IsVersionTable, VersionsNeverFall};
 
 use crate::did::Did;
-use crate::table::{VersionedPut, place_of};
-use cops_types::{History, OpName, Version};
+use crate::table::place_of;
+use cops_types::{History, OpName, Version, VersionedPut};
 use std::alloc::{AllocError, Global};
 
 /// A hint that says nothing: no place of a table.

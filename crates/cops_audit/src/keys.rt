@@ -4,10 +4,9 @@ ghost use Rattle.cops_types.specs.Counts.{count_of};
 ghost use Rattle.cops_types.specs.Histories.{IsNamed, Sessions};
 ghost use Rattle.cops_audit.specs.Keys.{AreFirsts, AreNexts, IsFirstFrom, IsOnKey, KnowsFirsts};
 ghost use Rattle.cops_audit.specs.Tables.{IsVersionTable};
-ghost use Rattle.cops_audit.specs.declared.table.VersionedPut.{VersionedPut as APut};
+ghost use Rattle.cops_types.specs.declared.versioned_put.VersionedPut.{VersionedPut as APut};
 
-use crate::table::VersionedPut;
-use cops_types::{History, OpName};
+use cops_types::{History, OpName, VersionedPut};
 use std::alloc::{AllocError, Global};
 
 /// The number of the key of an operation.

@@ -49,6 +49,5 @@ pub use laws::{
 pub use online::Online;
 pub use puts::Puts;
 pub use search::past;
-pub use table::VersionedPut;
 pub use tables::Tables;
 pub use verdict::{Faults, NotAbove, SoFar, Stale, Verdict};

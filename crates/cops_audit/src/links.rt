@@ -1,6 +1,5 @@
 use crate::keys::{link, passed_firsts};
-use crate::table::VersionedPut;
-use cops_types::History;
+use cops_types::{History, VersionedPut};
 use std::alloc::{AllocError, Global};
 
 /// The puts by their keys: of each put the next one on its key, of each key, by its number, the first put on it, and

@@ -8,13 +8,13 @@ ghost use Rattle.cops_audit.specs.Names.{ListsAmong};
 ghost use Rattle.cops_audit.specs.Notes.{above as above_of, AreFrontsNoted, AreLongEnough, AreMarks, HasDone, IsFrontNoted, IsMark, IsSeen, IsSessionNoted, IsSourceless};
 ghost use Rattle.cops_audit.specs.Placing.{HintPlaces, TellPlaces};
 ghost use Rattle.cops_audit.specs.Tables.{IsVersionTable};
-ghost use Rattle.cops_audit.specs.declared.table.VersionedPut.{VersionedPut};
+ghost use Rattle.cops_types.specs.declared.versioned_put.VersionedPut.{VersionedPut};
 
 use crate::did::Did;
 use crate::flat::Span;
 use crate::hints::{Hints, Places, hinted_place};
-use crate::table::{VersionedPut, first_from};
-use cops_types::{History, OpName};
+use crate::table::first_from;
+use cops_types::{History, OpName, VersionedPut};
 use std::alloc::{AllocError, Global};
 use std::marker::Model;
 
@@ -229,7 +229,7 @@ impl Model for SessionNotes {
 
 impl SessionNotes {
     ghost use Rattle.cops_types.specs.Histories.{Sessions};
-    ghost use Rattle.cops_audit.specs.declared.table.VersionedPut.{VersionedPut};
+    ghost use Rattle.cops_types.specs.declared.versioned_put.VersionedPut.{VersionedPut};
     ghost use Rattle.std.specs.Prelude.{◌≡◌, ◌≤◌, ℕ, List, IfOk, length};
     ghost use Rattle.cops_audit.specs.Notes.{AreNoted, IsNoted};
     ghost use Rattle.cops_audit.specs.Placing.{HintPlaces};

@@ -1,7 +1,7 @@
 use crate::names::all_names;
-use crate::table::{VersionedPut, doubled, is_rising, puts_by_version};
+use crate::table::{doubled, is_rising, puts_by_version};
 use crate::verdict::{Faults, Verdict};
-use cops_types::{History, OpName};
+use cops_types::{History, OpName, VersionedPut};
 use std::alloc::{AllocError, Global};
 use std::marker::Model;
 
@@ -36,7 +36,7 @@ impl<'a> Puts<'a> {
         ensures { IfOk result (λ puts. puts.sessions ≡ history.entry.now.sessions) }
     {
         let names = all_names(alloc, history)?;
-        let table = puts_by_version(alloc, history, names.as_slice())?;
+        let table = puts_by_version(alloc, history)?;
         Ok(Puts {
             history,
             names,

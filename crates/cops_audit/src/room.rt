@@ -4,9 +4,8 @@ ghost use Rattle.cops_audit.specs.Rooms.{IsReady};
 
 use crate::flat::FlatNotes;
 use crate::sweep::{Range, Sweep};
-use crate::table::VersionedPut;
 use crate::window::Suspect;
-use cops_types::{History, OpName};
+use cops_types::{History, OpName, VersionedPut};
 use std::alloc::{AllocError, Global};
 
 /// What a look for faults fills, with room for a history as it grows: with the notes 100 bytes for each operation. A

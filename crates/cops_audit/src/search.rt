@@ -2,15 +2,14 @@ ghost use Rattle.std.specs.Prelude.{◌≡◌, ◌<◌, ◌≤◌, ◌+◌, ℕ,
 ghost use Rattle.cops_types.specs.declared.limits.TheConstants.{MAX_CLIENTS};
 ghost use Rattle.cops_types.specs.declared.op.OpName.{OpName};
 ghost use Rattle.cops_types.specs.Histories.{IsNamed, SourceStep};
-ghost use Rattle.cops_audit.specs.declared.table.VersionedPut.{VersionedPut};
+ghost use Rattle.cops_types.specs.declared.versioned_put.VersionedPut.{VersionedPut};
 ghost use Rattle.cops_audit.specs.Searches.{Finds, IsPast, ListsCounts, IsSearching, TakesSources};
 ghost use Rattle.cops_audit.specs.Sweeps.{Counted, InRange, work_left};
 ghost use Rattle.cops_audit.specs.Tables.{IsPutTable};
 
-use crate::names::all_names;
 use crate::sweep::{Range, Sweep};
-use crate::table::{VersionedPut, first_from, puts_by_version};
-use cops_types::{History, Memory, OpName};
+use crate::table::{first_from, puts_by_version};
+use cops_types::{History, Memory, OpName, VersionedPut};
 use std::alloc::{AllocError, Global};
 
 /// Counts a put, with all before it in its session, if it is a source of an operation.
@@ -120,8 +119,7 @@ fn find_past(alloc: Global, history: &History, op: OpName) -> Result<Vec<(u16, u
     requires { IsNamed history.now.sessions op }
     ensures { IfOk result (λ v. IsPast history.now.sessions op v.items) }
 {
-    let names = all_names(alloc, history)?;
-    let puts = puts_by_version(alloc, history, names.as_slice())?;
+    let puts = puts_by_version(alloc, history)?;
     let table = puts.as_slice();
     let mut search = Sweep::new(alloc, history.clients(), 0)?;
     search.raise(op.client, op.index)?;

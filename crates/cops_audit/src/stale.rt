@@ -20,10 +20,9 @@ use crate::keys::passed_firsts;
 use crate::links::Links;
 use crate::notes::Notes;
 use crate::sweep::Sweep;
-use crate::table::VersionedPut;
 use crate::verdict::Stale;
 use crate::window::{Suspect, push_suspects};
-use cops_types::{History, OpName};
+use cops_types::{History, OpName, VersionedPut};
 use std::alloc::{AllocError, Global};
 
 /// The stale gets among the suspects, each with the newest put on its key in its past, by a sweep that has looked at

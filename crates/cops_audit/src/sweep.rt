@@ -6,10 +6,9 @@ ghost use Rattle.cops_audit.specs.declared.notes.Note.{Note};
 ghost use Rattle.cops_audit.specs.Sweeps.{ArePlaces, AreRising, Covers, Grows, HasRoom, InRange, IsAbout, IsFresh, IsNewestIn, IsSweeping, NoneFrom, Learns, Raises, TakesPut, work_left};
 
 use crate::notes::{Note, Notes, Seen};
-use crate::table::VersionedPut;
 use crate::tally::Tally;
 use crate::window::Suspect;
-use cops_types::OpName;
+use cops_types::{OpName, VersionedPut};
 use std::alloc::{AllocError, Global};
 
 /// Operations of one client, from one place up to another.

@@ -1,79 +1,37 @@
-ghost use Rattle.cops_types.specs.declared.limits.TheConstants.{MAX_OPS};
-ghost use Rattle.std.specs.Prelude.{◌≡◌, ◌≢◌, ◌⊎◌, ◌<◌, ◌≤◌, ◌+◌, ◌↔◌, ℕ, IfOk, IfSome, IfNone, IsOk, IsTrue, OnOk, [], length, map, AllPairs, vec_len, vec_capacity, slice_index_or};
+ghost use Rattle.std.specs.Prelude.{◌≡◌, ◌≢◌, ◌⊎◌, ◌<◌, ◌≤◌, ◌+◌, ◌↔◌, ℕ, IfOk, IfSome, IfNone, IsOk, IsTrue, OnOk, length, map, AllPairs, vec_len, vec_capacity, slice_index_or};
 ghost use Rattle.cops_types.specs.declared.op.OpName.{OpName};
-ghost use Rattle.cops_types.specs.Histories.{IsNamed, PutsVersion, Sessions};
-ghost use Rattle.cops_types.specs.Faults.{IsBefore, Lists};
+ghost use Rattle.cops_types.specs.Counts.{count_of};
+ghost use Rattle.cops_types.specs.Histories.{Sessions};
+ghost use Rattle.cops_types.specs.Recorded.{IsWithinLimits};
+ghost use Rattle.cops_types.specs.Faults.{IsBefore};
 ghost use Rattle.cops_types.specs.VersionOrder.{IsDoubled};
 ghost use Rattle.cops_audit.specs.Names.{ListsAmong};
-ghost use Rattle.cops_audit.specs.declared.table.VersionedPut.{VersionedPut};
+ghost use Rattle.cops_types.specs.declared.versioned_put.VersionedPut.{VersionedPut};
 ghost use Rattle.cops_audit.specs.Tables.{AreDoubledPuts, IsPutTable, Repeats, Rises, VersionsNeverFall};
 
-use cops_types::{History, OpName, Version};
+use cops_types::{History, OpName, Version, VersionedPut};
 use std::alloc::{AllocError, Global};
 
-/// A put's name with its version.
-#[derive(Clone, Copy, Debug, PartialEq, Eq)]
-pub struct VersionedPut {
-    pub version: Version,
-    pub name: OpName,
-}
-
-/// Adds the puts with their versions, in order of names.
-fn push_puts(
-    puts: &mut Vec<VersionedPut>,
-    history: &History,
-    names: &[OpName],
-) -> Result<(), AllocError>
-    requires names { Lists (λ n. n) (IsNamed history.now.sessions) names.now }
-    requires empty { puts.old.items ≡ [] }
-    ensures puts { OnOk result (Lists (λ p. p.name) (λ p. PutsVersion history.now.sessions p.name p.version) puts.new.items) }
-    ensures few { OnOk result (vec_len puts.new ≤ length names.now) }
-    ensures capacity { vec_capacity puts.old ≤ vec_capacity puts.new }
-    ensures succeeds { length names.now ≤ vec_capacity puts.old → IsOk result }
-{
-    for name in names {
-        if let Some(version) = history.put_version(*name) {
-            puts.push(VersionedPut {
-                version,
-                name: *name,
-            })?;
-        }
-    }
-    Ok(())
-}
-
 /// Makes it the puts with their versions, in order of versions. It takes no memory where there is room for as many as
-/// there are names.
-pub fn set_puts(
-    puts: &mut Vec<VersionedPut>,
-    history: &History,
-    names: &[OpName],
-) -> Result<(), AllocError>
-    requires names { Lists (λ n. n) (IsNamed history.now.sessions) names.now }
-    requires few { length names.now ≤ MAX_OPS }
+/// there are operations.
+pub fn set_puts(puts: &mut Vec<VersionedPut>, history: &History) -> Result<(), AllocError>
     ensures puts { OnOk result (IsPutTable history.now.sessions puts.new.items) }
-    ensures count { OnOk result (vec_len puts.new ≤ length names.now) }
+    ensures count { OnOk result (vec_len puts.new ≤ count_of history.now.sessions) }
+    ensures limits { IsWithinLimits history.now.sessions }
     ensures capacity { vec_capacity puts.old ≤ vec_capacity puts.new }
-    ensures succeeds { length names.now ≤ vec_capacity puts.old → IsOk result }
+    ensures succeeds { count_of history.now.sessions ≤ vec_capacity puts.old → IsOk result }
 {
-    puts.clear();
-    push_puts(puts, history, names)?;
+    history.list_puts(puts)?;
     puts.sort_unstable_by_key(|put| put.version.as_u64());
     Ok(())
 }
 
 /// The puts with their versions, in order of versions.
-pub fn puts_by_version(
-    alloc: Global,
-    history: &History,
-    names: &[OpName],
-) -> Result<Vec<VersionedPut>, AllocError>
-    requires names { Lists (λ n. n) (IsNamed history.now.sessions) names.now }
-    requires few { length names.now ≤ MAX_OPS }
+pub fn puts_by_version(alloc: Global, history: &History) -> Result<Vec<VersionedPut>, AllocError>
     ensures { IfOk result (λ v. IsPutTable history.now.sessions v.items) }
 {
     let mut puts = Vec::with_capacity(alloc, history.puts())?;
-    set_puts(&mut puts, history, names)?;
+    set_puts(&mut puts, history)?;
     Ok(puts)
 }
 

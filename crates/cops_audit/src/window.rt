@@ -12,8 +12,7 @@ ghost use Rattle.cops_audit.specs.Windows.{AreAllSuspects, AreSuspects, AreSuspe
 
 use crate::keys::first_on;
 use crate::notes::{Notes, Seen};
-use crate::table::VersionedPut;
-use cops_types::{History, OpName};
+use cops_types::{History, OpName, VersionedPut};
 use std::alloc::AllocError;
 
 /// A get that is stale where its past has a put from this place on, on the key whose first put stands at `first`.

@@ -19,7 +19,7 @@ use Rattle.cops_types.specs.Faults.{IsBefore}
 use Rattle.cops_types.specs.Histories.{Sessions, PutsVersion}
 use Rattle.cops_types.specs.contracts.op.OpNameEq.TheImpl.Laws.{laws-law}
 use Rattle.cops_types.specs.contracts.op.OpNameOrd.TheImpl.Laws.{matches_eq-law, total-law}
-use Rattle.cops_audit.specs.declared.table.VersionedPut.{VersionedPut}
+use Rattle.cops_types.specs.declared.versioned_put.VersionedPut.{VersionedPut}
 use Rattle.cops_report.specs.Puts.{HasPut}
 use Rattle.cops_report.specs.Reports.{version_at}
 use Rattle.cops_report.proofs.NameCases.{same_name}

@@ -6,9 +6,9 @@ ghost use Rattle.cops_explain.specs.Explained.{AddsAsked, AddsParagraphs, IsExpl
 
 use crate::limits::FIRST_FAULTS;
 use crate::paragraphs::push_paragraph;
-use cops_audit::{Faults, Verdict, VersionedPut};
+use cops_audit::{Faults, Verdict};
 use cops_report::{put_table, refused, report};
-use cops_types::{History, Memory, Selection};
+use cops_types::{History, Memory, Selection, VersionedPut};
 use std::alloc::{AllocError, Global};
 
 /// Adds the paragraphs of the first faults, so many or as many as there are.

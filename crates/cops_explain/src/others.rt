@@ -5,9 +5,8 @@ ghost use Rattle.cops_report.specs.Puts.{HasAllPuts};
 ghost use Rattle.cops_report.specs.Reports.{HasSomeVersion, version_at};
 ghost use Rattle.cops_explain.specs.Others.{AreOthers, IsOther};
 
-use cops_audit::VersionedPut;
 use cops_report::{from_version, version_at};
-use cops_types::{History, OpName, Version};
+use cops_types::{History, OpName, Version, VersionedPut};
 use std::alloc::{AllocError, Global};
 
 /// Whether it is another put of an operation's version.

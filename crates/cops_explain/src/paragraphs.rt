@@ -10,9 +10,9 @@ use crate::limits::MOST_OTHERS;
 use crate::operation::{push_act, push_line, push_lines, push_told};
 use crate::others::others;
 use crate::steps::{first_crossing, push_chain};
-use cops_audit::{Fault, NotAbove, Stale, VersionedPut};
+use cops_audit::{Fault, NotAbove, Stale};
 use cops_report::chain_by;
-use cops_types::{History, Memory, OpName};
+use cops_types::{History, Memory, OpName, VersionedPut};
 use std::alloc::{AllocError, Global};
 use std::fmt::Write;
 

@@ -9,7 +9,7 @@ use Rattle.cops_types.specs.declared.op.OpName.{OpName}
 use Rattle.cops_types.specs.Histories.{Sessions, IsNamed, PutsVersion, SourceStep}
 use Rattle.cops_types.specs.Operations.{GetsVersion}
 use Rattle.cops_report.specs.declared.marks.Mark.{Mark}
-use Rattle.cops_audit.specs.declared.table.VersionedPut.{VersionedPut}
+use Rattle.cops_types.specs.declared.versioned_put.VersionedPut.{VersionedPut}
 use Rattle.cops_report.specs.Marks.{Table, Gains, IsMarked}
 use Rattle.cops_report.specs.Puts.{HasPut, HasAllPuts}
 use Rattle.cops_report.proofs.NameCases.{same_name}

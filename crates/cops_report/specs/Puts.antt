@@ -3,7 +3,7 @@ use Rattle.std.specs.Prelude.{ℕ, List, Contains}
 use Rattle.std.specs.List.Sorted.{IsNonDecreasingBy}
 use Rattle.cops_types.specs.declared.op.OpName.{OpName}
 use Rattle.cops_types.specs.Histories.{Sessions, PutsVersion}
-use Rattle.cops_audit.specs.declared.table.VersionedPut.{VersionedPut}
+use Rattle.cops_types.specs.declared.versioned_put.VersionedPut.{VersionedPut}
 
 -- the list has the put with its version
 abbrev pub HasPut : List VersionedPut → OpName → ℕ → Type 0

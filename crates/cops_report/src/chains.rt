@@ -8,8 +8,7 @@ ghost use Rattle.cops_report.specs.Searches.{IsWalk, LeadsBack};
 use crate::marks::Marks;
 use crate::puts::put_table;
 use crate::search::search;
-use cops_audit::VersionedPut;
-use cops_types::{History, Memory, OpName};
+use cops_types::{History, Memory, OpName, VersionedPut};
 use std::alloc::{AllocError, Global};
 
 /// Whether there is an operation of that name.

@@ -3,11 +3,10 @@ ghost use Rattle.std.specs.Prelude.{◌≡◌, ◌<◌, ◌≤◌, ℕ, length, 
 ghost use Rattle.std.specs.List.Sorted.{IsNonDecreasingBy};
 ghost use Rattle.cops_types.specs.declared.op.OpName.{OpName};
 ghost use Rattle.cops_types.specs.Histories.{PutsVersion};
-ghost use Rattle.cops_audit.specs.declared.table.VersionedPut.{VersionedPut};
+ghost use Rattle.cops_types.specs.declared.versioned_put.VersionedPut.{VersionedPut};
 ghost use Rattle.cops_report.specs.Puts.{HasPut, HasAllPuts};
 
-use cops_audit::VersionedPut;
-use cops_types::{History, OpName, Version};
+use cops_types::{History, OpName, Version, VersionedPut};
 use std::alloc::{AllocError, Global};
 
 /// Adds the operation, if it is a put.

@@ -13,8 +13,8 @@ ghost use Rattle.cops_report.specs.Reports.{accepted_line, named_line, not_above
 use crate::chains::chain_by;
 use crate::lines;
 use crate::puts::put_table;
-use cops_audit::{Faults, NotAbove, Stale, Verdict, VersionedPut};
-use cops_types::{History, Memory, OpName};
+use cops_audit::{Faults, NotAbove, Stale, Verdict};
+use cops_types::{History, Memory, OpName, VersionedPut};
 use std::alloc::Global;
 
 /// Adds the line of a stale get, with the chain from the newer put to it.

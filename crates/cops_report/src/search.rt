@@ -5,15 +5,14 @@ ghost use Rattle.std.specs.List.Sorted.{IsNonDecreasingBy};
 ghost use Rattle.cops_types.specs.Histories.{Sessions, SessionStep, SourceStep, IsNamed};
 ghost use Rattle.cops_types.specs.Past.{Step};
 ghost use Rattle.cops_types.specs.declared.op.OpName.{OpName};
-ghost use Rattle.cops_audit.specs.declared.table.VersionedPut.{VersionedPut};
+ghost use Rattle.cops_types.specs.declared.versioned_put.VersionedPut.{VersionedPut};
 ghost use Rattle.cops_report.specs.Puts.{HasPut, HasAllPuts};
 ghost use Rattle.cops_report.specs.Marks.{Gains, HasPlace, IsMarked, IsNearer, open_places, PlacesAll, SessionsMarked};
 ghost use Rattle.cops_report.specs.Searches.{IsFound, IsLevel, IsRising, IsSearch};
 
 use crate::marks::{Mark, Marks};
 use crate::puts::from_version;
-use cops_audit::VersionedPut;
-use cops_types::{History, OpName, Version};
+use cops_types::{History, OpName, Version, VersionedPut};
 use std::alloc::{AllocError, Global};
 
 /// Marks an operation that has no mark yet, and adds it to the names.

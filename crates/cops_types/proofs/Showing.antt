@@ -1,10 +1,10 @@
 -- The entries that slots stand for, as one more comes.
-use Rattle.std.proofs.Common.{◌≡◌, ◌≢◌, ℕ, zero, suc, ◌+◌, ◌<◌, ◌≤◌, List, [], ◌∷◌, ◌++◌, map, length, length-append, get_or, replicate, slice_get, Option, Some, None, refl, sym, ap, ◌∙◌, subst, arith, get_or-set_same, inl, inr}
+use Rattle.std.proofs.Common.{◌≡◌, ℕ, zero, suc, ◌<◌, ◌≤◌, List, [], ◌∷◌, ◌++◌, map, length, length-append, get_or, replicate, slice_get, Option, Some, None, refl, sym, ap, ◌∙◌, subst, arith, get_or-set_same, get_or-set_other, inl, inr}
 use Rattle.std.specs.Prelude.{◌⊎◌}
 use Rattle.std.specs.Option.{option_map}
-use Rattle.std.proofs.Math.ListN.{set, get_or-map, length-set}
+use Rattle.std.proofs.Math.ListN.{set, get_or-map}
 use Rattle.std.proofs.lemmas.List.{map-set, map-append, length-map, get_or-map as get_or-map-inside}
-use Rattle.std.proofs.lemmas.Option.{slice_get-map, get_or_from_slice_get, slice_get_within, slice_get-get_or}
+use Rattle.std.proofs.lemmas.Option.{slice_get-map, get_or_from_slice_get, slice_get_within}
 use Rattle.cops_types.specs.declared.entry.Entry.{Entry}
 use Rattle.cops_types.specs.declared.entry.Entry.TheVariants.{Put, Sourced}
 use Rattle.cops_types.specs.declared.entry.EntryRef.{EntryRef}
@@ -15,11 +15,12 @@ use Rattle.cops_types.specs.declared.slot.KeptGot.{KeptGot}
 use Rattle.cops_types.specs.declared.slot.KeptPut.{KeptPut}
 use Rattle.cops_types.specs.declared.slot.Slot.{Slot}
 use Rattle.cops_types.specs.declared.slot.Slot.TheVariants.{Put as PutSlot, Got as GotSlot, Sourced as SourcedSlot, Missed as MissedSlot}
-use Rattle.cops_types.specs.Entries.{EntryLists, HasValue, value_in, value_put}
+use Rattle.cops_types.specs.declared.versioned_put.VersionedPut.{VersionedPut}
+use Rattle.cops_types.specs.Entries.{EntryLists, HasValue, ListsEntries, value_in, value_put}
 use Rattle.cops_types.specs.Lists.{item_at, with_item}
-use Rattle.cops_types.specs.Slots.{AreKept, IsFrom, IsThere, put_shown, source_shown, got_shown, shown, shown_by}
+use Rattle.cops_types.specs.Slots.{AreKept, IsFrom, IsThere, put_shown, source_shown, got_shown, shown, shown_by, versioned}
 use Rattle.cops_types.specs.Blocks.{KeptBlocks}
-use Rattle.cops_types.proofs.Sessions.{more_items, none_of}
+use Rattle.cops_types.proofs.Sessions.{at_or_other, more_items, none_of}
 use Rattle.cops_types.proofs.Telling.{item_came, item_stays, map-same}
 
 -- ---- lists
@@ -65,6 +66,22 @@ item_last {X} lists client item name inside of at =
     let there : get_or (with_item lists client item) client [] ≡ own ++ item ∷ [] = get_or-set_same lists client (own ++ item ∷ []) [] inside in
     (λ j. slice_get (get_or (with_item lists client item) (of j) []) (at j)) ∙ ap (λ (l : List X). slice_get l (length own)) there ∙ end_of own item
 
+-- what stands in the lists with one more item stood there, or is that item, at its place
+pub item_came_last : {X : Type 0} (lists : List (List X)) (client : ℕ) (item : X) → client < length lists → (name : OpName) (x : X) → item_at (with_item lists client item) name ≡ Some x
+    → (item_at lists name ≡ Some x) ⊎ ((item ≡ x) × (name.client ≡ client) × (name.index ≡ length (get_or lists client [])))
+item_came_last {X} lists client item inside name x at =
+    let own = get_or lists client [] in
+    elim (at_or_other client name.client) [
+      | inl p ↦
+          let here : get_or (with_item lists client item) name.client [] ≡ get_or lists name.client [] ++ item ∷ [] =
+          subst (λ (d : ℕ). get_or (with_item lists client item) d [] ≡ get_or lists d [] ++ item ∷ []) p (get_or-set_same lists client (own ++ item ∷ []) [] inside) in
+          elim (slice_get-end (get_or lists name.client []) item name.index x (sym (ap (λ (l : List X). slice_get l name.index) here) ∙ at)) [
+            | inl q ↦ inl q
+            | inr q ↦ inr (q.1, sym p, q.0 ∙ ap (λ (d : ℕ). length (get_or lists d [])) (sym p))
+          ]
+      | inr p ↦ inl (sym (ap (λ (l : List X). slice_get l name.index) (get_or-set_other lists client name.client (own ++ item ∷ []) [] p)) ∙ at)
+    ]
+
 -- ---- slots
 
 no_items : (puts : List KeptPut) (gets : List KeptGot) (n : ℕ) → shown_by puts gets (replicate n []) ≡ replicate n []
@@ -79,6 +96,7 @@ pub none_kept : (slots : List (List Slot)) (n : ℕ) → slots ≡ replicate n [
 none_kept slots n none = record {
   there = λ name s at. let gone : None ≡ Some s = ap (λ (l : List Slot). slice_get l name.index) (sym (none_of n name.client)) ∙ ap (λ (l : List (List Slot)). item_at l name) (sym none) ∙ at in cc;
   named = λ m p at. let gone : None ≡ Some p = at in cc;
+  back = λ name m at. let gone : None ≡ Some (PutSlot m) = ap (λ (l : List Slot). slice_get l name.index) (sym (none_of n name.client)) ∙ ap (λ (l : List (List Slot)). item_at l name) (sym none) ∙ at in cc;
 }
 
 pub item_at-shown : (puts : List KeptPut) (gets : List KeptGot) (slots : List (List Slot)) (name : OpName) → item_at (shown_by puts gets slots) name ≡ option_map (shown puts gets) (item_at slots name)
@@ -121,8 +139,9 @@ module _ (puts puts' : List KeptPut) (gets gets' : List KeptGot) (more_puts : Is
     -- and all is kept as it was
     pub kept_more : length puts ≤ length puts' → length gets ≤ length gets' → IsThere (length puts') (length gets') slot
         → ((n : ℕ) (p : KeptPut) → slice_get puts' n ≡ Some p → (slice_get puts n ≡ Some p) ⊎ (item_at (with_item slots client slot) p.name ≡ Some (PutSlot n)))
+        → ((name : OpName) (n : ℕ) → slot ≡ PutSlot n → name.client ≡ client → name.index ≡ length (get_or slots client []) → (p : KeptPut) × (slice_get puts' n ≡ Some p) × (p.name ≡ name))
         → AreKept puts' gets' (with_item slots client slot)
-    kept_more longer_puts longer_gets fits named = record {
+    kept_more longer_puts longer_gets fits named last = record {
       there = λ name s at. elim (item_came slots client slot inside name s at) [
         | inl p ↦ still s (kept.there name s p)
         | inr p ↦ subst (IsThere (length puts') (length gets')) p fits
@@ -130,6 +149,10 @@ module _ (puts puts' : List KeptPut) (gets gets' : List KeptGot) (more_puts : Is
       named = λ n p at. elim (named n p at) [
         | inl was ↦ item_stays slots client slot inside p.name (PutSlot n) (kept.named n p was)
         | inr is ↦ is
+      ];
+      back = λ name n at. elim (item_came_last slots client slot inside name (PutSlot n) at) [
+        | inl was ↦ let p = kept.back name n was in (p.0, more_puts n p.0 p.1, p.2)
+        | inr is ↦ last name n is.0 is.1 is.2
       ];
     }
       where
@@ -165,10 +188,63 @@ module _ (puts : List KeptPut) (gets : List KeptGot) (slots : List (List Slot)) 
       let both : Some put.name ≡ Some p.0.name = sym at ∙ slice_get-map (λ (q : KeptPut). q.name) puts put.number ∙ ap (option_map (λ (q : KeptPut). q.name)) p.1 in
       let name : put.name ≡ p.0.name = cc in
       let there : Some (Put p.0.key p.0.value p.0.version) ≡ Some (Put key (value_put (shown_by puts gets slots) put.name) version) =
-          sym (put_at put.number p.0 p.1) ∙ ap (item_at (shown_by puts gets slots)) (sym name) ∙ source in
+      sym (put_at put.number p.0 p.1) ∙ ap (item_at (shown_by puts gets slots)) (sym name) ∙ source in
       let same_key : p.0.key ≡ key = cc in
       let same_version : p.0.version ≡ version = cc in
       (inside, ap (source_shown put.number) p.1 ∙ (λ j. Sourced (same_key j) (record { name = sym name j; number = put.number }) (same_version j)))
+
+-- what does not stand for a put
+no_sourced_put : (number : ℕ) (o : Option KeptPut) (key : ℕ) (value : List ℕ) (version : ℕ) → source_shown number o ≡ Put key value version → ⊥
+no_sourced_put number (Some p) key value version is = cc
+no_sourced_put number None key value version is = cc
+
+no_got_put : (o : Option KeptGot) (key : ℕ) (value : List ℕ) (version : ℕ) → got_shown o ≡ Put key value version → ⊥
+no_got_put (Some g) key value version is = cc
+no_got_put None key value version is = cc
+
+module _ (puts : List KeptPut) (gets : List KeptGot) where
+  -- what stands for a put is a put's slot
+  slot_of_put : (o : Option Slot) (key : ℕ) (value : List ℕ) (version : ℕ) → option_map (shown puts gets) o ≡ Some (Put key value version) → (n : ℕ) × (o ≡ Some (PutSlot n))
+  slot_of_put None key value version is = cc
+  slot_of_put (Some (PutSlot n)) key value version is = (n, refl)
+  slot_of_put (Some (SourcedSlot n)) key value version is = let e : source_shown n (slice_get puts n) ≡ Put key value version = cc in absurd (no_sourced_put n (slice_get puts n) key value version e)
+  slot_of_put (Some (GotSlot n)) key value version is = let e : got_shown (slice_get gets n) ≡ Put key value version = cc in absurd (no_got_put (slice_get gets n) key value version e)
+  slot_of_put (Some (MissedSlot k)) key value version is = cc
+
+  module _ (slots : List (List Slot)) (kept : AreKept puts gets slots) where
+    versioned_at : (n : ℕ) (p : KeptPut) (d : VersionedPut) → slice_get puts n ≡ Some p → get_or (map versioned puts) n d ≡ versioned p
+    versioned_at n p d at = get_or_from_slice_get (map versioned puts) n (versioned p) d (slice_get-map versioned puts n ∙ ap (option_map versioned) at)
+
+    -- the puts are all that entries tell of
+    pub lists_entries : ListsEntries (shown_by puts gets slots) (map versioned puts)
+    lists_entries = record {
+      members = λ p. (
+        (λ there.
+            let inside : there.0 < length puts = omega (arith, there.1, length-map puts versioned) in
+            let q = found puts there.0 inside in
+            let same : versioned q.0 ≡ p = sym (versioned_at there.0 q.0 p q.1) ∙ there.2 in
+            subst (λ (r : VersionedPut). (key : ℕ) × (value : List ℕ) × (item_at (shown_by puts gets slots) r.name ≡ Some (Put key value r.version))) same
+            (q.0.key, q.0.value, put_at puts gets slots kept there.0 q.0 q.1)),
+        (λ there.
+            let shown_there = sym (item_at-shown puts gets slots p.name) ∙ there.2 in
+            let slot = slot_of_put (item_at slots p.name) there.0 there.1 p.version shown_there in
+            let q = kept.back p.name slot.0 slot.1 in
+            let both : Some (Put q.0.key q.0.value q.0.version) ≡ Some (Put there.0 there.1 p.version) =
+            sym (ap (λ (o : Option KeptPut). Some (put_shown o)) q.1) ∙ sym (ap (option_map (shown puts gets)) slot.1) ∙ shown_there in
+            let version : q.0.version ≡ p.version = cc in
+            let inside : slot.0 < length (map versioned puts) = omega (arith, slice_get_within puts slot.0 q.0 q.1, length-map puts versioned) in
+            let same : versioned q.0 ≡ p = (λ j. record { version = version j; name = q.2 j }) in
+            (slot.0, inside, versioned_at slot.0 q.0 p q.1 ∙ same)),
+      );
+      once = λ i j d less inside same.
+          let there : j < length puts = omega (arith, inside, length-map puts versioned) in
+          let p = found puts i (omega (arith, less, there)) in
+          let q = found puts j there in
+          let names : p.0.name ≡ q.0.name = ap (λ (r : VersionedPut). r.name) (sym (versioned_at i p.0 d p.1)) ∙ same ∙ ap (λ (r : VersionedPut). r.name) (versioned_at j q.0 d q.1) in
+          let both : Some (PutSlot i) ≡ Some (PutSlot j) = sym (kept.named i p.0 p.1) ∙ ap (item_at slots) names ∙ kept.named j q.0 q.1 in
+          let equal : i ≡ j = cc in
+          omega (arith, less, equal);
+    }
 
 -- ---- one more operation
 
@@ -192,6 +268,10 @@ module _ (puts : List KeptPut) (gets : List KeptGot) (slots : List (List Slot)) 
               let here = item_last slots client slot_put put.name inside of at in
               inr (subst (λ (q : KeptPut). item_at (with_item slots client slot_put) q.name ≡ Some (PutSlot n)) end.1 (here ∙ ap (λ (k : ℕ). Some (PutSlot k)) (sym end.0)))
         ])
+        (λ name n is own_client own_index.
+        let number : length puts ≡ n = cc in
+        let same : put.name ≡ name = (λ j. record { client = (of ∙ sym own_client) j; index = (at ∙ sym own_index) j }) in
+        (put, subst (λ (k : ℕ). slice_get (puts ++ put ∷ []) k ≡ Some put) number (end_of puts put), same))
 
   -- a get that is kept with what it returned
   module _ (got : KeptGot) where
@@ -205,37 +285,33 @@ module _ (puts : List KeptPut) (gets : List KeptGot) (slots : List (List Slot)) 
     pub kept_with_got : AreKept puts (gets ++ got ∷ []) (with_item slots client slot_got)
     kept_with_got =
         kept_more puts puts gets (gets ++ got ∷ []) (front_same puts) (front_more gets got) slots kept client slot_got inside
-        (omega arith) (omega (arith, length-append gets (got ∷ []))) (omega (arith, length-append gets (got ∷ []))) (λ n p there. inl there)
+        (omega arith) (omega (arith, length-append gets (got ∷ []))) (omega (arith, length-append gets (got ∷ []))) (λ n p there. inl there) (λ name n is own_client own_index. cc)
 
   -- another get
-  module _ (slot : Slot) (fits : IsThere (length puts) (length gets) slot) where
+  module _ (slot : Slot) (fits : IsThere (length puts) (length gets) slot) (no_put : (n : ℕ) → slot ≡ PutSlot n → ⊥) where
     pub all_with_slot : (entry : Entry) → shown puts gets slot ≡ entry → shown_by puts gets (with_item slots client slot) ≡ with_item (shown_by puts gets slots) client entry
     all_with_slot entry is = shown_by-more puts puts gets gets (front_same puts) (front_same gets) slots kept client slot inside entry is
 
     pub kept_with_slot : AreKept puts gets (with_item slots client slot)
-    kept_with_slot = kept_more puts puts gets gets (front_same puts) (front_same gets) slots kept client slot inside (omega arith) (omega arith) fits (λ n p there. inl there)
+    kept_with_slot = kept_more puts puts gets gets (front_same puts) (front_same gets) slots kept client slot inside (omega arith) (omega arith) fits (λ n p there. inl there) (λ name n is own_client own_index. absurd (no_put n is))
 
 -- ---- sessions as they are kept
 
-module _ (puts : List KeptPut) (gets : List KeptGot) (sessions : List KeptBlocks) (client : ℕ) (session : KeptBlocks) (at : session ≡ get_or sessions client session) where
+module _ (puts : List KeptPut) (gets : List KeptGot) (sessions : List KeptBlocks) (client : ℕ) where
   abbrev slots_of : List (List Slot)
   slots_of = map (λ (b : KeptBlocks). b.items) sessions
 
   -- a client that is there
-  pub is_there : client < length (shown_by puts gets slots_of) → client < length sessions
-  is_there inside = omega (arith, inside, length-map slots_of (map (shown puts gets)), length-map sessions (λ (b : KeptBlocks). b.items))
-
   pub has_slots : client < length (shown_by puts gets slots_of) → client < length slots_of
   has_slots inside = omega (arith, inside, length-map slots_of (map (shown puts gets)))
 
-  -- its slots
-  pub own_slots : client < length sessions → get_or slots_of client [] ≡ session.items
-  own_slots inside = get_or-map-inside (λ (b : KeptBlocks). b.items) sessions client session [] inside ∙ ap (λ (b : KeptBlocks). b.items) (sym at)
+  pub is_there : client < length (shown_by puts gets slots_of) → client < length sessions
+  is_there inside = omega (arith, has_slots inside, length-map sessions (λ (b : KeptBlocks). b.items))
 
-  pub own_len : client < length sessions → length (get_or (shown_by puts gets slots_of) client []) ≡ length session.items
-  own_len inside = length-shown puts gets slots_of client ∙ ap length (own_slots inside)
+-- with one more slot
+module _ (sessions : List KeptBlocks) (client : ℕ) (session new : KeptBlocks) (slot : Slot) (inside : client < length sessions) (at : session ≡ get_or sessions client session) where
+  pub own_len : length (get_or (map (λ (b : KeptBlocks). b.items) sessions) client []) ≡ length session.items
+  own_len = ap length (get_or-map-inside (λ (b : KeptBlocks). b.items) sessions client session [] inside ∙ ap (λ (b : KeptBlocks). b.items) (sym at))
 
-  -- with one more
-  pub slots_more : (new : KeptBlocks) (slot : Slot) → client < length sessions → new.items ≡ session.items ++ slot ∷ []
-      → map (λ (b : KeptBlocks). b.items) (set sessions client new) ≡ with_item slots_of client slot
-  slots_more new slot inside more = more_items (λ b. b.items) (λ b. b.room) sessions client session new slot inside at more
+  pub slots_more : new.items ≡ session.items ++ slot ∷ [] → map (λ (b : KeptBlocks). b.items) (set sessions client new) ≡ with_item (map (λ (b : KeptBlocks). b.items) sessions) client slot
+  slots_more more = more_items (λ b. b.items) (λ b. b.room) sessions client session new slot inside at more

@@ -16,8 +16,10 @@ use Rattle.cops_types.specs.declared.entry.Entry.TheVariants.{Put, Got, Sourced,
 use Rattle.cops_types.specs.Lists.{item_at}
 use Rattle.cops_types.specs.Histories.{PutsVersion, SourceStep, op_at}
 use Rattle.cops_types.specs.Operations.{GetsVersion, key_of}
-use Rattle.cops_types.specs.Entries.{EntryLists, AreSound, IsSound, referred, value_in, told, told_by, key_number_of}
+use Rattle.cops_types.specs.Entries.{EntryLists, AreSound, IsSound, ListsEntries, referred, value_in, told, told_by, key_number_of}
+use Rattle.cops_types.specs.declared.versioned_put.VersionedPut.{VersionedPut}
 use Rattle.cops_types.specs.KeySets.{AreDistinct}
+use Rattle.cops_types.specs.PutLists.{AreAllPuts}
 use Rattle.cops_types.proofs.Telling.{op_at-told}
 
 key_told : (keys : List (List ℕ)) (all : EntryLists) (e : Entry) → key_of (told keys all e) ≡ get_or keys (key_number_of e) []
@@ -131,3 +133,22 @@ no_source_there keys all put got e at is =
       | inl p ↦ inl (p.0, p.1.now, p.2.now, ap referred p.3)
       | inr p ↦ inr (p.0, ap referred p.1)
     ])
+
+-- what stands for a put is a put's entry
+entry_of_put : (keys : List (List ℕ)) (all : EntryLists) (found : Option Entry) (key value : List ℕ) (version : ℕ) → option_map (told keys all) found ≡ Some (PutOp key value version)
+    → (number : ℕ) × (own : List ℕ) × (found ≡ Some (Put number own version))
+entry_of_put keys all None key value version is = cc
+entry_of_put keys all (Some (Put k v w)) key value version is = let same : w ≡ version = cc in (k, v, ap (λ (n : ℕ). Some (Put k v n)) same)
+entry_of_put keys all (Some (Got k v w)) key value version is = cc
+entry_of_put keys all (Some (Sourced k p w)) key value version is = cc
+entry_of_put keys all (Some (Missed k)) key value version is = cc
+
+-- all entries of puts are all puts
+pub all_puts : (keys : List (List ℕ)) (all : EntryLists) (puts : List VersionedPut) → ListsEntries all puts → AreAllPuts (told_by keys all) puts
+all_puts keys all puts lists = record {
+  members = λ p. (
+    (λ there. let e = (lists.members p).0 there in (get_or keys e.0 [], e.1, op_at-told keys all p.name ∙ ap (option_map (told keys all)) e.2)),
+    (λ put. (lists.members p).1 (entry_of_put keys all (item_at all p.name) put.0 put.1 p.version (sym (op_at-told keys all p.name) ∙ put.2))),
+  );
+  once = lists.once;
+}

@@ -1,5 +1,5 @@
 -- Entries: operations as a history keeps them, which name their keys by number, and some gets' values by the put that wrote them.
-use Rattle.std.specs.Prelude.{◌≡◌, ◌<◌, ◌≤◌, ◌+◌, ℕ, List, [], length, map, Option, Some, slice_get, slice_index_or, Bool, true, false}
+use Rattle.std.specs.Prelude.{◌≡◌, ◌≢◌, ◌↔◌, ◌<◌, ◌≤◌, ◌+◌, ℕ, List, [], length, map, Option, Some, slice_get, slice_index_or, Bool, true, false, Contains, AllPairs}
 use Rattle.cops_types.specs.declared.entry.Entry.{Entry}
 use Rattle.cops_types.specs.declared.entry.Entry.TheVariants.{Put, Got, Sourced, Missed}
 use Rattle.cops_types.specs.declared.entry.EntryRef.{EntryRef}
@@ -7,6 +7,7 @@ use Rattle.cops_types.specs.declared.entry.EntryRef.TheVariants.{Put as PutRef, 
 use Rattle.cops_types.specs.declared.op.Op.{Op}
 use Rattle.cops_types.specs.declared.op.Op.TheVariants.{Put as PutOp, Got as GotOp, Missed as MissedOp}
 use Rattle.cops_types.specs.declared.op.OpName.{OpName}
+use Rattle.cops_types.specs.declared.versioned_put.VersionedPut.{VersionedPut}
 use Rattle.cops_types.specs.Lists.{item_at}
 use Rattle.cops_types.specs.Histories.{Sessions}
 
@@ -96,3 +97,8 @@ pub record GainsEntry (old new : KeptEntries) : Type 0 where
   pub gets : new.gets ≤ old.gets + 1
   pub more_puts : old.more_puts ≤ new.more_puts + 1
   pub more_gets : old.more_gets ≤ new.more_gets + 1
+
+-- all entries of puts by their names and versions, each once
+pub record ListsEntries (all : EntryLists) (puts : List VersionedPut) : Type 0 where
+  pub members : (p : VersionedPut) → Contains puts p ↔ ((key : ℕ) × (value : List ℕ) × (item_at all p.name ≡ Some (Put key value p.version)))
+  pub once : AllPairs (λ p q. p.name ≢ q.name) puts

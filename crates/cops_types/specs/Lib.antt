@@ -25,5 +25,6 @@ pub mod Blocks
 pub mod Entries
 pub mod Slots
 pub mod Keeping
+pub mod PutLists
 pub mod Failures
 pub mod Counted

@@ -9,6 +9,7 @@ use Rattle.cops_types.specs.declared.slot.KeptGot.{KeptGot}
 use Rattle.cops_types.specs.declared.slot.KeptPut.{KeptPut}
 use Rattle.cops_types.specs.declared.slot.Slot.{Slot}
 use Rattle.cops_types.specs.declared.slot.Slot.TheVariants.{Put as PutSlot, Got as GotSlot, Sourced as SourcedSlot, Missed as MissedSlot}
+use Rattle.cops_types.specs.declared.versioned_put.VersionedPut.{VersionedPut}
 use Rattle.cops_types.specs.Entries.{EntryLists}
 use Rattle.cops_types.specs.Lists.{item_at}
 
@@ -35,6 +36,10 @@ shown puts gets (MissedSlot key) = Missed key
 abbrev pub shown_by : List KeptPut → List KeptGot → List (List Slot) → EntryLists
 shown_by puts gets slots = map (map (shown puts gets)) slots
 
+-- a put with its version
+abbrev pub versioned : KeptPut → VersionedPut
+versioned put = record { version = put.version; name = put.name }
+
 -- what it names is among so many puts and gets
 abbrev pub IsThere : ℕ → ℕ → Slot → Type 0
 IsThere puts gets (PutSlot number) = number < puts
@@ -42,10 +47,11 @@ IsThere puts gets (SourcedSlot number) = number < puts
 IsThere puts gets (GotSlot number) = number < gets
 IsThere puts gets (MissedSlot key) = Unit {0}
 
--- what each slot names is there, and each put stands where its name says
+-- what each slot names is there; each put stands where its name says, and nowhere else
 pub record AreKept (puts : List KeptPut) (gets : List KeptGot) (slots : List (List Slot)) : Type 0 where
   pub there : (name : OpName) (slot : Slot) → item_at slots name ≡ Some slot → IsThere (length puts) (length gets) slot
   pub named : (number : ℕ) (put : KeptPut) → slice_get puts number ≡ Some put → item_at slots put.name ≡ Some (PutSlot number)
+  pub back : (name : OpName) (number : ℕ) → item_at slots name ≡ Some (PutSlot number) → (put : KeptPut) × (slice_get puts number ≡ Some put) × (put.name ≡ name)
 
 -- the put that it names is the one of that number, with the value that stands with it
 abbrev pub IsFrom : List KeptPut → EntryRef → Type 0

@@ -1,7 +1,7 @@
 ghost use Rattle.std.specs.Prelude.{◌≡◌, slice_get, option_copied};
 
-use crate::slot::Slot;
 use crate::fault::Memory;
+use crate::slot::Slot;
 use std::alloc::Global;
 use std::marker::Model;
 use std::mem;

@@ -1,7 +1,8 @@
-ghost use Rattle.std.specs.Prelude.{◌≡◌, [], length, map, option_copied, replicate, slice_index_or, IfOk};
-ghost use Rattle.cops_types.specs.Lists.{item_at};
+ghost use Rattle.std.specs.Prelude.{◌≡◌, ◌≢◌, ◌<◌, ◌≤◌, ℕ, [], true, false, length, map, option_copied, replicate, slice_index_or, vec_capacity, IfOk};
+ghost use Rattle.cops_types.specs.Lists.{item_at, with_item};
 ghost use Rattle.cops_types.specs.Entries.{referred};
-ghost use Rattle.cops_types.specs.Slots.{IsFrom, IsThere, shown};
+ghost use Rattle.cops_types.specs.Slots.{IsFrom, IsThere, shown, versioned};
+ghost use Rattle.cops_types.specs.declared.limits.TheConstants.{MAX_CLIENT_OPS};
 
 use crate::blocks::Blocks;
 use crate::entry::{Entry, EntryRef, NumberedPut};
@@ -11,7 +12,8 @@ use crate::op_view::ValueView;
 use crate::slot::{KeptGot, KeptPut, Slot};
 use crate::value::Value;
 use crate::version::Version;
-use std::alloc::Global;
+use crate::versioned_put::VersionedPut;
+use std::alloc::{AllocError, Global};
 use std::marker::Model;
 
 /// The entries of each client, in their order. Each put lies in one list for all clients, in the order in which they
@@ -43,10 +45,10 @@ impl Model for Entries {
 }
 
 impl Entries {
-    ghost use Rattle.std.specs.Prelude.{◌≡◌, ◌≢◌, ◌<◌, ◌≤◌, ◌↔◌, ℕ, List, length, slice_get, slice_index_or, [], Some, OnOk, IfOk, IfSome, IfNone, IsTrue, replicate, true, false};
+    ghost use Rattle.std.specs.Prelude.{◌≡◌, ◌≢◌, ◌<◌, ◌≤◌, ◌↔◌, ℕ, List, length, slice_get, slice_index_or, [], Some, OnOk, IfOk, IfSome, IfNone, IsOk, IsTrue, replicate, true, false, vec_capacity};
     ghost use Rattle.std.specs.Option.{option_map};
     ghost use Rattle.cops_types.specs.Lists.{item_at, with_item};
-    ghost use Rattle.cops_types.specs.Entries.{GainsEntry, HasSource, HasValue, IsNumbered, KeepsEntries, referred, value_put};
+    ghost use Rattle.cops_types.specs.Entries.{GainsEntry, HasSource, HasValue, IsNumbered, KeepsEntries, ListsEntries, referred, value_put};
     ghost use Rattle.cops_types.specs.declared.entry.Entry.TheVariants.{Put, Got, Sourced, Missed};
     ghost use Rattle.cops_types.specs.declared.limits.TheConstants.{MAX_CLIENT_OPS, MAX_OPS};
 
@@ -116,11 +118,13 @@ impl Entries {
         ensures { IsTrue result ↔ (item_at self.now.all name ≡ Some (Put key value.now version)) }
     {
         match self.get(name) {
-            Some(EntryRef::Put {
-                key: put_key,
-                value: put_value,
-                version: put_version,
-            }) => put_key == key && *put_version == version && put_value.is_seen(value),
+            Some(
+                EntryRef::Put {
+                    key: put_key,
+                    value: put_value,
+                    version: put_version,
+                },
+            ) => put_key == key && *put_version == version && put_value.is_seen(value),
             _ => false,
         }
     }
@@ -162,6 +166,20 @@ impl Entries {
     pub(crate) fn version_of(&self, number: u32) -> Option<Version> {
         let put = self.puts.get(number as usize)?;
         Some(put.version)
+    }
+
+    /// Makes it all puts with their versions, in the order in which they came. It takes no memory where there is room
+    /// for them.
+    pub(crate) fn list_puts(&self, to: &mut Vec<VersionedPut>) -> Result<(), AllocError>
+        ensures puts { OnOk result (ListsEntries self.now.all to.new.items) }
+        ensures few { OnOk result (length to.new.items ≡ length self.now.names) }
+        ensures capacity { vec_capacity to.old ≤ vec_capacity to.new }
+        ensures succeeds { length self.now.names ≤ vec_capacity to.old → IsOk result }
+    {
+        to.clear();
+        to.reserve(self.puts.len())?;
+        add_puts(to, &self.puts);
+        Ok(())
     }
 
     /// Makes room for a client's next entry, and for so many more puts and gets of all clients. A refusal changes
@@ -244,12 +262,11 @@ impl Entries {
         ensures others { (c : ℕ) → c ≢ client → slice_index_or self.old.room c false ≡ true → slice_index_or self.new.room c false ≡ true }
     {
         let number = self.puts.len() as u32;
-        let session = &mut self.sessions[client as usize];
         let name = OpName {
             client,
-            index: session.len() as u32,
+            index: slot_count(&self.sessions, client) as u32,
         };
-        session.push(Slot::Put(number));
+        push_slot(&mut self.sessions, client, Slot::Put(number));
         self.puts.push_reserved(KeptPut {
             name,
             key,
@@ -271,8 +288,7 @@ impl Entries {
         ensures others { (c : ℕ) → c ≢ client → slice_index_or self.old.room c false ≡ true → slice_index_or self.new.room c false ≡ true }
     {
         let number = self.gets.len() as u32;
-        let session = &mut self.sessions[client as usize];
-        session.push(Slot::Got(number));
+        push_slot(&mut self.sessions, client, Slot::Got(number));
         self.gets.push_reserved(KeptGot {
             key,
             version,
@@ -292,8 +308,7 @@ impl Entries {
         ensures gains { GainsEntry self.old self.new }
         ensures others { (c : ℕ) → c ≢ client → slice_index_or self.old.room c false ≡ true → slice_index_or self.new.room c false ≡ true }
     {
-        let session = &mut self.sessions[client as usize];
-        session.push(Slot::Sourced(put.number));
+        push_slot(&mut self.sessions, client, Slot::Sourced(put.number));
     }
 
     /// Adds a get that found nothing.
@@ -306,8 +321,7 @@ impl Entries {
         ensures gains { GainsEntry self.old self.new }
         ensures others { (c : ℕ) → c ≢ client → slice_index_or self.old.room c false ≡ true → slice_index_or self.new.room c false ≡ true }
     {
-        let session = &mut self.sessions[client as usize];
-        session.push(Slot::Missed(key));
+        push_slot(&mut self.sessions, client, Slot::Missed(key));
     }
 }
 
@@ -333,14 +347,26 @@ fn slot_count(sessions: &[Blocks], client: u16) -> usize
     }
 }
 
+/// Adds a client's next slot. It takes no memory.
+#[inline(always)]
+fn push_slot(sessions: &mut Vec<Blocks>, client: u16, slot: Slot)
+    requires inside { client < length sessions.old.items }
+    requires room { slice_index_or (map (λ s. s.room) sessions.old.items) client false ≡ true }
+    requires few { length (slice_index_or (map (λ s. s.items) sessions.old.items) client []) < MAX_CLIENT_OPS }
+    ensures slots { map (λ s. s.items) sessions.new.items ≡ with_item (map (λ s. s.items) sessions.old.items) client slot }
+    ensures others { (c : ℕ) → c ≢ client → slice_index_or (map (λ s. s.room) sessions.old.items) c false ≡ true
+        → slice_index_or (map (λ s. s.room) sessions.new.items) c false ≡ true }
+{
+    let session = &mut sessions[client as usize];
+    session.push(slot);
+}
+
 /// What stands under that name, if something does.
 #[inline(always)]
 fn slot_at(sessions: &[Blocks], name: OpName) -> Option<&Slot>
     ensures { option_copied result ≡ item_at (map (λ s. s.items) sessions.now) name }
 {
-    sessions
-        .get(name.client as usize)?
-        .get(name.index as usize)
+    sessions.get(name.client as usize)?.get(name.index as usize)
 }
 
 /// The entry that a slot stands for, of these puts and gets.
@@ -380,5 +406,20 @@ fn refer<'a>(puts: &'a [KeptPut], gets: &'a [KeptGot], slot: Slot) -> EntryRef<'
             }
         }
         Slot::Missed(key) => EntryRef::Missed { key },
+    }
+}
+
+/// Adds puts with their versions, for which there is room.
+fn add_puts(to: &mut Vec<VersionedPut>, puts: &[KeptPut])
+    requires empty { to.old.items ≡ [] }
+    requires room { length puts.now ≤ vec_capacity to.old }
+    ensures puts { to.new.items ≡ map versioned puts.now }
+    ensures capacity { vec_capacity to.new ≡ vec_capacity to.old }
+{
+    for put in puts {
+        to.push_reserved(VersionedPut {
+            version: put.version,
+            name: put.name,
+        });
     }
 }

@@ -21,7 +21,8 @@ use crate::op_ref::OpRef;
 use crate::op_view::{KeyView, OpView, ValueView};
 use crate::value::Value;
 use crate::version::Version;
-use std::alloc::Global;
+use crate::versioned_put::VersionedPut;
+use std::alloc::{AllocError, Global};
 use std::marker::Model;
 
 /// A history (POPL 2017, section 3): a session for each client, each the list of its operations. There are at most
@@ -55,13 +56,14 @@ impl Model for History {
 }
 
 impl History {
-    ghost use Rattle.std.specs.Prelude.{◌≡◌, ◌≢◌, ◌≤◌, ◌<◌, ◌↔◌, ℕ, length, slice_index_or, slice_get, [], Some, OnOk, OnErr, OnSome, IfOk, IfErr, IfSome, IfNone, IsOk, IsErrOf, IsTrue, replicate, false, ◌==◌};
+    ghost use Rattle.std.specs.Prelude.{◌≡◌, ◌≢◌, ◌≤◌, ◌<◌, ◌↔◌, ℕ, length, slice_index_or, slice_get, [], Some, OnOk, OnErr, OnSome, IfOk, IfErr, IfSome, IfNone, IsOk, IsErrOf, IsTrue, replicate, false, vec_capacity, ◌==◌};
     ghost use Rattle.std.specs.Option.{option_map, option_and_then};
     ghost use Rattle.cops_types.specs.Histories.{PutsVersion, SourceStep, op_at, with_op};
     ghost use Rattle.cops_types.specs.Operations.{GetsVersion, key_of};
     ghost use Rattle.cops_types.specs.OpRefs.{seen};
     ghost use Rattle.cops_types.specs.OpViews.{viewed};
     ghost use Rattle.cops_types.specs.Counts.{count_of, put_count};
+    ghost use Rattle.cops_types.specs.PutLists.{AreAllPuts};
     ghost use Rattle.cops_types.specs.Recorded.{IsFull, IsWithinLimits, HasRoom};
     ghost use Rattle.cops_types.specs.TypeFaults.{IsHistoryFault};
 
@@ -259,6 +261,19 @@ impl History {
         self.puts
     }
 
+    /// Makes it all puts with their versions, in the order in which they came. It takes no memory where there is room
+    /// for as many as there are operations.
+    pub fn list_puts(&self, to: &mut Vec<VersionedPut>) -> Result<(), AllocError>
+        ensures puts { OnOk result (AreAllPuts self.now.sessions to.new.items) }
+        ensures few { OnOk result (length to.new.items ≤ count_of self.now.sessions) }
+        ensures limits { IsWithinLimits self.now.sessions }
+        ensures capacity { vec_capacity to.old ≤ vec_capacity to.new }
+        ensures succeeds { count_of self.now.sessions ≤ vec_capacity to.old → IsOk result }
+    {
+        self.entries.list_puts(to)?;
+        Ok(())
+    }
+
     /// Whether there is no operation.
     pub fn is_empty(&self) -> bool
         ensures { result ≡ (count_of self.now.sessions == 0) }
@@ -390,12 +405,7 @@ fn with_op_counted(puts: usize, is_put: bool) -> usize
 
 /// The entry of an operation, whose key is added where it is not there.
 #[inline(always)]
-fn entry_of(
-    keys: &mut KeySet,
-    foresight: &mut Foresight,
-    entries: &Entries,
-    op: Op,
-) -> Entry
+fn entry_of(keys: &mut KeySet, foresight: &mut Foresight, entries: &Entries, op: Op) -> Entry
     requires sound { AreSound keys.old.keys entries.now.all }
     requires distinct { AreDistinct keys.old.keys }
     requires few { length keys.old.keys < MAX_OPS }

@@ -29,6 +29,7 @@ mod selection;
 mod slot;
 mod value;
 mod version;
+mod versioned_put;
 
 pub use clock::Clock;
 pub use counted::{Counted, write_text};
@@ -51,3 +52,4 @@ pub use refusal::Refusal;
 pub use selection::Selection;
 pub use value::{Value, ValueRoom};
 pub use version::{Version, node_number};
+pub use versioned_put::VersionedPut;

@@ -1,6 +1,6 @@
 use Rattle.std.proofs.Common.{get_or, ap, subst}
 use Rattle.cops_types.specs.Histories.{PutsVersion}
-use Rattle.cops_audit.specs.declared.table.VersionedPut.{VersionedPut}
+use Rattle.cops_types.specs.declared.versioned_put.VersionedPut.{VersionedPut}
 use Rattle.cops_audit.proofs.Places.{place_of_put, put_at}
 use Rattle.cops_audit.proofs.assessing.is_mismatched.Goals as goal
 

@@ -1,6 +1,6 @@
 use Rattle.std.proofs.Common.{◌≡◌, List, length}
 use Rattle.cops_audit.specs.declared.notes.Note.{Note}
-use Rattle.cops_audit.specs.declared.table.VersionedPut.{VersionedPut}
+use Rattle.cops_types.specs.declared.versioned_put.VersionedPut.{VersionedPut}
 use Rattle.cops_audit.specs.Clocks.{AreKnown}
 use Rattle.cops_audit.proofs.clocks.nothing_known.Given as goal
 

@@ -1,7 +1,7 @@
 use Rattle.std.proofs.Common.{ap, subst}
 use Rattle.cops_types.specs.Histories.{PutsVersion}
 use Rattle.cops_types.specs.Operations.{GetsVersion}
-use Rattle.cops_audit.specs.declared.table.VersionedPut.{VersionedPut}
+use Rattle.cops_types.specs.declared.versioned_put.VersionedPut.{VersionedPut}
 use Rattle.cops_audit.specs.Notes.{HasDone}
 use Rattle.cops_audit.proofs.Places.{place_for, place_of_put}
 use Rattle.cops_audit.proofs.Gets.{divides_found, sourceless_at}

@@ -1,7 +1,7 @@
 use Rattle.std.proofs.Common.{◌≡◌, true, sym, ap, subst}
 use Rattle.cops_types.specs.Histories.{SourceStep}
 use Rattle.cops_types.specs.Operations.{GetsVersion}
-use Rattle.cops_audit.specs.declared.table.VersionedPut.{VersionedPut}
+use Rattle.cops_types.specs.declared.versioned_put.VersionedPut.{VersionedPut}
 use Rattle.cops_audit.proofs.Collect.{item_at}
 use Rattle.cops_audit.proofs.Places.{stands_item, same_put_at}
 use Rattle.cops_audit.proofs.Gets.{divides_at, source_at}

@@ -1,6 +1,6 @@
 use Rattle.std.proofs.Common.{◌≡◌, ◌≤◌, ◌+◌, ◌∷◌, ◌++◌, [], get_or, take, take_all, subst, ap, sym, arith, Contains}
 use Rattle.cops_types.specs.VersionOrder.{IsDoubled}
-use Rattle.cops_audit.specs.declared.table.VersionedPut.{VersionedPut}
+use Rattle.cops_types.specs.declared.versioned_put.VersionedPut.{VersionedPut}
 use Rattle.cops_audit.proofs.Collect.{get_or-default, item_at}
 use Rattle.cops_audit.proofs.Filtering.{HasThose, those_skip, those_push}
 use Rattle.cops_audit.proofs.Places.{put_at, doubled_by_neighbour, neighbour_of_doubled}

@@ -1,6 +1,6 @@
 use Rattle.std.proofs.Common.{◌≡◌, ◌+◌, ◌-◌, ◌<◌, ℕ, List, length, eqb, true, arith, ap, sym, ◌∙◌, get_or, inl, inr, refl}
 use Rattle.std.proofs.lemmas.Bool.{eqb-true}
-use Rattle.cops_audit.specs.declared.table.VersionedPut.{VersionedPut}
+use Rattle.cops_types.specs.declared.versioned_put.VersionedPut.{VersionedPut}
 use Rattle.cops_audit.proofs.Collect.{item_at}
 use Rattle.cops_audit.proofs.table.has_equal_neighbour.Goals as goal
 

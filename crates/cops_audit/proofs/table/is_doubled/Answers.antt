@@ -3,7 +3,7 @@ use Rattle.std.proofs.lemmas.List.Elements.{Contains-get_or}
 use Rattle.cops_types.specs.declared.op.OpName.{OpName}
 use Rattle.cops_types.specs.Histories.{Sessions, PutsVersion}
 use Rattle.cops_types.specs.VersionOrder.{IsDoubled}
-use Rattle.cops_audit.specs.declared.table.VersionedPut.{VersionedPut}
+use Rattle.cops_types.specs.declared.versioned_put.VersionedPut.{VersionedPut}
 use Rattle.cops_audit.proofs.Differing.{name_cases}
 use Rattle.cops_audit.proofs.table.is_doubled.Goals as goal
 

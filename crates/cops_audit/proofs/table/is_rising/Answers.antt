@@ -1,5 +1,5 @@
 use Rattle.std.proofs.Common.{◌≡◌, ◌+◌, ◌-◌, sym, ◌∙◌, arith, ap, get_or}
-use Rattle.cops_audit.specs.declared.table.VersionedPut.{VersionedPut}
+use Rattle.cops_types.specs.declared.versioned_put.VersionedPut.{VersionedPut}
 use Rattle.cops_audit.proofs.Collect.{item_at}
 use Rattle.cops_audit.proofs.Places.{rises_by_neighbours}
 use Rattle.cops_audit.proofs.table.is_rising.Goals as goal

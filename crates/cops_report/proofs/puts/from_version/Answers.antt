@@ -1,6 +1,6 @@
 use Rattle.std.proofs.Common.{rules}
 use Rattle.std.proofs.lemmas.List.Sorted.{IsPartitionPoint-from_clause, IsPartitionedBy-ltb}
-use Rattle.cops_audit.specs.declared.table.VersionedPut.{VersionedPut}
+use Rattle.cops_types.specs.declared.versioned_put.VersionedPut.{VersionedPut}
 use Rattle.cops_report.proofs.PutLemmas.{Parts, from_all, from_low, is_before}
 use Rattle.cops_report.proofs.puts.from_version.Goals as goal
 

@@ -1,7 +1,7 @@
 use Rattle.std.proofs.Common.{arith, inl, inr, rules}
 use Rattle.std.proofs.lemmas.Bool.{cases_lt}
 use Rattle.std.proofs.lemmas.List.Sorted.{IsNonDecreasingBy-from_sort_by_key}
-use Rattle.cops_audit.specs.declared.table.VersionedPut.{VersionedPut}
+use Rattle.cops_types.specs.declared.versioned_put.VersionedPut.{VersionedPut}
 use Rattle.cops_report.proofs.PutLemmas.{table_sorted}
 use Rattle.cops_report.proofs.puts.put_table.Goals as goal
 

@@ -1,7 +1,7 @@
 use Rattle.std.proofs.Common.{◌≡◌, ◌≢◌, ◌∙◌, ◌≤◌, arith, inr, false, true, refl, subst, sym, ap, get_or, length}
 use Rattle.std.proofs.lemmas.List.{get_or_default}
 use Rattle.cops_types.specs.Histories.{SourceStep}
-use Rattle.cops_audit.specs.declared.table.VersionedPut.{VersionedPut}
+use Rattle.cops_types.specs.declared.versioned_put.VersionedPut.{VersionedPut}
 use Rattle.cops_report.specs.Marks.{IsMarked}
 use Rattle.cops_report.proofs.GainLemmas.{gains_more, gains_none}
 use Rattle.cops_report.proofs.PutLemmas.{bearers_all, bearers_more, source_named}

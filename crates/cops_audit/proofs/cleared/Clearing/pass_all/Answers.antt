@@ -1,7 +1,7 @@
 use Rattle.std.proofs.Common.{◌<◌, ◌+◌, ℕ, Vec, Global, length, sym, subst, arith}
 use Rattle.cops_audit.specs.Clocks.{ArePassed}
 use Rattle.cops_audit.specs.Sweeps.{Counted}
-use Rattle.cops_audit.specs.declared.table.VersionedPut.{VersionedPut}
+use Rattle.cops_types.specs.declared.versioned_put.VersionedPut.{VersionedPut}
 use Rattle.cops_audit.proofs.Chaining.{passed_next, put_inside}
 use Rattle.cops_audit.proofs.Places.{stands_item}
 use Rattle.cops_audit.proofs.cleared.Clearing.pass_all.Goals as goal

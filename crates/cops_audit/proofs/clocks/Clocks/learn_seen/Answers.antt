@@ -1,6 +1,6 @@
 use Rattle.std.proofs.Common.{◌≡◌, ◌∙◌, ◌<◌, ◌+◌, Vec, Global, List, length, get_or, ℕ, ap, sym, subst, arith}
 use Rattle.cops_types.specs.declared.op.OpName.{OpName}
-use Rattle.cops_audit.specs.declared.table.VersionedPut.{VersionedPut}
+use Rattle.cops_types.specs.declared.versioned_put.VersionedPut.{VersionedPut}
 use Rattle.cops_audit.specs.declared.notes.Seen.TheVariants.{Got}
 use Rattle.cops_audit.specs.Clocks.{Knows, KnowsPut}
 use Rattle.cops_audit.specs.Notes.{StandsAt}

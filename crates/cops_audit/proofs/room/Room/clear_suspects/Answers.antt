@@ -1,5 +1,5 @@
 use Rattle.std.proofs.Common.{List, sym, subst}
-use Rattle.cops_audit.specs.declared.table.VersionedPut.{VersionedPut}
+use Rattle.cops_types.specs.declared.versioned_put.VersionedPut.{VersionedPut}
 use Rattle.cops_audit.specs.Windows.{AreSuspects}
 use Rattle.cops_audit.specs.declared.window.Suspect.{Suspect}
 use Rattle.cops_audit.specs.Floors.{AreFloors}

@@ -1,5 +1,5 @@
 use Rattle.std.proofs.Common.{List, sym, subst}
-use Rattle.cops_audit.specs.declared.table.VersionedPut.{VersionedPut}
+use Rattle.cops_types.specs.declared.versioned_put.VersionedPut.{VersionedPut}
 use Rattle.cops_audit.specs.Windows.{AreSuspects}
 use Rattle.cops_audit.proofs.Classes.{each_suspect, none_stale, seen_suspects}
 use Rattle.cops_audit.proofs.room.Room.has_stale.Goals as goal

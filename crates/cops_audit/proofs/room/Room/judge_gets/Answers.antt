@@ -2,7 +2,7 @@ use Rattle.std.proofs.Common.{IfNone, Option, Vec, Global, ap, map, sym, subst, 
 use Rattle.cops_types.specs.Faults.{IsStale}
 use Rattle.cops_types.specs.Verdicts.{AllAbove, AllHaveSources}
 use Rattle.cops_types.specs.VersionOrder.{IsVersionOrder}
-use Rattle.cops_audit.specs.declared.table.VersionedPut.{VersionedPut}
+use Rattle.cops_types.specs.declared.versioned_put.VersionedPut.{VersionedPut}
 use Rattle.cops_audit.specs.declared.verdict.Stale.{Stale}
 use Rattle.cops_audit.specs.declared.verdict.Verdict.{Verdict}
 use Rattle.cops_audit.proofs.Classes.{none_doubled}

@@ -1,5 +1,5 @@
 use Rattle.std.proofs.Common.{List, length, sym, subst, ap, arith}
-use Rattle.cops_audit.specs.declared.table.VersionedPut.{VersionedPut}
+use Rattle.cops_types.specs.declared.versioned_put.VersionedPut.{VersionedPut}
 use Rattle.cops_audit.specs.declared.window.Suspect.{Suspect}
 use Rattle.cops_audit.specs.Floors.{AreFloors}
 use Rattle.cops_audit.specs.Keys.{AreFirsts, AreNexts}

@@ -1,42 +1,35 @@
-use Rattle.std.proofs.Common.{◌≡◌, ◌<◌, ◌++◌, ◌∷◌, [], List, map, length, arith, ap, ◌∙◌, refl, subst, sym, get_or}
-use Rattle.std.proofs.Math.ListN.{set}
+use Rattle.std.proofs.Common.{◌≡◌, ◌++◌, ◌∷◌, [], List, map, length, arith, ap, ◌∙◌, refl, subst, sym}
 use Rattle.cops_types.specs.Blocks.{KeptBlocks}
 use Rattle.cops_types.specs.declared.entry.Entry.TheVariants.{Got}
 use Rattle.cops_types.specs.declared.slot.Slot.{Slot}
 use Rattle.cops_types.specs.declared.slot.Slot.TheVariants.{Got as GotSlot}
 use Rattle.cops_types.specs.declared.slot.KeptGot.{KeptGot}
+use Rattle.cops_types.specs.Lists.{with_item}
 use Rattle.cops_types.specs.Slots.{AreKept, shown_by}
-use Rattle.cops_types.proofs.Sessions.{others_room}
-use Rattle.cops_types.proofs.Showing.{is_there, has_slots, own_slots, own_len, slots_more, all_with_got, kept_with_got}
+use Rattle.cops_types.proofs.Showing.{has_slots, is_there, length-shown, all_with_got, kept_with_got}
 use Rattle.cops_types.proofs.entries.Entries.push_got.Goals as goal
 
-pub push-requires-clause-few : goal.push-requires-clause-few
-push-requires-clause-few c =
+pub push_slot-requires-clause-inside : goal.push_slot-requires-clause-inside
+push_slot-requires-clause-inside c = is_there c.self.inside.puts.items c.self.inside.gets.items c.self.inside.sessions.items c.args.client (rw (← c.self.view_is) at c.requires.inside)
+
+pub push_slot-requires-clause-few : goal.push_slot-requires-clause-few
+push_slot-requires-clause-few c =
     let puts = c.self.inside.puts.items in
     let gets = c.self.inside.gets.items in
     let sessions = c.self.inside.sessions.items in
-    let session = c.index_mut-session.result.now in
-    let at : session ≡ get_or sessions c.args.client session = c.index_mut-session.ensures.value in
-    let asked = rw (← c.self.view_is) at c.requires.inside in
-    let inside : c.args.client < length sessions = is_there puts gets sessions c.args.client session at asked in
-    omega (arith, rw (← c.self.view_is) at c.requires.few, own_len puts gets sessions c.args.client session at inside)
+    omega (arith, rw (← c.self.view_is) at c.requires.few, length-shown puts gets (map (λ (b : KeptBlocks). b.items) sessions) c.args.client)
 
 pub invariant_of-self : goal.invariant_of-self
 invariant_of-self c =
     let puts = c.self.inside.puts.items in
     let gets = c.self.inside.gets.items in
     let sessions = c.self.inside.sessions.items in
-    let session = c.index_mut-session.result.now in
-    let at : session ≡ get_or sessions c.args.client session = c.index_mut-session.ensures.value in
-    let asked = rw (← c.self.view_is) at c.requires.inside in
-    let inside : c.args.client < length sessions = is_there puts gets sessions c.args.client session at asked in
     let slots = map (λ (b : KeptBlocks). b.items) sessions in
-    let there : c.args.client < length slots = has_slots puts gets sessions c.args.client session at asked in
+    let there = has_slots puts gets sessions c.args.client (rw (← c.self.view_is) at c.requires.inside) in
     let number : c.len-number.result ≡ length gets = omega (arith, c.len-number.ensures, c.self.inside.gets.ok.0) in
     let got : KeptGot = record { key = c.args.key; version = c.args.version; value = c.args.value } in
-    let slot = GotSlot (length gets) in
-    let now = slots_more puts gets sessions c.args.client session at c.push.new.self slot inside (c.push.ensures ∙ ap (λ n. session.items ++ GotSlot n ∷ []) number) in
-    subst (λ (l : List KeptGot). AreKept puts l (map (λ (b : KeptBlocks). b.items) (set sessions c.args.client c.push.new.self))) (sym c.push_reserved.ensures.items)
+    let now = c.push_slot.ensures.slots ∙ ap (λ n. with_item slots c.args.client (GotSlot n)) number in
+    subst (λ (l : List KeptGot). AreKept puts l (map (λ (b : KeptBlocks). b.items) c.push_slot.new.sessions.items)) (sym c.push_reserved.ensures.items)
     (subst (AreKept puts (gets ++ got ∷ [])) (sym now) (kept_with_got puts gets slots c.self.invariant c.args.client there got))
 
 pub returns-clause-all : goal.returns-clause-all
@@ -44,18 +37,9 @@ returns-clause-all c =
     let puts = c.self.inside.puts.items in
     let gets = c.self.inside.gets.items in
     let sessions = c.self.inside.sessions.items in
-    let session = c.index_mut-session.result.now in
-    let at : session ≡ get_or sessions c.args.client session = c.index_mut-session.ensures.value in
-    let asked = rw (← c.self.view_is) at c.requires.inside in
-    let inside : c.args.client < length sessions = is_there puts gets sessions c.args.client session at asked in
     let slots = map (λ (b : KeptBlocks). b.items) sessions in
-    let there : c.args.client < length slots = has_slots puts gets sessions c.args.client session at asked in
+    let there = has_slots puts gets sessions c.args.client (rw (← c.self.view_is) at c.requires.inside) in
     let number : c.len-number.result ≡ length gets = omega (arith, c.len-number.ensures, c.self.inside.gets.ok.0) in
     let got : KeptGot = record { key = c.args.key; version = c.args.version; value = c.args.value } in
-    let slot = GotSlot (length gets) in
-    let now = slots_more puts gets sessions c.args.client session at c.push.new.self slot inside (c.push.ensures ∙ ap (λ n. session.items ++ GotSlot n ∷ []) number) in
+    let now = c.push_slot.ensures.slots ∙ ap (λ n. with_item slots c.args.client (GotSlot n)) number in
     rw (← c.self.view_is) ((λ j. shown_by puts (c.push_reserved.ensures.items j) (now j)) ∙ all_with_got puts gets slots c.self.invariant c.args.client there got (Got c.args.key c.args.value c.args.version) refl)
-
-pub returns-clause-others : goal.returns-clause-others
-returns-clause-others c = λ k other room.
-    others_room (λ b. b.items) (λ b. b.room) c.self.inside.sessions.items c.args.client k c.push.new.self other (rw (← c.self.view_is) at room)

@@ -18,7 +18,7 @@ returns-in_err-reserve-clause-keeps c =
     let sessions = c.self.inside.sessions.items in
     let session = c.index_mut-session.result.now in
     let at : session ≡ get_or sessions c.args.client session = c.index_mut-session.ensures.value in
-    let inside : c.args.client < length sessions = is_there puts gets sessions c.args.client session at (rw (← c.self.view_is) at c.requires) in
+    let inside : c.args.client < length sessions = is_there puts gets sessions c.args.client (rw (← c.self.view_is) at c.requires) in
     rw (← c.self.view_is) (record {
       all = ap (shown_by puts gets) (same_items (λ b. b.items) (λ b. b.room) sessions c.args.client session c.reserve.new.self at c.in_err-reserve.ensures.same);
       names = refl;
@@ -41,7 +41,7 @@ returns-clause-keeps c =
     let sessions = c.self.inside.sessions.items in
     let session = c.index_mut-session.result.now in
     let at : session ≡ get_or sessions c.args.client session = c.index_mut-session.ensures.value in
-    let inside : c.args.client < length sessions = is_there puts gets sessions c.args.client session at (rw (← c.self.view_is) at c.requires) in
+    let inside : c.args.client < length sessions = is_there puts gets sessions c.args.client (rw (← c.self.view_is) at c.requires) in
     rw (← c.self.view_is) (record {
       all = ap (shown_by puts gets) (same_items (λ b. b.items) (λ b. b.room) sessions c.args.client session c.reserve.new.self at c.in_ok-reserve.ensures.same);
       names = refl;
@@ -57,5 +57,5 @@ returns-clause-room c =
     let gets = c.self.inside.gets.items in
     let sessions = c.self.inside.sessions.items in
     let session = c.index_mut-session.result.now in
-    let inside : c.args.client < length sessions = is_there puts gets sessions c.args.client session c.index_mut-session.ensures.value (rw (← c.self.view_is) at c.requires) in
+    let inside : c.args.client < length sessions = is_there puts gets sessions c.args.client (rw (← c.self.view_is) at c.requires) in
     own_room (λ b. b.items) (λ b. b.room) sessions c.args.client c.reserve.new.self inside c.in_ok-reserve.ensures.room
