@@ -162,10 +162,15 @@ impl Entries {
         None
     }
 
-    /// The version of the put of that number, if there is one.
-    pub(crate) fn version_of(&self, number: u32) -> Option<Version> {
-        let put = self.puts.get(number as usize)?;
-        Some(put.version)
+    /// Whether the put of that number is there, bears this version and wrote as many bytes. It looks at both ends of
+    /// what is kept of it, which may lie in two lines of a processor's caches.
+    pub(crate) fn may_be_put(&self, number: u32, value: &ValueView<'_>, version: Version) -> bool {
+        match self.puts.get(number as usize) {
+            Some(put) => {
+                put.version == version && put.value.as_bytes().len() == value.as_bytes().len()
+            }
+            None => false,
+        }
     }
 
     /// Makes it all puts with their versions, in the order in which they came. It takes no memory where there is room

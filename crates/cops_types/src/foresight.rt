@@ -22,11 +22,8 @@ const NO_PUT: PutGuess = PutGuess {
 /// What a place has that guesses no key: there are fewer.
 const NO_KEY: u32 = u32::MAX;
 
-/// The most places of the table of keys.
-const MOST_KEYS: usize = 1_048_576;
-
-/// The most places of the table of puts. A get names one of the last puts, as a rule.
-const MOST_PUTS: usize = 262_144;
+/// The most places of a table.
+const MOST_PLACES: usize = 1_048_576;
 
 /// After how many operations the tables may grow.
 const GROWN_AFTER: usize = 64;
@@ -89,10 +86,10 @@ impl Foresight {
     /// Makes room for guesses of these keys and of so many operations, as far as there is memory, and now and then.
     pub(crate) fn grow(&mut self, keys: &KeySet, ops: usize) {
         if ops % GROWN_AFTER == 0 {
-            self.puts.grow(ops, MOST_PUTS, NO_PUT);
+            self.puts.grow(ops, MOST_PLACES, NO_PUT);
             let has_grown = self
                 .keys
-                .grow(keys.len().saturating_mul(8), MOST_KEYS, NO_KEY);
+                .grow(keys.len().saturating_mul(8), MOST_PLACES, NO_KEY);
             if has_grown {
                 self.note_keys(keys);
             }
@@ -140,8 +137,8 @@ impl Foresight {
         for (it, op) in self.coming.iter_mut().zip(coming) {
             it.guess.key = key_that_may_be(it.guess.key, keys, op.key());
         }
-        for it in self.coming.iter_mut() {
-            it.guess.put = put_that_is(it.guess.put, entries, it.version);
+        for (it, op) in self.coming.iter_mut().zip(coming) {
+            it.guess.put = put_that_may_be(it.guess.put, entries, op);
         }
     }
 
@@ -234,13 +231,14 @@ fn key_that_may_be(guess: Option<u32>, keys: &KeySet, key: &KeyView<'_>) -> Opti
     }
 }
 
-/// The guess of a put, unless it bears another version.
-fn put_that_is(guess: Option<u32>, entries: &Entries, version: Option<Version>) -> Option<u32> {
+/// The guess of a put's number, unless it is seen to be wrong.
+fn put_that_may_be(guess: Option<u32>, entries: &Entries, op: &OpView<'_>) -> Option<u32> {
     let number = guess?;
-    if entries.version_of(number) == version {
-        Some(number)
-    } else {
-        None
+    match op {
+        OpView::Got { value, version, .. } if entries.may_be_put(number, value, *version) => {
+            Some(number)
+        }
+        _ => None,
     }
 }
 

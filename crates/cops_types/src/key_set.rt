@@ -64,10 +64,14 @@ impl KeySet {
         Ok(())
     }
 
-    /// Whether the key of that number is there and as long as this one, which a look at its length tells.
+    /// Whether the key of that number is there, is as long as this one and begins alike. It looks at both ends of where
+    /// the key lies, which may be in two lines of a processor's caches.
     pub(crate) fn may_be_at(&self, number: u32, key: &KeyView<'_>) -> bool {
         match self.keys.as_slice().get(number as usize) {
-            Some(there) => there.as_bytes().len() == key.as_bytes().len(),
+            Some(there) => {
+                let (bytes, other) = (there.as_bytes(), key.as_bytes());
+                bytes.len() == other.len() && bytes.first() == other.first()
+            }
             None => false,
         }
     }
