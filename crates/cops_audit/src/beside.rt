@@ -29,13 +29,13 @@ fn notes_in_halves<R: Threads + Sync>(
         rt,
         || -> Result<SessionNotes, AllocError>
             requires table { IsVersionTable history.now.sessions table.now }
-            requires hints { HintPlaces table.now hints }
+            requires hints { HintPlaces history.now.puts table.now hints }
             requires inside { mid ≤ length history.now.sessions }
             ensures { IfOk result (AreNoted history.entry.now.sessions table.entry.now 0 mid) }
         { SessionNotes::on_clients(alloc, history, table, &hints, 0, mid) },
         || -> Result<SessionNotes, AllocError>
             requires table { IsVersionTable history.now.sessions table.now }
-            requires hints { HintPlaces table.now hints }
+            requires hints { HintPlaces history.now.puts table.now hints }
             requires inside { (mid ≤ clients) × (clients ≤ length history.now.sessions) }
             ensures { IfOk result (AreNoted history.entry.now.sessions table.entry.now mid clients) }
         { SessionNotes::on_clients(alloc, history, table, &hints, mid, clients) },

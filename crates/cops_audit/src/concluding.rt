@@ -158,8 +158,8 @@ impl Room {
         Ok(Verdict::Accepted(puts))
     }
 
-    /// The verdict on a history. Beside the room it takes memory for the faults, and then for the names of all operations, or for
-    /// the names of the puts; and as long as they are gone through, for hints of where puts stand.
+    /// The verdict on a history. Beside the room it takes memory for the faults, and then for the names of all
+    /// operations, or for the names of the puts; and as long as they are gone through, for hints of where puts stand.
     pub fn judge(&mut self, alloc: Global, history: &History) -> Result<Verdict, AllocError>
         requires { IsReady history.now.sessions self.old }
         ensures { IfOk result (IsVerdict history.now.sessions) }

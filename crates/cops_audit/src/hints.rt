@@ -1,13 +1,12 @@
 ghost use Rattle.cops_types.specs.declared.limits.TheConstants.{MAX_OPS};
 ghost use Rattle.std.specs.Prelude.{◌≡◌, ◌≢◌, ◌<◌, ◌≤◌, ℕ, List, IfOk, IfSome, IfNone, IsTrue, Some, length, slice_get, slice_index_or};
 ghost use Rattle.cops_types.specs.declared.versioned_put.VersionedPut.{VersionedPut};
-ghost use Rattle.cops_audit.specs.Notes.{StandsAt};
-ghost use Rattle.cops_audit.specs.Placing.{AreStarts, HintPlaces, TellPlaces};
+ghost use Rattle.cops_audit.specs.Placing.{HintPlaces, TellPlaces};
 ghost use Rattle.cops_audit.specs.Tables.{IsVersionTable, VersionsNeverFall};
 
 use crate::did::Did;
 use crate::table::place_of;
-use cops_types::{History, OpName, Version, VersionedPut};
+use cops_types::{History, Version, VersionedPut};
 use std::alloc::{AllocError, Global};
 
 /// A hint that says nothing: no place of a table.
@@ -24,76 +23,37 @@ fn stands_at(table: &[VersionedPut], place: u32, version: Version) -> bool
     }
 }
 
-/// How many operations stand before those of each session.
-fn session_starts(alloc: Global, history: &History) -> Result<Vec<usize>, AllocError>
-    ensures count { IfOk result (λ v. length v.items ≡ length history.now.sessions) }
-    ensures starts { IfOk result (λ v. AreStarts history.now.sessions v.items) }
+/// Of each put, by its number, the place where it stands in the table of puts in order of versions.
+fn put_places(
+    alloc: Global,
+    history: &History,
+    table: &[VersionedPut],
+) -> Result<Vec<u32>, AllocError>
+    requires { IsVersionTable history.now.sessions table.now }
+    ensures { IfOk result (λ v. TellPlaces history.now.puts table.now v.items) }
 {
-    let mut starts = Vec::with_capacity(alloc, history.clients())?;
-    let mut count = 0;
-    for client in 0..history.clients() {
-        starts.push(count)?;
-        count += history.session_len(client as u16);
-    }
-    Ok(starts)
-}
-
-/// Where the puts of a history stand in the table of its puts in order of versions, by their names.
-#[derive(Drop)]
-pub struct Places {
-    /// How many operations stand before those of each session.
-    pub starts: Vec<usize>,
-    /// Of each operation the place of its put, where it is one.
-    pub places: Vec<u32>,
-}
-
-impl Places {
-    /// The places of a history's puts.
-    fn new(alloc: Global, history: &History, table: &[VersionedPut]) -> Result<Self, AllocError>
-        requires { IsVersionTable history.now.sessions table.now }
-        ensures { IfOk result (λ p. TellPlaces table.now p.starts.items p.places.items) }
-    {
-        let starts = session_starts(alloc, history)?;
-        let mut places = Vec::new(alloc);
-        places.resize(history.len(), NONE)?;
-        for place in 0..table.len() {
-            let put = table[place].name;
-            let at = starts[put.client as usize] + put.index as usize;
-            places[at] = place as u32;
-        }
-        Ok(Places { starts, places })
-    }
-
-    /// How many operations stand before those of a client's session: none where there is no such client.
-    fn start(&self, client: u16) -> usize
-        ensures { result ≡ slice_index_or self.now.starts.items client 0 }
-    {
-        match self.starts.get(client as usize) {
-            Some(start) => *start,
-            None => 0,
+    let mut places = Vec::new(alloc);
+    places.resize(history.puts(), NONE)?;
+    for place in 0..table.len() {
+        match history.put_number(table[place].name) {
+            Some(number) => places[number as usize] = place as u32,
+            None => unreachable!(),
         }
     }
-
-    /// The place of the put of that name.
-    pub fn of(&self, put: OpName) -> Option<u32>
-        ensures { (table : List VersionedPut) (place version : ℕ) → TellPlaces table self.now.starts.items self.now.places.items → StandsAt table place put version
-            → result ≡ Some place }
-    {
-        let at = self.start(put.client).saturating_add(put.index as usize);
-        place_at(&self.places, at)
-    }
+    Ok(places)
 }
 
-/// The place at a position, if there is one.
-fn place_at(places: &[u32], at: usize) -> Option<u32>
-    ensures { result ≡ slice_get places.now at }
+/// The place of the put of that number, if there is one.
+#[inline(always)]
+pub fn place_at(places: &[u32], number: u32) -> Option<u32>
+    ensures { result ≡ slice_get places.now number }
 {
-    places.get(at).copied()
+    places.get(number as usize).copied()
 }
 
-/// Where puts of a version may stand in a table of puts in order of versions. The versions are cut into stretches of one
-/// width, about as many as there are puts, and of each it is known where its puts begin. These are but hints: each is
-/// looked up in the table, and a version that does not stand there is searched for.
+/// Where puts of a version may stand in a table of puts in order of versions. The versions are cut into stretches of
+/// one width, about as many as there are puts, and of each it is known where its puts begin. These are but hints: each
+/// is looked up in the table, and a version that does not stand there is searched for.
 #[derive(Drop)]
 pub struct Stretches {
     lowest: u64,
@@ -154,10 +114,11 @@ impl Stretches {
     }
 }
 
-/// Where puts stand in a table of puts in order of versions, by their names, and where they may stand, by their versions.
+/// Where puts stand in a table of puts in order of versions, by their numbers, and where they may stand, by their
+/// versions.
 #[derive(Drop)]
 pub struct Hints {
-    pub places: Places,
+    pub places: Vec<u32>,
     pub stretches: Stretches,
 }
 
@@ -170,10 +131,10 @@ impl Hints {
         table: &[VersionedPut],
     ) -> Result<Self, AllocError>
         requires { IsVersionTable history.now.sessions table.now }
-        ensures { IfOk result (HintPlaces table.now) }
+        ensures { IfOk result (HintPlaces history.now.puts table.now) }
     {
         let stretches = Stretches::new(starts, table)?;
-        let places = Places::new(alloc, history, table)?;
+        let places = put_places(alloc, history, table)?;
         Ok(Hints { places, stretches })
     }
 }

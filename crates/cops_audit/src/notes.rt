@@ -12,7 +12,7 @@ ghost use Rattle.cops_types.specs.declared.versioned_put.VersionedPut.{Versioned
 
 use crate::did::Did;
 use crate::flat::Span;
-use crate::hints::{Hints, Places, hinted_place};
+use crate::hints::{Hints, hinted_place, place_at};
 use crate::table::first_from;
 use cops_types::{History, OpName, VersionedPut};
 use std::alloc::{AllocError, Global};
@@ -80,30 +80,30 @@ fn see_source(history: &History, table: &[VersionedPut], got: OpName, place: usi
 fn see_named(
     history: &History,
     table: &[VersionedPut],
-    places: &Places,
+    places: &[u32],
     name: OpName,
 ) -> Option<Seen>
     requires table { IsVersionTable history.now.sessions table.now }
-    requires places { TellPlaces table.now places.now.starts.items places.now.places.items }
+    requires places { TellPlaces history.now.puts table.now places.now }
     ensures { IfSome result (IsSeen history.now.sessions table.now name) }
 {
-    if let Some(put) = history.known_source(name) {
-        let place = places.of(put)?;
+    if let Some(number) = history.source_number(name) {
+        let place = place_at(places, number)?;
         return Some(Seen::Got(place));
     }
-    let _version = history.put_version(name)?;
-    let place = places.of(name)?;
+    let number = history.put_number(name)?;
+    let place = place_at(places, number)?;
     Some(Seen::Put(place))
 }
 
 /// What an operation did, by the hints.
 fn see_hinted(history: &History, table: &[VersionedPut], hints: &Hints, name: OpName) -> Seen
     requires table { IsVersionTable history.now.sessions table.now }
-    requires hints { HintPlaces table.now hints.now }
+    requires hints { HintPlaces history.now.puts table.now hints.now }
     requires named { IsNamed history.now.sessions name }
     ensures { IsSeen history.now.sessions table.now name result }
 {
-    if let Some(seen) = see_named(history, table, &hints.places, name) {
+    if let Some(seen) = see_named(history, table, hints.places.as_slice(), name) {
         return seen;
     }
     let did = Did::of(history, name);
@@ -145,7 +145,7 @@ fn note_on(
     place: usize,
 ) -> Result<(), AllocError>
     requires table { IsVersionTable history.now.sessions table.now }
-    requires hints { HintPlaces table.now hints.now }
+    requires hints { HintPlaces history.now.puts table.now hints.now }
     requires front { IsFrontNoted history.now.sessions table.now client notes.old.items }
     ensures front { OnOk result (IsFrontNoted history.now.sessions table.now client notes.new.items) }
     ensures whole { OnOk result (length table.now ≤ place → length (slice_index_or history.now.sessions client []) ≤ vec_len notes.new) }
@@ -179,7 +179,7 @@ fn note_all(
     place: usize,
 ) -> Result<(), AllocError>
     requires table { IsVersionTable history.now.sessions table.now }
-    requires hints { HintPlaces table.now hints.now }
+    requires hints { HintPlaces history.now.puts table.now hints.now }
     requires few { first + length sessions.old.items ≤ MAX_CLIENTS }
     requires fronts { AreFrontsNoted history.now.sessions table.now first (map (λ s. s.items) sessions.old.items) }
     ensures count { length sessions.new.items ≡ length sessions.old.items }
@@ -268,7 +268,7 @@ impl SessionNotes {
         end: usize,
     ) -> Result<Self, AllocError>
         requires table { IsVersionTable history.now.sessions table.now }
-        requires hints { HintPlaces table.now hints.now }
+        requires hints { HintPlaces history.now.puts table.now hints.now }
         requires first { first ≤ end }
         requires end { end ≤ length history.now.sessions }
         ensures some { IfOk result (AreNoted history.now.sessions table.now first end) }

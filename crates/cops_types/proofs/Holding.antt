@@ -7,7 +7,8 @@ use Rattle.std.proofs.lemmas.List.Folds.{sum_by-replicate}
 use Rattle.cops_types.specs.declared.op.Op.{Op}
 use Rattle.cops_types.specs.declared.entry.Entry.{Entry}
 use Rattle.cops_types.specs.Counts.{count_of, is_put, put_count}
-use Rattle.cops_types.specs.Entries.{EntryLists, KeptEntries, KeepsEntries, GainsEntry, IsSound, AreSound, told, told_by}
+use Rattle.cops_types.specs.Entries.{EntryLists, KeptEntries, KeepsEntries, GainsEntry, IsSound, AreSound, told, told_by, puts_in}
+use Rattle.cops_types.specs.declared.entry.Entry.TheVariants.{Put, Got, Sourced, Missed}
 use Rattle.cops_types.specs.Lists.{item_at, with_item}
 use Rattle.cops_types.specs.Histories.{with_op}
 use Rattle.cops_types.specs.Keeping.{IsKept, flag_count}
@@ -15,6 +16,19 @@ use Rattle.cops_types.specs.KeySets.{AreDistinct, GainsKey, KeptKeys}
 use Rattle.cops_types.specs.Recorded.{IsWithinLimits}
 use Rattle.cops_types.proofs.Sessions.{at_or_other, count-with_op, within_with_op, none_of, none_within, count-none, puts-none, puts-with_op}
 use Rattle.cops_types.proofs.Telling.{told_by-with_item, sound-with_item, told-none}
+
+-- ---- puts
+
+flag-le : (b : Bool) → flag_count b ≤ 1
+flag-le true = omega arith
+flag-le false = omega arith
+
+-- an entry counts as the operation that it stands for
+puts-told : (keys : List (List ℕ)) (all : EntryLists) (e : Entry) → puts_in e ≡ flag_count (is_put (told keys all e))
+puts-told keys all (Put key value version) = refl
+puts-told keys all (Got key value version) = refl
+puts-told keys all (Sourced key put version) = refl
+puts-told keys all (Missed key) = refl
 
 -- ---- flags
 
@@ -37,13 +51,13 @@ no_flag (suc n) (suc c) = no_flag n c
 
 -- ---- a history with no operation
 
-pub new_kept : (keys : KeptKeys) (entries : KeptEntries) (n : ℕ) → n ≤ 65535 → keys.keys ≡ [] → entries.all ≡ replicate n [] → entries.names ≡ [] → entries.gets ≡ 0 → IsKept keys entries (replicate n false) 0 0 0
+pub new_kept : (keys : KeptKeys) (entries : KeptEntries) (n : ℕ) → n ≤ 65535 → keys.keys ≡ [] → entries.all ≡ replicate n [] → entries.names ≡ [] → entries.gets ≡ 0 → IsKept keys entries (replicate n false) 0 0
 new_kept keys entries n le no_keys no_entries no_names no_gets =
     let none : told_by keys.keys entries.all ≡ replicate n [] = ap (λ (all : EntryLists). map (map (told keys.keys entries.all)) all) no_entries ∙ told-none keys.keys entries.all n in
     record {
       limits = subst IsWithinLimits (sym none) (none_within n le);
       count = sym (ap count_of none ∙ count-none n);
-      counted = sym (ap put_count none ∙ puts-none n);
+      counted = ap length no_names ∙ sym (ap put_count none ∙ puts-none n);
       sound = λ name e at. let gone : None ≡ Some e = ap (λ (s : List Entry). slice_get s name.index) (sym (none_of n name.client)) ∙ ap (λ (all : EntryLists). item_at all name) (sym no_entries) ∙ at in cc;
       distinct = λ i j key at also. let gone : None ≡ Some key = ap (λ (k : List (List ℕ)). slice_get k i) (sym no_keys) ∙ at in cc;
       few = omega (arith, ap length no_keys);
@@ -59,8 +73,8 @@ new_kept keys entries n le no_keys no_entries no_names no_gets =
 
 -- ---- places that are held
 
-module _ (k k' : KeptKeys) (e e' : KeptEntries) (reserved : List Bool) (reservations len puts : ℕ) (keys : k'.keys ≡ k.keys) (spare : k.spare ≤ k'.spare) (keeps : KeepsEntries e e')
-    (kept : IsKept k e reserved reservations len puts) where
+module _ (k k' : KeptKeys) (e e' : KeptEntries) (reserved : List Bool) (reservations len : ℕ) (keys : k'.keys ≡ k.keys) (spare : k.spare ≤ k'.spare) (keeps : KeepsEntries e e')
+    (kept : IsKept k e reserved reservations len) where
   abbrev all : e'.all ≡ e.all
   all = keeps.all
 
@@ -68,11 +82,11 @@ module _ (k k' : KeptKeys) (e e' : KeptEntries) (reserved : List Bool) (reservat
   same_told = λ j. told_by (keys j) (all j)
 
   -- more room changes nothing
-  pub room_kept : IsKept k' e' reserved reservations len puts
+  pub room_kept : IsKept k' e' reserved reservations len
   room_kept = record {
     limits = subst IsWithinLimits (sym same_told) kept.limits;
     count = kept.count ∙ ap count_of (sym same_told);
-    counted = kept.counted ∙ ap put_count (sym same_told);
+    counted = ap length keeps.names ∙ kept.counted ∙ ap put_count (sym same_told);
     sound = subst (λ (ks : List (List ℕ)). AreSound ks e'.all) (sym keys) (subst (AreSound k.keys) (sym all) kept.sound);
     distinct = subst AreDistinct (sym keys) kept.distinct;
     few = omega (arith, ap length keys, kept.few);
@@ -88,7 +102,7 @@ module _ (k k' : KeptKeys) (e e' : KeptEntries) (reserved : List Bool) (reservat
 
   -- one more place is held
   pub flag_kept : (client : ℕ) → client < length e.all → get_or reserved client false ≡ false → get_or e'.room client false ≡ true → reservations + 1 ≤ k'.spare → reservations + 1 ≤ e'.more_puts → reservations + 1 ≤ e'.more_gets
-      → IsKept k' e' (set reserved client true) (reservations + 1) len puts
+      → IsKept k' e' (set reserved client true) (reservations + 1) len
   flag_kept client inside was has places put_places get_places = record {
     limits = room_kept.limits;
     count = room_kept.count;
@@ -111,13 +125,13 @@ module _ (k k' : KeptKeys) (e e' : KeptEntries) (reserved : List Bool) (reservat
 
 -- ---- one more operation
 
-module _ (k k' : KeptKeys) (e e' : KeptEntries) (reserved : List Bool) (reservations len puts client : ℕ) (entry : Entry) (op : Op) (inside : client < length e.all) (kept : IsKept k e reserved reservations len puts)
-    (gains : GainsKey k k') (fits : IsSound k'.keys e.all entry) (is : told k'.keys e.all entry ≡ op) (all : e'.all ≡ with_item e.all client entry) (more : GainsEntry e e') where
+module _ (k k' : KeptKeys) (e e' : KeptEntries) (reserved : List Bool) (reservations len client : ℕ) (entry : Entry) (op : Op) (inside : client < length e.all) (kept : IsKept k e reserved reservations len)
+    (gains : GainsKey k k') (fits : IsSound k'.keys e.all entry) (is : told k'.keys e.all entry ≡ op) (all : e'.all ≡ with_item e.all client entry) (more : GainsEntry entry e e') where
   pub put_told : told_by k'.keys e'.all ≡ with_op (told_by k.keys e.all) client op
   put_told = ap (told_by k'.keys) all ∙ told_by-with_item k.keys k'.keys gains.places e.all client entry inside kept.sound fits op is
 
   pub put_kept : get_or reserved client false ≡ true → ((c : ℕ) → c ≢ client → get_or e.room c false ≡ true → get_or e'.room c false ≡ true)
-      → length (get_or (told_by k.keys e.all) client []) < 1000000 → count_of (told_by k.keys e.all) < 16000000 → IsKept k' e' (set reserved client false) (reservations - 1) (len + 1) (puts + flag_count (is_put op))
+      → length (get_or (told_by k.keys e.all) client []) < 1000000 → count_of (told_by k.keys e.all) < 16000000 → IsKept k' e' (set reserved client false) (reservations - 1) (len + 1)
   put_kept flag room session most =
       let h = told_by k.keys e.all in
       let there : client < length h = omega (arith, length-map e.all (map (told k.keys e.all))) in
@@ -125,7 +139,7 @@ module _ (k k' : KeptKeys) (e e' : KeptEntries) (reserved : List Bool) (reservat
       record {
         limits = subst IsWithinLimits (sym put_told) (within_with_op h client op (there, session, most) kept.limits);
         count = omega (arith, kept.count, ap count_of put_told, count-with_op h client op there);
-        counted = ap (λ (n : ℕ). n + flag_count (is_put op)) kept.counted ∙ sym (puts-with_op h client op there) ∙ sym (ap put_count put_told);
+        counted = omega (arith, more.names, kept.counted, puts-with_op h client op there, ap put_count put_told, puts-told k'.keys e.all entry, ap (λ (o : Op). flag_count (is_put o)) is);
         sound = subst (AreSound k'.keys) (sym all) (sound-with_item k.keys k'.keys gains.places e.all client entry inside kept.sound fits);
         distinct = gains.distinct;
         few = omega (arith, gains.few, kept.few);
@@ -139,6 +153,6 @@ module _ (k k' : KeptKeys) (e e' : KeptEntries) (reserved : List Bool) (reservat
         places = omega (arith, kept.held, kept.places, gains.spare, clear_flag reserved client flags flag);
         put_places = omega (arith, kept.held, kept.put_places, more.more_puts, clear_flag reserved client flags flag);
         get_places = omega (arith, kept.held, kept.get_places, more.more_gets, clear_flag reserved client flags flag);
-        few_names = omega (arith, kept.few_names, more.names);
+        few_names = omega (arith, kept.few_names, more.names, puts-told k'.keys e.all entry, flag-le (is_put (told k'.keys e.all entry)));
         few_gets = omega (arith, kept.few_gets, more.gets);
       }

@@ -1,6 +1,6 @@
 -- The entries that slots stand for, as one more comes.
 use Rattle.std.proofs.Common.{◌≡◌, ℕ, zero, suc, ◌<◌, ◌≤◌, List, [], ◌∷◌, ◌++◌, map, length, length-append, get_or, replicate, slice_get, Option, Some, None, refl, sym, ap, ◌∙◌, subst, arith, get_or-set_same, get_or-set_other, inl, inr}
-use Rattle.std.specs.Prelude.{◌⊎◌}
+use Rattle.std.specs.Prelude.{◌⊎◌, ◌≢◌, ◌↔◌, IfSome, IfNone}
 use Rattle.std.specs.Option.{option_map}
 use Rattle.std.proofs.Math.ListN.{set, get_or-map}
 use Rattle.std.proofs.lemmas.List.{map-set, map-append, length-map, get_or-map as get_or-map-inside}
@@ -167,6 +167,40 @@ module _ (puts : List KeptPut) (gets : List KeptGot) (slots : List (List Slot)) 
   pub put_at : (n : ℕ) (p : KeptPut) → slice_get puts n ≡ Some p → item_at (shown_by puts gets slots) p.name ≡ Some (Put p.key p.value p.version)
   put_at n p at = item_at-shown puts gets slots p.name ∙ ap (option_map (shown puts gets)) (kept.named n p at) ∙ ap (λ (o : Option KeptPut). Some (put_shown o)) at
 
+  -- a put's number is that of its name
+  pub named_at : (name : OpName) (n : ℕ) → item_at slots name ≡ Some (PutSlot n) → slice_get (map (λ (p : KeptPut). p.name) puts) n ≡ Some name
+  named_at name n at = let p = kept.back name n at in slice_get-map (λ (q : KeptPut). q.name) puts n ∙ ap (option_map (λ (q : KeptPut). q.name)) p.1 ∙ ap Some p.2
+
+  -- and the name that has it is a put's
+  pub put_named : (name : OpName) (n : ℕ) → slice_get (map (λ (p : KeptPut). p.name) puts) n ≡ Some name → item_at slots name ≡ Some (PutSlot n)
+  put_named name n at =
+      let f = λ (q : KeptPut). q.name in
+      let inside : n < length puts = omega (arith, slice_get_within (map f puts) n name at, length-map puts f) in
+      let p = found puts n inside in
+      let both : Some name ≡ Some p.0.name = sym at ∙ slice_get-map f puts n ∙ ap (option_map f) p.1 in
+      let same : name ≡ p.0.name = cc in
+      ap (item_at slots) same ∙ kept.named n p.0 p.1
+
+  -- it stands for a put
+  pub put_of : (name : OpName) (n : ℕ) → item_at slots name ≡ Some (PutSlot n) → (key version : ℕ) × (value : List ℕ) × (item_at (shown_by puts gets slots) name ≡ Some (Put key value version))
+  put_of name n at =
+      let p = kept.back name n at in
+      (p.0.key, p.0.version, p.0.value, ap (item_at (shown_by puts gets slots)) (sym p.2) ∙ put_at n p.0 p.1)
+
+  -- the put that a slot names is there
+  pub source_of : (name : OpName) (n : ℕ) → item_at slots name ≡ Some (SourcedSlot n)
+      → (put : OpName) × (slice_get (map (λ (p : KeptPut). p.name) puts) n ≡ Some put)
+      × (key version : ℕ) × (item_at (shown_by puts gets slots) name ≡ Some (Sourced key (record { name = put; number = n }) version))
+  source_of name n at =
+      let f = λ (q : KeptPut). q.name in
+      let p = found puts n (kept.there name (SourcedSlot n) at) in (
+        p.0.name,
+        slice_get-map f puts n ∙ ap (option_map f) p.1,
+        p.0.key,
+        p.0.version,
+        item_at-shown puts gets slots name ∙ ap (option_map (shown puts gets)) at ∙ ap (λ (o : Option KeptPut). Some (source_shown n o)) p.1,
+      )
+
   -- what is referred to has its put's value
   pub has_value : (e : EntryRef) → IsFrom puts e → HasValue (shown_by puts gets slots) e
   has_value (PutRef key value version) from = tt
@@ -193,6 +227,11 @@ module _ (puts : List KeptPut) (gets : List KeptGot) (slots : List (List Slot)) 
       let same_version : p.0.version ≡ version = cc in
       (inside, ap (source_shown put.number) p.1 ∙ (λ j. Sourced (same_key j) (record { name = sym name j; number = put.number }) (same_version j)))
 
+-- puts with their versions have the puts' names
+pub names_versioned : (puts : List KeptPut) → map (λ (p : VersionedPut). p.name) (map versioned puts) ≡ map (λ (p : KeptPut). p.name) puts
+names_versioned [] = refl
+names_versioned (p ∷ puts) = ap (λ (l : List OpName). p.name ∷ l) (names_versioned puts)
+
 -- what does not stand for a put
 no_sourced_put : (number : ℕ) (o : Option KeptPut) (key : ℕ) (value : List ℕ) (version : ℕ) → source_shown number o ≡ Put key value version → ⊥
 no_sourced_put number (Some p) key value version is = cc
@@ -210,6 +249,11 @@ module _ (puts : List KeptPut) (gets : List KeptGot) where
   slot_of_put (Some (SourcedSlot n)) key value version is = let e : source_shown n (slice_get puts n) ≡ Put key value version = cc in absurd (no_sourced_put n (slice_get puts n) key value version e)
   slot_of_put (Some (GotSlot n)) key value version is = let e : got_shown (slice_get gets n) ≡ Put key value version = cc in absurd (no_got_put (slice_get gets n) key value version e)
   slot_of_put (Some (MissedSlot k)) key value version is = cc
+
+  -- where no put's slot is, no put's entry is
+  pub no_put_shown : (slots : List (List Slot)) (name : OpName) → ((n : ℕ) → item_at slots name ≡ Some (PutSlot n) → ⊥)
+      → (key version : ℕ) (value : List ℕ) → item_at (shown_by puts gets slots) name ≡ Some (Put key value version) → ⊥
+  no_put_shown slots name none key version value at = let slot = slot_of_put (item_at slots name) key value version (sym (item_at-shown puts gets slots name) ∙ at) in none slot.0 slot.1
 
   module _ (slots : List (List Slot)) (kept : AreKept puts gets slots) where
     versioned_at : (n : ℕ) (p : KeptPut) (d : VersionedPut) → slice_get puts n ≡ Some p → get_or (map versioned puts) n d ≡ versioned p
@@ -245,6 +289,34 @@ module _ (puts : List KeptPut) (gets : List KeptGot) where
           let equal : i ≡ j = cc in
           omega (arith, less, equal);
     }
+
+module _ (puts : List KeptPut) (gets : List KeptGot) (slots : List (List Slot)) (kept : AreKept puts gets slots) (name : OpName) where
+  -- the number that a name's slot tells
+  module _ (number : Option ℕ) (tells : (n : ℕ) → (number ≡ Some n) ↔ (item_at slots name ≡ Some (PutSlot n))) where
+    pub numbers_put : (n : ℕ) → (number ≡ Some n) ↔ (slice_get (map (λ (p : KeptPut). p.name) puts) n ≡ Some name)
+    numbers_put n = ((λ is. named_at puts gets slots kept name n ((tells n).0 is)), (λ at. (tells n).1 (put_named puts gets slots kept name n at)))
+
+    pub number_is_put : IfSome number (λ _. (key version : ℕ) × (value : List ℕ) × (item_at (shown_by puts gets slots) name ≡ Some (Put key value version)))
+    number_is_put = told number (λ n is. put_of puts gets slots kept name n ((tells n).0 is))
+      where
+        told : (o : Option ℕ) → ((n : ℕ) → o ≡ Some n → (key version : ℕ) × (value : List ℕ) × (item_at (shown_by puts gets slots) name ≡ Some (Put key value version)))
+            → IfSome o (λ _. (key version : ℕ) × (value : List ℕ) × (item_at (shown_by puts gets slots) name ≡ Some (Put key value version)))
+        told (Some n) so = so n refl
+        told None so = tt
+
+    pub no_number_no_put : IfNone number ((key version : ℕ) (value : List ℕ) → item_at (shown_by puts gets slots) name ≢ Some (Put key value version))
+    no_number_no_put = told number (λ none. no_put_shown puts gets slots name (λ n at. let gone : None ≡ Some n = none ∙ (tells n).1 at in cc))
+      where
+        told : (o : Option ℕ) → (None ≡ o → (key version : ℕ) (value : List ℕ) → item_at (shown_by puts gets slots) name ≢ Some (Put key value version))
+            → IfNone o ((key version : ℕ) (value : List ℕ) → item_at (shown_by puts gets slots) name ≢ Some (Put key value version))
+        told (Some n) so = tt
+        told None so = so refl
+
+  pub names_source : (number : Option ℕ) → IfSome number (λ n. item_at slots name ≡ Some (SourcedSlot n))
+      → IfSome number (λ n. (put : OpName) × (slice_get (map (λ (p : KeptPut). p.name) puts) n ≡ Some put)
+      × (key version : ℕ) × (item_at (shown_by puts gets slots) name ≡ Some (Sourced key (record { name = put; number = n }) version)))
+  names_source (Some n) at = source_of puts gets slots kept name n at
+  names_source None at = tt
 
 -- ---- one more operation
 

@@ -1,6 +1,6 @@
 -- What is told of an entry by its name, and when the one entry is the source of the other.
 use Rattle.std.proofs.Common.{◌≡◌, ◌<◌, ℕ, List, [], length, get_or, slice_get, Bor, Option, Some, None, refl, sym, ap, ◌∙◌, inl, inr}
-use Rattle.std.specs.Prelude.{◌⊎◌}
+use Rattle.std.specs.Prelude.{◌⊎◌, ◌≢◌, IfSome, IfNone}
 use Rattle.std.specs.Option.{option_map}
 use Rattle.std.proofs.lemmas.Option.{slice_get-get_or}
 use Rattle.cops_types.specs.declared.op.Op.{Op}
@@ -14,9 +14,9 @@ use Rattle.cops_types.specs.declared.value.Value.{Value}
 use Rattle.cops_types.specs.declared.version.Version.{Version}
 use Rattle.cops_types.specs.declared.entry.Entry.TheVariants.{Put, Got, Sourced, Missed}
 use Rattle.cops_types.specs.Lists.{item_at}
-use Rattle.cops_types.specs.Histories.{PutsVersion, SourceStep, op_at}
+use Rattle.cops_types.specs.Histories.{Puts, PutsVersion, SourceStep, op_at}
 use Rattle.cops_types.specs.Operations.{GetsVersion, key_of}
-use Rattle.cops_types.specs.Entries.{EntryLists, AreSound, IsSound, ListsEntries, referred, value_in, told, told_by, key_number_of}
+use Rattle.cops_types.specs.Entries.{EntryLists, AreSound, IsSound, ListsEntries, referred, value_in, value_put, told, told_by, key_number_of}
 use Rattle.cops_types.specs.declared.versioned_put.VersionedPut.{VersionedPut}
 use Rattle.cops_types.specs.KeySets.{AreDistinct}
 use Rattle.cops_types.specs.PutLists.{AreAllPuts}
@@ -152,3 +152,28 @@ all_puts keys all puts lists = record {
   );
   once = lists.once;
 }
+
+-- the put whose number a get's entry names is its source
+pub names_sources : (keys : List (List ℕ)) (all : EntryLists) → AreSound keys all → (names : List OpName) (got : OpName) (number : Option ℕ)
+    → IfSome number (λ n. (put : OpName) × (slice_get names n ≡ Some put) × (key version : ℕ) × (item_at all got ≡ Some (Sourced key (record { name = put; number = n }) version)))
+    → IfSome number (λ n. (put : OpName) × (slice_get names n ≡ Some put) × SourceStep (told_by keys all) put got)
+names_sources keys all sound names got (Some n) named =
+    let put = named.0 in
+    let key = named.2 in
+    let version = named.3 in
+    let at = named.4 in
+    let entry = Sourced key (record { name = put; number = n }) version in
+    let was_got = told_as keys all got entry (GotOp (get_or keys key []) (value_put all put) version) (sym at) refl in
+    (put, named.1, source_there keys all put got key (value_put all put) version was_got (sound got entry at).source)
+names_sources keys all sound names got None named = tt
+
+module _ (keys : List (List ℕ)) (all : EntryLists) (name : OpName) where
+  -- where there is a put's entry, there is a put
+  pub puts_of : (number : Option ℕ) → IfSome number (λ _. (key version : ℕ) × (value : List ℕ) × (item_at all name ≡ Some (Put key value version))) → IfSome number (λ _. Puts (told_by keys all) name)
+  puts_of (Some n) put = (put.1, (get_or keys put.0 [], put.2, op_at-told keys all name ∙ ap (option_map (told keys all)) put.3))
+  puts_of None put = tt
+
+  -- and where there is none, there is none
+  pub no_puts_of : (number : Option ℕ) → IfNone number ((key version : ℕ) (value : List ℕ) → item_at all name ≢ Some (Put key value version)) → IfNone number (¬ Puts (told_by keys all) name)
+  no_puts_of (Some n) none = tt
+  no_puts_of None none = λ puts. let e = entry_of_put keys all (item_at all name) puts.1.0 puts.1.1 puts.0 (sym (op_at-told keys all name) ∙ puts.1.2) in none e.0 puts.0 e.1 e.2

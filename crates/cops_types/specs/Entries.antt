@@ -91,9 +91,16 @@ pub record KeepsEntries (old new : KeptEntries) : Type 0 where
   pub more_gets : old.more_gets ≤ new.more_gets
   pub others : (client : ℕ) → slice_index_or old.room client false ≡ true → slice_index_or new.room client false ≡ true
 
--- at most one put and one such get came, and took at most one place of the room for each
-pub record GainsEntry (old new : KeptEntries) : Type 0 where
-  pub names : length new.names ≤ length old.names + 1
+-- a put counts 1
+abbrev pub puts_in : Entry → ℕ
+puts_in (Put key value version) = 1
+puts_in (Got key value version) = 0
+puts_in (Sourced key put version) = 0
+puts_in (Missed key) = 0
+
+-- the entry came, with a name where it is a put; it took at most one place of the room for each
+pub record GainsEntry (entry : Entry) (old new : KeptEntries) : Type 0 where
+  pub names : length new.names ≡ length old.names + puts_in entry
   pub gets : new.gets ≤ old.gets + 1
   pub more_puts : old.more_puts ≤ new.more_puts + 1
   pub more_gets : old.more_gets ≤ new.more_gets + 1

@@ -10,11 +10,11 @@ abbrev pub flag_count : Bool → ℕ
 flag_count true = 1
 flag_count false = 0
 
--- so many operations, and so many of them puts, whose keys and sources are there; and for each client that has reserved a place among its entries and among the keys
-pub record IsKept (keys : KeptKeys) (entries : KeptEntries) (reserved : List Bool) (reservations len puts : ℕ) : Type 0 where
+-- so many operations, whose keys and sources are there, and a name for each put; and for each client that has reserved a place among its entries and among the keys
+pub record IsKept (keys : KeptKeys) (entries : KeptEntries) (reserved : List Bool) (reservations len : ℕ) : Type 0 where
   pub limits : IsWithinLimits (told_by keys.keys entries.all)
   pub count : len ≡ count_of (told_by keys.keys entries.all)
-  pub counted : puts ≡ put_count (told_by keys.keys entries.all)
+  pub counted : length entries.names ≡ put_count (told_by keys.keys entries.all)
   pub sound : AreSound keys.keys entries.all
   pub distinct : AreDistinct keys.keys
   pub few : length keys.keys ≤ len

@@ -1,7 +1,8 @@
-ghost use Rattle.std.specs.Prelude.{◌≡◌, ◌≢◌, ◌<◌, ◌≤◌, ℕ, [], true, false, length, map, option_copied, replicate, slice_index_or, vec_capacity, IfOk};
+ghost use Rattle.std.specs.Prelude.{◌≡◌, ◌≢◌, ◌<◌, ◌≤◌, ◌↔◌, ℕ, [], Some, true, false, length, map, option_copied, replicate, slice_index_or, vec_capacity, IfOk, IfSome};
 ghost use Rattle.cops_types.specs.Lists.{item_at, with_item};
 ghost use Rattle.cops_types.specs.Entries.{referred};
 ghost use Rattle.cops_types.specs.Slots.{IsFrom, IsThere, shown, versioned};
+ghost use Rattle.cops_types.specs.declared.slot.Slot.TheVariants.{Put as PutSlot, Sourced as SourcedSlot};
 ghost use Rattle.cops_types.specs.declared.limits.TheConstants.{MAX_CLIENT_OPS};
 
 use crate::blocks::Blocks;
@@ -45,7 +46,8 @@ impl Model for Entries {
 }
 
 impl Entries {
-    ghost use Rattle.std.specs.Prelude.{◌≡◌, ◌≢◌, ◌<◌, ◌≤◌, ◌↔◌, ℕ, List, length, slice_get, slice_index_or, [], Some, OnOk, IfOk, IfSome, IfNone, IsOk, IsTrue, replicate, true, false, vec_capacity};
+    ghost use Rattle.cops_types.specs.declared.op.OpName.{OpName};
+    ghost use Rattle.std.specs.Prelude.{◌≡◌, ◌≢◌, ◌<◌, ◌≤◌, ◌↔◌, ℕ, List, length, map, slice_get, slice_index_or, [], Some, OnOk, IfOk, IfSome, IfNone, IsOk, IsTrue, replicate, true, false, vec_capacity};
     ghost use Rattle.std.specs.Option.{option_map};
     ghost use Rattle.cops_types.specs.Lists.{item_at, with_item};
     ghost use Rattle.cops_types.specs.Entries.{GainsEntry, HasSource, HasValue, IsNumbered, KeepsEntries, ListsEntries, referred, value_put};
@@ -94,6 +96,25 @@ impl Entries {
     {
         let slot = slot_at(&self.sessions, name)?;
         Some(refer(&self.puts, &self.gets, *slot))
+    }
+
+    /// The number of the put of that name, if there is one.
+    #[inline(always)]
+    pub(crate) fn put_number(&self, name: OpName) -> Option<u32>
+        ensures number { (n : ℕ) → (result ≡ Some n) ↔ (slice_get self.now.names n ≡ Some name) }
+        ensures put { IfSome result (λ _. (key version : ℕ) × (value : List ℕ) × (item_at self.now.all name ≡ Some (Put key value version))) }
+        ensures none { IfNone result ((key version : ℕ) (value : List ℕ) → item_at self.now.all name ≢ Some (Put key value version)) }
+    {
+        number_at(&self.sessions, name)
+    }
+
+    /// The number of the put that the get of that name names, if it names one.
+    #[inline(always)]
+    pub(crate) fn source_number(&self, name: OpName) -> Option<u32>
+        ensures { IfSome result (λ n. (put : OpName) × (slice_get self.now.names n ≡ Some put)
+            × (key version : ℕ) × (item_at self.now.all name ≡ Some (Sourced key (record { name = put; number = n }) version))) }
+    {
+        source_number_at(&self.sessions, name)
     }
 
     /// The value of the put of that name, if there is one.
@@ -177,6 +198,7 @@ impl Entries {
     /// for them.
     pub(crate) fn list_puts(&self, to: &mut Vec<VersionedPut>) -> Result<(), AllocError>
         ensures puts { OnOk result (ListsEntries self.now.all to.new.items) }
+        ensures names { OnOk result (map (λ p. p.name) to.new.items ≡ self.now.names) }
         ensures few { OnOk result (length to.new.items ≡ length self.now.names) }
         ensures capacity { vec_capacity to.old ≤ vec_capacity to.new }
         ensures succeeds { length self.now.names ≤ vec_capacity to.old → IsOk result }
@@ -235,7 +257,7 @@ impl Entries {
         requires numbered { IsNumbered self.old.names entry }
         requires source { HasSource self.old.all entry }
         ensures all { self.new.all ≡ with_item self.old.all client entry }
-        ensures gains { GainsEntry self.old self.new }
+        ensures gains { GainsEntry entry self.old self.new }
         ensures others { (c : ℕ) → c ≢ client → slice_index_or self.old.room c false ≡ true → slice_index_or self.new.room c false ≡ true }
     {
         match entry {
@@ -263,7 +285,7 @@ impl Entries {
         requires more_puts { 0 < self.old.more_puts }
         requires few_names { length self.old.names < MAX_OPS }
         ensures all { self.new.all ≡ with_item self.old.all client (Put key value version) }
-        ensures gains { GainsEntry self.old self.new }
+        ensures gains { GainsEntry (Put key value version) self.old self.new }
         ensures others { (c : ℕ) → c ≢ client → slice_index_or self.old.room c false ≡ true → slice_index_or self.new.room c false ≡ true }
     {
         let number = self.puts.len() as u32;
@@ -289,7 +311,7 @@ impl Entries {
         requires more_gets { 0 < self.old.more_gets }
         requires few_gets { self.old.gets < MAX_OPS }
         ensures all { self.new.all ≡ with_item self.old.all client (Got key value version) }
-        ensures gains { GainsEntry self.old self.new }
+        ensures gains { GainsEntry (Got key value version) self.old self.new }
         ensures others { (c : ℕ) → c ≢ client → slice_index_or self.old.room c false ≡ true → slice_index_or self.new.room c false ≡ true }
     {
         let number = self.gets.len() as u32;
@@ -310,7 +332,7 @@ impl Entries {
         requires numbered { slice_get self.old.names put.number ≡ Some put.name }
         requires source { item_at self.old.all put.name ≡ Some (Put key (value_put self.old.all put.name) version) }
         ensures all { self.new.all ≡ with_item self.old.all client (Sourced key put version) }
-        ensures gains { GainsEntry self.old self.new }
+        ensures gains { GainsEntry (Sourced key put version) self.old self.new }
         ensures others { (c : ℕ) → c ≢ client → slice_index_or self.old.room c false ≡ true → slice_index_or self.new.room c false ≡ true }
     {
         push_slot(&mut self.sessions, client, Slot::Sourced(put.number));
@@ -323,7 +345,7 @@ impl Entries {
         requires room { slice_index_or self.old.room client false ≡ true }
         requires few { length (slice_index_or self.old.all client []) < MAX_CLIENT_OPS }
         ensures all { self.new.all ≡ with_item self.old.all client (Missed key) }
-        ensures gains { GainsEntry self.old self.new }
+        ensures gains { GainsEntry (Missed key) self.old self.new }
         ensures others { (c : ℕ) → c ≢ client → slice_index_or self.old.room c false ≡ true → slice_index_or self.new.room c false ≡ true }
     {
         push_slot(&mut self.sessions, client, Slot::Missed(key));
@@ -372,6 +394,28 @@ fn slot_at(sessions: &[Blocks], name: OpName) -> Option<&Slot>
     ensures { option_copied result ≡ item_at (map (λ s. s.items) sessions.now) name }
 {
     sessions.get(name.client as usize)?.get(name.index as usize)
+}
+
+/// The number of the put of that name, if there is one.
+#[inline(always)]
+fn number_at(sessions: &[Blocks], name: OpName) -> Option<u32>
+    ensures { (n : ℕ) → (result ≡ Some n) ↔ (item_at (map (λ s. s.items) sessions.now) name ≡ Some (PutSlot n)) }
+{
+    match slot_at(sessions, name)? {
+        Slot::Put(number) => Some(*number),
+        _ => None,
+    }
+}
+
+/// The number of the put that the get of that name names, if it names one.
+#[inline(always)]
+fn source_number_at(sessions: &[Blocks], name: OpName) -> Option<u32>
+    ensures { IfSome result (λ n. item_at (map (λ s. s.items) sessions.now) name ≡ Some (SourcedSlot n)) }
+{
+    match slot_at(sessions, name)? {
+        Slot::Sourced(number) => Some(*number),
+        _ => None,
+    }
 }
 
 /// The entry that a slot stands for, of these puts and gets.

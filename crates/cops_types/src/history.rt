@@ -2,7 +2,6 @@ ghost use Rattle.std.specs.Prelude.{◌≡◌, ◌<◌, ◌+◌, ℕ, List, [], 
 ghost use Rattle.cops_types.specs.declared.limits.TheConstants.{MAX_CLIENT_OPS, MAX_OPS};
 ghost use Rattle.cops_types.specs.declared.entry.Entry.TheVariants.{Put};
 ghost use Rattle.cops_types.specs.Entries.{AreSound, HasSource, IsNumbered, IsSound, key_number_of, told};
-ghost use Rattle.cops_types.specs.Keeping.{flag_count};
 ghost use Rattle.cops_types.specs.Lists.{item_at};
 ghost use Rattle.cops_types.specs.KeySets.{AreDistinct, GainsKey};
 ghost use Rattle.cops_types.specs.Operations.{key_of};
@@ -35,7 +34,6 @@ pub struct History {
     reserved: Vec<bool>,
     reservations: usize,
     len: usize,
-    puts: usize,
     foresight: Foresight,
 }
 
@@ -50,15 +48,17 @@ impl Model for History {
       sessions = told_by a.keys.keys a.entries.all;
       room = a.reserved.items;
       keys = a.keys.keys;
+      puts = a.entries.names;
     } };
 
-    ghost invariant = { λ a. IsKept a.keys a.entries a.reserved.items a.reservations a.len a.puts };
+    ghost invariant = { λ a. IsKept a.keys a.entries a.reserved.items a.reservations a.len };
 }
 
 impl History {
-    ghost use Rattle.std.specs.Prelude.{◌≡◌, ◌≢◌, ◌≤◌, ◌<◌, ◌↔◌, ℕ, length, slice_index_or, slice_get, [], Some, OnOk, OnErr, OnSome, IfOk, IfErr, IfSome, IfNone, IsOk, IsErrOf, IsTrue, replicate, false, vec_capacity, ◌==◌};
+    ghost use Rattle.std.specs.Prelude.{◌≡◌, ◌≢◌, ◌≤◌, ◌<◌, ◌↔◌, ℕ, length, map, slice_index_or, slice_get, [], Some, OnOk, OnErr, OnSome, IfOk, IfErr, IfSome, IfNone, IsOk, IsErrOf, IsTrue, replicate, false, vec_capacity, ◌==◌};
     ghost use Rattle.std.specs.Option.{option_map, option_and_then};
-    ghost use Rattle.cops_types.specs.Histories.{PutsVersion, SourceStep, op_at, with_op};
+    ghost use Rattle.cops_types.specs.Histories.{Puts, PutsVersion, SourceStep, op_at, with_op};
+    ghost use Rattle.cops_types.specs.declared.op.OpName.{OpName};
     ghost use Rattle.cops_types.specs.Operations.{GetsVersion, key_of};
     ghost use Rattle.cops_types.specs.OpRefs.{seen};
     ghost use Rattle.cops_types.specs.OpViews.{viewed};
@@ -79,7 +79,6 @@ impl History {
             reserved,
             reservations: 0,
             len: 0,
-            puts: 0,
             foresight: Foresight::new(alloc),
         })
     }
@@ -199,13 +198,11 @@ impl History {
         ensures ok { self.new.sessions ≡ with_op self.old.sessions client op }
         ensures others { (c : ℕ) → c ≢ client → HasRoom self.old c → HasRoom self.new c }
     {
-        let puts = with_op_counted(self.puts, op.is_put());
         let entry = entry_of(&mut self.keys, &mut self.foresight, &self.entries, op);
         self.entries.push(client, entry);
         self.reserved[client as usize] = false;
         self.reservations -= 1;
         self.len += 1;
-        self.puts = puts;
     }
 
     /// Adds the client's next operation, which is seen, at the place that `reserve` made: what of it is new is
@@ -222,7 +219,6 @@ impl History {
     {
         let alloc = *self.reserved.allocator();
         let place = client as usize;
-        let puts = with_op_counted(self.puts, op.is_put());
         let entry = entry_of_seen(
             alloc,
             &mut self.keys,
@@ -234,7 +230,6 @@ impl History {
         self.reserved[place] = false;
         self.reservations -= 1;
         self.len += 1;
-        self.puts = puts;
         Ok(())
     }
 
@@ -254,17 +249,19 @@ impl History {
         self.len
     }
 
-    /// How many puts there are.
+    /// How many puts there are: their numbers are those below.
     pub fn puts(&self) -> usize
-        ensures { result ≡ put_count self.now.sessions }
+        ensures count { result ≡ put_count self.now.sessions }
+        ensures numbers { result ≡ length self.now.puts }
     {
-        self.puts
+        self.entries.puts()
     }
 
-    /// Makes it all puts with their versions, in the order in which they came. It takes no memory where there is room
-    /// for as many as there are operations.
+    /// Makes it all puts with their versions, in the order of their numbers. It takes no memory where there is room for
+    /// as many as there are operations.
     pub fn list_puts(&self, to: &mut Vec<VersionedPut>) -> Result<(), AllocError>
         ensures puts { OnOk result (AreAllPuts self.now.sessions to.new.items) }
+        ensures numbers { OnOk result (map (λ p. p.name) to.new.items ≡ self.now.puts) }
         ensures few { OnOk result (length to.new.items ≤ count_of self.now.sessions) }
         ensures limits { IsWithinLimits self.now.sessions }
         ensures capacity { vec_capacity to.old ≤ vec_capacity to.new }
@@ -358,15 +355,23 @@ impl History {
         }
     }
 
-    /// The put that the get of that name returned, where the history found it as the get came: its key, its value and
-    /// its version. None says nothing of the get. It reads neither key nor value.
-    pub fn known_source(&self, got: OpName) -> Option<OpName>
-        ensures { IfSome result (λ put. SourceStep self.now.sessions put got) }
+    /// The number of the put of that name, if there is one: puts are numbered from 0 in the order in which they came.
+    #[inline(always)]
+    pub fn put_number(&self, name: OpName) -> Option<u32>
+        ensures number { (n : ℕ) → (result ≡ Some n) ↔ (slice_get self.now.puts n ≡ Some name) }
+        ensures put { IfSome result (λ _. Puts self.now.sessions name) }
+        ensures none { IfNone result (¬ Puts self.now.sessions name) }
     {
-        match self.entries.get(got)? {
-            EntryRef::Sourced { put, .. } => Some(put.name),
-            _ => None,
-        }
+        self.entries.put_number(name)
+    }
+
+    /// The number of the put that the get of that name returned, its key, its value and its version, where the history
+    /// found it as the get came. None says nothing of the get.
+    #[inline(always)]
+    pub fn source_number(&self, got: OpName) -> Option<u32>
+        ensures { IfSome result (λ n. (put : OpName) × (slice_get self.now.puts n ≡ Some put) × SourceStep self.now.sessions put got) }
+    {
+        self.entries.source_number(got)
     }
 
     /// Whether the one is a put, and the other a get that returned it: its key, its value and its version.
@@ -392,15 +397,6 @@ impl History {
             EntryRef::Put { .. } | EntryRef::Missed { .. } => false,
         }
     }
-}
-
-/// So many puts, and one more operation, which may be a put.
-#[inline(always)]
-fn with_op_counted(puts: usize, is_put: bool) -> usize
-    requires { puts < MAX_OPS }
-    ensures { result ≡ puts + flag_count is_put }
-{
-    if is_put { puts + 1 } else { puts }
 }
 
 /// The entry of an operation, whose key is added where it is not there.

@@ -60,7 +60,6 @@ impl Clone for Op {
 
 impl Op {
     ghost use Rattle.std.specs.Prelude.{◌≡◌};
-    ghost use Rattle.cops_types.specs.Counts.{is_put};
     ghost use Rattle.cops_types.specs.OpRefs.{seen};
     ghost use Rattle.cops_types.specs.OpViews.{viewed};
     ghost use Rattle.cops_types.specs.Operations.{key_of};
@@ -89,16 +88,6 @@ impl Op {
                 version,
             },
             Op::Missed { key } => OpRef::Missed { key },
-        }
-    }
-
-    /// Whether it is a put.
-    pub fn is_put(&self) -> bool
-        ensures { result ≡ is_put self.now }
-    {
-        match self {
-            Op::Put { .. } => true,
-            Op::Got { .. } | Op::Missed { .. } => false,
         }
     }
 

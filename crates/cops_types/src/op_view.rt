@@ -134,18 +134,7 @@ pub enum OpView<'a> {
 impl<'a> OpView<'a> {
     ghost use Rattle.std.specs.Prelude.{◌≡◌};
     ghost use Rattle.cops_types.specs.Operations.{key_of};
-    ghost use Rattle.cops_types.specs.Counts.{is_put};
     ghost use Rattle.cops_types.specs.OpViews.{viewed};
-
-    /// Whether it is a put.
-    pub fn is_put(&self) -> bool
-        ensures { result ≡ is_put (viewed self.now) }
-    {
-        match self {
-            OpView::Put { .. } => true,
-            OpView::Got { .. } | OpView::Missed { .. } => false,
-        }
-    }
 
     /// The key that it is on.
     pub fn key(&self) -> &KeyView<'a>

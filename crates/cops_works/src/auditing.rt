@@ -1,6 +1,6 @@
 //! The verdict on a trace, by each way to it.
 
-use cops_audit::{FeedFault, Online};
+use cops_audit::{FeedFault, Online, Verdict};
 use cops_batch::{BatchFault, judge_with};
 use cops_command::reported;
 use cops_report::{report, report_judged};
@@ -19,6 +19,18 @@ fn read(alloc: Global, bytes: &[u8]) -> Result<Option<Trace>, Memory> {
     }
 }
 
+/// Whether this is reported of a verdict.
+fn is_reported(
+    alloc: Global,
+    history: &History,
+    verdict: Verdict,
+    wanted: &[u8],
+) -> Result<bool, Memory> {
+    let text = report(alloc, history, &verdict);
+    drop(verdict);
+    Ok(text?.as_slice() == wanted)
+}
+
 /// Whether two workers say so.
 fn two_say<R: Threads + Wait + Sync>(
     rt: &R,
@@ -26,13 +38,11 @@ fn two_say<R: Threads + Wait + Sync>(
     history: &History,
     wanted: &[u8],
 ) -> Result<bool, Memory> {
-    let verdict = match judge_with(rt, alloc, history, 2, &OpenGate) {
-        Ok(verdict) => verdict,
-        Err(BatchFault::Memory) => return Err(Memory),
-        Err(_) => return Ok(false),
-    };
-    let text = report(alloc, history, &verdict)?;
-    Ok(text.as_slice() == wanted)
+    match judge_with(rt, alloc, history, 2, &OpenGate) {
+        Ok(verdict) => is_reported(alloc, history, verdict, wanted),
+        Err(BatchFault::Memory) => Err(Memory),
+        Err(_) => Ok(false),
+    }
 }
 
 /// Feeds an operation: where memory is refused once more, and tells whether it was taken.
@@ -69,14 +79,28 @@ fn feed_all(online: &mut Online, history: &History) -> Result<bool, Memory> {
     Ok(true)
 }
 
+/// The report of what an auditor says that was fed.
+fn closed_report(alloc: Global, online: Online) -> Result<Vec<u8>, Memory> {
+    let judged = online.close()?;
+    let text = report_judged(alloc, &judged);
+    drop(judged);
+    text
+}
+
 /// The report of what an auditor that is fed says, or nothing where not all was taken.
 fn fed_report(alloc: Global, history: &History) -> Result<Option<Vec<u8>>, Memory> {
     let mut online = Online::new(alloc, history.clients() as u16)?;
-    if !feed_all(&mut online, history)? {
-        return Ok(None);
+    match feed_all(&mut online, history) {
+        Ok(true) => Ok(Some(closed_report(alloc, online)?)),
+        Ok(false) => {
+            drop(online);
+            Ok(None)
+        }
+        Err(Memory) => {
+            drop(online);
+            Err(Memory)
+        }
     }
-    let judged = online.close()?;
-    Ok(Some(report_judged(alloc, &judged)?))
 }
 
 /// Whether an auditor that is fed says so.
@@ -87,20 +111,33 @@ fn fed_says(alloc: Global, history: &History, wanted: &[u8]) -> Result<bool, Mem
     }
 }
 
-/// Whether this is said of a trace's bytes, by one judge, by two workers, and by an auditor that is fed.
+/// Whether this is said of a history, by one judge, by two workers, and by an auditor that is fed.
+fn all_say<R: Threads + Wait + Sync>(
+    rt: &R,
+    alloc: Global,
+    history: &History,
+    wanted: &[u8],
+) -> Result<bool, Memory> {
+    Ok(
+        reported(alloc, history)?.as_slice() == wanted
+            && two_say(rt, alloc, history, wanted)?
+            && fed_says(alloc, history, wanted)?,
+    )
+}
+
+/// The same of a trace's bytes.
 pub fn says<R: Threads + Wait + Sync>(
     rt: &R,
     alloc: Global,
     bytes: &[u8],
     wanted: &[u8],
 ) -> Result<bool, Memory> {
-    let Some(trace) = read(alloc, bytes)? else {
-        return Ok(false);
-    };
-    let history = trace.history();
-    Ok(
-        reported(alloc, history)?.as_slice() == wanted
-            && two_say(rt, alloc, history, wanted)?
-            && fed_says(alloc, history, wanted)?,
-    )
+    match read(alloc, bytes)? {
+        Some(trace) => {
+            let said = all_say(rt, alloc, trace.history(), wanted);
+            drop(trace);
+            said
+        }
+        None => Ok(false),
+    }
 }

@@ -9,10 +9,11 @@ use std::sync::Wait;
 
 /// A cluster of one node with one client, or nothing where it is refused for another reason than memory.
 fn opened(alloc: Global) -> Result<Option<Opened>, Memory> {
+    let homes = Vec::from_slice(alloc, &[0])?;
     let Ok(place) = Place::new(1, Vec::new(alloc)) else {
         return Ok(None);
     };
-    match Cluster::open(alloc, place, Vec::from_slice(alloc, &[0])?) {
+    match Cluster::open(alloc, place, homes) {
         Ok(opened) => Ok(Some(opened)),
         Err(OpenFault::Memory) => Err(Memory),
         Err(_) => Ok(None),
@@ -93,7 +94,11 @@ fn closed(cluster: Cluster, shares: Vec<Share>) -> Option<Closed> {
 /// Whether so many operations are in the trace of a cluster in the end.
 fn are_told(cluster: Cluster, shares: Vec<Share>, operations: usize) -> bool {
     match closed(cluster, shares) {
-        Some(closed) => closed.trace.len() == operations,
+        Some(closed) => {
+            let are = closed.trace.len() == operations;
+            drop(closed);
+            are
+        }
         None => false,
     }
 }
@@ -104,22 +109,48 @@ fn is_told(cluster: Cluster, client: Client, mut shares: Vec<Share>) -> Result<b
     Ok(are_told(cluster, shares, 2))
 }
 
-/// Whether a client of a cluster gets what it put, and both are in the trace in the end.
-pub fn answers<R: Wait>(rt: &R, alloc: Global) -> Result<bool, Memory> {
-    let Some(opened) = opened(alloc)? else {
-        return Ok(false);
-    };
+/// Whether a client gets what it put, and both are in the trace in the end.
+fn is_answered<R: Wait>(
+    rt: &R,
+    alloc: Global,
+    cluster: Cluster,
+    mut client: Client,
+    shares: Vec<Share>,
+) -> Result<bool, Memory> {
+    match gets_what_it_put(rt, alloc, &cluster, &mut client) {
+        Ok(true) => is_told(cluster, client, shares),
+        answer => {
+            drop(cluster);
+            drop(client);
+            drop(shares);
+            answer
+        }
+    }
+}
+
+/// The same of the last client of a cluster that was opened.
+fn is_told_in<R: Wait>(rt: &R, alloc: Global, opened: Opened) -> Result<bool, Memory> {
     let Opened {
         cluster,
         mut clients,
         shares,
     } = opened;
-    let Some(mut client) = clients.pop() else {
-        return Ok(false);
-    };
-    if gets_what_it_put(rt, alloc, &cluster, &mut client)? {
-        is_told(cluster, client, shares)
-    } else {
-        Ok(false)
+    let last = clients.pop();
+    drop(clients);
+    match last {
+        Some(client) => is_answered(rt, alloc, cluster, client, shares),
+        None => {
+            drop(cluster);
+            drop(shares);
+            Ok(false)
+        }
+    }
+}
+
+/// Whether a client of a cluster gets what it put, and both are in the trace in the end.
+pub fn answers<R: Wait>(rt: &R, alloc: Global) -> Result<bool, Memory> {
+    match opened(alloc)? {
+        Some(opened) => is_told_in(rt, alloc, opened),
+        None => Ok(false),
     }
 }

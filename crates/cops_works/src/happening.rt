@@ -17,6 +17,7 @@ fn answered(world: &mut World, event: &Event) -> Outcome {
     if before != (world.history().len(), world.puts()) {
         return outcome;
     }
+    drop(outcome);
     world.answer(event)
 }
 
@@ -25,7 +26,9 @@ fn told(alloc: Global, world: &mut World, events: &[Event]) -> Result<Vec<u8>, M
     let mut text = Vec::new(alloc);
     for n in 0..events.len() {
         let outcome = answered(world, &events[n]);
-        outcome_line(alloc, n, &outcome, &mut text)?;
+        let line = outcome_line(alloc, n, &outcome, &mut text);
+        drop(outcome);
+        line?;
     }
     text.extend_from_slice(&reported(alloc, world.history())?)?;
     Ok(text)

@@ -128,7 +128,9 @@ fn say_rows<R: Print + AllocGlobal>(
 /// Makes the calls of a text's rows where nothing has happened.
 fn say_text<R: Print + AllocGlobal>(rt: &R, name: &str, text: &str) -> Result<(u64, u64), Error> {
     let mut subjects = Subjects::new(rt.alloc());
-    say_rows(rt, &mut subjects, name, text)
+    let counts = say_rows(rt, &mut subjects, name, text);
+    drop(subjects);
+    counts
 }
 
 /// Prints that a file's rows are as wanted, where none differs. A file without rows differs.

@@ -1,4 +1,4 @@
-use Rattle.std.proofs.Common.{List, map}
+use Rattle.std.proofs.Common.{map}
 use Rattle.cops_types.specs.Blocks.{KeptBlocks}
 use Rattle.cops_types.proofs.Showing.{shown-none}
 use Rattle.cops_types.proofs.entries.Entries.new.Goals as goal

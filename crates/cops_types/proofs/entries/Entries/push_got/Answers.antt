@@ -1,7 +1,6 @@
 use Rattle.std.proofs.Common.{◌≡◌, ◌++◌, ◌∷◌, [], List, map, length, arith, ap, ◌∙◌, refl, subst, sym}
 use Rattle.cops_types.specs.Blocks.{KeptBlocks}
 use Rattle.cops_types.specs.declared.entry.Entry.TheVariants.{Got}
-use Rattle.cops_types.specs.declared.slot.Slot.{Slot}
 use Rattle.cops_types.specs.declared.slot.Slot.TheVariants.{Got as GotSlot}
 use Rattle.cops_types.specs.declared.slot.KeptGot.{KeptGot}
 use Rattle.cops_types.specs.Lists.{with_item}

@@ -1,9 +1,7 @@
-use Rattle.std.proofs.Common.{◌≡◌, ◌++◌, ◌∷◌, [], List, map, length, arith, ap, ◌∙◌, refl, subst, sym}
+use Rattle.std.proofs.Common.{map, arith, ap, ◌∙◌, refl, subst, sym}
 use Rattle.cops_types.specs.Blocks.{KeptBlocks}
 use Rattle.cops_types.specs.declared.entry.Entry.TheVariants.{Missed}
-use Rattle.cops_types.specs.declared.slot.Slot.{Slot}
 use Rattle.cops_types.specs.declared.slot.Slot.TheVariants.{Missed as MissedSlot}
-use Rattle.cops_types.specs.Lists.{with_item}
 use Rattle.cops_types.specs.Slots.{AreKept, shown_by}
 use Rattle.cops_types.proofs.Showing.{has_slots, is_there, length-shown, all_with_slot, kept_with_slot}
 use Rattle.cops_types.proofs.entries.Entries.push_missed.Goals as goal

@@ -1,9 +1,7 @@
-use Rattle.std.proofs.Common.{◌≡◌, ◌++◌, ◌∷◌, [], List, map, length, arith, ap, ◌∙◌, refl, subst, sym}
+use Rattle.std.proofs.Common.{map, arith, ap, ◌∙◌, subst, sym}
 use Rattle.cops_types.specs.Blocks.{KeptBlocks}
 use Rattle.cops_types.specs.declared.entry.Entry.TheVariants.{Sourced}
-use Rattle.cops_types.specs.declared.slot.Slot.{Slot}
 use Rattle.cops_types.specs.declared.slot.Slot.TheVariants.{Sourced as SourcedSlot}
-use Rattle.cops_types.specs.Lists.{with_item}
 use Rattle.cops_types.specs.Slots.{AreKept, shown_by}
 use Rattle.cops_types.proofs.Showing.{has_slots, is_there, length-shown, all_with_slot, kept_with_slot, sourced}
 use Rattle.cops_types.proofs.entries.Entries.push_sourced.Goals as goal

@@ -1,5 +1,4 @@
-use Rattle.std.proofs.Common.{◌≡◌, ◌<◌, List, map, length, arith, subst, sym, get_or, ap, refl}
-use Rattle.cops_types.specs.Blocks.{KeptBlocks}
+use Rattle.std.proofs.Common.{◌≡◌, ◌<◌, length, arith, subst, sym, get_or, ap, refl}
 use Rattle.cops_types.specs.Slots.{AreKept, shown_by}
 use Rattle.cops_types.proofs.Sessions.{same_items, kept_room, own_room}
 use Rattle.cops_types.proofs.Showing.{is_there}

@@ -1,31 +1,23 @@
-use Rattle.std.proofs.Common.{◌<◌, ◌≤◌, ◌+◌, ◌-◌, Bool, false, length, map, arith, ap, ◌∙◌, subst, sym}
-use Rattle.std.proofs.Math.ListN.{set}
+use Rattle.std.proofs.Common.{◌<◌, length, map, arith}
 use Rattle.std.proofs.lemmas.List.{length-map}
-use Rattle.cops_types.specs.Entries.{told, told_by}
-use Rattle.cops_types.specs.Keeping.{IsKept, flag_count}
+use Rattle.cops_types.specs.Entries.{told}
 use Rattle.cops_types.specs.OpViews.{viewed}
 use Rattle.cops_types.proofs.Holding.{put_told, put_kept}
-use Rattle.cops_types.proofs.Sessions.{puts-le}
 use Rattle.cops_types.proofs.history.History.push_seen.Goals as goal
-
-pub with_op_counted-puts-requires : goal.with_op_counted-puts-requires
-with_op_counted-puts-requires c = omega (arith, c.self.invariant.counted, puts-le (told_by c.self.inside.keys.keys c.self.inside.entries.all), rw (← c.self.view_is) at c.requires.all)
 
 pub invariant_of-self-2 : goal.invariant_of-self-2
 invariant_of-self-2 c =
     let all = c.self.inside.entries.all in
     let inside : c.args.client < length all = omega (arith, rw (← c.self.view_is) at c.requires.inside, length-map all (map (told c.self.inside.keys.keys all))) in
     let made = c.in_ok-entry.ensures in
-    let same = c.with_op_counted-puts.ensures ∙ ap (λ (b : Bool). c.self.inside.puts + flag_count b) c.is_put.ensures in
-    subst (IsKept c.entry_of_seen.new.keys c.push.new.self (set c.self.inside.reserved.items c.args.client false) (c.self.inside.reservations - 1) (c.self.inside.len + 1)) (sym same)
-    (put_kept c.self.inside.keys c.entry_of_seen.new.keys c.self.inside.entries c.push.new.self c.self.inside.reserved.items c.self.inside.reservations c.self.inside.len c.self.inside.puts c.args.client c.in_ok-entry.entry (viewed c.args.op.now)
+    put_kept c.self.inside.keys c.entry_of_seen.new.keys c.self.inside.entries c.push.new.self c.self.inside.reserved.items c.self.inside.reservations c.self.inside.len c.args.client c.in_ok-entry.entry (viewed c.args.op.now)
     inside c.self.invariant made.gains made.sound made.told c.push.ensures.all c.push.ensures.gains (rw (← c.self.view_is) at c.requires.room) c.push.ensures.others
-    (rw (← c.self.view_is) at c.requires.session) (rw (← c.self.view_is) at c.requires.all))
+    (rw (← c.self.view_is) at c.requires.session) (rw (← c.self.view_is) at c.requires.all)
 
 pub returns-clause-ok : goal.returns-clause-ok
 returns-clause-ok c =
     let all = c.self.inside.entries.all in
     let inside : c.args.client < length all = omega (arith, rw (← c.self.view_is) at c.requires.inside, length-map all (map (told c.self.inside.keys.keys all))) in
     let made = c.in_ok-entry.ensures in
-    rw (← c.self.view_is) (put_told c.self.inside.keys c.entry_of_seen.new.keys c.self.inside.entries c.push.new.self c.self.inside.reserved.items c.self.inside.reservations c.self.inside.len c.self.inside.puts c.args.client c.in_ok-entry.entry (viewed c.args.op.now)
+    rw (← c.self.view_is) (put_told c.self.inside.keys c.entry_of_seen.new.keys c.self.inside.entries c.push.new.self c.self.inside.reserved.items c.self.inside.reservations c.self.inside.len c.args.client c.in_ok-entry.entry (viewed c.args.op.now)
     inside c.self.invariant made.gains made.sound made.told c.push.ensures.all c.push.ensures.gains)
