@@ -8,4 +8,5 @@ pub mod Founds
 pub mod Readings
 pub mod Feeding
 pub mod Underway
+pub mod Aheads
 pub mod Begun

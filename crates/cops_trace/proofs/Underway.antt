@@ -13,7 +13,7 @@ use Rattle.cops_trace.specs.Answer.{IsCutAfter, TakesFrom}
 use Rattle.cops_trace.specs.Counts.{ACounts, AreCountsOf, counted, next_of, nothing, progress_from}
 use Rattle.cops_trace.specs.Kept.{grown}
 use Rattle.cops_trace.specs.Next.{Stands}
-use Rattle.cops_trace.specs.Parsing.{FailsAt, FedInto, IsBegunAs, IsNextIn, IsSettled, IsSettledAt, IsTakenAs, IsUnderway, ItemHasRoom, SettledInto, StepGives, StepsInto, Stops, stage_of, with_item}
+use Rattle.cops_trace.specs.Parsing.{FailsAt, FedInto, IsBegunAs, IsSettled, IsSettledAt, IsTakenAs, IsUnderway, ItemHasRoom, SettledInto, StepGives, StepsInto, Stops, stage_of, with_item}
 use Rattle.cops_trace.specs.Reading.{FailsIn, GivesNext, IsStoppedBy, IsWithinReach, ItemHasTurn, Reading, WaitsIn, counts_with, is_end, past, progress_so_far}
 use Rattle.cops_trace.specs.Text.{ATrace, turn}
 use Rattle.cops_trace.proofs.Feeding.{fed_more, fed_none, fed_so_far, fed_whole, none_settled, not_ended, step_fails, step_less, step_takes, step_waits}
@@ -119,6 +119,12 @@ step_begun b old new i h (fine, going, (used, stands, same)) =
 
 pub step_took : (b : Option ATrace) (old new : Reading) (i : Item) → IsBegunAs b old.counts → GivesNext old (Ok (Some i)) new → StepGives (stage_of b old) (Ok true) (stage_of (with_item i b) new)
 step_took b old new i h (fine, going, (used, stands, same)) = (going, (i, used, stands_after old.at b old.counts old.rest (Gives i used) h stands, ap (stage_of (with_item i b)) same))
+
+-- the item of so many bytes stands at the front of the rest, before the end, where no fault was answered
+pub record IsNextIn (r : Reading) (item : Item) (used : ℕ) : Type 0 where
+  pub fine : r.fault ≡ None
+  pub going : r.ended ≡ false
+  pub stands : Stands (progress_so_far r) r.rest (Gives item used)
 
 -- what stands next is given next
 pub next_given : (r : Reading) (i : Item) (used : ℕ) → IsNextIn r i used → GivesNext r (Ok (Some i)) (past i used r)

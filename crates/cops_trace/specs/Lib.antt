@@ -8,4 +8,5 @@ pub mod Live
 pub mod Answer
 pub mod Kept
 pub mod Parsing
+pub mod Ahead
 pub mod Lines

@@ -11,7 +11,7 @@ use Rattle.cops_trace.specs.Answer.{Begins, front, HasFault}
 use Rattle.cops_trace.specs.Kept.{MayGrow, grown}
 use Rattle.cops_trace.specs.Counts.{ACounts, AreCountsOf}
 use Rattle.cops_trace.specs.Next.{Progress, Stands}
-use Rattle.cops_trace.specs.Reading.{Reading, progress_so_far}
+use Rattle.cops_trace.specs.Reading.{Reading}
 pub use Rattle.cops_trace.specs.Reading.{is_end}
 
 -- how far a text has come that stands at this place
@@ -93,12 +93,6 @@ Stops fed e = (e ≡ Memory) ⊎ HasFailed fed e
 -- what was read by a reader that gave out the head and the records of a trace
 abbrev pub stage_of : Option ATrace → Reading → Stage
 stage_of begun r = record { begun = begun; at = r.at; ended = r.ended; rest = r.rest }
-
--- the item of so many bytes stands at the front of the rest, before the end, where no fault was answered
-pub record IsNextIn (r : Reading) (item : Item) (used : ℕ) : Type 0 where
-  pub fine : r.fault ≡ None
-  pub going : r.ended ≡ false
-  pub stands : Stands (progress_so_far r) r.rest (Gives item used)
 
 -- ---- with a sink, of which it is known whether it took a trace
 

@@ -9,7 +9,7 @@ use crate::counts::Counts;
 use crate::fault::TraceFault;
 use crate::found::{Found, Item};
 use cops_types::{MAX_CLIENT_OPS, MAX_OPS, Memory, Op};
-use cops_wire::{Message, RecordView, WireFault, decode, record_at};
+use cops_wire::{Message, WireFault, decode};
 use std::alloc::Global;
 
 /// A frame at this place that is no message: it is waited for, or a fault stands there.
@@ -58,7 +58,8 @@ pub(crate) fn first_found(alloc: Global, bytes: &[u8]) -> Result<Found, Memory>
 }
 
 /// The fault of a client's record with this index after those that were counted, if it has one.
-fn record_fault(counts: &Counts, at: u64, client: u16, index: u32) -> Option<TraceFault>
+#[inline(always)]
+pub(crate) fn record_fault(counts: &Counts, at: u64, client: u16, index: u32) -> Option<TraceFault>
     ensures none { IfNone result ((op : AnOp) (used : ℕ) → record_found (progress_from at counts.now) (record { client = client; op = op }) index used ≡ Found.Gives (Item.Op client op) used) }
     ensures some { IfSome result (λ fault. (op : AnOp) (used : ℕ) → record_found (progress_from at counts.now) (record { client = client; op = op }) index used ≡ Found.Fails fault) }
 {
@@ -146,24 +147,6 @@ fn later_message(counts: &Counts, at: u64, message: Message, used: usize) -> Fou
             drop(other);
             Found::Fails(TraceFault::NotARecord { offset: at })
         }
-    }
-}
-
-/// The record at the front, seen where its bytes lie, where it may come after the head and the records that were
-/// counted.
-#[inline(always)]
-pub(crate) fn record_seen<'a>(
-    alloc: Global,
-    counts: &Counts,
-    at: u64,
-    rest: &'a [u8],
-) -> Option<RecordView<'a>>
-    ensures { IfSome result (λ r. Stands (Some (progress_from at counts.now)) rest.now (Found.Gives (Item.Op r.client (viewed r.op)) r.used)) }
-{
-    let record = record_at(alloc, rest)?;
-    match record_fault(counts, at, record.client, record.index) {
-        None => Some(record),
-        Some(_) => None,
     }
 }
 

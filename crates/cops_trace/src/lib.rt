@@ -3,6 +3,7 @@
 //! offset, and the sessions that it records.
 #![tactic(auto)]
 
+mod ahead;
 mod counts;
 mod fault;
 mod finding;

@@ -9,11 +9,7 @@ use crate::found::Item;
 use crate::reader::TraceReader;
 use crate::sink::{Sink, Taken};
 use cops_types::{Memory, OpView};
-use cops_wire::record_at;
 use std::alloc::Global;
-
-/// So many records a sink is told of before it takes them.
-const TOGETHER: usize = 64;
 
 /// What was read of a text: what took the head and the records so far, and the bytes that no item was taken from.
 #[derive(Drop)]
@@ -24,9 +20,10 @@ pub(crate) struct Parser<S: Drop> {
 }
 
 impl<S: Sink> Parser<S> {
-    ghost use Rattle.std.specs.Prelude.{◌++◌, [], None, false, IfOk, List, ℕ};
+    ghost use Rattle.std.specs.Prelude.{◌<◌, ◌++◌, [], None, false, length, IfErr, IfOk, IsTrue, List, ℕ};
+    ghost use Rattle.cops_trace.specs.Ahead.{GoesOn};
     ghost use Rattle.cops_trace.specs.Answer.{TakesFrom};
-    ghost use Rattle.cops_trace.specs.Parsing.{AdvancesInto, FedInto, IsBegunAs, IsUnderway, SettledInto, StepsInto, stage_of};
+    ghost use Rattle.cops_trace.specs.Parsing.{AdvancesInto, FedInto, IsBegunAs, IsUnderway, SettledInto, StepsInto, Stops, stage_of};
 
     pub(crate) fn new(alloc: Global) -> Parser<S>
         ensures reader { result.reader ≡ record { counts = None; at = 0; ended = false; rest = []; fault = None } }
@@ -37,24 +34,6 @@ impl<S: Sink> Parser<S> {
             reader: TraceReader::new(alloc),
             begun: None,
         }
-    }
-
-    /// Takes the next item, and says whether a whole one was there. A record is seen where its bytes lie.
-    fn step(&mut self) -> Result<bool, TraceFault>
-        requires { IsUnderway S.took self.old.begun self.old.reader }
-        ensures { (t : Option ATrace) → IsTakenAs S.took self.old.begun t → IsBegunAs t self.old.reader.counts
-            → StepsInto S.took (stage_of t self.old.reader) result self.new.begun self.new.reader }
-    {
-        let Some(record) = self.reader.record() else {
-            return self.step_item();
-        };
-        match push(&mut self.begun, record.client, &record.op) {
-            Ok(()) => {}
-            Err(Memory) => return Err(TraceFault::Memory),
-        }
-        let (client, used) = (record.client, record.used);
-        self.reader.pass(client, used);
-        Ok(true)
     }
 
     /// Takes the next item, of any kind, and says whether a whole one was there.
@@ -73,30 +52,29 @@ impl<S: Sink> Parser<S> {
         }
     }
 
+    /// Takes the next items, and says whether a whole one was there: records, which are seen where their bytes lie, or an
+    /// item of any kind.
+    fn step(&mut self) -> Result<bool, TraceFault>
+        requires { IsUnderway S.took self.old.begun self.old.reader }
+        ensures on { IfOk result (λ went. IsTrue went → GoesOn S.took self.old.begun self.old.reader self.new.begun self.new.reader) }
+        ensures less { IfOk result (λ went. IsTrue went → length self.new.reader.rest < length self.old.reader.rest) }
+        ensures settled { IfOk result (λ went. ¬ IsTrue went → (fed : List ℕ) → FedInto S.took fed self.old.begun self.old.reader → SettledInto S.took fed self.new.begun self.new.reader) }
+        ensures err { IfErr result (λ fault. (fed : List ℕ) → FedInto S.took fed self.old.begun self.old.reader → Stops fed fault) }
+    {
+        match self.reader.give_ahead(&mut self.begun) {
+            Ok(true) => Ok(true),
+            Ok(false) => self.step_item(),
+            Err(Memory) => Err(TraceFault::Memory),
+        }
+    }
+
     /// Takes all whole items off the rest. Nothing may be left after the end.
     fn advance(&mut self) -> Result<(), TraceFault>
         requires { IsUnderway S.took self.old.begun self.old.reader }
         ensures { (fed : List ℕ) → FedInto S.took fed self.old.begun self.old.reader → AdvancesInto S.took fed result self.new.begun self.new.reader }
     {
-        let mut passed = 0usize;
-        self.look_ahead(passed);
-        while self.step()? {
-            passed = passed.wrapping_add(1);
-            self.look_ahead(passed);
-        }
+        while self.step()? {}
         Ok(())
-    }
-
-    /// Lets the sink get ready for some records that come, each time that so many have passed.
-    fn look_ahead(&mut self, passed: usize)
-        ensures reader { self.new.reader ≡ self.old.reader }
-        ensures begun { (t : Option ATrace) → IsTakenAs S.took self.old.begun t → IsTakenAs S.took self.new.begun t }
-    {
-        if passed % TOGETHER == 0 {
-            if let Some(sink) = &mut self.begun {
-                foresee(self.alloc, sink, self.reader.rest());
-            }
-        }
     }
 
     /// Takes the next piece, and then all whole items off the rest.
@@ -169,32 +147,24 @@ fn begin<S: Sink>(alloc: Global, begun: &mut Option<S>, clients: u16) -> Result<
     Ok(())
 }
 
-/// Lets a sink get ready for the records that stand at the front of some bytes.
-fn foresee<S: Sink>(alloc: Global, sink: &mut S, bytes: &[u8])
-    ensures { (t : ATrace) → S.took sink.old t → S.took sink.new t }
+/// Lets the sink that was begun get ready for operations that come, where that is of use.
+pub(crate) fn foresee<S: Sink>(begun: &mut Option<S>, coming: &[OpView<'_>])
+    ensures { (t : Option ATrace) → IsTakenAs S.took begun.old t → IsTakenAs S.took begun.new t }
 {
-    if !sink.looks_ahead() {
-        return;
-    }
-    let Ok(mut coming) = Vec::with_capacity(alloc, TOGETHER) else {
-        return;
-    };
-    let mut rest = bytes;
-    for _ in 0..TOGETHER {
-        let Some(record) = record_at(alloc, rest) else {
-            break;
-        };
-        rest = &rest[record.used..];
-        if coming.push(record.op).is_err() {
-            break;
+    if let Some(sink) = begun {
+        if sink.looks_ahead() {
+            sink.foresee(coming);
         }
     }
-    sink.foresee(coming.as_slice());
 }
 
 /// Gives a record to the sink that was begun.
 #[inline(always)]
-fn push<S: Sink>(begun: &mut Option<S>, client: u16, op: &OpView<'_>) -> Result<(), Memory>
+pub(crate) fn push<S: Sink>(
+    begun: &mut Option<S>,
+    client: u16,
+    op: &OpView<'_>,
+) -> Result<(), Memory>
     requires { (t : Option ATrace) × IsTakenAs S.took begun.old t × ItemHasRoom (Item.Op client (viewed op.now)) t }
     ensures { (t : Option ATrace) → IsTakenAs S.took begun.old t → OnOk result (IsTakenAs S.took begun.new (with_item (Item.Op client (viewed op.now)) t)) }
 {

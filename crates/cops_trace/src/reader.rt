@@ -2,12 +2,15 @@
 ghost use Rattle.std.specs.Prelude.{◌≡◌, OnErr, OnOk};
 ghost use Rattle.cops_trace.specs.Reading.{ItemHasTurn, counts_with, is_end};
 
+use crate::ahead::{see_ahead, take_ahead};
 use crate::counts::Counts;
 use crate::fault::TraceFault;
-use crate::finding::{first_found, later_found, record_seen};
+use crate::finding::{first_found, later_found};
 use crate::found::{Found, Item};
+use crate::parser::foresee;
+use crate::sink::Sink;
 use cops_types::Memory;
-use cops_wire::{Buffer, RecordView};
+use cops_wire::Buffer;
 use std::alloc::Global;
 use std::marker::Model;
 
@@ -36,12 +39,11 @@ impl Model for TraceReader {
 }
 
 impl TraceReader {
-    ghost use Rattle.std.specs.Prelude.{◌≡◌, ◌++◌, [], None, Some, false, true, IfOk, IfSome, OnErr, OnOk, Ok, Err};
+    ghost use Rattle.std.specs.Prelude.{◌≡◌, ◌<◌, ◌≤◌, ◌++◌, [], None, false, true, length, IfOk, IfSome, IsTrue, OnErr, OnOk, Err};
+    ghost use Rattle.cops_trace.specs.Ahead.{GoesOn};
     ghost use Rattle.cops_trace.specs.Next.{Stands};
     ghost use Rattle.cops_trace.specs.Reading.{GivesNext, closing, progress_so_far};
-    ghost use Rattle.cops_trace.specs.Parsing.{IsNextIn};
-    ghost use Rattle.cops_types.specs.OpViews.{viewed};
-    ghost use Rattle.cops_types.specs.declared.op.Op.{Op as AnOp};
+    ghost use Rattle.cops_trace.specs.Parsing.{IsUnderway};
 
     /// A reader that was given nothing.
     pub fn new(alloc: Global) -> Self
@@ -118,37 +120,29 @@ impl TraceReader {
         }
     }
 
-    /// The record at the front of the rest, seen where it lies, where `next` would give it out.
-    #[inline(always)]
-    pub(crate) fn record(&self) -> Option<RecordView<'_>>
-        ensures { IfSome result (λ r. IsNextIn self.now (Item.Op r.client (viewed r.op)) r.used) }
+    /// Gives records at the front of the rest out to the sink that was begun, as far as `next` would give them out, and
+    /// says whether there was one. A sink that looks ahead is told of them first. Where memory is refused the sink may
+    /// have taken some of them, and nothing is to be read on.
+    pub(crate) fn give_ahead<S: Sink>(&mut self, begun: &mut Option<S>) -> Result<bool, Memory>
+        requires { IsUnderway S.took begun.old self.old }
+        ensures on { OnOk result (GoesOn S.took begun.old self.old begun.new self.new) }
+        ensures less { IfOk result (λ went. IsTrue went → length self.new.rest < length self.old.rest) }
+        ensures no_more { OnOk result (length self.new.rest ≤ length self.old.rest) }
     {
         if self.ended || self.fault.is_some() {
-            return None;
+            return Ok(false);
         }
-        let Some(counts) = &self.counts else {
-            return None;
+        let Some(counts) = &mut self.counts else {
+            return Ok(false);
         };
-        record_seen(self.alloc, counts, self.at, self.buffer.rest())
-    }
-
-    /// Gives out that record of so many bytes.
-    #[inline(always)]
-    pub(crate) fn pass(&mut self, client: u16, len: usize)
-        requires { (op : AnOp) × IsNextIn self.old (Item.Op client op) len }
-        ensures { (op : AnOp) → IsNextIn self.old (Item.Op client op) len → GivesNext self.old (Ok (Some (Item.Op client op))) self.new }
-    {
-        match &mut self.counts {
-            Some(counts) => counts.add(client),
-            None => unreachable!(),
-        }
+        let ahead = see_ahead(self.alloc, self.buffer.rest());
+        foresee(begun, &ahead.ops);
+        let taken = take_ahead(begun, counts, self.at, &ahead);
+        drop(ahead);
+        let len = taken?;
         self.at += len as u64;
         self.buffer.take(len);
-    }
-
-    /// The rest.
-    pub(crate) fn rest(&self) -> &[u8] {
-        self.buffer.rest()
+        Ok(len > 0)
     }
 
     /// Gives out the item of so many bytes that stands at the front of the rest.

@@ -84,15 +84,22 @@ impl Foresight {
     }
 
     /// Makes room for guesses of these keys and of so many operations, as far as there is memory, and now and then.
+    #[inline(always)]
     pub(crate) fn grow(&mut self, keys: &KeySet, ops: usize) {
         if ops % GROWN_AFTER == 0 {
-            self.puts.grow(ops, MOST_PLACES, NO_PUT);
-            let has_grown = self
-                .keys
-                .grow(keys.len().saturating_mul(8), MOST_PLACES, NO_KEY);
-            if has_grown {
-                self.note_keys(keys);
-            }
+            self.grow_tables(keys, ops);
+        }
+    }
+
+    /// The same, at once.
+    #[inline(never)]
+    fn grow_tables(&mut self, keys: &KeySet, ops: usize) {
+        self.puts.grow(ops, MOST_PLACES, NO_PUT);
+        let has_grown = self
+            .keys
+            .grow(keys.len().saturating_mul(8), MOST_PLACES, NO_KEY);
+        if has_grown {
+            self.note_keys(keys);
         }
     }
 

@@ -22,16 +22,14 @@ impl<T: Copy> Guesses<T> {
     /// places as it may have at most stays as it is, and so does one where memory is refused.
     pub(crate) fn grow(&mut self, count: usize, most: usize, nothing: T) -> bool {
         let len = self.places.len();
-        let more = len.max(FEWEST);
-        if len > count || len >= most || self.places.reserve(more).is_err() {
+        if len > count || len >= most {
             return false;
         }
-        for i in 0..more {
-            // Each guess stands in both halves, so that it is found as before.
-            let guess = self.places.get(i).copied().unwrap_or(nothing);
-            let _pushed = self.places.push(guess);
+        if len == 0 {
+            return self.places.resize(FEWEST, nothing).is_ok();
         }
-        true
+        // Each guess stands in both halves, so that it is found as before.
+        self.places.extend_from_within(..).is_ok()
     }
 
     /// Has each place guess this.

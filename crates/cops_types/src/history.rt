@@ -158,6 +158,7 @@ impl History {
     }
 
     /// Holds a place for the client's next operation, among its entries and among the keys, unless one is held.
+    #[inline(always)]
     fn hold(&mut self, client: u16) -> Result<(), Memory>
         requires { client < length self.old.sessions }
         ensures same { self.new.sessions ≡ self.old.sessions }
@@ -172,6 +173,7 @@ impl History {
     }
 
     /// The same where none is held.
+    #[inline(always)]
     fn hold_anew(&mut self, client: u16) -> Result<(), Memory>
         requires inside { client < length self.old.sessions }
         requires none { slice_index_or self.old.room client false ≡ false }

@@ -1,24 +1,18 @@
-use Rattle.cops_types.specs.OpViews.{viewed}
-use Rattle.cops_trace.specs.declared.found.Item.TheVariants.{Op as Entry}
-use Rattle.cops_trace.specs.Parsing.{with_item}
-use Rattle.cops_trace.specs.Reading.{past}
-use Rattle.cops_trace.proofs.Underway.{next_given, step_begun, step_room, step_took}
+use Rattle.cops_trace.proofs.Aheads.{item_on, item_less, item_settled, item_fails}
 use Rattle.cops_trace.proofs.parser.Parser.step.Goals as goal
 
-pub push-requires : goal.push-requires
-push-requires g c =
-    let u = c.requires in
-    let reader = c.args.self.now.reader in
-    let r = c.in-Some.record in
-    let item = Entry r.client (viewed r.op) in
-    (u.trace, u.taken, step_room u.trace reader (past item r.used reader) item u.counts (next_given reader item r.used c.in-Some.ensures))
+pub returns-in-Ok-false-clause-on : goal.returns-in-Ok-false-clause-on
+returns-in-Ok-false-clause-on g c =
+    item_on g.S.Sink.took c.args.self.now.begun c.give_ahead.new.begun c.step_item.new.self.begun c.args.self.now.reader c.give_ahead.new.self c.step_item.new.self.reader c.in-Ok-false.ensures.on c.step_item.result c.step_item.ensures
 
-pub returns : goal.returns
-returns g c = λ t taken counts.
-    let reader = c.args.self.now.reader in
-    let r = c.in-Some.record in
-    let item = Entry r.client (viewed r.op) in
-    let given = c.pass.ensures (viewed r.op) c.in-Some.ensures in (
-      record { trace = with_item item t; taken = c.in-Ok.ensures t taken; counts = step_begun t reader c.pass.new.self item counts given },
-      step_took t reader c.pass.new.self item counts given,
-    )
+pub returns-in-Ok-false-clause-less : goal.returns-in-Ok-false-clause-less
+returns-in-Ok-false-clause-less g c =
+    item_less g.S.Sink.took c.args.self.now.begun c.give_ahead.new.begun c.step_item.new.self.begun c.args.self.now.reader c.give_ahead.new.self c.step_item.new.self.reader c.in-Ok-false.ensures.on c.in-Ok-false.ensures.no_more c.step_item.result c.step_item.ensures
+
+pub returns-in-Ok-false-clause-settled : goal.returns-in-Ok-false-clause-settled
+returns-in-Ok-false-clause-settled g c =
+    item_settled g.S.Sink.took c.args.self.now.begun c.give_ahead.new.begun c.step_item.new.self.begun c.args.self.now.reader c.give_ahead.new.self c.step_item.new.self.reader c.in-Ok-false.ensures.on c.step_item.result c.step_item.ensures
+
+pub returns-in-Ok-false-clause-err : goal.returns-in-Ok-false-clause-err
+returns-in-Ok-false-clause-err g c =
+    item_fails g.S.Sink.took c.args.self.now.begun c.give_ahead.new.begun c.step_item.new.self.begun c.args.self.now.reader c.give_ahead.new.self c.step_item.new.self.reader c.in-Ok-false.ensures.on c.step_item.result c.step_item.ensures

@@ -1,0 +1,33 @@
+-- Records that are seen ahead, where their bytes lie.
+use Rattle.std.specs.Prelude.{◌<◌, ◌≤◌, ℕ, List, length, drop, slice_index_or, Option, Some, None, Ok, false}
+use Rattle.cops_types.specs.declared.format.Format.TheVariants.{One}
+use Rattle.cops_types.specs.declared.op_view.OpView.{OpView}
+use Rattle.cops_types.specs.OpViews.{viewed}
+use Rattle.cops_wire.specs.Answer.{IsAnswer}
+use Rattle.cops_wire.specs.Grammar.{grammar}
+use Rattle.cops_wire.specs.Message.{parts}
+use Rattle.cops_wire.specs.Records.{record_message}
+use Rattle.cops_trace.specs.declared.ahead.Place.{Place}
+use Rattle.cops_trace.specs.Counts.{ACounts}
+use Rattle.cops_trace.specs.Parsing.{FedInto, IsUnderway}
+use Rattle.cops_trace.specs.Reading.{Reading}
+use Rattle.cops_trace.specs.Text.{ATrace}
+
+-- the record of this operation stands at its place in the bytes
+abbrev pub IsSeenAt : List ℕ → Place → OpView → Type 0
+IsSeenAt bytes place op = IsAnswer (grammar One) (drop place.at bytes) (Ok (parts (record_message place.client place.index (viewed op)), place.used))
+
+-- each of them does
+pub record AreSeen (bytes : List ℕ) (places : List Place) (ops : List OpView) : Type 0 where
+  pub few : length places ≤ length ops
+  pub each : (k : ℕ) (d : Place) (e : OpView) → k < length places → IsSeenAt bytes (slice_index_or places k d) (slice_index_or ops k e)
+
+-- a reader that has come so far, and has these bytes before it
+abbrev pub reading_at : ACounts → ℕ → List ℕ → Reading
+reading_at counts at rest = record { counts = Some counts; at = at; ended = false; rest = rest; fault = None }
+
+module _ {S : Type 0} (took : S → ATrace → Type 0) where
+  -- what was begun went on with what a reader gave out: of the same bytes it has what was read
+  pub record GoesOn (from : Option S) (old : Reading) (to : Option S) (new : Reading) : Type 0 where
+    pub underway : IsUnderway took to new
+    pub fed : (fed : List ℕ) → FedInto took fed from old → FedInto took fed to new

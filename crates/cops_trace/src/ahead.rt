@@ -1,0 +1,96 @@
+//! Records that are seen ahead, before the first of them is taken.
+ghost use Rattle.std.specs.Prelude.{◌≡◌, ◌≤◌, ◌+◌, false, length, drop, IfOk, OnErr, Some};
+ghost use Rattle.cops_trace.specs.Ahead.{AreSeen, GoesOn, reading_at};
+ghost use Rattle.cops_trace.specs.Parsing.{IsTakenAs, IsUnderway};
+ghost use Rattle.cops_trace.specs.Reading.{IsWithinReach};
+
+use crate::counts::Counts;
+use crate::finding::record_fault;
+use crate::parser::push;
+use crate::sink::Sink;
+use cops_types::{Memory, OpView};
+use cops_wire::record_at;
+use std::alloc::Global;
+
+/// So many records a sink is told of before it takes them.
+const TOGETHER: usize = 64;
+
+/// Where a record stands in some bytes, and how many it takes; of whom it is, and its index.
+#[derive(Clone, Copy)]
+pub(crate) struct Place {
+    at: usize,
+    used: usize,
+    client: u16,
+    index: u32,
+}
+
+/// Records that stand one after the other at the front of some bytes, and their operations, seen where they lie.
+#[derive(Drop)]
+pub(crate) struct Ahead<'a> {
+    bytes: &'a [u8],
+    places: Vec<Place>,
+    pub(crate) ops: Vec<OpView<'a>>,
+}
+
+/// Sees the records at the front of some bytes, as many as a sink is told of: fewer where memory is refused.
+pub(crate) fn see_ahead<'a>(alloc: Global, bytes: &'a [u8]) -> Ahead<'a>
+    ensures bytes { result.bytes.now ≡ bytes.now }
+    ensures seen { AreSeen bytes.now result.places.items result.ops.items }
+{
+    let mut places = Vec::new(alloc);
+    let mut ops = Vec::new(alloc);
+    let _ = places.reserve(TOGETHER);
+    let _ = ops.reserve(TOGETHER);
+    let mut at = 0;
+    for _ in 0..TOGETHER {
+        let Some(record) = record_at(alloc, &bytes[at..]) else {
+            break;
+        };
+        let place = Place {
+            at,
+            used: record.used,
+            client: record.client,
+            index: record.index,
+        };
+        let Ok(()) = ops.push(record.op) else {
+            break;
+        };
+        let Ok(()) = places.push(place) else {
+            break;
+        };
+        at += record.used;
+    }
+    Ahead { bytes, places, ops }
+}
+
+/// Gives records to the sink that was begun, as far as they may come next, and says how many bytes they take.
+pub(crate) fn take_ahead<S: Sink>(
+    begun: &mut Option<S>,
+    counts: &mut Counts,
+    at: u64,
+    ahead: &Ahead<'_>,
+) -> Result<usize, Memory>
+    requires seen { AreSeen ahead.now.bytes.now ahead.now.places.items ahead.now.ops.items }
+    requires underway { IsUnderway S.took begun.old (reading_at counts.old at ahead.now.bytes.now) }
+    requires reach { IsWithinReach (Some counts.old) false at }
+    ensures within { IfOk result (λ used. used ≤ length ahead.now.bytes.now) }
+    ensures on { IfOk result (λ used. GoesOn S.took begun.old (reading_at counts.old at ahead.now.bytes.now) begun.new (reading_at counts.new (at + used) (drop used ahead.now.bytes.now))) }
+    ensures reach { IfOk result (λ used. IsWithinReach (Some counts.new) false (at + used)) }
+    ensures err { OnErr result (IsWithinReach (Some counts.new) false at) }
+{
+    let mut used = 0;
+    for k in 0..ahead.places.len() {
+        let place = ahead.places[k];
+        if place.at != used {
+            break;
+        }
+        match record_fault(counts, at + used as u64, place.client, place.index) {
+            None => {}
+            Some(_) => break,
+        }
+        push(begun, place.client, &ahead.ops[k])?;
+        counts.add(place.client);
+        used += place.used;
+    }
+    Ok(used)
+}
