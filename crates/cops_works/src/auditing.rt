@@ -1,6 +1,6 @@
 //! The verdict on a trace, by each way to it.
 
-use cops_audit::{FeedFault, Online, Verdict};
+use cops_audit::{FeedFault, Online};
 use cops_batch::{BatchFault, judge_with};
 use cops_command::reported;
 use cops_report::{report, report_judged};
@@ -19,18 +19,6 @@ fn read(alloc: Global, bytes: &[u8]) -> Result<Option<Trace>, Memory> {
     }
 }
 
-/// Whether this is reported of a verdict.
-fn is_reported(
-    alloc: Global,
-    history: &History,
-    verdict: Verdict,
-    wanted: &[u8],
-) -> Result<bool, Memory> {
-    let text = report(alloc, history, &verdict);
-    drop(verdict);
-    Ok(text?.as_slice() == wanted)
-}
-
 /// Whether two workers say so.
 fn two_say<R: Threads + Wait + Sync>(
     rt: &R,
@@ -39,7 +27,11 @@ fn two_say<R: Threads + Wait + Sync>(
     wanted: &[u8],
 ) -> Result<bool, Memory> {
     match judge_with(rt, alloc, history, 2, &OpenGate) {
-        Ok(verdict) => is_reported(alloc, history, verdict, wanted),
+        Ok(verdict) => {
+            let text = report(alloc, history, &verdict);
+            drop(verdict);
+            Ok(text?.as_slice() == wanted)
+        }
         Err(BatchFault::Memory) => Err(Memory),
         Err(_) => Ok(false),
     }
