@@ -9,6 +9,8 @@ FUNCTION = re.compile(r"(?m)^( *)(?:pub(?:\([^)]*\))? )?(?:const )?fn (\w+)")
 # (a method, or a function of a module: one of a root file alone could be a module's name)
 FUNCTION_PATH = re.compile(r"::\w+\Z")
 COUNTS = re.compile(r"only=(\d+) proved=(\d+)\Z")
+# (a function that is refused for nothing but one that it calls: where several edits are tried together that may be another one's)
+FOR_ANOTHER = re.compile(r": not proved; it calls `[^`]*`")
 
 
 def module_of(path):
@@ -110,7 +112,16 @@ class Round:
         if unread:
             names = ", ".join(name_of(crate, edit) for edit in self.edits)
             return [(False, f"{names}: BAD EDIT: the checker cannot read it, so no contract was tried: {unread[:200]}")]
-        return [one_judged(name_of(crate, edit), crate, functions, status, lines) for edit, functions in self.edits.items()]
+        return [self.one(module, crate, kept, edit, status, lines) for edit in self.edits]
+
+    def one(self, module, crate, kept, edit, status, lines):
+        """What the check says of one of the edits: it is tried alone where its function may have been refused for another one."""
+        is_refused, told = one_judged(name_of(crate, edit), crate, self.edits[edit], status, lines)
+        if not FOR_ANOTHER.search(told) or len(self.edits) == 1:
+            return is_refused, told
+        alone = Round(self.is_apart)
+        alone.edits[edit] = self.edits[edit]
+        return alone.judged(module, crate, kept)[0]
 
 
 def name_of(crate, edit):

@@ -18,6 +18,41 @@ fn an_accepted_history(rt: HostRuntime) -> Result<(), Fail> {
     Ok(())
 }
 
+/// The names of a history's puts, as they are listed.
+fn listed(alloc: Global, history: &History) -> Result<Vec<OpName>, Fail> {
+    let mut puts = Vec::new(alloc);
+    history.list_puts(&mut puts)?;
+    Ok(puts.iter().map(|put| put.name).collect(alloc)?)
+}
+
+/// The numbers of the puts of some names.
+fn numbers(history: &History) -> [Option<u32>; 4] {
+    [name(0, 0), name(1, 0), name(1, 1), name(2, 0)].map(|name| history.put_number(name))
+}
+
+/// Puts are numbered and listed in the order in which they came, and a get knows the number of its put.
+#[test]
+fn puts_have_numbers(rt: HostRuntime) -> Result<(), Fail> {
+    let entries = [
+        (0, Did::Put(b'x', 1, 2, 0)),
+        (1, Did::Put(b'x', 2, 1, 64)),
+        (1, Did::Put(b'x', 3, 2, 64)),
+        (2, Did::Got(b'x', 2, 1, 64)),
+    ];
+    let history = history(rt.alloc(), 3, &entries)?;
+    let names = listed(rt.alloc(), &history);
+    let (numbers, source, count) = (
+        numbers(&history),
+        history.source_number(name(2, 0)),
+        history.puts(),
+    );
+    drop(history);
+    assert!(rt; names?.as_slice() == [name(0, 0), name(1, 0), name(1, 1)].as_slice());
+    assert!(rt; numbers == [Some(0), Some(1), Some(2), None]);
+    assert!(rt; source == Some(1) && count == 3);
+    Ok(())
+}
+
 /// Whether just this get is stale. The verdict is let go.
 fn is_stale(verdict: Verdict, fault: Stale) -> bool {
     let is_stale = match &verdict {
