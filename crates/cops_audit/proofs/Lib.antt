@@ -17,6 +17,7 @@ pub mod Places
 pub mod Positions
 pub mod Gets
 pub mod Marks
+pub mod Doubling
 pub mod Noting
 pub mod Flattening
 pub mod Crossing

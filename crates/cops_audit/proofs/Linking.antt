@@ -5,10 +5,12 @@ use Rattle.cops_types.specs.declared.op.Op.TheVariants.{Put}
 use Rattle.cops_types.specs.declared.op.OpName.{OpName}
 use Rattle.cops_types.specs.Histories.{Sessions, op_at, PutsKey}
 use Rattle.cops_types.specs.declared.versioned_put.VersionedPut.{VersionedPut}
-use Rattle.cops_audit.specs.Keys.{AreNexts, IsFirstFrom, IsNext, OnKey}
+use Rattle.cops_types.specs.Recorded.{Recorded}
+use Rattle.cops_audit.specs.Keys.{AreKeys, AreNexts, IsFirstFrom, IsNext, OnKey}
 use Rattle.cops_audit.specs.Tables.{IsVersionTable, Rises}
 use Rattle.cops_audit.proofs.Places.{inside_table, same_put_at, stands_item}
 use Rattle.cops_audit.proofs.Acyclic.{one_version}
+use Rattle.cops_audit.proofs.Collect.{get_or-default}
 use Rattle.cops_audit.proofs.Unique.{stands}
 
 -- a put has one key
@@ -60,6 +62,17 @@ on_key h table t k put key version inside at puts =
     let own = (t.table.members put).0 (k, inside, sym at) in
     let same : version ≡ put.version = one_version h put.name put.name version put.version (key, puts.0, puts.1) own refl in
     (put.name, put.version, stands_item table k put inside at, subst (PutsKey h put.name key) same puts)
+
+-- the put at a place has a key, whose number stands there too
+pub keyed_at : (r : Recorded) (table : List VersionedPut) (numbers : List ℕ) → IsVersionTable r.sessions table → AreKeys r table numbers → (place : ℕ) → place < length table
+    → (key : List ℕ) × OnKey r.sessions table place key × (slice_get r.keys (get_or numbers place 0) ≡ Some key)
+keyed_at r table numbers t are place inside =
+    let none : VersionedPut = record { version = 0; name = record { client = 0; index = 0 } } in
+    let put = get_or table place none in
+    let is : put ≡ get_or table place put = get_or-default table place none put inside in
+    let own = (t.table.members put).0 (place, inside, sym is) in
+    let here : OnKey r.sessions table place own.0 = on_key r.sessions table t place put own.0 put.version inside is (own.1, own.2) in
+    (own.0, here, are.each place (get_or numbers place 0) own.0 (stands numbers place 0 (omega (arith, inside, are.whole))) here)
 
 -- nothing stands past the end
 pub none_past_end : (h : Sessions) (table : List VersionedPut) (key : List ℕ) → IsFirstFrom h table (length table) key None

@@ -2,7 +2,7 @@
 use Rattle.std.proofs.Common.{◌≡◌, ◌≢◌, ◌<◌, ◌≤◌, ◌+◌, ◌-◌, ℕ, zero, suc, List, [], ◌∷◌, ◌++◌, length, get_or, map, length-append, Some, refl, sym, ◌∙◌, ap, subst, inl, inr, arith, slice_get, slice_index_or, slice_set}
 use Rattle.std.proofs.Math.ListN.{length-set}
 use Rattle.std.proofs.Math.Nat.{eq-or-lt_of_le}
-use Rattle.std.proofs.lemmas.Bool.{cases_order}
+use Rattle.std.proofs.lemmas.Bool.{cases_lt, cases_order}
 use Rattle.std.proofs.lemmas.List.{length-map}
 use Rattle.cops_types.specs.declared.op.OpName.{OpName}
 use Rattle.cops_types.specs.Histories.{Sessions, IsNamed}
@@ -176,22 +176,19 @@ get_high (x ∷ xs) ys k zero d e = absurd (omega (arith, e))
 get_high (x ∷ xs) ys k (suc n) d e = get_high xs ys k n d (omega (arith, e))
 
 -- the notes on the clients below one, and those on the others
-pub noted_joined : (h : Sessions) (table : List VersionedPut) (mid : ℕ) (low high : List (List Note)) → AreNoted h table 0 mid low → AreNoted h table mid (length h) high → IsNoted h table (low ++ high)
-noted_joined h table mid low high a b = record {
+pub noted_joined : (h : Sessions) (table : List VersionedPut) (first mid end : ℕ) (low high : List (List Note)) → AreNoted h table first mid low → AreNoted h table mid end high
+    → AreNoted h table first end (low ++ high)
+noted_joined h table first mid end low high a b = record {
   clients = omega (arith, length-append low high, a.clients, b.clients);
-  sessions = λ c less. elim (cases_order c mid) [
-    | inl same ↦ above c less (omega (arith, same))
-    | inr (inl l) ↦ subst (IsSessionNoted h table c) (sym (get_low low high c [] (omega (arith, l, a.clients)))) (below c (omega (arith, l, a.clients)))
-    | inr (inr m) ↦ above c less (omega (arith, m))
+  sessions = λ k less. elim (cases_lt k (length low)) [
+    | inl l ↦ subst (IsSessionNoted h table (first + k)) (sym (get_low low high k [] l)) (a.sessions k l)
+    | inr le ↦ above k less le
   ];
 }
   where
-    below : (c : ℕ) → c < length low → IsSessionNoted h table c (get_or low c [])
-    below c less = subst (λ (n : ℕ). IsSessionNoted h table n (get_or low c [])) (let e : 0 + c ≡ c = omega arith in e) (a.sessions c less)
-
-    above : (c : ℕ) → c < length h → mid ≤ c → IsSessionNoted h table c (get_or (low ++ high) c [])
-    above c less le =
-        let k = c - mid in
-        let client : mid + k ≡ c = omega (arith, le) in
-        subst (IsSessionNoted h table c) (sym (get_high low high k c [] (omega (arith, le, a.clients))))
-        (subst (λ (n : ℕ). IsSessionNoted h table n (get_or high k [])) client (b.sessions k (omega (arith, less, le, b.clients))))
+    above : (k : ℕ) → k < length (low ++ high) → length low ≤ k → IsSessionNoted h table (first + k) (get_or (low ++ high) k [])
+    above k less le =
+        let j = k - length low in
+        let client : mid + j ≡ first + k = omega (arith, le, a.clients) in
+        subst (IsSessionNoted h table (first + k)) (sym (get_high low high j k [] (omega (arith, le))))
+        (subst (λ (n : ℕ). IsSessionNoted h table n (get_or high j [])) client (b.sessions j (omega (arith, less, le, length-append low high))))

@@ -26,6 +26,11 @@ IsFirstFrom h table i key (Some first) = (i ≤ first) × OnKey h table first ke
 abbrev pub IsOnKey : Sessions → OpName → List ℕ → Type 0
 IsOnKey h name key = option_map key_of (op_at h name) ≡ Some key
 
+-- of each put, the number of its key
+pub record AreKeys (r : Recorded) (table : List VersionedPut) (numbers : List ℕ) : Type 0 where
+  pub whole : length numbers ≡ length table
+  pub each : (place number : ℕ) (key : List ℕ) → slice_get numbers place ≡ Some number → OnKey r.sessions table place key → slice_get r.keys number ≡ Some key
+
 -- of each key, by its number, the first put on it
 abbrev pub KnowsFirsts : Recorded → List VersionedPut → List (Option ℕ) → Type 0
 KnowsFirsts r table firsts = (number : ℕ) (key : List ℕ) → slice_get r.keys number ≡ Some key → IsFirstFrom r.sessions table 0 key (slice_index_or firsts number None)

@@ -1,8 +1,10 @@
 -- The puts by their versions.
-use Rattle.std.specs.Prelude.{◌≢◌, ◌<◌, ◌≤◌, ◌+◌, ◌↔◌, ℕ, List, length, slice_index_or, Contains, AllPairs}
+use Rattle.std.specs.Prelude.{◌≡◌, ◌≢◌, ◌<◌, ◌≤◌, ◌+◌, ◌↔◌, ℕ, List, Bool, Some, true, false, length, slice_get, slice_index_or, Contains, AllPairs}
 use Rattle.cops_types.specs.declared.limits.TheConstants.{MAX_OPS}
 use Rattle.cops_types.specs.Histories.{Sessions, PutsVersion}
 use Rattle.cops_types.specs.VersionOrder.{IsDoubled}
+use Rattle.cops_types.specs.declared.op.OpName.{OpName}
+use Rattle.cops_types.specs.Recorded.{Recorded}
 use Rattle.cops_types.specs.declared.versioned_put.VersionedPut.{VersionedPut}
 
 -- in order of versions, where one may stand twice
@@ -33,3 +35,8 @@ pub record IsVersionTable (h : Sessions) (puts : List VersionedPut) : Type 0 whe
 pub record AreDoubledPuts (h : Sessions) (puts : List VersionedPut) : Type 0 where
   pub members : (p : VersionedPut) → Contains puts p ↔ (PutsVersion h p.name p.version × IsDoubled h p.name)
   pub in_order : VersionsNeverFall puts
+
+-- of each put, by its number, whether another put bears its version
+pub record TellDoubled (r : Recorded) (doubled : List Bool) : Type 0 where
+  pub whole : length doubled ≡ length r.puts
+  pub each : (number : ℕ) (put : OpName) → slice_get r.puts number ≡ Some put → (slice_index_or doubled number false ≡ true) ↔ IsDoubled r.sessions put

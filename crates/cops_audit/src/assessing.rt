@@ -10,7 +10,7 @@ ghost use Rattle.cops_audit.specs.Tables.{IsVersionTable};
 
 use crate::flat::FlatNotes;
 use crate::floors::set_floors;
-use crate::keys::{link, set_firsts};
+use crate::keys::{link, set_firsts, set_keys};
 use crate::names::set_names;
 use crate::notes::{Notes, count_sourceless, is_sourceless};
 use crate::rising::has_not_above;
@@ -75,7 +75,10 @@ impl Room {
         ensures table { OnOk result (self.new.table ≡ self.old.table) }
     {
         let table = self.table.as_slice();
-        link(&mut self.nexts, &mut self.by_key, history, table)?;
+        // The numbers of their keys lie where the first put on each key will.
+        set_keys(&mut self.firsts, history, table)?;
+        let keys = self.firsts.as_slice();
+        link(&mut self.nexts, &mut self.by_key, history, table, keys)?;
         let nexts = self.nexts.as_slice();
         let by_key = self.by_key.as_slice();
         set_suspects(&mut self.suspects, history, table, notes, nexts, by_key)?;

@@ -2,7 +2,7 @@ ghost use Rattle.cops_types.specs.declared.limits.TheConstants.{MAX_OPS};
 ghost use Rattle.std.specs.Prelude.{◌≡◌, ◌<◌, ◌≤◌, ◌+◌, ℕ, List, None, IfOk, IsOk, OnOk, length, slice_get, slice_index_or, vec_capacity, Some};
 ghost use Rattle.cops_types.specs.Counts.{count_of};
 ghost use Rattle.cops_types.specs.Histories.{IsNamed, Sessions};
-ghost use Rattle.cops_audit.specs.Keys.{AreFirsts, AreNexts, IsFirstFrom, IsOnKey, KnowsFirsts};
+ghost use Rattle.cops_audit.specs.Keys.{AreFirsts, AreKeys, AreNexts, IsFirstFrom, IsOnKey, KnowsFirsts};
 ghost use Rattle.cops_audit.specs.Tables.{IsVersionTable};
 ghost use Rattle.cops_types.specs.declared.versioned_put.VersionedPut.{VersionedPut as APut};
 
@@ -10,13 +10,13 @@ use cops_types::{History, OpName, VersionedPut};
 use std::alloc::{AllocError, Global};
 
 /// The number of the key of an operation.
-fn number_of(history: &History, name: OpName) -> usize
+fn number_of(history: &History, name: OpName) -> u32
     requires { IsNamed history.now.sessions name }
     ensures key { (key : List ℕ) → IsOnKey history.now.sessions name key → slice_get history.now.keys result ≡ Some key }
     ensures within { result < length history.now.keys }
 {
     match history.key_number(name) {
-        Some(number) => number as usize,
+        Some(number) => number,
         None => unreachable!(),
     }
 }
@@ -27,7 +27,7 @@ pub fn first_on(history: &History, firsts: &[Option<u32>], name: OpName) -> Opti
     ensures { (table : List APut) (key : List ℕ) → KnowsFirsts history.now table firsts.now → IsOnKey history.now.sessions name key
         → IsFirstFrom history.now.sessions table 0 key result }
 {
-    match firsts.get(number_of(history, name)) {
+    match firsts.get(number_of(history, name) as usize) {
         Some(first) => *first,
         None => None,
     }
@@ -44,6 +44,28 @@ fn set_none(places: &mut Vec<Option<u32>>, count: usize) -> Result<(), AllocErro
     places.resize(count, None)
 }
 
+/// Makes it, of each put, the number of its key: each is looked up by itself, so that a processor has many under way at
+/// once. It takes no memory where there is room for as many as there are puts.
+pub fn set_keys(
+    keys: &mut Vec<u32>,
+    history: &History,
+    table: &[VersionedPut],
+) -> Result<(), AllocError>
+    requires { IsVersionTable history.now.sessions table.now }
+    ensures keys { OnOk result (AreKeys history.now table.now keys.new.items) }
+    ensures capacity { vec_capacity keys.old ≤ vec_capacity keys.new }
+    ensures succeeds { length table.now ≤ vec_capacity keys.old → IsOk result }
+{
+    keys.clear();
+    keys.reserve(table.len())?;
+    for place in 0..table.len() {
+        let put = &table[place];
+        let number = number_of(history, put.name);
+        keys.push_reserved(number);
+    }
+    Ok(())
+}
+
 /// Links each put to the next one on its key, and gives of each key, by its number, the first put on it. It takes no
 /// memory where there is room for as many links as there are puts and as many first puts as there are operations.
 pub fn link(
@@ -51,8 +73,10 @@ pub fn link(
     firsts: &mut Vec<Option<u32>>,
     history: &History,
     table: &[VersionedPut],
+    keys: &[u32],
 ) -> Result<(), AllocError>
-    requires { IsVersionTable history.now.sessions table.now }
+    requires table { IsVersionTable history.now.sessions table.now }
+    requires keys { AreKeys history.now table.now keys.now }
     ensures nexts { OnOk result (AreNexts history.now.sessions table.now nexts.new.items) }
     ensures firsts { OnOk result (KnowsFirsts history.now table.now firsts.new.items) }
     ensures nexts_capacity { vec_capacity nexts.old ≤ vec_capacity nexts.new }
@@ -62,10 +86,9 @@ pub fn link(
     set_none(nexts, table.len())?;
     set_none(firsts, history.keys())?;
     for place in (0..table.len()).rev() {
-        let put = &table[place];
-        let number = number_of(history, put.name);
-        nexts[place] = firsts[number];
-        firsts[number] = Some(place as u32);
+        let number = keys[place];
+        nexts[place] = firsts[number as usize];
+        firsts[number as usize] = Some(place as u32);
     }
     Ok(())
 }

@@ -1,4 +1,4 @@
-use crate::keys::{link, passed_firsts};
+use crate::keys::{link, passed_firsts, set_keys};
 use cops_types::{History, VersionedPut};
 use std::alloc::{AllocError, Global};
 
@@ -27,7 +27,9 @@ impl Links {
     {
         let mut nexts = Vec::new(alloc);
         let mut by_key = Vec::new(alloc);
-        link(&mut nexts, &mut by_key, history, table)?;
+        let mut keys = Vec::new(alloc);
+        set_keys(&mut keys, history, table)?;
+        link(&mut nexts, &mut by_key, history, table, keys.as_slice())?;
         Ok(Links {
             nexts,
             by_key,

@@ -284,10 +284,10 @@ impl SessionNotes {
         Ok(SessionNotes { sessions })
     }
 
-    /// The notes on all operations, of those on the clients below one and those on the others.
+    /// The notes on the operations of some clients, of those on the clients below one and those on the others.
     pub fn joined(low: SessionNotes, high: SessionNotes) -> Result<Self, AllocError>
-        ensures { (h : Sessions) (table : List VersionedPut) (mid : ℕ) → AreNoted h table 0 mid low → AreNoted h table mid (length h) high
-            → IfOk result (λ notes. IsNoted h table notes) }
+        ensures { (h : Sessions) (table : List VersionedPut) (first mid end : ℕ) → AreNoted h table first mid low → AreNoted h table mid end high
+            → IfOk result (AreNoted h table first end) }
     {
         let SessionNotes { mut sessions } = low;
         let SessionNotes {

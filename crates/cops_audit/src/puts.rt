@@ -4,6 +4,8 @@ use crate::verdict::{Faults, Verdict};
 use cops_types::{History, OpName, VersionedPut};
 use std::alloc::{AllocError, Global};
 use std::marker::Model;
+use std::thread;
+use std::thread::Threads;
 
 /// A history, the names of its operations in their order, and its puts in order of versions.
 #[derive(Drop)]
@@ -25,10 +27,11 @@ impl<'a> Model for Puts<'a> {
 
 impl<'a> Puts<'a> {
     ghost use Rattle.std.specs.Prelude.{◌≡◌, ◌≤◌, ◌+◌, IfOk, IsTrue, length, slice_range, AllPairs};
-    ghost use Rattle.cops_types.specs.Faults.{IsBefore};
+    ghost use Rattle.cops_types.specs.Faults.{IsBefore, Lists};
+    ghost use Rattle.cops_types.specs.Histories.{IsNamed};
     ghost use Rattle.cops_types.specs.VersionOrder.{IsDoubled};
     ghost use Rattle.cops_audit.specs.Names.{ListsAmong};
-    ghost use Rattle.cops_audit.specs.Tables.{Repeats, Rises};
+    ghost use Rattle.cops_audit.specs.Tables.{IsPutTable, Repeats, Rises};
     ghost use Rattle.cops_audit.specs.Verdicts.{IsVerdict};
 
     /// Those of a history.
@@ -41,6 +44,34 @@ impl<'a> Puts<'a> {
             history,
             names,
             table,
+        })
+    }
+
+    /// The same by at most so many threads: where there are two or more, the names are made beside the puts.
+    pub fn beside<R: Threads + Sync>(
+        rt: &R,
+        alloc: Global,
+        history: &'a History,
+        threads: u8,
+    ) -> Result<Self, AllocError>
+        ensures { IfOk result (λ puts. puts.sessions ≡ history.entry.now.sessions) }
+    {
+        if threads < 2 {
+            return Puts::new(alloc, history);
+        }
+        let (names, table) = thread::join(
+            rt,
+            || -> Result<Vec<OpName>, AllocError>
+                ensures { IfOk result (λ v. Lists (λ n. n) (IsNamed history.entry.now.sessions) v.items) }
+            { all_names(alloc, history) },
+            || -> Result<Vec<VersionedPut>, AllocError>
+                ensures { IfOk result (λ v. IsPutTable history.entry.now.sessions v.items) }
+            { puts_by_version(alloc, history) },
+        );
+        Ok(Puts {
+            history,
+            names: names?,
+            table: table?,
         })
     }
 

@@ -7,7 +7,7 @@ ghost use Rattle.cops_types.specs.Faults.{IsBefore};
 ghost use Rattle.cops_types.specs.VersionOrder.{IsDoubled};
 ghost use Rattle.cops_audit.specs.Names.{ListsAmong};
 ghost use Rattle.cops_types.specs.declared.versioned_put.VersionedPut.{VersionedPut};
-ghost use Rattle.cops_audit.specs.Tables.{AreDoubledPuts, IsPutTable, Repeats, Rises, VersionsNeverFall};
+ghost use Rattle.cops_audit.specs.Tables.{AreDoubledPuts, IsPutTable, Repeats, Rises, TellDoubled, VersionsNeverFall};
 
 use cops_types::{History, OpName, Version, VersionedPut};
 use std::alloc::{AllocError, Global};
@@ -109,18 +109,36 @@ fn doubled_puts(alloc: Global, table: &[VersionedPut]) -> Result<Vec<VersionedPu
     Ok(puts)
 }
 
+/// Of each put, by its number, whether another put bears its version.
+fn doubled_numbers(
+    alloc: Global,
+    history: &History,
+    table: &[VersionedPut],
+) -> Result<Vec<bool>, AllocError>
+    requires { IsPutTable history.now.sessions table.now }
+    ensures { IfOk result (λ v. TellDoubled history.now v.items) }
+{
+    let puts = doubled_puts(alloc, table)?;
+    let mut are_doubled = vec![in alloc; false; history.puts()]?;
+    for k in 0..puts.len() {
+        let put = puts[k];
+        match history.put_number(put.name) {
+            Some(number) => are_doubled[number as usize] = true,
+            None => unreachable!(),
+        }
+    }
+    Ok(are_doubled)
+}
+
 /// Whether another put bears the put's version.
-fn is_doubled(history: &History, puts: &[VersionedPut], name: OpName) -> bool
-    requires { AreDoubledPuts history.now.sessions puts.now }
+fn is_doubled(history: &History, are_doubled: &[bool], name: OpName) -> bool
+    requires { TellDoubled history.now are_doubled.now }
     ensures { IsTrue result ↔ IsDoubled history.now.sessions name }
 {
-    let Some(version) = history.put_version(name) else {
+    let Some(number) = history.put_number(name) else {
         return false;
     };
-    match place_of(puts, version) {
-        Some(_) => true,
-        None => false,
-    }
+    are_doubled[number as usize]
 }
 
 /// The puts among these names whose versions other puts bear.
@@ -134,11 +152,11 @@ pub fn doubled(
     requires table { IsPutTable history.now.sessions table.now }
     ensures { IfOk result (λ v. ListsAmong (λ n. n) (IsDoubled history.now.sessions) names.now v.items) }
 {
-    let doubled = doubled_puts(alloc, table)?;
-    let puts = doubled.as_slice();
+    let doubled = doubled_numbers(alloc, history, table)?;
+    let are_doubled = doubled.as_slice();
     let mut faults = Vec::new(alloc);
     for name in names {
-        if is_doubled(history, puts, *name) {
+        if is_doubled(history, are_doubled, *name) {
             faults.push(*name)?;
         }
     }

@@ -1,5 +1,5 @@
 -- The puts by their versions.
-use Rattle.std.proofs.Common.{◌≡◌, ◌≢◌, ◌+◌, ◌-◌, ◌<◌, ◌≤◌, ℕ, Bool, true, false, List, [], Some, refl, sym, subst, arith, inl, inr, get_or, length, take, drop, ltb, ◌∙◌, ap}
+use Rattle.std.proofs.Common.{◌≡◌, ◌≢◌, ◌+◌, ◌-◌, ◌<◌, ◌≤◌, ℕ, Bool, true, false, List, [], Some, sym, subst, arith, inl, inr, get_or, length, take, drop, ltb, ◌∙◌, ap}
 use Rattle.std.specs.List.Sorted.{IsNonDecreasingBy, IsPermutation, IsPartitionPoint}
 use Rattle.std.proofs.lemmas.Bool.{cases_lt, ltb-true, ltb-false}
 use Rattle.std.proofs.lemmas.List.{get_or_past, get_or_default, get_or-drop, length-drop, take_rest}
@@ -8,12 +8,11 @@ use Rattle.cops_types.specs.declared.op.Op.TheVariants.{Got}
 use Rattle.cops_types.specs.declared.op.OpName.{OpName}
 use Rattle.cops_types.specs.Histories.{Sessions, IsNamed, PutsVersion, SourceStep}
 use Rattle.cops_types.specs.Operations.{GetsVersion}
+use Rattle.cops_types.specs.PutLists.{AreAllPuts}
 use Rattle.cops_report.specs.declared.marks.Mark.{Mark}
 use Rattle.cops_types.specs.declared.versioned_put.VersionedPut.{VersionedPut}
 use Rattle.cops_report.specs.Marks.{Table, Gains, IsMarked}
 use Rattle.cops_report.specs.Puts.{HasPut, HasAllPuts}
-use Rattle.cops_report.proofs.NameCases.{same_name}
-use Rattle.cops_report.proofs.StepLemmas.{name_at}
 use Rattle.cops_report.proofs.Tables.{named_index}
 
 -- an operation's client is there
@@ -32,34 +31,10 @@ source_named h p g s = (_, s.put)
 abbrev put_of : OpName → ℕ → VersionedPut
 put_of n v = record { version = v; name = n }
 
--- ---- client by client
-
-abbrev pub HasPuts : Sessions → ℕ → ℕ → List VersionedPut → Type 0
-HasPuts h client index puts = (k v : ℕ) → k < index → PutsVersion h (name_at client k) v → HasPut puts (name_at client k) v
-
-pub has_more : (h : Sessions) (client index : ℕ) (puts more : List VersionedPut) → ((n : OpName) (v : ℕ) → HasPut puts n v → HasPut more n v) → HasPuts h client index puts
-    → ((v : ℕ) → PutsVersion h (name_at client index) v → HasPut more (name_at client index) v) → HasPuts h client (index + 1) more
-has_more h client index puts more kept has here k v lt put = elim (cases_lt k index) [
-  | inl below ↦ kept (name_at client k) v (has k v below put)
-  | inr above ↦
-      let same : index ≡ k = omega arith in
-      subst (λ (x : ℕ). (v : ℕ) → PutsVersion h (name_at client x) v → HasPut more (name_at client x) v) same here v put
-]
-
--- each put of a session is among its puts
-pub puts_of_client : (h : Sessions) (client index : ℕ) (puts : List VersionedPut) → length (get_or h client []) ≤ index → HasPuts h client index puts
-    → (n : OpName) (v : ℕ) → n.client ≡ client → PutsVersion h n v → HasPut puts n v
-puts_of_client h client index puts all has n v is put =
-    let same : name_at client n.index ≡ n = same_name (name_at client n.index) n (sym is) refl in
-    let lt = named_index h n (version_named h n v put) in
-    let e = ap (λ (c : ℕ). length (get_or h c [])) is in
-    subst (λ (x : OpName). HasPut puts x v) same (has n.index v (omega (arith, lt, e)) (subst (λ (x : OpName). PutsVersion h x v) (sym same) put))
-
 -- sorted, they are a table
-pub table_sorted : (h : Sessions) (client : ℕ) (xs ys : List VersionedPut) → length h ≤ client → ((n : OpName) (v : ℕ) → n.client < client → PutsVersion h n v → HasPut xs n v)
-    → IsPermutation xs ys → IsNonDecreasingBy (λ p. p.version) ys → HasAllPuts h ys
-table_sorted h client xs ys all has permuted rising = record {
-  all = λ n v put. Contains-permutation xs ys (put_of n v) permuted (has n v (omega (arith, named_client h n (version_named h n v put))) put);
+pub table_sorted : (h : Sessions) (xs ys : List VersionedPut) → AreAllPuts h xs → IsPermutation xs ys → IsNonDecreasingBy (λ p. p.version) ys → HasAllPuts h ys
+table_sorted h xs ys puts permuted rising = record {
+  all = λ n v put. Contains-permutation xs ys (put_of n v) permuted ((puts.members (put_of n v)).1 put);
   rising = rising;
 }
 

@@ -6,45 +6,15 @@ ghost use Rattle.cops_types.specs.Histories.{PutsVersion};
 ghost use Rattle.cops_types.specs.declared.versioned_put.VersionedPut.{VersionedPut};
 ghost use Rattle.cops_report.specs.Puts.{HasPut, HasAllPuts};
 
-use cops_types::{History, OpName, Version, VersionedPut};
+use cops_types::{History, Version, VersionedPut};
 use std::alloc::{AllocError, Global};
-
-/// Adds the operation, if it is a put.
-fn push_put(puts: &mut Vec<VersionedPut>, history: &History, name: OpName) -> Result<(), AllocError>
-    ensures kept { OnOk result ((n : OpName) (v : ℕ) → HasPut puts.old.items n v → HasPut puts.new.items n v) }
-    ensures all { OnOk result ((v : ℕ) →
-        PutsVersion history.now.sessions name v → HasPut puts.new.items name v) }
-{
-    match history.put_version(name) {
-        Some(version) => {
-            puts.push(VersionedPut { version, name })?;
-            Ok(())
-        }
-        None => Ok(()),
-    }
-}
-
-/// Adds the puts of one client.
-fn push_puts(puts: &mut Vec<VersionedPut>, history: &History, client: u16) -> Result<(), AllocError>
-    ensures kept { OnOk result ((n : OpName) (v : ℕ) → HasPut puts.old.items n v → HasPut puts.new.items n v) }
-    ensures all { OnOk result ((n : OpName) (v : ℕ) → n.client ≡ client →
-        PutsVersion history.now.sessions n v → HasPut puts.new.items n v) }
-{
-    for index in 0..history.session_len(client) {
-        let index = index as u32;
-        push_put(puts, history, OpName { client, index })?;
-    }
-    Ok(())
-}
 
 /// All puts, in order of versions. `AllocError` where a growth was refused.
 pub fn put_table(alloc: Global, history: &History) -> Result<Vec<VersionedPut>, AllocError>
     ensures { IfOk result (λ v. HasAllPuts history.now.sessions v.items) }
 {
-    let mut puts = Vec::new(alloc);
-    for client in 0..history.clients() {
-        push_puts(&mut puts, history, client as u16)?;
-    }
+    let mut puts = Vec::with_capacity(alloc, history.puts())?;
+    history.list_puts(&mut puts)?;
     puts.sort_unstable_by_key(|put| put.version.as_u64());
     Ok(puts)
 }

@@ -6,7 +6,7 @@ use Rattle.std.proofs.lemmas.List.{drop-drop, length-append, length-drop}
 use Rattle.cops_types.specs.declared.op.Op.{Op}
 use Rattle.cops_types.specs.declared.op_view.OpView.{OpView}
 use Rattle.cops_types.specs.OpViews.{viewed}
-use Rattle.cops_trace.specs.declared.ahead.Place.{Place}
+use Rattle.cops_trace.specs.declared.ahead.RecordPlace.{RecordPlace}
 use Rattle.cops_trace.specs.declared.fault.TraceFault.{TraceFault}
 use Rattle.cops_trace.specs.declared.found.Found.TheVariants.{Gives}
 use Rattle.cops_trace.specs.declared.found.Item.TheVariants.{Op as Entry}
@@ -44,24 +44,24 @@ get_before [] x d k less = absurd (omega (arith, less))
 get_before (y ∷ xs) x d zero less = refl
 get_before (y ∷ xs) x d (suc k) less = get_before xs x d k (omega (arith, less))
 
-pub seen_too : (bytes : List ℕ) (places : List Place) (ops : List OpView) (op : OpView) → AreSeen bytes places ops → AreSeen bytes places (ops ++ op ∷ [])
+pub seen_too : (bytes : List ℕ) (places : List RecordPlace) (ops : List OpView) (op : OpView) → AreSeen bytes places ops → AreSeen bytes places (ops ++ op ∷ [])
 seen_too bytes places ops op seen = record {
   few = omega (arith, seen.few, length-append ops (op ∷ []));
   each = λ k d e less. subst (IsSeenAt bytes (get_or places k d)) (sym (get_before ops op e k (omega (arith, less, seen.few)))) (seen.each k d e less);
 }
 
-pub seen_next : (bytes : List ℕ) (places : List Place) (ops : List OpView) (place : Place) (op : OpView) → length places ≡ length ops → AreSeen bytes places ops → IsSeenAt bytes place op → AreSeen bytes (places ++ place ∷ []) (ops ++ op ∷ [])
+pub seen_next : (bytes : List ℕ) (places : List RecordPlace) (ops : List OpView) (place : RecordPlace) (op : OpView) → length places ≡ length ops → AreSeen bytes places ops → IsSeenAt bytes place op → AreSeen bytes (places ++ place ∷ []) (ops ++ op ∷ [])
 seen_next bytes places ops place op same seen here = record {
   few = omega (arith, same, length-append ops (op ∷ []), length-append places (place ∷ []));
   each = λ k d e less. elim (eq-or-lt_of_le (let le : k ≤ length places = omega (arith, less, length-append places (place ∷ [])) in le)) [
     | inl end ↦
         let at_place : get_or (places ++ place ∷ []) k d ≡ place = ap (λ (n : ℕ). get_or (places ++ place ∷ []) n d) end ∙ get_at_end places place d in
         let at_op : get_or (ops ++ op ∷ []) k e ≡ op = ap (λ (n : ℕ). get_or (ops ++ op ∷ []) n e) (end ∙ same) ∙ get_at_end ops op e in
-        subst (λ (p : Place). IsSeenAt bytes p (get_or (ops ++ op ∷ []) k e)) (sym at_place) (subst (IsSeenAt bytes place) (sym at_op) here)
+        subst (λ (p : RecordPlace). IsSeenAt bytes p (get_or (ops ++ op ∷ []) k e)) (sym at_place) (subst (IsSeenAt bytes place) (sym at_op) here)
     | inr before ↦
         let at_place = get_before places place d k before in
         let at_op = get_before ops op e k (omega (arith, before, same)) in
-        subst (λ (p : Place). IsSeenAt bytes p (get_or (ops ++ op ∷ []) k e)) (sym at_place) (subst (IsSeenAt bytes (get_or places k d)) (sym at_op) (seen.each k d e before))
+        subst (λ (p : RecordPlace). IsSeenAt bytes p (get_or (ops ++ op ∷ []) k e)) (sym at_place) (subst (IsSeenAt bytes (get_or places k d)) (sym at_op) (seen.each k d e before))
   ];
 }
 
@@ -111,19 +111,19 @@ reach_next c at used rest client op stands reach =
     reach_after at used (Some c) item allowed reach (stands_used (Some (progress_from at c)) rest item used stands).2
 
 -- the record that was seen stands there
-pub seen_there : (c : ACounts) (at : ℕ) (bytes : List ℕ) (place : Place) (op : OpView) → IsSeenAt bytes place op
+pub seen_there : (c : ACounts) (at : ℕ) (bytes : List ℕ) (place : RecordPlace) (op : OpView) → IsSeenAt bytes place op
     → record_found (progress_from at c) (record { client = place.client; op = viewed op }) place.index place.used ≡ Gives (Entry place.client (viewed op)) place.used
     → Stands (Some (progress_from at c)) (drop place.at bytes) (Gives (Entry place.client (viewed op)) place.used)
 seen_there c at bytes place op seen found =
     seen_stands (progress_from at c) (drop place.at bytes) (record { client = place.client; index = place.index; op = op; used = place.used }) seen found
 
 -- what was seen at the place that is come to
-module _ (c : ACounts) (at used : ℕ) (bytes : List ℕ) (places : List Place) (ops : List OpView) (seen : AreSeen bytes places ops) (k : ℕ) (less : k < length places) (place : Place) (is_place : place ≡ get_or places k place)
+module _ (c : ACounts) (at used : ℕ) (bytes : List ℕ) (places : List RecordPlace) (ops : List OpView) (seen : AreSeen bytes places ops) (k : ℕ) (less : k < length places) (place : RecordPlace) (is_place : place ≡ get_or places k place)
     (op : OpView) (is_op : op ≡ get_or ops k op) (come : place.at ≡ used)
     (found : (o : Op) (n : ℕ) → record_found (progress_from (at + used) c) (record { client = place.client; op = o }) place.index n ≡ Gives (Entry place.client o) n) where
   pub stands_here : Stands (Some (progress_from (at + used) c)) (drop used bytes) (Gives (Entry place.client (viewed op)) place.used)
   stands_here =
-      let here : IsSeenAt bytes place op = subst (λ (p : Place). IsSeenAt bytes p op) (sym is_place) (subst (IsSeenAt bytes (get_or places k place)) (sym is_op) (seen.each k place op less)) in
+      let here : IsSeenAt bytes place op = subst (λ (p : RecordPlace). IsSeenAt bytes p op) (sym is_place) (subst (IsSeenAt bytes (get_or places k place)) (sym is_op) (seen.each k place op less)) in
       subst (λ (n : ℕ). Stands (Some (progress_from (at + used) c)) (drop n bytes) (Gives (Entry place.client (viewed op)) place.used)) come
       (seen_there c (at + used) bytes place op here (found (viewed op) place.used))
 

@@ -7,20 +7,20 @@ use Rattle.cops_wire.specs.Answer.{IsAnswer}
 use Rattle.cops_wire.specs.Grammar.{grammar}
 use Rattle.cops_wire.specs.Message.{parts}
 use Rattle.cops_wire.specs.Records.{record_message}
-use Rattle.cops_trace.specs.declared.ahead.Place.{Place}
+use Rattle.cops_trace.specs.declared.ahead.RecordPlace.{RecordPlace}
 use Rattle.cops_trace.specs.Counts.{ACounts}
 use Rattle.cops_trace.specs.Parsing.{FedInto, IsUnderway}
 use Rattle.cops_trace.specs.Reading.{Reading}
 use Rattle.cops_trace.specs.Text.{ATrace}
 
 -- the record of this operation stands at its place in the bytes
-abbrev pub IsSeenAt : List ℕ → Place → OpView → Type 0
+abbrev pub IsSeenAt : List ℕ → RecordPlace → OpView → Type 0
 IsSeenAt bytes place op = IsAnswer (grammar One) (drop place.at bytes) (Ok (parts (record_message place.client place.index (viewed op)), place.used))
 
 -- each of them does
-pub record AreSeen (bytes : List ℕ) (places : List Place) (ops : List OpView) : Type 0 where
+pub record AreSeen (bytes : List ℕ) (places : List RecordPlace) (ops : List OpView) : Type 0 where
   pub few : length places ≤ length ops
-  pub each : (k : ℕ) (d : Place) (e : OpView) → k < length places → IsSeenAt bytes (slice_index_or places k d) (slice_index_or ops k e)
+  pub each : (k : ℕ) (d : RecordPlace) (e : OpView) → k < length places → IsSeenAt bytes (slice_index_or places k d) (slice_index_or ops k e)
 
 -- a reader that has come so far, and has these bytes before it
 abbrev pub reading_at : ACounts → ℕ → List ℕ → Reading

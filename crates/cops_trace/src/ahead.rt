@@ -17,7 +17,7 @@ const TOGETHER: usize = 64;
 
 /// Where a record stands in some bytes, and how many it takes; of whom it is, and its index.
 #[derive(Clone, Copy)]
-pub(crate) struct Place {
+pub(crate) struct RecordPlace {
     at: usize,
     used: usize,
     client: u16,
@@ -28,7 +28,7 @@ pub(crate) struct Place {
 #[derive(Drop)]
 pub(crate) struct Ahead<'a> {
     bytes: &'a [u8],
-    places: Vec<Place>,
+    places: Vec<RecordPlace>,
     pub(crate) ops: Vec<OpView<'a>>,
 }
 
@@ -46,7 +46,7 @@ pub(crate) fn see_ahead<'a>(alloc: Global, bytes: &'a [u8]) -> Ahead<'a>
         let Some(record) = record_at(alloc, &bytes[at..]) else {
             break;
         };
-        let place = Place {
+        let place = RecordPlace {
             at,
             used: record.used,
             client: record.client,

@@ -211,6 +211,7 @@ impl Entries {
 
     /// Makes room for a client's next entry, and for so many more puts and gets of all clients. A refusal changes
     /// nothing.
+    #[inline(always)]
     pub(crate) fn reserve(&mut self, client: u16, more: usize) -> Result<(), Memory>
         requires { client < length self.old.all }
         ensures keeps { KeepsEntries self.old self.new }
@@ -223,6 +224,7 @@ impl Entries {
     }
 
     /// Makes room for so many more puts and gets.
+    #[inline(always)]
     fn reserve_lists(&mut self, more: usize) -> Result<(), Memory>
         ensures keeps { KeepsEntries self.old self.new }
         ensures more_puts { OnOk result (more ≤ self.new.more_puts) }
@@ -234,6 +236,7 @@ impl Entries {
     }
 
     /// Makes room in a client's session.
+    #[inline(always)]
     fn reserve_slot(&mut self, client: u16) -> Result<(), Memory>
         requires { client < length self.old.all }
         ensures keeps { KeepsEntries self.old self.new }

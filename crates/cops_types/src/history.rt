@@ -85,6 +85,7 @@ impl History {
 
     /// Makes room for the client's next operation, whose `push` then takes no memory: `UnknownClient` where there is
     /// no such client, then `TooManyOps` where the client has 1,000,000 operations or there are 16,000,000.
+    #[inline(always)]
     pub fn reserve(&mut self, client: u16) -> Result<(), TypeFault>
         ensures same { self.new.sessions ≡ self.old.sessions }
         ensures room { OnOk result (HasRoom self.new client) }

@@ -7,14 +7,19 @@ use cops_scenario::{Scenario, ScenarioFault, outcome_line};
 use cops_types::{Memory, Refusal};
 use std::alloc::Global;
 
+/// Whether it was refused for want of memory.
+fn lacked_memory(outcome: &Outcome) -> bool {
+    match outcome {
+        Outcome::Refused(Refusal::Memory) => true,
+        _ => false,
+    }
+}
+
 /// The answer to an event: one that is refused for want of memory, and then has changed nothing, is asked for again.
 fn answered(world: &mut World, event: &Event) -> Outcome {
     let before = (world.history().len(), world.puts());
     let outcome = world.answer(event);
-    if outcome != Outcome::Refused(Refusal::Memory) {
-        return outcome;
-    }
-    if before != (world.history().len(), world.puts()) {
+    if !lacked_memory(&outcome) || before != (world.history().len(), world.puts()) {
         return outcome;
     }
     drop(outcome);

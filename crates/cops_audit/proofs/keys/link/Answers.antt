@@ -1,17 +1,11 @@
-use Rattle.std.proofs.Common.{◌≡◌, ◌≢◌, ◌<◌, ◌+◌, ◌-◌, ◌⊎◌, ℕ, Some, None, length, slice_index_or, get_or-set_same, get_or-set_other, slice_get, slice_set, sym, ◌∙◌, ap, subst, inl, inr, arith, eqb}
+use Rattle.std.proofs.Common.{◌≡◌, ◌≢◌, ◌<◌, ◌+◌, ◌-◌, ℕ, Some, None, length, slice_index_or, get_or-set_same, get_or-set_other, slice_get, slice_set, sym, ◌∙◌, ap, subst, inl, inr, arith}
 use Rattle.std.proofs.Math.ListN.{length-set}
-use Rattle.std.specs.Option.{option_map}
-use Rattle.std.proofs.lemmas.Bool.{cases_Bool, eqb-true, eqb-false}
-use Rattle.cops_types.specs.declared.op.Op.TheVariants.{Put}
-use Rattle.cops_types.specs.Operations.{key_of}
+use Rattle.std.proofs.lemmas.Bool.{cases_eq}
 use Rattle.cops_audit.specs.Keys.{IsFirstFrom, IsNext, OnKey}
 use Rattle.cops_audit.proofs.Collect.{get_or-default}
-use Rattle.cops_audit.proofs.Linking.{next_is, on_key, first_here, first_kept, none_past_end, written}
+use Rattle.cops_audit.proofs.Linking.{next_is, first_here, first_kept, keyed_at, none_past_end, written}
 use Rattle.cops_audit.proofs.Marks.{slice_get_inside}
 use Rattle.cops_audit.proofs.keys.link.Goals as goal
-
-same_or_not : (a b : ℕ) → (a ≡ b) ⊎ (a ≢ b)
-same_or_not a b = elim (cases_Bool (eqb a b)) [ inl p ↦ inl (eqb-true _ _ p) | inr p ↦ inr (eqb-false _ _ p) ]
 
 pub loop-place-init : goal.loop-place-init
 loop-place-init c = record {
@@ -24,16 +18,15 @@ loop-place-init c = record {
   firsts_capacity = c.in_ok-set_none-2.ensures.capacity;
 }
 
-pub number_of-number-requires : goal.number_of-number-requires
-number_of-number-requires c =
-    let own = (c.requires.table.members c.index-table-place.result).0 (c.loop-place.place - 1, omega arith, sym c.index-table-place.is) in
-    (Put own.0 own.1 c.index-table-place.result.version, own.2)
-
 pub index-requires : goal.index-requires
-index-requires c = omega (arith, c.number_of-number.ensures.within, c.loop-place.invariant.width)
+index-requires c =
+    let at = keyed_at c.args.history.now c.args.table.now c.args.keys.now c.requires.table c.requires.keys (c.loop-place.place - 1) (omega arith) in
+    omega (arith, slice_get_inside c.args.history.now.keys _ at.0 at.2, c.loop-place.invariant.width)
 
 pub index_mut-requires-in-loop-place : goal.index_mut-requires-in-loop-place
-index_mut-requires-in-loop-place c = omega (arith, c.number_of-number.ensures.within, c.loop-place.invariant.width)
+index_mut-requires-in-loop-place c =
+    let at = keyed_at c.args.history.now c.args.table.now c.args.keys.now c.requires.table c.requires.keys (c.loop-place.place - 1) (omega arith) in
+    omega (arith, slice_get_inside c.args.history.now.keys _ at.0 at.2, c.loop-place.invariant.width)
 
 pub loop-place-preserved : goal.loop-place-preserved
 loop-place-preserved c =
@@ -43,33 +36,32 @@ loop-place-preserved c =
     let firsts = c.loop-place.firsts.items in
     let k = c.loop-place.place - 1 in
     let e : c.loop-place.place ≡ k + 1 = omega arith in
-    let put = c.index-table-place.result in
-    let number = c.number_of-number.result in
+    let number = slice_index_or c.args.keys.now k 0 in
     let next = c.index.result.now in
-    let own = (c.requires.table.members put).0 (k, omega arith, sym c.index-table-place.is) in
-    let key = own.0 in
-    let here : OnKey h table k key = on_key h table c.requires k put key put.version (omega arith) c.index-table-place.is (own.1, own.2) in
-    let at = c.number_of-number.ensures.key key (ap (option_map key_of) own.2) in
-    let inside : number < length firsts = omega (arith, c.number_of-number.ensures.within, c.loop-place.invariant.width) in
+    let keyed = keyed_at c.args.history.now table c.args.keys.now c.requires.table c.requires.keys k (omega arith) in
+    let key = keyed.0 in
+    let here = keyed.1 in
+    let at = keyed.2 in
+    let inside : number < length firsts = omega (arith, slice_get_inside keys number key at, c.loop-place.invariant.width) in
     let is_next : slice_index_or firsts number None ≡ next = get_or-default firsts number None next inside ∙ sym c.index.ensures in
     record {
       whole = omega (arith, length-set c.loop-place.nexts.items k next, c.loop-place.invariant.whole);
       width = omega (arith, length-set firsts number (Some k), c.loop-place.invariant.width);
       nexts = λ t other le there. elim (written c.loop-place.nexts.items k t next other there) [
-        | inl w ↦ subst (λ o. IsNext h table t o) w.1 (subst (λ (j : ℕ). IsNext h table j next) (sym w.0) (next_is h table c.requires.rising k c.loop-place.place key next e here
+        | inl w ↦ subst (λ o. IsNext h table t o) w.1 (subst (λ (j : ℕ). IsNext h table j next) (sym w.0) (next_is h table c.requires.table.rising k c.loop-place.place key next e here
             (subst (IsFirstFrom h table c.loop-place.place key) is_next (c.loop-place.invariant.firsts number key at))))
         | inr w ↦ c.loop-place.invariant.nexts t other (omega (arith, le, w.0, e)) w.1
       ];
-      firsts = λ other q there. elim (same_or_not other number) [
+      firsts = λ other q there. elim (cases_eq other number) [
         | inl same ↦
             let both : Some key ≡ Some q = sym at ∙ ap (slice_get keys) (sym same) ∙ there in
             let one : key ≡ q = cc in
             let now : slice_index_or (slice_set firsts number (Some k)) other None ≡ Some k = ap (λ (j : ℕ). slice_index_or (slice_set firsts number (Some k)) j None) same ∙ get_or-set_same firsts number (Some k) None inside in
-            subst (IsFirstFrom h table k q) (sym now) (first_here h table c.requires.rising k q (subst (OnKey h table k) one here))
+            subst (IsFirstFrom h table k q) (sym now) (first_here h table c.requires.table.rising k q (subst (OnKey h table k) one here))
         | inr differs ↦
             let apart : key ≢ q = λ one. differs (c.keys.ensures.distinct other number q there (at ∙ ap (λ x. Some x) one)) in
             subst (IsFirstFrom h table k q) (sym (get_or-set_other firsts number other (Some k) None differs))
-            (first_kept h table c.requires.rising k c.loop-place.place key q _ e here apart (c.loop-place.invariant.firsts other q there))
+            (first_kept h table c.requires.table.rising k c.loop-place.place key q _ e here apart (c.loop-place.invariant.firsts other q there))
       ];
       nexts_capacity = c.loop-place.invariant.nexts_capacity;
       firsts_capacity = c.loop-place.invariant.firsts_capacity;
