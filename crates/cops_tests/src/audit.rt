@@ -3,6 +3,7 @@ use cops_audit::*;
 use cops_types::{History, Op, OpName, Version};
 use std::alloc::Global;
 use std::test::Fail;
+use std::thread::Threads;
 
 /// The puts are told in order of versions, and not of names.
 #[test]
@@ -50,6 +51,38 @@ fn puts_have_numbers(rt: HostRuntime) -> Result<(), Fail> {
     assert!(rt; names?.as_slice() == [name(0, 0), name(1, 0), name(1, 1)].as_slice());
     assert!(rt; numbers == [Some(0), Some(1), Some(2), None]);
     assert!(rt; source == Some(1) && count == 3);
+    Ok(())
+}
+
+/// How many operations workers share by so many threads, and the puts among them whose versions other puts bear.
+fn shared<R: Threads + Sync>(
+    rt: &R,
+    alloc: Global,
+    history: &History,
+    threads: u8,
+) -> Result<(usize, Vec<OpName>), Fail> {
+    let puts = Puts::beside(rt, alloc, history, threads)?;
+    let count = puts.count();
+    let doubled = puts.doubled(alloc, 0, count);
+    drop(puts);
+    Ok((count, doubled?))
+}
+
+/// One thread and several make the same of a history.
+#[test]
+fn puts_beside_names(rt: HostRuntime) -> Result<(), Fail> {
+    let entries = [
+        (0, Did::Put(b'x', 1, 2, 0)),
+        (1, Did::Put(b'x', 2, 1, 64)),
+        (1, Did::Missed(b'y')),
+        (2, Did::Put(b'y', 3, 2, 0)),
+    ];
+    let history = history(rt.alloc(), 3, &entries)?;
+    for threads in [1, 2, 4] {
+        let (count, doubled) = shared(&rt, rt.alloc(), &history, threads)?;
+        assert!(rt; count == 4);
+        assert!(rt; doubled.as_slice() == [name(0, 0), name(2, 0)].as_slice());
+    }
     Ok(())
 }
 
