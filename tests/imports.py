@@ -247,7 +247,8 @@ def wrong_lines():
 
 
 def replaced():
-    """A trace that is there stays where a line is wrong, also behind many that are not, and is replaced as a whole where none is."""
+    """A trace that is there stays where a line is wrong, also behind many that are not, where there is none none is left, and one is replaced as a
+    whole where no line is wrong."""
     old = b"what was there\n" * 100_000
     with tempfile.TemporaryDirectory() as folder:
         lines, trace = os.path.join(folder, "lines"), os.path.join(folder, "trace")
@@ -259,7 +260,11 @@ def replaced():
             write(lines, data)
             check("an import of a line that is wrong", cops("import", lines, trace), answer)
             check("the trace that was there", read(trace) == old, True)
+            os.remove(trace)
+            check("an import for a new trace", cops("import", lines, trace), answer)
+            check("no trace where there was none", os.listdir(folder), ["lines"])
         write(lines, FIRST)
+        write(trace, old)
         check("an import over a longer file", cops("import", lines, trace), (0, b"client 0 1\nimported: 1 operations, 1 clients\n", b""))
         check("the trace in its place", cops("audit", trace), (0, b"accepted: 1 operations, 0 puts\n", b""))
         check("what is left in the folder", sorted(os.listdir(folder)), ["lines", "trace"])

@@ -345,7 +345,7 @@ def scripted(*scripts, data_centres=1, **more):
 
 
 def replaced():
-    """A trace that is there stays where a scenario is faulty, and is replaced as a whole where it runs."""
+    """A trace that is there stays where a scenario is faulty, where there is none none is left, and one is replaced as a whole where it runs."""
     old = b"what was there\n" * 1_000
     with tempfile.NamedTemporaryFile(suffix=".trace") as file:
         file.write(old)
@@ -355,6 +355,10 @@ def replaced():
             check("the trace that was there", there.read() == old, True)
         check("a scenario that runs", cops("run", "-", file.name, stdin=scripted(data_centres=2)), (0, b"accepted: 0 operations, 0 puts\n", b""))
         check("the trace in its place", cops("audit", file.name), (0, b"accepted: 0 operations, 0 puts\n", b""))
+    with tempfile.TemporaryDirectory() as folder:
+        trace = os.path.join(folder, "trace")
+        check("a faulty scenario for a new trace", cops("run", "-", trace, stdin=b"{}"), (2, b"faulty: scenario field data_centres\n", b""))
+        check("no trace where there was none", os.listdir(folder), [])
 
 
 def random_script(pick, operations, keys):

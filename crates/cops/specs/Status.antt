@@ -11,10 +11,7 @@ use Rattle.cops_trace.specs.Answer.{Says}
 use Rattle.cops_scenario.specs.Scenario.{AScenario}
 use Rattle.cops_scenario.specs.File.{IsTextOf}
 use Rattle.cops_command.specs.Scenario.{TellsNone}
-use Rattle.cops_command.specs.declared.status.Status.{Status}
-use Rattle.cops_command.specs.declared.status.Status.TheVariants as status
-use Rattle.cops_stream.specs.declared.audit.Answer.{Answer}
-use Rattle.cops_stream.specs.declared.audit.Answer.TheVariants.{Accepted, Refused, Faulty}
+use Rattle.cops_stream.specs.declared.audit.Answer.TheVariants.{Refused}
 use Rattle.cops_stream.specs.Audit.{AuditSays}
 use Rattle.cops_stream.specs.Explain.{ExplainSays}
 use Rattle.cops_stream.specs.SoFar.{IsSoundSoFar, SaysSoFar}
@@ -26,12 +23,6 @@ use Rattle.cops_import.specs.declared.fault.ImportFault.TheVariants.{Line}
 use Rattle.cops_import.specs.declared.fault.LineFault.{LineFault}
 use Rattle.cops_run_stream.specs.Running.{IsLeft}
 use Rattle.cops_serve.specs.Serving.{IsServed}
-
--- the status of an audit's answer
-abbrev pub status_of : Answer → Status
-status_of Accepted = status.Accepted
-status_of Refused = status.Refused
-status_of Faulty = status.Faulty
 
 -- the bytes are a trace's text
 abbrev pub TellsTrace : List ℕ → Type 0

@@ -4,12 +4,13 @@
 
 ghost use Rattle.std.specs.Prelude.{◌≡◌, ◌≢◌, ◌≤◌, ◌⊎◌, IfSome, Ok, Err};
 ghost use Rattle.cops_types.specs.declared.limits.TheConstants.{MAX_WORKERS};
+ghost use Rattle.cops_stream.specs.Audit.{answer_status};
 ghost use Rattle.cops_stream.specs.Convergent.{SpellsConvergent};
 ghost use Rattle.cops_stream.specs.SoFar.{IsSoundSoFar};
 ghost use Rattle.cops_command.specs.Scenario.{TellsNone};
 ghost use Rattle.cops_command.specs.Status.{number, number as status_number};
 ghost use Rattle.cops_command.specs.declared.status.Status.TheVariants.{Accepted, Failed, Faulty, Refused};
-ghost use Rattle.cops.specs.Status.{EndsFaulty, EndsRefused, EndsWell, IsLine, MayWork, TellsExplained, TellsFaultyLine, TellsImport, TellsNoTrace, TellsOtherFault, TellsRefused, TellsRefusedSoFar, TellsRun, TellsServed, TellsTrace, status_of};
+ghost use Rattle.cops.specs.Status.{EndsFaulty, EndsRefused, EndsWell, IsLine, MayWork, TellsExplained, TellsFaultyLine, TellsImport, TellsNoTrace, TellsOtherFault, TellsRefused, TellsRefusedSoFar, TellsRun, TellsServed, TellsTrace};
 
 mod lines;
 mod output;
@@ -38,7 +39,7 @@ use std::rt::{Env, Files};
 use std::sync::Wait;
 use std::thread::Threads;
 use std::time::{Clock, Instant};
-use std::{env, io, process};
+use std::{env, fs, io, process};
 
 /// Why a file is not written that is the one which is read.
 const SAME_FILE: &str = "same file";
@@ -49,17 +50,6 @@ fn failed<R: Eprint>(rt: &R, why: &str, status: Status) -> u8
 {
     let _ = eprintln!(rt; "failed: {why}");
     status.number()
-}
-
-/// The status that an audit's answer ends with.
-fn status_of(answer: Answer) -> Status
-    ensures { result ≡ status_of answer }
-{
-    match answer {
-        Answer::Accepted => Status::Accepted,
-        Answer::Refused => Status::Refused,
-        Answer::Faulty => Status::Faulty,
-    }
 }
 
 /// The status that an audit ends with; a line tells why there is no answer.
@@ -76,7 +66,7 @@ fn ended<R: Eprint + Clock>(
         remove(rt, begun);
     }
     match audited {
-        Ok(answer) => status_of(answer).number(),
+        Ok(answer) => answer.status().number(),
         Err(StreamFault::Memory) => failed(rt, "memory", Status::NoMemory),
         Err(StreamFault::BadWorkers) => failed(rt, "workers", Status::Faulty),
         Err(StreamFault::Held) => failed(rt, "held", Status::Failed),
@@ -144,16 +134,16 @@ where
 fn drawn<R>(rt: &R, answer: Answer, name: Option<&str>, picture: Option<Vec<u8>>) -> u8
 where
     R: Files<File = File> + Eprint,
-    ensures { (result ≡ number (status_of answer)) ⊎ (result ≡ number Failed) }
+    ensures { (result ≡ number (answer_status answer)) ⊎ (result ≡ number Failed) }
 {
     let (Some(name), Some(picture)) = (name, picture) else {
-        return status_of(answer).number();
+        return answer.status().number();
     };
     let Ok(mut file) = File::create(rt, name) else {
         return failed(rt, "open", Status::Failed);
     };
     match file.write_all(&picture) {
-        Ok(()) => status_of(answer).number(),
+        Ok(()) => answer.status().number(),
         Err(_) => failed(rt, "write", Status::Failed),
     }
 }
@@ -195,7 +185,19 @@ where
     let Ok(output) = Renewed::open(rt, trace) else {
         return failed(rt, "open", Status::Failed);
     };
-    run_over(rt, input, output, io::writer(rt), errors)
+    let is_new = output.is_new();
+    let status = run_over(rt, input, output, io::writer(rt), errors);
+    unmade(rt, trace, is_new, status)
+}
+
+/// Removes the file of that name where it was made for what a faulty input has nothing for, and gives the status.
+fn unmade<R: Files>(rt: &R, name: &str, is_new: bool, status: u8) -> u8
+    ensures { result ≡ status }
+{
+    if is_new && status == Status::Faulty.number() {
+        let _ = fs::remove_file(rt, name);
+    }
+    status
 }
 
 /// The same over the writers of the trace, of what is printed, and of what failed.
@@ -251,8 +253,10 @@ where
         Err(NoLines::Memory) => return failed(rt, "memory", Status::NoMemory),
         Err(_) => return failed(rt, "create", Status::Failed),
     };
+    let is_new = output.is_new();
     let draft = Draft::new(waiting, output);
-    import_over(rt, clients, input, draft, io::writer(rt), errors)
+    let status = import_over(rt, clients, input, draft, io::writer(rt), errors);
+    unmade(rt, trace, is_new, status)
 }
 
 /// The same over the writers of the trace, of what is printed, and of what failed.

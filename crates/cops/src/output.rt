@@ -10,18 +10,32 @@ use std::rt::Files;
 pub struct Renewed {
     file: File,
     is_begun: bool,
+    is_new: bool,
 }
 
 impl Renewed {
     /// The file of that name: an empty one is made where there is none.
     pub fn open<R: Files<File = File>>(rt: &R, name: &str) -> io::Result<Renewed> {
+        if let Ok(file) = File::create_new(rt, name) {
+            return Ok(Renewed {
+                file,
+                is_begun: false,
+                is_new: true,
+            });
+        }
         let mut options = OpenOptions::new();
         options.write(true).create(true);
         let file = options.open(rt, name)?;
         Ok(Renewed {
             file,
             is_begun: false,
+            is_new: false,
         })
+    }
+
+    /// Whether the file was made for it.
+    pub fn is_new(&self) -> bool {
+        self.is_new
     }
 
     /// Lets go of the old bytes. What is no plain file, as a pipe, holds none.

@@ -1,5 +1,5 @@
 -- Notes on a session, one operation after the other.
-use Rattle.std.proofs.Common.{◌≡◌, ◌≢◌, ◌<◌, ◌≤◌, ◌+◌, ◌-◌, ℕ, zero, suc, List, [], ◌∷◌, ◌++◌, length, get_or, map, length-append, Some, refl, sym, ◌∙◌, ap, subst, inl, inr, arith, slice_get, slice_index_or, slice_set}
+use Rattle.std.proofs.Common.{◌≡◌, ◌≢◌, ◌<◌, ◌≤◌, ◌+◌, ◌-◌, ℕ, zero, suc, List, [], ◌∷◌, ◌++◌, length, get_or, map, length-append, Some, refl, sym, ◌∙◌, ap, subst, inl, inr, arith, max, slice_get, slice_index_or, slice_set}
 use Rattle.std.proofs.Math.ListN.{length-set}
 use Rattle.std.proofs.Math.Nat.{eq-or-lt_of_le}
 use Rattle.std.proofs.lemmas.Bool.{cases_lt, cases_order}
@@ -52,17 +52,14 @@ pub no_notes : (h : Sessions) (table : List VersionedPut) (client : ℕ) → Not
 no_notes h table client = record { whole = refl; up_to = mark_none; seen = λ i x at. absurd cc; marks = λ i x at. absurd cc }
 
 module _ (h : Sessions) (table : List VersionedPut) (client : ℕ) (session : List Note) (count mark : ℕ) (seen : Seen) (n : Noted h table client session count mark) (is : IsSeen h table (record { client = client; index = count }) seen) where
-  -- a place above the mark becomes the mark
-  pub higher_note : (m a : ℕ) → m ≡ a → a ≡ above seen → mark < a → Noted h table client (session ++ record { seen = seen; mark = m } ∷ []) (count + 1) m
-  higher_note m a same is_above high =
+  -- a place above the mark becomes the mark, and any other leaves it
+  pub raised_note : (m : ℕ) → m ≡ max mark (above seen) → Noted h table client (session ++ record { seen = seen; mark = m } ∷ []) (count + 1) m
+  raised_note m is_max =
       one_note_more h table client session count mark (record { seen = seen; mark = m }) n is
-      (subst (λ (k : ℕ). IsMark (session ++ record { seen = seen; mark = m } ∷ []) (count + 1) k) (sym (same ∙ is_above)) (mark_rises session (record { seen = seen; mark = m }) count mark n.whole n.up_to (omega (arith, high, is_above))))
-
-  -- any other leaves it
-  pub lower_note : (m a : ℕ) → m ≡ mark → a ≡ above seen → a ≤ mark → Noted h table client (session ++ record { seen = seen; mark = m } ∷ []) (count + 1) m
-  lower_note m a same is_above low =
-      one_note_more h table client session count mark (record { seen = seen; mark = m }) n is
-      (subst (λ (k : ℕ). IsMark (session ++ record { seen = seen; mark = m } ∷ []) (count + 1) k) (sym same) (mark_stays session (record { seen = seen; mark = m }) count mark n.whole n.up_to (omega (arith, low, is_above))))
+      (elim (cases_lt mark (above seen)) [
+        | inl high ↦ subst (λ (k : ℕ). IsMark (session ++ record { seen = seen; mark = m } ∷ []) (count + 1) k) (omega (arith, is_max, high)) (mark_rises session (record { seen = seen; mark = m }) count mark n.whole n.up_to (omega (arith, high)))
+        | inr low ↦ subst (λ (k : ℕ). IsMark (session ++ record { seen = seen; mark = m } ∷ []) (count + 1) k) (omega (arith, is_max, low)) (mark_stays session (record { seen = seen; mark = m }) count mark n.whole n.up_to (omega (arith, low)))
+      ])
 
 -- the mark of the last note
 pub mark_of_last : (session : List Note) (d : Note) → AreMarks session → 0 < length session → IsMark session (length session) (get_or session (length session - 1) d).mark

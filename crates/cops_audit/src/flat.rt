@@ -52,10 +52,7 @@ fn push_session(notes: &mut Vec<Note>, history: &History, table: &[VersionedPut]
         let did = Did::of(history, name);
         let hint = hint_near(table, &did, mark);
         let seen = see(history, table, hint, name, &did);
-        let above = seen.above();
-        if mark < above {
-            mark = above;
-        }
+        mark = mark.max(seen.above());
         notes.push_reserved(Note { seen, mark });
     }
 }

@@ -160,10 +160,7 @@ fn note_on(
             index: index as u32,
         };
         let seen = see_hinted(history, table, hints, name);
-        let above = seen.above();
-        if mark < above {
-            mark = above;
-        }
+        mark = mark.max(seen.above());
         notes.push(Note { seen, mark })?;
     }
     Ok(())

@@ -3,6 +3,8 @@ use Rattle.std.specs.Prelude.{◌≡◌, ◌⊎◌, ℕ, List, ◌++◌, Option,
 use Rattle.std.specs.Io.KnownBytes.{Appends}
 use Rattle.cops_audit.specs.declared.verdict.Verdict.{Verdict}
 use Rattle.cops_audit.specs.declared.verdict.Verdict.TheVariants as verdict
+use Rattle.cops_command.specs.declared.status.Status.{Status}
+use Rattle.cops_command.specs.declared.status.Status.TheVariants as status
 use Rattle.cops_command.specs.Told.{IsReportOf}
 use Rattle.cops_trace.specs.declared.fault.TraceFault.{TraceFault}
 use Rattle.cops_trace.specs.Text.{ATrace, sessions_of}
@@ -15,6 +17,12 @@ use Rattle.cops_stream.specs.declared.audit.Answer.TheVariants.{Accepted, Refuse
 abbrev pub answer_of : Verdict → Answer
 answer_of (verdict.Accepted puts) = Accepted
 answer_of (verdict.Refused faults) = Refused
+
+-- the status that a command ends with on an answer
+abbrev pub answer_status : Answer → Status
+answer_status Accepted = status.Accepted
+answer_status Refused = status.Refused
+answer_status Faulty = status.Faulty
 
 -- of a trace: the report of the verdict on its sessions
 pub record IsTold (t : ATrace) (answer : Answer) (told : List ℕ) : Type 0 where

@@ -17,6 +17,7 @@ use crate::alone::judged_alone;
 use crate::fed::Fed;
 use cops_audit::Verdict;
 use cops_batch::{BatchFault, judge_with};
+use cops_command::Status;
 use cops_report::report;
 use cops_trace::{Taken, TraceFault, fault_line, read_into};
 use cops_types::{Counted, Gate, History, MAX_WORKERS, Memory, write_text};
@@ -35,6 +36,22 @@ pub enum Answer {
     Refused,
     /// The bytes spell no history.
     Faulty,
+}
+
+impl Answer {
+    ghost use Rattle.std.specs.Prelude.{◌≡◌};
+    ghost use Rattle.cops_stream.specs.Audit.{answer_status};
+
+    /// The status that a command ends with on this answer.
+    pub fn status(self) -> Status
+        ensures { result ≡ answer_status self }
+    {
+        match self {
+            Answer::Accepted => Status::Accepted,
+            Answer::Refused => Status::Refused,
+            Answer::Faulty => Status::Faulty,
+        }
+    }
 }
 
 /// Why no audit was written. The numbers are the faults' codes.

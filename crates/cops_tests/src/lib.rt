@@ -12,6 +12,8 @@ mod batch;
 #[cfg(test)]
 mod building;
 #[cfg(test)]
+mod gates;
+#[cfg(test)]
 mod link;
 #[cfg(test)]
 mod online;

@@ -1,5 +1,5 @@
 use crate::building::TWO;
-use cops_gates::HoldsAt;
+use crate::gates::HoldsAt;
 use cops_stream::*;
 use cops_types::{Counted, FailingReader, FailingWriter, OpenGate, Point};
 use std::test::Fail;

@@ -1,7 +1,7 @@
+use crate::gates::{HoldsAt, Meeting, TURNS, waits_for};
 use crate::runs::building::{DONE, TWO, fault_of, operations_of, ran, scenario};
 use cops_clients::*;
 use cops_core::{Event, World};
-use cops_gates::{HoldsAt, Meeting, TURNS, waits_for};
 use cops_node::Outcome;
 use cops_types::{Gate, GateHeld, OpenGate, Point, Refusal};
 use std::alloc::Global;

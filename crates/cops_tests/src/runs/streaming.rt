@@ -1,5 +1,5 @@
+use crate::gates::HoldsSteps;
 use crate::runs::building::{HEAD, TWO};
-use cops_gates::HoldsSteps;
 use cops_run_stream::{Streamed, run_stream};
 use cops_types::Counted;
 use std::test::Fail;

@@ -1,6 +1,6 @@
+use crate::gates::{HoldsSteps, Meeting};
 use crate::threads::building::*;
 use cops_cluster::*;
-use cops_gates::{HoldsSteps, Meeting};
 use cops_node::Outcome;
 use cops_types::{
     Dep, Deps, Gate, GateHeld, OpenGate, Point, PutRecord, Refusal, TypeFault, Version,

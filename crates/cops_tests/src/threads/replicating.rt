@@ -1,6 +1,6 @@
+use crate::gates::{HoldsAnswers, HoldsSteps};
 use crate::threads::building::{key, opened, pair};
 use cops_cluster::*;
-use cops_gates::{HoldsAnswers, HoldsSteps};
 use cops_link::*;
 use cops_node::{NodeEvent, Outcome};
 use cops_replication::*;

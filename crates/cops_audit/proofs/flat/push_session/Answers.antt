@@ -1,15 +1,14 @@
-use Rattle.std.proofs.Common.{◌+◌, ◌∷◌, ◌++◌, [], List, length, append-nil, append_assoc, length-append, slice_index_or, sym, ap, ◌∙◌, arith}
+use Rattle.std.proofs.Common.{ℕ, max, ◌+◌, ◌∷◌, ◌++◌, [], List, length, append-nil, append_assoc, length-append, slice_index_or, sym, ap, ◌∙◌, arith}
 use Rattle.cops_audit.specs.declared.notes.Note.{Note}
 use Rattle.cops_audit.proofs.Listing.{slice_get_there}
-use Rattle.cops_audit.proofs.Noting.{Noted, few_places, higher_note, lower_note, no_notes}
+use Rattle.cops_audit.proofs.Noting.{Noted, few_places, no_notes, raised_note}
 use Rattle.cops_audit.proofs.flat.push_session.Goals as goal
-use Rattle.cops_audit.proofs.flat.push_session.Goals.{then-mark-above, else-mark-above}
 
 pub of-did-requires : goal.of-did-requires
 of-did-requires c = slice_get_there (slice_index_or c.args.history.now.sessions c.args.client []) c.loop-index.index (omega (arith, c.session_len-index-end.ensures.count, c.loop-index-test.true))
 
-pub above-above-requires : goal.above-above-requires
-above-above-requires c = omega (arith, few_places c.args.history.now.sessions c.args.table.now c.requires.table _ c.see-seen.result c.see-seen.ensures, c.requires.table.table.few)
+pub above-requires : goal.above-requires
+above-requires c = omega (arith, few_places c.args.history.now.sessions c.args.table.now c.requires.table _ c.see-seen.result c.see-seen.ensures, c.requires.table.table.few)
 
 pub loop-index-init : goal.loop-index-init
 loop-index-init c = record {
@@ -40,16 +39,10 @@ loop-index-preserved c =
     let l = c.loop-index in
     let session = l.invariant.noted.0 in
     let seen = c.see-seen in
-    let above = c.above-above in
-    let note : Note = record { seen = seen.result; mark = c.if-mark-above.mark } in
-    let noted : Noted h c.args.table.now c.args.client (session ++ note ∷ []) (l.index + 1) c.if-mark-above.mark = elim c.if-mark-above.branch [
-      | then-mark-above w ↦
-          higher_note h c.args.table.now c.args.client session l.index l.mark seen.result l.invariant.noted.1 seen.ensures
-          _ above.result w.mark-is above.ensures w.if-mark-above.true
-      | else-mark-above w ↦
-          lower_note h c.args.table.now c.args.client session l.index l.mark seen.result l.invariant.noted.1 seen.ensures
-          _ above.result w.mark-is above.ensures w.if-mark-above.false
-    ] in
+    let note : Note = record { seen = seen.result; mark = c.max-mark.result } in
+    let noted : Noted h c.args.table.now c.args.client (session ++ note ∷ []) (l.index + 1) c.max-mark.result
+    = raised_note h c.args.table.now c.args.client session l.index l.mark seen.result l.invariant.noted.1 seen.ensures c.max-mark.result
+    (c.max-mark.ensures ∙ ap (λ (k : ℕ). max l.mark k) c.above.ensures) in
     record {
       noted = (
         session ++ note ∷ [],

@@ -1,15 +1,14 @@
-use Rattle.std.proofs.Common.{◌≡◌, [], length, slice_index_or, arith, subst, sym}
+use Rattle.std.proofs.Common.{◌≡◌, ◌∙◌, ℕ, [], ap, length, max, slice_index_or, arith, subst, sym}
 use Rattle.cops_audit.specs.Notes.{AreMarks, IsMark}
 use Rattle.cops_audit.proofs.Listing.{slice_get_there}
-use Rattle.cops_audit.proofs.Noting.{few_places, front_noted, higher_note, lower_note}
+use Rattle.cops_audit.proofs.Noting.{few_places, front_noted, raised_note}
 use Rattle.cops_audit.proofs.notes.note_on.Goals as goal
-use Rattle.cops_audit.proofs.notes.note_on.Goals.{then-mark-above, else-mark-above}
 
 pub see_hinted-seen-requires-clause-named : goal.see_hinted-seen-requires-clause-named
 see_hinted-seen-requires-clause-named c = slice_get_there (slice_index_or c.args.history.now.sessions c.args.client []) c.loop-index.index (omega (arith, c.session_len-index-end.ensures.count, c.loop-index-test.true))
 
-pub above-above-requires : goal.above-above-requires
-above-above-requires c = omega (arith, few_places c.args.history.now.sessions c.args.table.now c.requires.table _ c.see_hinted-seen.result c.see_hinted-seen.ensures, c.requires.table.table.few)
+pub above-requires : goal.above-requires
+above-requires c = omega (arith, few_places c.args.history.now.sessions c.args.table.now c.requires.table _ c.see_hinted-seen.result c.see_hinted-seen.ensures, c.requires.table.table.few)
 
 pub loop-index-init : goal.loop-index-init
 loop-index-init c =
@@ -25,12 +24,8 @@ loop-index-preserved c =
     let h = c.args.history.now.sessions in
     let old = c.loop-index.notes.items in
     record {
-      noted = elim c.if-mark-above.branch [
-        | then-mark-above w ↦ rw c.in_ok-push.ensures.items
-            (higher_note h c.args.table.now c.args.client old c.loop-index.index c.loop-index.mark c.see_hinted-seen.result c.loop-index.invariant.noted c.see_hinted-seen.ensures _ c.above-above.result w.mark-is c.above-above.ensures w.if-mark-above.true)
-        | else-mark-above w ↦ rw c.in_ok-push.ensures.items
-            (lower_note h c.args.table.now c.args.client old c.loop-index.index c.loop-index.mark c.see_hinted-seen.result c.loop-index.invariant.noted c.see_hinted-seen.ensures _ c.above-above.result w.mark-is c.above-above.ensures w.if-mark-above.false)
-      ];
+      noted = rw c.in_ok-push.ensures.items
+          (raised_note h c.args.table.now c.args.client old c.loop-index.index c.loop-index.mark c.see_hinted-seen.result c.loop-index.invariant.noted c.see_hinted-seen.ensures _ (c.max-mark.ensures ∙ ap (λ (k : ℕ). max c.loop-index.mark k) c.above.ensures));
       within = omega (arith, c.session_len-index-end.ensures.count, c.loop-index-test.true);
     }
 
