@@ -5,12 +5,12 @@ ghost use Rattle.cops_types.specs.Counted.{failures, inner};
 ghost use Rattle.cops_audit.specs.declared.verdict.Verdict.{Verdict};
 ghost use Rattle.cops_command.specs.Told.{IsReportOf};
 ghost use Rattle.cops_trace.specs.Text.{IsTrace, sessions_of, text};
-ghost use Rattle.cops_run.specs.Live.{IsCutFor, IsHeardFor};
+ghost use Rattle.cops_clients.specs.Live.{IsCutFor, IsHeardFor};
 ghost use Rattle.cops_run_stream.specs.Lines.{client_line, client_lines};
 ghost use Rattle.cops_run_stream.specs.Parts.{IsRunLeft};
 
 use crate::leaving::{Left, reported_left};
-use cops_run::{Live, Run, RunFault, run_live};
+use cops_clients::{Live, Run, RunFault, run_live};
 use cops_scenario::Scenario;
 use cops_tie::ClientOutcome;
 use cops_types::{Counted, Gate, Memory};

@@ -1,0 +1,93 @@
+-- Whose shares there are.
+use Rattle.std.proofs.Common.{◌≡◌, ◌⊎◌, Bool, IsTrue, ℕ, suc, ◌<◌, Result, Ok, Err, inl, inr, append_assoc, slice_index_or, List, [], ◌∷◌, ◌++◌, All, length, map, ap, refl, sym, subst, ◌∙◌, arith}
+use Rattle.std.specs.Prelude.{IfOk}
+use Rattle.std.proofs.lemmas.List.{map_push}
+use Rattle.std.proofs.lemmas.List.Elements.{All-cons}
+use Rattle.cops_cluster.specs.Close.{AreAll, holders}
+use Rattle.cops_core.specs.World.{Setting, IsSetting}
+use Rattle.cops_cluster.specs.Opening.{AreClientsAt, AreReceivers}
+use Rattle.cops_cluster.specs.declared.client.Client.{Client}
+use Rattle.cops_cluster.specs.declared.cluster.Cluster.{Cluster}
+use Rattle.cops_cluster.specs.declared.share.Holder.{Holder}
+use Rattle.cops_cluster.specs.declared.share.Holder.TheVariants.{Client as HeldByClient, Receiver as HeldByReceiver}
+use Rattle.cops_cluster.specs.declared.share.Share.{Share}
+use Rattle.cops_replication.specs.Wiring.{numbers, AreReceivers as AreWired}
+use Rattle.cops_replication.specs.declared.receiver.Receiver.{Receiver}
+use Rattle.cops_replication.proofs.Seats.{all_seated, map_twice, numbered_from, placed_from}
+use Rattle.cops_clients.specs.declared.clients.Job.{Job}
+use Rattle.cops_clients.specs.declared.fault.RunFault.{RunFault}
+use Rattle.cops_clients.specs.declared.gathering.Gathered.{Gathered}
+use Rattle.cops_clients.specs.Callers.{AreJobsOf, AreReceiversOf, IsClientOf, callers}
+
+-- each client's and each receiver's share is there
+pub all_there : (clients dcs : ℕ) (jobs : List Job) (receivers : List Receiver) (shares : List Share)
+    → map (λ (j : Job). j.client.number) jobs ≡ numbers clients → map (λ (r : Receiver). r.dc) receivers ≡ numbers dcs
+    → holders shares ≡ callers jobs receivers → AreAll clients dcs shares
+all_there clients dcs jobs receivers shares numbered placed are =
+    all_seated clients dcs shares
+    (are ∙ ap (λ (l : List Holder). l ++ map (λ (r : Receiver). HeldByReceiver r.dc) receivers) (map_twice (λ (j : Job). j.client.number) HeldByClient jobs ∙ ap (map HeldByClient) numbered)
+    ∙ ap (λ (l : List Holder). map HeldByClient (numbers clients) ++ l) (map_twice (λ (r : Receiver). r.dc) HeldByReceiver receivers ∙ ap (map HeldByReceiver) placed))
+
+-- and so where the threads left shares
+pub all_driven : (s : Setting) (jobs : List Job) (receivers : List Receiver) (c : Cluster) (r : Result Gathered RunFault) → AreJobsOf s jobs → AreReceiversOf s receivers
+    → c.place ≡ s.place → c.clients ≡ length s.homes → IfOk r (λ g. holders g.shares.items ≡ callers jobs receivers) → IfOk r (λ g. AreAll c.clients c.place.dcs g.shares.items)
+all_driven s jobs receivers c (Ok g) numbered placed place clients are =
+    let all = all_there (length s.homes) s.place.dcs jobs receivers g.shares.items numbered.0 placed.0 are in
+    subst (λ (n : ℕ). AreAll n c.place.dcs g.shares.items) (sym clients) (subst (λ (p : _). AreAll (length s.homes) p.dcs g.shares.items) (sym place) all)
+all_driven s jobs receivers c (Err e) numbered placed place clients are = tt
+
+-- what holds of each client holds of each job
+of_jobs : (P : Client → Type 0) (jobs : List Job) → All P (map (λ (j : Job). j.client) jobs) → All (λ (j : Job). P j.client) jobs
+of_jobs P [] all = λ k d less. absurd (omega (arith, less))
+of_jobs P (j ∷ js) all = All-cons (λ (j : Job). P j.client) j js (all 0 j.client (omega arith)) (of_jobs P js (λ k d less. all (suc k) d (omega (arith, less))))
+
+numbers_of_jobs : (jobs : List Job) → map (λ (j : Job). j.client.number) jobs ≡ map (λ (c : Client). c.number) (map (λ (j : Job). j.client) jobs)
+numbers_of_jobs [] = refl
+numbers_of_jobs (j ∷ js) = ap (λ (l : List ℕ). j.client.number ∷ l) (numbers_of_jobs js)
+
+-- the jobs of the clients that a cluster was opened with
+pub jobs_of : (s : Setting) (clients : List Client) (jobs : List Job) → IsSetting s → AreClientsAt s.homes (length s.homes) clients → map (λ (j : Job). j.client) jobs ≡ clients → AreJobsOf s jobs
+jobs_of s clients jobs setting (len, numbered, homes, contexts, held, entries) are =
+    let each : All (IsClientOf s) clients = λ k d less.
+    let within : k < length s.homes = omega (arith, less, len) in
+    let number : (slice_index_or clients k d).number ≡ k = numbered k d within in
+    let home_is : (slice_index_or clients k d).dc ≡ slice_index_or s.homes k 0 = homes k d within in (
+      omega (arith, number, within),
+      home_is ∙ ap (λ (n : ℕ). slice_index_or s.homes n 0) (sym number),
+      subst (λ (n : ℕ). n < s.place.dcs) (sym home_is) (setting.homes k 0 within),
+      held k d within ∙ ap HeldByClient (sym number),
+    ) in
+    let all : All (IsClientOf s) (map (λ (j : Job). j.client) jobs) = subst (λ (l : List Client). All (IsClientOf s) l) (sym are) each in (
+      numbers_of_jobs jobs ∙ ap (map (λ (c : Client). c.number)) are ∙ numbered_from (λ (c : Client). c.number) clients 0 (length s.homes) len (λ k d less. numbered k d less ∙ omega arith),
+      of_jobs (IsClientOf s) jobs all,
+    )
+
+-- the receivers that were wired with its shares
+pub receivers_of : (s : Setting) (shares : List Share) (receivers : List Receiver) → AreReceivers s.place.dcs shares → AreWired s.place.dcs shares receivers → AreReceiversOf s receivers
+receivers_of s shares receivers (len, held, entries) (dcs, are, fresh) =
+    (dcs, placed_from receivers shares 0 s.place.dcs dcs are (λ k d less. held k d less ∙ ap HeldByReceiver (omega arith)))
+
+-- ---- shares that are brought
+
+-- by one thread more
+pub brought_one : (lost after : Bool) (first before now : List Share) (callers : List Holder) (x : Share) (who : Holder) → (IsTrue lost → IsTrue after) → IsTrue after ⊎ (now ≡ before ++ x ∷ []) → x.holder ≡ who
+    → IsTrue lost ⊎ (holders before ≡ holders first ++ callers) → IsTrue after ⊎ (holders now ≡ holders first ++ (callers ++ who ∷ []))
+brought_one lost after first before now callers x who stays more is so_far =
+    elim more [
+      | inl gone ↦ inl gone
+      | inr added ↦
+          elim so_far [
+            | inl gone ↦ inl (stays gone)
+            | inr all ↦ inr (ap holders added ∙ map_push (λ (s : Share). s.holder) before x ∙ ap (λ (l : List Holder). l ++ x.holder ∷ []) all
+                ∙ ap (λ (h : Holder). (holders first ++ callers) ++ h ∷ []) is ∙ append_assoc (holders first) callers (who ∷ []))
+          ]
+    ]
+
+-- by others after some
+pub brought_both : (lost after : Bool) (before now : List Share) (first second : List Holder) → (IsTrue lost → IsTrue after) → IsTrue lost ⊎ (holders before ≡ first)
+    → IsTrue after ⊎ (holders now ≡ holders before ++ second) → IsTrue after ⊎ (holders now ≡ first ++ second)
+brought_both lost after before now first second stays some rest =
+    elim rest [
+      | inl gone ↦ inl gone
+      | inr all ↦ elim some [ inl gone ↦ inl (stays gone) | inr are ↦ inr (all ∙ ap (λ (l : List Holder). l ++ second) are) ]
+    ]

@@ -1,0 +1,252 @@
+//! The threads of a run: they are started, and joined in the order of the end.
+ghost use Rattle.std.specs.Prelude.{◌≡◌, ◌⊎◌, ◌+◌, ℕ, [], ◌++◌, All, Err, IfOk, IsErrOf, IsTrue, OnOk, length, map};
+ghost use Rattle.cops_cluster.specs.declared.share.Holder.TheVariants.{Client as HeldByClient, Receiver as HeldByReceiver};
+ghost use Rattle.cops_clients.specs.Gates.{MayHold, MayHoldIn, MayHoldReceiving};
+ghost use Rattle.cops_cluster.specs.Close.{holders};
+ghost use Rattle.cops_clients.specs.Callers.{AreJobsOf, AreReceiversOf, callers};
+
+use crate::clients::{Job, work};
+use crate::ends::{End, Owed, Returned};
+use crate::fault::RunFault;
+use crate::gathering::Gathered;
+use crate::replicas::{receive, send};
+use crate::stage::Stage;
+use cops_cluster::Holder;
+use cops_core::Setting;
+use cops_replication::{Receiver, Replicas, Sender};
+use cops_types::Gate;
+use std::alloc::Global;
+use std::sync::Wait;
+use std::thread;
+use std::thread::{JoinHandle, PromisedHandle, Scope, Threads};
+
+/// The threads that were started.
+#[derive(Drop)]
+struct Started<G: Gate> {
+    clients: Vec<PromisedHandle<Returned, Owed<G>>>,
+    senders: Vec<JoinHandle<bool>>,
+    receivers: Vec<PromisedHandle<Returned, Owed<G>>>,
+}
+
+/// Runs all on threads of their own, and joins them.
+pub(crate) fn drive<R: Threads + Wait + Sync, G: Gate>(
+    rt: &R,
+    alloc: Global,
+    setting: &Setting,
+    stage: &Stage,
+    gate: &G,
+    jobs: Vec<Job<'_>>,
+    replicas: Replicas,
+) -> Result<Gathered, RunFault>
+    requires place { stage.now.cluster.place ≡ setting.now.place }
+    requires jobs { AreJobsOf setting.now jobs.items }
+    requires receivers { AreReceiversOf setting.now replicas.receivers.items }
+    ensures shares { IfOk result (λ g. holders g.shares.items ≡ callers jobs.entry.items replicas.receivers.items) }
+    ensures held { IsErrOf result RunFault.Held → MayHold setting.now (G.may_hold gate.now) }
+    ensures unwritten { (n : ℕ) → result ≡ Err (RunFault.WriteFailed n) → ⊥ }
+{
+    thread::scope(
+        thread::scope_env(),
+        rt,
+        |scope| -> Result<Gathered, RunFault>
+            requires place { stage.now.cluster.place ≡ setting.now.place }
+            requires jobs { AreJobsOf setting.now jobs.items }
+            requires receivers { AreReceiversOf setting.now replicas.receivers.items }
+            ensures shares { IfOk result (λ g. holders g.shares.items ≡ callers jobs.entry.items replicas.receivers.items) }
+            ensures held { IsErrOf result RunFault.Held → MayHold setting.entry.now (G.may_hold gate.entry.now) }
+            ensures unwritten { (n : ℕ) → result ≡ Err (RunFault.WriteFailed n) → ⊥ }
+        {
+            let mut started = Started {
+                clients: Vec::new(alloc),
+                senders: Vec::new(alloc),
+                receivers: Vec::new(alloc),
+            };
+            let all = start(
+                scope,
+                rt,
+                setting,
+                stage,
+                gate,
+                jobs,
+                replicas,
+                &mut started,
+            );
+            if all.is_err() {
+                stage.break_off();
+            }
+            let gathered = joined(rt, alloc, setting, stage, gate, started);
+            match all {
+                Ok(()) => gathered.whole(),
+                Err(fault) => Err(fault),
+            }
+        },
+    )
+}
+
+/// Starts all threads, up to the first that is refused.
+fn start<'s, E, R: Threads + Wait + Sync, G: Gate>(
+    scope: &'s Scope<'s, E>,
+    rt: &'s R,
+    setting: &'s Setting,
+    stage: &'s Stage,
+    gate: &'s G,
+    jobs: Vec<Job<'s>>,
+    replicas: Replicas,
+    started: &mut Started<G>,
+) -> Result<(), RunFault>
+    requires place { stage.now.cluster.place ≡ setting.now.place }
+    requires jobs { AreJobsOf setting.now jobs.items }
+    requires brought { AreReceiversOf setting.now replicas.receivers.items }
+    requires clients { started.old.clients.items ≡ [] }
+    requires receivers { started.old.receivers.items ≡ [] }
+    ensures clients { All (λ (h : _). (h.promise.gate.value ≡ gate.now) × (h.promise.setting.value ≡ setting.now)) started.new.clients.items }
+    ensures receivers { All (λ (h : _). (h.promise.gate.value ≡ gate.now) × (h.promise.setting.value ≡ setting.now)) started.new.receivers.items }
+    ensures all { OnOk result (map (λ (h : _). h.promise.who) started.new.clients.items ++ map (λ (h : _). h.promise.who) started.new.receivers.items ≡ callers jobs.entry.items replicas.receivers.items) }
+    ensures fault { result ≡ Err RunFault.Held → ⊥ }
+    ensures unwritten { (n : ℕ) → result ≡ Err (RunFault.WriteFailed n) → ⊥ }
+{
+    let Replicas { senders, receivers } = replicas;
+    match start_receivers(
+        scope,
+        rt,
+        setting,
+        stage,
+        gate,
+        receivers,
+        &mut started.receivers,
+    ) {
+        Ok(()) => {}
+        Err(fault) => return Err(fault),
+    }
+    match start_senders(scope, rt, stage, senders, &mut started.senders) {
+        Ok(()) => {}
+        Err(fault) => return Err(fault),
+    }
+    start_clients(scope, rt, setting, stage, gate, jobs, &mut started.clients)
+}
+
+/// Joins the clients, then the senders, and then the receivers, each of which is told that those before it were joined.
+fn joined<R: Threads, G: Gate>(
+    rt: &R,
+    alloc: Global,
+    setting: &Setting,
+    stage: &Stage,
+    gate: &G,
+    started: Started<G>,
+) -> Gathered
+    requires clients { All (λ (h : _). (h.promise.gate.value ≡ gate.now) × (h.promise.setting.value ≡ setting.now)) started.clients.items }
+    requires receivers { All (λ (h : _). (h.promise.gate.value ≡ gate.now) × (h.promise.setting.value ≡ setting.now)) started.receivers.items }
+    ensures shares { IsTrue result.lost ⊎ (holders result.shares.items ≡ map (λ (h : _). h.promise.who) started.clients.items ++ map (λ (h : _). h.promise.who) started.receivers.items) }
+    ensures held { IsTrue result.held → MayHold setting.now (G.may_hold gate.now) }
+{
+    let Started {
+        clients,
+        senders,
+        receivers,
+    } = started;
+    let mut gathered = Gathered::new(alloc);
+    gathered.join(rt, setting, gate, clients);
+    stage.join_clients();
+    gathered.join_senders(rt, senders);
+    stage.join_senders();
+    gathered.join(rt, setting, gate, receivers);
+    gathered
+}
+
+/// Starts the clients' threads.
+fn start_clients<'s, E, R: Threads + Wait + Sync, G: Gate>(
+    scope: &'s Scope<'s, E>,
+    rt: &'s R,
+    setting: &'s Setting,
+    stage: &'s Stage,
+    gate: &'s G,
+    jobs: Vec<Job<'s>>,
+    handles: &mut Vec<PromisedHandle<Returned, Owed<G>>>,
+) -> Result<(), RunFault>
+    requires place { stage.now.cluster.place ≡ setting.now.place }
+    requires jobs { AreJobsOf setting.now jobs.items }
+    requires none { handles.old.items ≡ [] }
+    ensures all { OnOk result (map (λ (h : _). h.promise.who) handles.new.items ≡ map (λ j. HeldByClient j.client.number) jobs.entry.items) }
+    ensures promised { All (λ (h : _). (h.promise.gate.value ≡ gate.now) × (h.promise.setting.value ≡ setting.now)) handles.new.items }
+    ensures fault { result ≡ Err RunFault.Held → ⊥ }
+    ensures unwritten { (n : ℕ) → result ≡ Err (RunFault.WriteFailed n) → ⊥ }
+{
+    for job in jobs {
+        let Job { client, script } = job;
+        let started = scope.spawn_with(
+            Owed::of(Holder::Client(client.number()), setting, gate),
+            move || -> Returned
+                ensures share { result.share.holder ≡ client.share.holder }
+                ensures held { result.end ≡ End.Held → MayHoldIn (G.may_hold gate.entry.now) (length stage.entry.now.cluster.place.splits + 1) client.dc client.number }
+            { work(rt, stage, gate, client, script) },
+        );
+        let Ok(handle) = started else {
+            return Err(RunFault::NoThread);
+        };
+        match handles.push(handle) {
+            Ok(()) => {}
+            Err(_) => return Err(RunFault::Memory),
+        }
+    }
+    Ok(())
+}
+
+/// Starts the senders' threads.
+fn start_senders<'s, E, R: Threads + Wait + Sync>(
+    scope: &'s Scope<'s, E>,
+    rt: &'s R,
+    stage: &'s Stage,
+    senders: Vec<Sender>,
+    handles: &mut Vec<JoinHandle<bool>>,
+) -> Result<(), RunFault>
+    ensures fault { result ≡ Err RunFault.Held → ⊥ }
+    ensures unwritten { (n : ℕ) → result ≡ Err (RunFault.WriteFailed n) → ⊥ }
+{
+    for sender in senders {
+        let Ok(handle) = scope.spawn(move || send(rt, stage, sender)) else {
+            return Err(RunFault::NoThread);
+        };
+        match handles.push(handle) {
+            Ok(()) => {}
+            Err(_) => return Err(RunFault::Memory),
+        }
+    }
+    Ok(())
+}
+
+/// Starts the receivers' threads.
+fn start_receivers<'s, E, R: Threads + Wait + Sync, G: Gate>(
+    scope: &'s Scope<'s, E>,
+    rt: &'s R,
+    setting: &'s Setting,
+    stage: &'s Stage,
+    gate: &'s G,
+    receivers: Vec<Receiver>,
+    handles: &mut Vec<PromisedHandle<Returned, Owed<G>>>,
+) -> Result<(), RunFault>
+    requires place { stage.now.cluster.place ≡ setting.now.place }
+    requires receivers { AreReceiversOf setting.now receivers.items }
+    requires none { handles.old.items ≡ [] }
+    ensures all { OnOk result (map (λ (h : _). h.promise.who) handles.new.items ≡ map (λ r. HeldByReceiver r.dc) receivers.items) }
+    ensures promised { All (λ (h : _). (h.promise.gate.value ≡ gate.now) × (h.promise.setting.value ≡ setting.now)) handles.new.items }
+    ensures fault { result ≡ Err RunFault.Held → ⊥ }
+    ensures unwritten { (n : ℕ) → result ≡ Err (RunFault.WriteFailed n) → ⊥ }
+{
+    for receiver in receivers {
+        let started = scope.spawn_with(
+            Owed::of(Holder::Receiver(receiver.dc()), setting, gate),
+            move || -> Returned
+                ensures share { result.share.holder ≡ receiver.share.holder }
+                ensures held { result.end ≡ End.Held → MayHoldReceiving stage.entry.now.cluster (G.may_hold gate.entry.now) }
+            { receive(rt, stage, gate, receiver) },
+        );
+        let Ok(handle) = started else {
+            return Err(RunFault::NoThread);
+        };
+        match handles.push(handle) {
+            Ok(()) => {}
+            Err(_) => return Err(RunFault::Memory),
+        }
+    }
+    Ok(())
+}

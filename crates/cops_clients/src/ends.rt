@@ -1,0 +1,72 @@
+//! What a thread of a run hands back.
+use cops_cluster::{Holder, Share};
+use cops_core::Setting;
+use cops_tie::ClientOutcome;
+use cops_types::Gate;
+use std::snapshot::Snapshot;
+use std::thread::Promise;
+
+/// How a client's or a receiver's thread ended.
+#[derive(Clone, Copy, Debug, PartialEq, Eq)]
+pub(crate) enum End {
+    /// The client came to its end, or was refused.
+    Client(ClientOutcome),
+    /// The senders were joined, and the receiver keeps nothing back.
+    Drained,
+    /// The receiver made all its turns before that.
+    TurnLimit,
+    /// The gate held a step.
+    Held,
+    /// It was told to end.
+    Broken,
+}
+
+/// What a client's or a receiver's thread hands back.
+#[derive(Drop)]
+pub(crate) struct Returned {
+    pub(crate) share: Share,
+    pub(crate) end: End,
+}
+
+/// The promise that a thread hands back this holder's share, and was held where this gate may hold a step in this
+/// setting.
+pub(crate) struct Owed<G: Gate> {
+    who: Holder,
+    gate: Snapshot<G>,
+    setting: Snapshot<Setting>,
+}
+
+impl<G: Gate> Owed<G> {
+    ghost use Rattle.std.specs.Prelude.{◌≡◌};
+
+    /// What the thread of this holder owes.
+    pub(crate) fn of(who: Holder, setting: &Setting, gate: &G) -> Self
+        ensures who { result.who ≡ who }
+        ensures gate { result.gate.value ≡ gate.now }
+        ensures setting { result.setting.value ≡ setting.now }
+    {
+        Owed {
+            who,
+            gate: Snapshot::of(gate),
+            setting: Snapshot::of(setting),
+        }
+    }
+}
+
+impl<G: Gate> Drop for Owed<G> {
+    fn drop(self) {
+        let Owed {
+            who: _who,
+            gate: _gate,
+            setting: _setting,
+        } = self;
+    }
+}
+
+impl<G: Gate> Promise<Returned> for Owed<G> {
+    ghost use Rattle.std.specs.Prelude.{◌≡◌};
+    ghost use Rattle.cops_clients.specs.declared.ends.End.TheVariants.{Held};
+    ghost use Rattle.cops_clients.specs.Gates.{MayHold};
+
+    ghost kept_by = { λ p r. (r.share.holder ≡ p.who) × (r.end ≡ Held → MayHold p.setting.value (G.may_hold p.gate.value)) };
+}

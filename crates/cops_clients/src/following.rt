@@ -1,0 +1,86 @@
+//! The thread that writes the records of a run while its clients run.
+ghost use Rattle.std.specs.Prelude.{◌≡◌, IfErr, IfOk};
+ghost use Rattle.cops_types.specs.Counted.{failures, inner};
+ghost use Rattle.cops_trace.specs.Live.{IsCutBy, IsHeardBy, IsLive};
+ghost use Rattle.cops_clients.specs.Live.{Follows};
+
+use crate::stage::Stage;
+use cops_cluster::Tail;
+use cops_trace::{LiveTrace, Unwritten};
+use std::io::Write;
+use std::sync::Wait;
+
+/// Writes what clients saw as it comes, until they are joined, and at most for so many turns as the stage says.
+pub(crate) fn follow<R: Wait, W: Write>(
+    rt: &R,
+    stage: &Stage,
+    live: LiveTrace<W>,
+) -> Result<LiveTrace<W>, Unwritten<W>>
+    requires { IsLive W.contents live }
+    ensures begun { IfOk result (λ l. l.begun ≡ live.begun) }
+    ensures live { IfOk result (IsLive W.contents) }
+    ensures cut { IfErr result (λ u. IsCutBy u.fault (W.contents (inner live.begun.value)) (W.contents (inner u.writer))) }
+    ensures heard { IfErr result (λ u. IsHeardBy u.fault (failures live.begun.value) (failures u.writer)) }
+{
+    let mut live = live;
+    for _ in 0..stage.turns() {
+        if stage.are_clients_joined() {
+            break;
+        }
+        live = match turn(rt, stage, live) {
+            Ok(live) => live,
+            Err(unwritten) => return Err(unwritten),
+        };
+    }
+    Ok(live)
+}
+
+/// Writes the records that came since, and rests where there are none. Want of memory for copies is tried again in the
+/// next turn.
+fn turn<R: Wait, W: Write>(
+    rt: &R,
+    stage: &Stage,
+    live: LiveTrace<W>,
+) -> Result<LiveTrace<W>, Unwritten<W>>
+    requires { IsLive W.contents live }
+    ensures begun { IfOk result (λ l. l.begun ≡ live.begun) }
+    ensures live { IfOk result (IsLive W.contents) }
+    ensures cut { IfErr result (λ u. IsCutBy u.fault (W.contents (inner live.begun.value)) (W.contents (inner u.writer))) }
+    ensures heard { IfErr result (λ u. IsHeardBy u.fault (failures live.begun.value) (failures u.writer)) }
+{
+    let tail = match stage.cluster().records_from(rt, live.len()) {
+        Ok(tail) => tail,
+        Err(_) => {
+            stage.rest(rt);
+            return Ok(live);
+        }
+    };
+    if tail.records().is_empty() {
+        stage.rest(rt);
+    }
+    add(live, &tail)
+}
+
+/// Writes the records that come next, each once and in their order, up to the first whose client may have no more.
+fn add<W: Write>(live: LiveTrace<W>, tail: &Tail) -> Result<LiveTrace<W>, Unwritten<W>>
+    requires live { IsLive W.contents live }
+    requires place { tail.now.place ≡ live.writer.counts.total }
+    ensures begun { IfOk result (λ l. l.begun ≡ live.begun) }
+    ensures live { IfOk result (IsLive W.contents) }
+    ensures follows { IfOk result (Follows tail.now.records.items live) }
+    ensures cut { IfErr result (λ u. IsCutBy u.fault (W.contents (inner live.begun.value)) (W.contents (inner u.writer))) }
+    ensures heard { IfErr result (λ u. IsHeardBy u.fault (failures live.begun.value) (failures u.writer)) }
+{
+    let mut live = live;
+    let records = tail.records();
+    for record in records {
+        if !live.has_turn(record.client) {
+            return Ok(live);
+        }
+        live = match live.add(record) {
+            Ok(live) => live,
+            Err(unwritten) => return Err(unwritten),
+        };
+    }
+    Ok(live)
+}

@@ -1,0 +1,117 @@
+//! What the threads of a run handed back.
+use crate::ends::{End, Owed, Returned};
+use crate::fault::RunFault;
+use cops_cluster::Share;
+use cops_core::Setting;
+use cops_tie::ClientOutcome;
+use cops_types::Gate;
+use std::alloc::Global;
+use std::thread::{JoinHandle, PromisedHandle, Threads};
+
+/// What the threads handed back: all shares, and the clients' outcomes in their order.
+#[derive(Drop)]
+pub(crate) struct Gathered {
+    pub(crate) shares: Vec<Share>,
+    pub(crate) outcomes: Vec<ClientOutcome>,
+    /// A step was held.
+    held: bool,
+    /// A loop made all its turns.
+    limit: bool,
+    /// Memory was refused for what came back.
+    lost: bool,
+}
+
+impl Gathered {
+    ghost use Rattle.std.specs.Prelude.{◌≡◌, ◌⊎◌, ◌↔◌, ℕ, Err, [], ◌∷◌, ◌++◌, All, IfOk, IsErrOf, IsTrue, OnOk, map};
+    ghost use Rattle.cops_clients.specs.Gates.{MayHold};
+    ghost use Rattle.cops_cluster.specs.Close.{holders};
+
+    pub(crate) fn new(alloc: Global) -> Gathered
+        ensures held { ¬ IsTrue result.held }
+        ensures shares { result.shares.items ≡ [] }
+    {
+        Gathered {
+            shares: Vec::new(alloc),
+            outcomes: Vec::new(alloc),
+            held: false,
+            limit: false,
+            lost: false,
+        }
+    }
+
+    /// Joins clients or receivers.
+    pub(crate) fn join<R: Threads, G: Gate>(
+        &mut self,
+        rt: &R,
+        setting: &Setting,
+        gate: &G,
+        handles: Vec<PromisedHandle<Returned, Owed<G>>>,
+    )
+        requires promised { All (λ (h : _). (h.promise.gate.value ≡ gate.now) × (h.promise.setting.value ≡ setting.now)) handles.items }
+        requires held { IsTrue self.old.held → MayHold setting.now (G.may_hold gate.now) }
+        ensures shares { IsTrue self.new.lost ⊎ (holders self.new.shares.items ≡ holders self.old.shares.items ++ map (λ (h : _). h.promise.who) handles.items) }
+        ensures lost { IsTrue self.old.lost → IsTrue self.new.lost }
+        ensures held { IsTrue self.new.held → MayHold setting.now (G.may_hold gate.now) }
+    {
+        for handle in handles {
+            self.add(handle.join(rt));
+        }
+    }
+
+    /// What one thread handed back.
+    fn add(&mut self, returned: Returned)
+        ensures shares { IsTrue self.new.lost ⊎ (self.new.shares.items ≡ self.old.shares.items ++ returned.share ∷ []) }
+        ensures lost { IsTrue self.old.lost → IsTrue self.new.lost }
+        ensures held { IsTrue self.new.held → IsTrue self.old.held ⊎ (returned.end ≡ End.Held) }
+    {
+        let Returned { share, end } = returned;
+        if self.shares.push(share).is_err() {
+            self.lost = true;
+        }
+        match end {
+            End::Client(outcome) => {
+                if self.outcomes.push(outcome).is_err() {
+                    self.lost = true;
+                }
+            }
+            End::TurnLimit => self.limit = true,
+            End::Held => self.held = true,
+            End::Drained | End::Broken => {}
+        }
+    }
+
+    /// Joins senders, each of which says whether it ended within its turns.
+    pub(crate) fn join_senders<R: Threads>(&mut self, rt: &R, handles: Vec<JoinHandle<bool>>)
+        ensures held { self.new.held ≡ self.old.held }
+        ensures lost { self.new.lost ≡ self.old.lost }
+        ensures shares { self.new.shares ≡ self.old.shares }
+    {
+        for handle in handles {
+            if !handle.join(rt) {
+                self.limit = true;
+            }
+        }
+    }
+
+    /// All of it: `Held` where a step was held, then `TurnLimit` where a loop did not end within its turns, and then
+    /// `Memory` where there was none for what came back.
+    pub(crate) fn whole(self) -> Result<Gathered, RunFault>
+        ensures ok { IfOk result (λ g. g ≡ self) }
+        ensures kept { OnOk result (¬ IsTrue self.lost) }
+        ensures held { IsErrOf result RunFault.Held ↔ IsTrue self.held }
+        ensures limit { IsErrOf result RunFault.TurnLimit ↔ (¬ IsTrue self.held × IsTrue self.limit) }
+        ensures unwritten { (n : ℕ) → result ≡ Err (RunFault.WriteFailed n) → ⊥ }
+        ensures lost { IsErrOf result RunFault.Memory ↔ (¬ IsTrue self.held × (¬ IsTrue self.limit × IsTrue self.lost)) }
+    {
+        if self.held {
+            return Err(RunFault::Held);
+        }
+        if self.limit {
+            return Err(RunFault::TurnLimit);
+        }
+        if self.lost {
+            return Err(RunFault::Memory);
+        }
+        Ok(self)
+    }
+}

@@ -1,0 +1,102 @@
+//! What a run begins with.
+ghost use Rattle.std.specs.Prelude.{◌≡◌, ◌-◌, ◌<◌, All, IfOk, length, map};
+ghost use Rattle.cops_scenario.specs.Scenario.{setting_of};
+ghost use Rattle.cops_replication.specs.Wiring.{AreSenders};
+ghost use Rattle.cops_clients.specs.Opening.{HasItsScript};
+ghost use Rattle.cops_clients.specs.Callers.{AreJobsOf, AreReceiversOf};
+
+use crate::clients::Job;
+use crate::stage::Stage;
+use cops_cluster::{Client, Cluster, Opened};
+use cops_core::{ScriptedClient, Setting};
+use cops_replication::{Replicas, wired};
+use cops_scenario::Scenario;
+use cops_types::Memory;
+use std::alloc::Global;
+
+/// What a run begins with: the stage, each client with its script, and what replicates.
+#[derive(Drop)]
+pub(crate) struct Opening<'a> {
+    pub(crate) stage: Stage,
+    pub(crate) jobs: Vec<Job<'a>>,
+    pub(crate) replicas: Replicas,
+}
+
+/// What a run of a scenario begins with, in its setting: the links are those of the scenario, a loop may make so many
+/// turns, an operation is tried again and a record is sent again so often, and so many turns of a receiver come late.
+pub(crate) fn opened<'a>(
+    alloc: Global,
+    setting: &Setting,
+    scenario: &'a Scenario,
+) -> Result<Opening<'a>, Memory>
+    requires { setting.now ≡ setting_of scenario.now }
+    ensures place { IfOk result (λ o. o.stage.cluster.place ≡ setting.now.place) }
+    ensures turns { IfOk result (λ o. o.stage.turns ≡ scenario.now.turns) }
+    ensures retries { IfOk result (λ o. o.stage.retries ≡ scenario.now.retries) }
+    ensures hold { IfOk result (λ o. o.stage.hold ≡ scenario.now.hold) }
+    ensures repeat { IfOk result (λ o. All (λ s. s.repeat ≡ scenario.now.repeat) o.replicas.senders.items) }
+    ensures clients { IfOk result (λ o. o.stage.cluster.clients ≡ length setting.now.homes) }
+    ensures jobs { IfOk result (λ o. AreJobsOf setting.now o.jobs.items) }
+    ensures scripts { IfOk result (λ o. All (HasItsScript scenario.now.clients) o.jobs.items) }
+    ensures receivers { IfOk result (λ o. AreReceiversOf setting.now o.replicas.receivers.items) }
+    ensures senders { IfOk result (λ o. AreSenders setting.now.place.dcs (setting.now.place.dcs - 1) scenario.now.link o.replicas.senders.items) }
+{
+    let Opened {
+        cluster,
+        clients,
+        shares,
+    } = Cluster::of(alloc, setting)?;
+    let jobs = match jobs(alloc, scenario.clients(), clients) {
+        Ok(jobs) => jobs,
+        Err(_) => {
+            drop(cluster);
+            drop(shares);
+            return Err(Memory);
+        }
+    };
+    let replicas = match wired(
+        alloc,
+        setting.dcs(),
+        scenario.link(),
+        scenario.repeat(),
+        shares,
+    ) {
+        Ok(replicas) => replicas,
+        Err(_) => {
+            drop(cluster);
+            drop(jobs);
+            return Err(Memory);
+        }
+    };
+    Ok(Opening {
+        stage: Stage::new(
+            cluster,
+            scenario.turns(),
+            scenario.retries(),
+            scenario.hold(),
+        ),
+        jobs,
+        replicas,
+    })
+}
+
+/// Each client with the script at its number.
+fn jobs(
+    alloc: Global,
+    scripted: &[ScriptedClient],
+    clients: Vec<Client>,
+) -> Result<Vec<Job<'_>>, Memory>
+    requires { All (λ c. c.number < length scripted.now) clients.items }
+    ensures clients { IfOk result (λ jobs. map (λ j. j.client) jobs.items ≡ clients.items) }
+    ensures scripts { IfOk result (λ jobs. All (HasItsScript scripted.now) jobs.items) }
+{
+    let mut jobs = Vec::new(alloc);
+    for client in clients {
+        let it = &scripted[usize::from(client.number())];
+        jobs.push(Job {
+            client,
+            script: &it.script,
+        })?;
+    }
+    Ok(jobs)
+}

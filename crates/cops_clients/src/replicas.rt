@@ -1,0 +1,142 @@
+//! The threads of a data centre that send its puts to the others, and bring theirs into it.
+ghost use Rattle.std.specs.Prelude.{◌≡◌, IsTrue, Some};
+ghost use Rattle.cops_replication.specs.Receiving.{KeepsNothing};
+ghost use Rattle.cops_clients.specs.Gates.{MayHoldReceiving};
+
+use crate::ends::{End, Returned};
+use crate::stage::Stage;
+use cops_replication::{Receiver, Sender, Turn, TurnFault};
+use cops_types::Gate;
+use std::sync::Wait;
+
+/// A sender's thread: it turns until the clients are joined, and then for at most so many turns as the stage says,
+/// until nothing is kept back. It says whether that was reached, or it was told to end.
+pub(crate) fn send<R: Wait>(rt: &R, stage: &Stage, mut sender: Sender) -> bool {
+    for _ in rt.forever() {
+        if stage.are_clients_joined() {
+            break;
+        }
+        if !matches!(sender.turn(rt, stage.cluster()), Ok(Turn::Did(_))) {
+            stage.rest(rt);
+        }
+    }
+    let drained = drain(rt, stage, &mut sender);
+    sender.finish();
+    drained
+}
+
+/// The counted turns of a sender, until nothing is kept back. Want of memory in a turn is tried again.
+fn drain<R: Wait>(rt: &R, stage: &Stage, sender: &mut Sender) -> bool {
+    for _ in 0..stage.turns() {
+        if stage.is_broken() || sender.drain(rt, stage.cluster(), 1).is_ok() {
+            return true;
+        }
+        stage.rest(rt);
+    }
+    false
+}
+
+/// A receiver's thread: it turns until the clients are joined, and then for at most so many turns as the stage says,
+/// until the senders are joined and nothing is kept back. Where turns are to come late it makes none before, and then
+/// so many that take no frame.
+pub(crate) fn receive<R: Wait, G: Gate>(
+    rt: &R,
+    stage: &Stage,
+    gate: &G,
+    mut receiver: Receiver,
+) -> Returned
+    ensures share { result.share.holder ≡ receiver.share.holder }
+    ensures held { result.end ≡ End.Held → MayHoldReceiving stage.now.cluster (G.may_hold gate.now) }
+{
+    let end = if take_in(rt, stage, gate, &mut receiver) {
+        End::Held
+    } else {
+        settle(rt, stage, gate, &mut receiver)
+    };
+    if end == End::Held {
+        stage.break_off();
+    }
+    Returned {
+        share: receiver.into_share(),
+        end,
+    }
+}
+
+/// Turns of a receiver until the clients are joined. It says whether the gate held a step.
+fn take_in<R: Wait, G: Gate>(rt: &R, stage: &Stage, gate: &G, receiver: &mut Receiver) -> bool
+    ensures share { receiver.new.share.holder ≡ receiver.old.share.holder }
+    ensures held { IsTrue result → MayHoldReceiving stage.now.cluster (G.may_hold gate.now) }
+{
+    for _ in rt.forever() {
+        if stage.are_clients_joined() {
+            break;
+        }
+        if stage.hold() > 0 {
+            stage.rest(rt);
+        } else if turn(rt, stage, gate, receiver) {
+            return true;
+        }
+    }
+    false
+}
+
+/// The counted turns of a receiver, until the senders are joined and nothing is kept back.
+fn settle<R: Wait, G: Gate>(rt: &R, stage: &Stage, gate: &G, receiver: &mut Receiver) -> End
+    ensures share { receiver.new.share.holder ≡ receiver.old.share.holder }
+    ensures drained { result ≡ End.Drained → KeepsNothing receiver.new }
+    ensures held { result ≡ End.Held → MayHoldReceiving stage.now.cluster (G.may_hold gate.now) }
+{
+    for n in 0..stage.turns() {
+        if n < u32::from(stage.hold()) && !stage.is_broken() {
+            stage.rest(rt);
+        } else if let Some(end) = counted(rt, stage, gate, receiver) {
+            return end;
+        }
+    }
+    End::TurnLimit
+}
+
+/// A counted turn of a receiver, and how its thread ends, if it does. Once the senders are joined all that will come
+/// stands on the links, so only a turn from then on may be the last.
+fn counted<R: Wait, G: Gate>(
+    rt: &R,
+    stage: &Stage,
+    gate: &G,
+    receiver: &mut Receiver,
+) -> Option<End>
+    ensures share { receiver.new.share.holder ≡ receiver.old.share.holder }
+    ensures drained { result ≡ Some End.Drained → KeepsNothing receiver.new }
+    ensures held { result ≡ Some End.Held → MayHoldReceiving stage.now.cluster (G.may_hold gate.now) }
+{
+    if stage.is_broken() {
+        return Some(End::Broken);
+    }
+    if !stage.are_senders_joined() {
+        if turn(rt, stage, gate, receiver) {
+            return Some(End::Held);
+        }
+        return None;
+    }
+    match receiver.drain(rt, stage.cluster(), gate, 1) {
+        Ok(()) => Some(End::Drained),
+        Err(TurnFault::Held) => Some(End::Held),
+        Err(TurnFault::Memory | TurnFault::TurnLimit) => {
+            stage.rest(rt);
+            None
+        }
+    }
+}
+
+/// One turn of a receiver, and a rest where it did nothing. Want of memory is tried again in the next. It says whether
+/// the gate held a step.
+fn turn<R: Wait, G: Gate>(rt: &R, stage: &Stage, gate: &G, receiver: &mut Receiver) -> bool
+    ensures share { receiver.new.share.holder ≡ receiver.old.share.holder }
+    ensures held { IsTrue result → MayHoldReceiving stage.now.cluster (G.may_hold gate.now) }
+{
+    match receiver.turn(rt, stage.cluster(), gate) {
+        Ok(Turn::Did(_)) => {}
+        Err(TurnFault::Held) => return true,
+        Ok(Turn::Idle) | Err(TurnFault::Memory | TurnFault::TurnLimit) => stage.rest(rt),
+    }
+    false
+}

@@ -1,0 +1,251 @@
+ghost use Rattle.std.specs.Prelude.{◌≡◌, ◌<◌, ◌≤◌, ◌+◌, ◌*◌, ◌⊎◌, ℕ, Err, IfErr, IfOk, IsErrOf, OnErr, OnOk, length, map};
+ghost use Rattle.std.specs.List.Sorted.{IsPermutation};
+ghost use Rattle.cops_types.specs.declared.limits.TheConstants.{NODES, PLACES};
+ghost use Rattle.cops_types.specs.Verdicts.{HasAcceptedVerdict};
+ghost use Rattle.cops_trace.specs.Text.{sessions_of};
+ghost use Rattle.cops_scenario.specs.Scenario.{setting_of};
+ghost use Rattle.cops_cluster.specs.Close.{AreAll, made_in, told};
+ghost use Rattle.cops_cluster.specs.Differences.{IsLeastDifference};
+ghost use Rattle.cops_tie.specs.NoRun.{IsNoRun, WhereNoRun};
+ghost use Rattle.cops_tie.specs.Runs.{IsRun};
+ghost use Rattle.cops_clients.specs.Faults.{WhereUntied};
+ghost use Rattle.cops_clients.specs.Gates.{MayHold};
+
+use crate::driving::drive;
+use crate::fault::RunFault;
+use crate::gathering::Gathered;
+use crate::opening::{Opening, opened};
+use crate::ran::Run;
+use crate::stage::Stage;
+use cops_book::Entry;
+use cops_cluster::{CloseFault, Closed, Cluster, Share, Uncompared, difference_of_lists};
+use cops_core::{Event, ScriptedClient, Setting};
+use cops_scenario::Scenario;
+use cops_tie::{CheckFault, ClientOutcome, checked};
+use cops_trace::Trace;
+use cops_types::Gate;
+use std::alloc::Global;
+use std::sync::Wait;
+use std::thread;
+use std::thread::Threads;
+
+/// Runs the scripts of the scenario's clients, each on a thread of its own, in a cluster with a sender and a receiver
+/// for each data centre, each on a thread of its own too, and a link for each ordered pair of data centres. What it
+/// hands out is one run of the world in which each client ended so and each data centre has settled each put (COPS,
+/// section 3: replicas converge), and what its clients saw is accepted. A client stops at its first operation that is
+/// refused; one that memory is refused to is tried again as often as the scenario says, and leaves no record of the
+/// tries that were refused. Turns of senders and receivers before the clients are joined are not counted against the
+/// scenario's number of turns, and want of memory in a turn is tried again in the next. A scenario with events has
+/// clients without scripts, for whom nothing happens.
+pub fn run<R: Threads + Wait + Sync, G: Gate>(
+    rt: &R,
+    alloc: Global,
+    scenario: Scenario,
+    gate: &G,
+) -> Result<Run, RunFault>
+    ensures ok { IfOk result (λ r. IsRun (setting_of scenario) scenario.clients (map (λ b. b.items) r.entries.items) (sessions_of r.trace) r.events.items r.outcomes.items) }
+    ensures accepted { IfOk result (λ r. HasAcceptedVerdict (sessions_of r.trace)) }
+    ensures held { IsErrOf result RunFault.Held → MayHold (setting_of scenario) (G.may_hold gate.now) }
+{
+    let ran = ran(rt, alloc, &scenario, gate);
+    drop(scenario);
+    ran
+}
+
+/// The same of a scenario that stays with the caller.
+fn ran<R: Threads + Wait + Sync, G: Gate>(
+    rt: &R,
+    alloc: Global,
+    scenario: &Scenario,
+    gate: &G,
+) -> Result<Run, RunFault>
+    ensures ok { IfOk result (λ r. IsRun (setting_of scenario.now) scenario.now.clients (map (λ b. b.items) r.entries.items) (sessions_of r.trace) r.events.items r.outcomes.items) }
+    ensures accepted { IfOk result (λ r. HasAcceptedVerdict (sessions_of r.trace)) }
+    ensures held { IsErrOf result RunFault.Held → MayHold (setting_of scenario.now) (G.may_hold gate.now) }
+{
+    let setting = scenario.setting(alloc).or(Err(RunFault::Memory))?;
+    let ran = ran_in(rt, alloc, &setting, scenario, gate);
+    drop(setting);
+    ran
+}
+
+/// The same in the scenario's setting.
+fn ran_in<R: Threads + Wait + Sync, G: Gate>(
+    rt: &R,
+    alloc: Global,
+    setting: &Setting,
+    scenario: &Scenario,
+    gate: &G,
+) -> Result<Run, RunFault>
+    requires { setting.now ≡ setting_of scenario.now }
+    ensures ok { IfOk result (λ r. IsRun setting.now scenario.now.clients (map (λ b. b.items) r.entries.items) (sessions_of r.trace) r.events.items r.outcomes.items) }
+    ensures accepted { IfOk result (λ r. HasAcceptedVerdict (sessions_of r.trace)) }
+    ensures held { IsErrOf result RunFault.Held → MayHold setting.now (G.may_hold gate.now) }
+{
+    let opening = match opened(alloc, setting, scenario) {
+        Ok(opening) => opening,
+        Err(_) => return Err(RunFault::Memory),
+    };
+    let Opening {
+        stage,
+        jobs,
+        replicas,
+    } = opening;
+    let driven = drive(rt, alloc, setting, &stage, gate, jobs, replicas);
+    ended(rt, alloc, setting, scenario.clients(), stage, driven)
+}
+
+/// The run that is over on this stage, of which the threads left this.
+pub(crate) fn ended<R: Threads + Sync>(
+    rt: &R,
+    alloc: Global,
+    setting: &Setting,
+    clients: &[ScriptedClient],
+    stage: Stage,
+    driven: Result<Gathered, RunFault>,
+) -> Result<Run, RunFault>
+    requires place { stage.cluster.place ≡ setting.now.place }
+    requires all { IfOk driven (λ g. AreAll stage.cluster.clients stage.cluster.place.dcs g.shares.items) }
+    ensures ok { IfOk result (λ r. IsRun setting.now clients.now (map (λ b. b.items) r.entries.items) (sessions_of r.trace) r.events.items r.outcomes.items) }
+    ensures accepted { IfOk result (λ r. HasAcceptedVerdict (sessions_of r.trace)) }
+    ensures fault { IsErrOf result RunFault.Held → IsErrOf driven RunFault.Held }
+    ensures unwritten { (n : ℕ) → result ≡ Err (RunFault.WriteFailed n) → driven ≡ Err (RunFault.WriteFailed n) }
+{
+    match driven {
+        Ok(gathered) => tied(rt, alloc, setting, clients, stage.into_cluster(), gathered),
+        Err(fault) => {
+            drop(stage);
+            Err(fault)
+        }
+    }
+}
+
+/// The run of which the threads left this. Its books are compared with the shares beside the check that they are a run.
+fn tied<R: Threads + Sync>(
+    rt: &R,
+    alloc: Global,
+    setting: &Setting,
+    clients: &[ScriptedClient],
+    cluster: Cluster,
+    gathered: Gathered,
+) -> Result<Run, RunFault>
+    requires place { cluster.place ≡ setting.now.place }
+    requires all { AreAll cluster.clients cluster.place.dcs gathered.shares.items }
+    ensures ok { IfOk result (λ r. IsRun setting.now clients.now (map (λ b. b.items) r.entries.items) (sessions_of r.trace) r.events.items r.outcomes.items) }
+    ensures accepted { IfOk result (λ r. HasAcceptedVerdict (sessions_of r.trace)) }
+    ensures told { IfOk result (λ r. IsPermutation (made_in (length setting.now.place.splits + 1) 0 r.entries.items) (told gathered.shares.items)) }
+    ensures fault { result ≡ Err RunFault.Held → ⊥ }
+    ensures unwritten { (n : ℕ) → result ≡ Err (RunFault.WriteFailed n) → ⊥ }
+{
+    let Gathered {
+        shares,
+        outcomes,
+        ..
+    } = gathered;
+    let Uncompared { closed, shares } = match closed(cluster, shares) {
+        Ok(uncompared) => uncompared,
+        Err(fault) => {
+            drop(outcomes);
+            return Err(fault);
+        }
+    };
+    let Closed { books, trace } = closed;
+    match examined(
+        rt, alloc, setting, clients, &books, &trace, shares, &outcomes,
+    ) {
+        Ok(events) => Ok(Run {
+            entries: books,
+            events,
+            trace,
+            outcomes,
+        }),
+        Err(fault) => Err(fault),
+    }
+}
+
+/// The world's events of the run that these books are. That their entries are those of the shares is found beside the
+/// check that they are a run. `Untied` has the least ticket at which they differ from the shares, or that of the check.
+fn examined<R: Threads + Sync>(
+    rt: &R,
+    alloc: Global,
+    setting: &Setting,
+    clients: &[ScriptedClient],
+    books: &[Vec<Entry>],
+    trace: &Trace,
+    shares: Vec<Share>,
+    outcomes: &[ClientOutcome],
+) -> Result<Vec<Event>, RunFault>
+    requires { length books.now ≡ setting.now.place.dcs * (length setting.now.place.splits + 1) }
+    ensures ok { IfOk result (λ events. IsRun setting.now clients.now (map (λ b. b.items) books.now) (sessions_of trace.now) events.items outcomes.now) }
+    ensures accepted { OnOk result (HasAcceptedVerdict (sessions_of trace.now)) }
+    ensures told { OnOk result (IsPermutation (made_in (length setting.now.place.splits + 1) 0 books.now) (told shares.items)) }
+    ensures fault { result ≡ Err RunFault.Held → ⊥ }
+    ensures unwritten { (n : ℕ) → result ≡ Err (RunFault.WriteFailed n) → ⊥ }
+    ensures untied { IfErr result (WhereUntied (λ ticket.
+        IsLeastDifference (made_in (length setting.now.place.splits + 1) 0 books.now) (told shares.items) ticket
+        ⊎ IsNoRun setting.now clients.now (map (λ b. b.items) books.now) (sessions_of trace.now) outcomes.now ticket)) }
+{
+    let places = setting.nodes();
+    let (compared, checked) = thread::join(
+        rt,
+        || -> Result<(), RunFault>
+            requires places { (0 < places) × (places ≤ PLACES) }
+            requires few { length books.now ≤ NODES }
+            ensures told { OnOk result (IsPermutation (made_in places 0 books.entry.now) (told shares.items)) }
+            ensures fault { result ≡ Err RunFault.Held → ⊥ }
+            ensures unwritten { (n : ℕ) → result ≡ Err (RunFault.WriteFailed n) → ⊥ }
+            ensures untied { IfErr result (WhereUntied (IsLeastDifference (made_in places 0 books.entry.now) (told shares.items))) }
+        { compare(alloc, places, books, shares) },
+        || -> Result<Vec<Event>, CheckFault>
+            requires { length books.now ≡ setting.now.place.dcs * (length setting.now.place.splits + 1) }
+            ensures ok { IfOk result (λ events. IsRun setting.entry.now clients.entry.now (map (λ b. b.items) books.entry.now) (sessions_of trace.entry.now) events.items outcomes.entry.now) }
+            ensures accepted { OnOk result (HasAcceptedVerdict (sessions_of trace.entry.now)) }
+            ensures untied { IfErr result (WhereNoRun (IsNoRun setting.entry.now clients.entry.now (map (λ b. b.items) books.entry.now) (sessions_of trace.entry.now) outcomes.entry.now)) }
+        { checked(alloc, setting, clients, books, trace, outcomes) },
+    );
+    match compared {
+        Ok(()) => {}
+        Err(fault) => return Err(fault),
+    }
+    match checked {
+        Ok(events) => Ok(events),
+        Err(CheckFault::Memory) => Err(RunFault::Memory),
+        Err(CheckFault::Untied { ticket }) => Err(RunFault::Untied { ticket }),
+    }
+}
+
+/// `Untied` unless the entries of the books are those of the shares, each as often. The shares are of no use
+/// afterwards.
+fn compare(
+    alloc: Global,
+    places: u8,
+    books: &[Vec<Entry>],
+    shares: Vec<Share>,
+) -> Result<(), RunFault>
+    requires places { (0 < places) × (places ≤ PLACES) }
+    requires few { length books.now ≤ NODES }
+    ensures told { OnOk result (IsPermutation (made_in places 0 books.now) (told shares.items)) }
+    ensures fault { result ≡ Err RunFault.Held → ⊥ }
+    ensures unwritten { (n : ℕ) → result ≡ Err (RunFault.WriteFailed n) → ⊥ }
+    ensures untied { IfErr result (WhereUntied (IsLeastDifference (made_in places 0 books.now) (told shares.items))) }
+{
+    match difference_of_lists(alloc, places, books, &shares) {
+        Ok(None) => Ok(()),
+        Ok(Some(ticket)) => Err(RunFault::Untied { ticket }),
+        Err(_) => Err(RunFault::Memory),
+    }
+}
+
+/// What is left of a cluster whose threads are joined.
+fn closed(cluster: Cluster, shares: Vec<Share>) -> Result<Uncompared, RunFault>
+    requires all { AreAll cluster.clients cluster.place.dcs shares.items }
+    ensures len { IfOk result (λ u. length u.closed.books.items ≡ cluster.place.dcs * (length cluster.place.splits + 1)) }
+    ensures shares { IfOk result (λ u. u.shares ≡ shares) }
+    ensures fault { OnErr result (result ≡ Err RunFault.Memory) }
+{
+    match cluster.close_uncompared(shares) {
+        Ok(uncompared) => Ok(uncompared),
+        Err(CloseFault::Memory(_, _)) => Err(RunFault::Memory),
+        Err(CloseFault::SharesMissing(_, _)) | Err(CloseFault::NotKept { .. }) => unreachable!(),
+    }
+}

@@ -1,5 +1,0 @@
-use Rattle.cops_cluster.specs.Cluster.{IsSameClient}
-use Rattle.cops_run.proofs.clients.perform.Given as goal
-
-abbrev pub invariant-loop : goal.invariant-loop
-invariant-loop g l = IsSameClient l.initial.client l.client

@@ -1,5 +1,0 @@
-use Rattle.std.proofs.Common.{◌≡◌}
-use Rattle.cops_run.proofs.replicas.settle.Given as goal
-
-abbrev pub invariant-loop-n : goal.invariant-loop-n
-invariant-loop-n g l = l.receiver.share.holder ≡ l.initial.receiver.share.holder

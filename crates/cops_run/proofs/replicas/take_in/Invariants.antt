@@ -1,5 +1,0 @@
-use Rattle.std.proofs.Common.{◌≡◌}
-use Rattle.cops_run.proofs.replicas.take_in.Given as goal
-
-abbrev pub invariant-loop : goal.invariant-loop
-invariant-loop g l = l.receiver.share.holder ≡ l.initial.receiver.share.holder

@@ -1,9 +1,0 @@
--- Why there is no run.
-use Rattle.std.specs.Prelude.{ℕ}
-use Rattle.cops_run.specs.declared.fault.RunFault.{RunFault}
-use Rattle.cops_run.specs.declared.fault.RunFault.TheVariants.{Untied}
-
--- an answer Untied has such a ticket
-abbrev pub WhereUntied : (ℕ → Type 0) → RunFault → Type 0
-WhereUntied P (Untied ticket) = P ticket
-WhereUntied P _ = Unit {0}
