@@ -180,21 +180,25 @@ def read(path):
         return file.read()
 
 
+def read_if_there(path):
+    return read(path) if os.path.exists(path) else None
+
+
 def imported(data):
     """What `cops import` of lines answers, and the trace that it writes: by files, and by standard input and output. Where a line is wrong, a front of
-    the trace goes to standard output, and nothing to a file."""
+    the trace goes to standard output, and there is no file."""
     with tempfile.TemporaryDirectory() as folder:
         lines, trace = os.path.join(folder, "lines"), os.path.join(folder, "trace")
         write(lines, data)
         status, out, errors = cops("import", lines, trace)
-        written = read(trace)
+        written = read_if_there(trace)
         from_input = cops("import", "-", trace, stdin=data)
-        also_written = read(trace)
+        also_written = read_if_there(trace)
         to_output = cops("import", lines, "-")
         both = cops("import", "-", "-", stdin=data)
     trace = to_output[1]
     same = from_input == (status, out, errors) and also_written == written and to_output == both == (status, trace, out + errors)
-    is_whole = written == (trace if status == 0 else b"")
+    is_whole = written == (trace if status == 0 else None)
     return (status, out, errors, trace) if same and is_whole else ("the four ways differ", from_input, to_output, both, written, also_written)
 
 
