@@ -6,7 +6,8 @@ use Rattle.cops_types.specs.declared.op.OpName.{OpName}
 use Rattle.cops_types.specs.Histories.{Sessions, op_at, PutsKey}
 use Rattle.cops_types.specs.declared.versioned_put.VersionedPut.{VersionedPut}
 use Rattle.cops_types.specs.Recorded.{Recorded}
-use Rattle.cops_audit.specs.Keys.{AreKeys, AreNexts, IsFirstFrom, IsNext, OnKey}
+use Rattle.std.specs.Option.{unwrap_or}
+use Rattle.cops_audit.specs.Keys.{AreKeys, AreNexts, IsFirstFrom, IsNext, LinksTo, OnKey}
 use Rattle.cops_audit.specs.Tables.{IsVersionTable, Rises}
 use Rattle.cops_audit.proofs.Places.{inside_table, same_put_at, stands_item}
 use Rattle.cops_audit.proofs.Acyclic.{one_version}
@@ -90,7 +91,14 @@ written (z ∷ zs) (suc k) (suc i) x y e = elim (written zs k i x y e) [
 ]
 
 -- the next put on the key, as it was read
-pub next_at : (h : Sessions) (table : List VersionedPut) (nexts : List (Option ℕ)) → AreNexts h table nexts → (place : ℕ) → place < length table → (read found : Option ℕ)
-    → read ≡ get_or nexts place read → read ≡ found → IsNext h table place found
-next_at h table nexts are place inside read found at is =
-    are.each place found (stands nexts place read (omega (arith, inside, are.whole)) ∙ ap (λ (o : Option ℕ). Some o) (sym at ∙ is))
+pub next_at : (h : Sessions) (table : List VersionedPut) (nexts : List ℕ) → AreNexts h table nexts → (place : ℕ) → place < length table → (next : ℕ) → next ≡ get_or nexts place 0
+    → LinksTo h table place next
+next_at h table nexts are place inside next is = are.each place next (stands nexts place 0 (omega (arith, inside, are.whole)) ∙ ap (λ (n : ℕ). Some n) (sym is))
+
+-- the next put's place, or the end where there is none, links to it
+pub linked : (h : Sessions) (table : List VersionedPut) (place : ℕ) (key : List ℕ) (found : Option ℕ) → OnKey h table place key → IsNext h table place found → LinksTo h table place (unwrap_or found (length table))
+linked h table place key None here none = ((λ less. absurd (omega (arith, less))), λ le. none)
+linked h table place key (Some next) here is =
+    let on = (is.1 key here).0 in
+    let inside = inside_table table next on.0 on.1 on.2 in
+    ((λ less. is), λ le. absurd (omega (arith, le, inside)))

@@ -1,7 +1,8 @@
 -- The first place on each key, passed on from each put to the next one on its key.
-use Rattle.std.proofs.Common.{◌≡◌, ◌≢◌, ◌<◌, ◌≤◌, ◌+◌, ◌⊎◌, ℕ, zero, suc, List, length, Some, None, Option, sym, ◌∙◌, ap, subst, inl, inr, arith, slice_get, slice_set}
+use Rattle.std.proofs.Common.{◌≡◌, ◌≢◌, ◌<◌, ◌≤◌, ◌+◌, ◌⊎◌, ℕ, zero, suc, List, length, Some, sym, ◌∙◌, ap, subst, inl, inr, arith, slice_get, slice_set}
 use Rattle.std.proofs.Math.ListN.{length-set}
 use Rattle.std.proofs.Math.Nat.{eq-or-lt_of_le}
+use Rattle.std.proofs.lemmas.Bool.{cases_lt}
 use Rattle.cops_types.specs.Histories.{Sessions}
 use Rattle.cops_types.specs.declared.versioned_put.VersionedPut.{VersionedPut}
 use Rattle.cops_audit.specs.Keys.{AreFirsts, AreNexts, IsFirstOn, IsNext, OnKey}
@@ -12,18 +13,18 @@ use Rattle.cops_audit.proofs.Marks.{slice_get_inside}
 use Rattle.cops_audit.proofs.Places.{inside_table, put_there, stands_at}
 
 -- nothing before a place was passed on to this one, or what was is the first place on its key
-abbrev pub Passed : Sessions → List VersionedPut → List (Option ℕ) → List ℕ → ℕ → ℕ → Type 0
+abbrev pub Passed : Sessions → List VersionedPut → List ℕ → List ℕ → ℕ → ℕ → Type 0
 Passed h table nexts firsts i q =
-    ((slice_get firsts q ≡ Some q) × ((p : ℕ) → p < i → slice_get nexts p ≢ Some (Some q)))
+    ((slice_get firsts q ≡ Some q) × ((p : ℕ) → p < i → slice_get nexts p ≢ Some q))
     ⊎ ((first : ℕ) × (slice_get firsts q ≡ Some first) × ((key : List ℕ) → OnKey h table q key → IsFirstOn h table key first))
 
 -- the first places up to a put, and what was passed on to those from it on
-pub record PassedTo (h : Sessions) (table : List VersionedPut) (nexts : List (Option ℕ)) (firsts : List ℕ) (i : ℕ) : Type 0 where
+pub record PassedTo (h : Sessions) (table : List VersionedPut) (nexts : List ℕ) (firsts : List ℕ) (i : ℕ) : Type 0 where
   pub whole : length firsts ≡ length table
   pub before : (q first : ℕ) (key : List ℕ) → q < i → slice_get firsts q ≡ Some first → OnKey h table q key → IsFirstOn h table key first
   pub after : (q : ℕ) → i ≤ q → q < length table → Passed h table nexts firsts i q
 
-pub none_passed : (h : Sessions) (table : List VersionedPut) (nexts : List (Option ℕ)) (firsts : List ℕ) → length firsts ≡ length table → ((q : ℕ) → q < length table → slice_get firsts q ≡ Some q)
+pub none_passed : (h : Sessions) (table : List VersionedPut) (nexts : List ℕ) (firsts : List ℕ) → length firsts ≡ length table → ((q : ℕ) → q < length table → slice_get firsts q ≡ Some q)
     → PassedTo h table nexts firsts 0
 none_passed h table nexts firsts whole own = record {
   whole = whole;
@@ -31,7 +32,7 @@ none_passed h table nexts firsts whole own = record {
   after = λ q le inside. inl (own q inside, λ p less. absurd (omega (arith, less)));
 }
 
-module _ (h : Sessions) (table : List VersionedPut) (t : IsVersionTable h table) (nexts : List (Option ℕ)) (are : AreNexts h table nexts) where
+module _ (h : Sessions) (table : List VersionedPut) (t : IsVersionTable h table) (nexts : List ℕ) (are : AreNexts h table nexts) where
   -- the key of a put
   own_key : (i : ℕ) → i < length table → (key : List ℕ) × OnKey h table i key
   own_key i inside =
@@ -43,27 +44,24 @@ module _ (h : Sessions) (table : List VersionedPut) (t : IsVersionTable h table)
   on_inside : (q : ℕ) (key : List ℕ) → OnKey h table q key → q < length table
   on_inside q key on = inside_table table q on.0 on.1 on.2
 
-  -- the next place is one
-  pub next_inside : (i n : ℕ) → i < length table → slice_get nexts i ≡ Some (Some n) → n < length table
-  next_inside i n inside at = let own = own_key i inside in on_inside n own.0 ((are.each i (Some n) at).1 own.0 own.1).0
-
   -- a place on a key that comes before another has a next one that is not after it
-  next_of : (p q : ℕ) (key : List ℕ) → OnKey h table p key → OnKey h table q key → p < q → (n : ℕ) × (slice_get nexts p ≡ Some (Some n)) × (p < n) × (n ≤ q) × OnKey h table n key
+  next_of : (p q : ℕ) (key : List ℕ) → OnKey h table p key → OnKey h table q key → p < q → (n : ℕ) × (slice_get nexts p ≡ Some n) × (p < n) × (n ≤ q) × OnKey h table n key
   next_of p q key on_p on_q less =
       let there = slice_get_there nexts p (omega (arith, are.whole, on_inside p key on_p)) in
-      told there.0 there.1
-    where
-      told : (o : Option ℕ) → slice_get nexts p ≡ Some o → (n : ℕ) × (slice_get nexts p ≡ Some (Some n)) × (p < n) × (n ≤ q) × OnKey h table n key
-      told None at = absurd (are.each p None at key on_p q less on_q)
-      told (Some n) at = let next = are.each p (Some n) at in let k = next.1 key on_p in (n, at, next.0, k.1 q less on_q, k.0)
+      let n = there.0 in
+      let links = are.each p n there.1 in
+      elim (cases_lt n (length table)) [
+        | inl inside ↦ let next = links.0 inside in let k = next.1 key on_p in (n, there.1, next.0, k.1 q less on_q, k.0)
+        | inr past ↦ absurd (links.1 past key on_p q less on_q)
+      ]
 
   -- so some place before it has it for its next
-  previous : (fuel p q : ℕ) (key : List ℕ) → q ≤ p + fuel → OnKey h table p key → OnKey h table q key → p < q → (r : ℕ) × (r < q) × (slice_get nexts r ≡ Some (Some q))
+  previous : (fuel p q : ℕ) (key : List ℕ) → q ≤ p + fuel → OnKey h table p key → OnKey h table q key → p < q → (r : ℕ) × (r < q) × (slice_get nexts r ≡ Some q)
   previous zero p q key enough on_p on_q less = absurd (omega (arith, enough, less))
   previous (suc fuel) p q key enough on_p on_q less =
       let n = next_of p q key on_p on_q less in
       elim (eq-or-lt_of_le n.3) [
-        | inl same ↦ (p, less, n.1 ∙ ap (λ (x : ℕ). Some (Some x)) same)
+        | inl same ↦ (p, less, n.1 ∙ ap (λ (x : ℕ). Some x) same)
         | inr before ↦ previous fuel n.0 q key (omega (arith, enough, n.2)) n.4 on_q before
       ]
 
@@ -93,15 +91,18 @@ module _ (h : Sessions) (table : List VersionedPut) (t : IsVersionTable h table)
     ]
 
     -- the last put on its key passes nothing on
-    pub passed_none : slice_get nexts i ≡ Some None → PassedTo h table nexts firsts (i + 1)
-    passed_none none = record {
+    pub passed_none : (next : ℕ) → slice_get nexts i ≡ Some next → length table ≤ next → PassedTo h table nexts firsts (i + 1)
+    passed_none next at_next past = record {
       whole = so_far.whole;
       before = before_next;
       after = λ q le in_q. elim (so_far.after q (omega (arith, le)) in_q) [
         | inl own ↦ inl (
           own.0,
           λ p less e. elim (eq-or-lt_of_le (let l : p ≤ i = omega (arith, less) in l)) [
-            | inl same ↦ let f : Some None ≡ Some (Some q) = sym none ∙ ap (slice_get nexts) (sym same) ∙ e in cc
+            | inl same ↦
+                let f : Some next ≡ Some q = sym at_next ∙ ap (slice_get nexts) (sym same) ∙ e in
+                let g : next ≡ q = cc in
+                omega (arith, g, past, in_q)
             | inr old ↦ own.1 p old e
           ],
         )
@@ -110,9 +111,9 @@ module _ (h : Sessions) (table : List VersionedPut) (t : IsVersionTable h table)
     }
 
     -- a put passes it on to the next one
-    pub passed_on : (next first : ℕ) → slice_get nexts i ≡ Some (Some next) → slice_get firsts i ≡ Some first → PassedTo h table nexts (slice_set firsts next first) (i + 1)
-    passed_on next first at_next at_first =
-        let is = are.each i (Some next) at_next in
+    pub passed_on : (next first : ℕ) → slice_get nexts i ≡ Some next → next < length table → slice_get firsts i ≡ Some first → PassedTo h table nexts (slice_set firsts next first) (i + 1)
+    passed_on next first at_next inside_next at_first =
+        let is = (are.each i next at_next).0 inside_next in
         record {
           whole = omega (arith, length-set firsts next first, so_far.whole);
           before = λ q x key less at on. elim (written firsts next q first x at) [
@@ -135,7 +136,7 @@ module _ (h : Sessions) (table : List VersionedPut) (t : IsVersionTable h table)
                       inl (
                         there.1 ∙ sym e,
                         λ p less e'. elim (eq-or-lt_of_le (let l : p ≤ i = omega (arith, less) in l)) [
-                          | inl same ↦ let f : Some (Some next) ≡ Some (Some q) = sym at_next ∙ ap (slice_get nexts) (sym same) ∙ e' in let g : next ≡ q = cc in w.0 (sym g)
+                          | inl same ↦ let f : Some next ≡ Some q = sym at_next ∙ ap (slice_get nexts) (sym same) ∙ e' in let g : next ≡ q = cc in w.0 (sym g)
                           | inr old ↦ own.1 p old e'
                         ],
                       )
@@ -151,7 +152,7 @@ module _ (h : Sessions) (table : List VersionedPut) (t : IsVersionTable h table)
             let k : own.0 ≡ key = same_key h table t.rising next own.0 key (is.1 own.0 own.1).0 (subst (λ (x : ℕ). OnKey h table x key) same on) in
             subst (OnKey h table i) k own.1
 
-pub all_passed : (h : Sessions) (table : List VersionedPut) (nexts : List (Option ℕ)) (firsts : List ℕ) (i : ℕ) → length table ≤ i → PassedTo h table nexts firsts i → AreFirsts h table firsts
+pub all_passed : (h : Sessions) (table : List VersionedPut) (nexts : List ℕ) (firsts : List ℕ) (i : ℕ) → length table ≤ i → PassedTo h table nexts firsts i → AreFirsts h table firsts
 all_passed h table nexts firsts i enough so_far = record {
   whole = so_far.whole;
   each = λ place first key at on. so_far.before place first key (let l = slice_get_inside firsts place first at in omega (arith, l, enough, so_far.whole)) at on;

@@ -40,10 +40,14 @@ abbrev pub IsNext : Sessions → List VersionedPut → ℕ → Option ℕ → Ty
 IsNext h table place None = (key : List ℕ) → OnKey h table place key → (later : ℕ) → place < later → ¬ OnKey h table later key
 IsNext h table place (Some next) = (place < next) × ((key : List ℕ) → OnKey h table place key → OnKey h table next key × ((later : ℕ) → place < later → OnKey h table later key → next ≤ later))
 
+-- the place of the next put on its key, or a number past the end where there is none
+abbrev pub LinksTo : Sessions → List VersionedPut → ℕ → ℕ → Type 0
+LinksTo h table place next = (next < length table → IsNext h table place (Some next)) × (length table ≤ next → IsNext h table place None)
+
 -- of each put, the next one on its key
-pub record AreNexts (h : Sessions) (table : List VersionedPut) (nexts : List (Option ℕ)) : Type 0 where
+pub record AreNexts (h : Sessions) (table : List VersionedPut) (nexts : List ℕ) : Type 0 where
   pub whole : length nexts ≡ length table
-  pub each : (place : ℕ) (next : Option ℕ) → slice_get nexts place ≡ Some next → IsNext h table place next
+  pub each : (place next : ℕ) → slice_get nexts place ≡ Some next → LinksTo h table place next
 
 -- of each put, the first one on its key
 pub record AreFirsts (h : Sessions) (table : List VersionedPut) (firsts : List ℕ) : Type 0 where

@@ -17,6 +17,7 @@ use Rattle.cops_audit.specs.Windows.{AreAllSuspects}
 pub record HasSpace (count : ℕ) (room : Room) : Type 0 where
   pub names : count ≤ vec_capacity room.names
   pub table : count ≤ vec_capacity room.table
+  pub places : count ≤ vec_capacity room.places
   pub nexts : count ≤ vec_capacity room.nexts
   pub by_key : count ≤ vec_capacity room.by_key
   pub firsts : count ≤ vec_capacity room.firsts

@@ -4,6 +4,7 @@ ghost use Rattle.cops_types.specs.Faults.{HasNoSource, IsStale};
 ghost use Rattle.cops_types.specs.Recorded.{IsWithinLimits};
 ghost use Rattle.cops_types.specs.Verdicts.{AllAbove, NoneStale};
 ghost use Rattle.cops_audit.specs.Notes.{IsNoted};
+ghost use Rattle.cops_audit.specs.Placing.{ArePutPlaces};
 ghost use Rattle.cops_audit.specs.Rooms.{Fits, IsFilled, IsNotedIn, IsReady, IsSuspected};
 ghost use Rattle.cops_audit.specs.SoFar.{HaveSourcesOrWait, IsMismatched, IsSoFar, IsWaiting};
 ghost use Rattle.cops_audit.specs.Tables.{IsVersionTable};
@@ -13,6 +14,7 @@ use crate::floors::set_floors;
 use crate::keys::{link, set_firsts, set_keys};
 use crate::names::set_names;
 use crate::notes::{Notes, count_sourceless, is_sourceless};
+use crate::put_places::set_places;
 use crate::rising::has_not_above;
 use crate::room::Room;
 use crate::stale::has_stale;
@@ -65,6 +67,7 @@ impl Room {
     /// above what its session saw. It takes no memory.
     pub fn suspect(&mut self, history: &History, notes: &Notes) -> Result<(), AllocError>
         requires noted { IsNotedIn history.now.sessions self.old notes.now }
+        requires places { ArePutPlaces history.now.puts self.old.table.items self.old.places.items }
         requires sources { HaveSourcesOrWait history.now.sessions }
         requires above { AllAbove history.now.sessions }
         ensures ok { IsOk result }
@@ -76,7 +79,8 @@ impl Room {
     {
         let table = self.table.as_slice();
         // The numbers of their keys lie where the first put on each key will.
-        set_keys(&mut self.firsts, history, table)?;
+        let places = self.places.as_slice();
+        set_keys(&mut self.firsts, history, table, places)?;
         let keys = self.firsts.as_slice();
         link(&mut self.nexts, &mut self.by_key, history, table, keys)?;
         let nexts = self.nexts.as_slice();
@@ -91,6 +95,7 @@ impl Room {
     /// Whether a get is stale in such a history.
     fn has_stale(&mut self, history: &History, notes: &Notes) -> Result<bool, AllocError>
         requires noted { IsNotedIn history.now.sessions self.old notes.now }
+        requires places { ArePutPlaces history.now.puts self.old.table.items self.old.places.items }
         requires sources { HaveSourcesOrWait history.now.sessions }
         requires above { AllAbove history.now.sessions }
         ensures ok { IsOk result }
@@ -120,6 +125,7 @@ impl Room {
     /// What is said so far of a history in which no version is borne by two puts, and whose operations are noted.
     fn assess_notes(&mut self, history: &History, notes: &Notes) -> Result<SoFar, AllocError>
         requires noted { IsNotedIn history.now.sessions self.old notes.now }
+        requires places { ArePutPlaces history.now.puts self.old.table.items self.old.places.items }
         requires filled { IsFilled history.now.sessions self.old }
         ensures ok { IsOk result }
         ensures so_far { IfOk result (IsSoFar history.now.sessions) }
@@ -154,7 +160,9 @@ impl Room {
         ensures so_far { IfOk result (IsSoFar history.now.sessions) }
         ensures fits { OnOk result (Fits history.now.sessions self.new flat.new) }
     {
-        flat.renew(history, self.table.as_slice());
+        let table = self.table.as_slice();
+        set_places(&mut self.places, history, table)?;
+        flat.renew(history, table);
         let notes = flat.look();
         let so_far = self.assess_notes(history, &notes)?;
         Ok(so_far)

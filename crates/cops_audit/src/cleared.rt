@@ -59,7 +59,7 @@ fn is_counted(counts: &[u32], name: OpName) -> bool
 /// too where the puts on its key are not linked from its place on, or are many.
 fn none_counted(
     table: &[VersionedPut],
-    nexts: &[Option<u32>],
+    nexts: &[u32],
     firsts: &[u32],
     counts: &[u32],
     mark: u32,
@@ -81,9 +81,10 @@ fn none_counted(
         if is_counted(counts, put.name) {
             return false;
         }
-        let Some(next) = nexts[place as usize] else {
+        let next = nexts[place as usize];
+        if next as usize >= table.len() {
             return true;
-        };
+        }
         place = next;
     }
     false
@@ -136,7 +137,7 @@ impl Clearing {
         &mut self,
         table: &[VersionedPut],
         notes: &Notes,
-        nexts: &[Option<u32>],
+        nexts: &[u32],
         firsts: &[u32],
         suspects: &[Suspect],
         name: OpName,
@@ -183,7 +184,7 @@ impl Clearing {
         &mut self,
         table: &[VersionedPut],
         notes: &Notes,
-        nexts: &[Option<u32>],
+        nexts: &[u32],
         firsts: &[u32],
         suspects: &[Suspect],
         client: u16,
@@ -217,7 +218,7 @@ impl Clearing {
         history: &History,
         table: &[VersionedPut],
         notes: &Notes,
-        nexts: &[Option<u32>],
+        nexts: &[u32],
         firsts: &[u32],
         suspects: &[Suspect],
     ) -> Result<bool, AllocError>
@@ -257,7 +258,7 @@ impl Clearing {
         history: &History,
         table: &[VersionedPut],
         notes: &Notes,
-        nexts: &[Option<u32>],
+        nexts: &[u32],
         firsts: &[u32],
         suspects: &[Suspect],
     ) -> Result<bool, AllocError>
@@ -309,7 +310,7 @@ pub fn clear(
     history: &History,
     table: &[VersionedPut],
     notes: &Notes,
-    nexts: &[Option<u32>],
+    nexts: &[u32],
     firsts: &[u32],
 ) -> Result<(), AllocError>
     requires table { IsVersionTable history.now.sessions table.now }

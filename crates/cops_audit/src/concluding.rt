@@ -5,6 +5,7 @@ ghost use Rattle.cops_types.specs.Recorded.{IsWithinLimits};
 ghost use Rattle.cops_types.specs.Verdicts.{AllAbove, AllHaveSources};
 ghost use Rattle.cops_types.specs.Faults.{IsStale, Lists};
 ghost use Rattle.cops_audit.specs.Notes.{IsNoted};
+ghost use Rattle.cops_audit.specs.Placing.{ArePutPlaces};
 ghost use Rattle.cops_audit.specs.Rooms.{IsNotedIn, IsReady, IsSuspected};
 ghost use Rattle.cops_audit.specs.SoFar.{HaveSourcesOrWait};
 ghost use Rattle.cops_audit.specs.Tables.{IsVersionTable};
@@ -14,6 +15,7 @@ use crate::cleared::clear;
 use crate::floors::set_floors;
 use crate::names::all_names;
 use crate::notes::{Notes, SessionNotes, without_source};
+use crate::put_places::set_places;
 use crate::rising::{is_faultless, not_above};
 use crate::room::Room;
 use crate::stale::stale_suspects;
@@ -62,6 +64,7 @@ impl Room {
         notes: &Notes,
     ) -> Result<Vec<Stale>, AllocError>
         requires noted { IsNotedIn history.now.sessions self.old notes.now }
+        requires places { ArePutPlaces history.now.puts self.old.table.items self.old.places.items }
         requires sources { AllHaveSources history.now.sessions }
         requires above { AllAbove history.now.sessions }
         ensures stale { IfOk result (λ v. Lists (λ f. f.op) (λ f. IsStale history.now.sessions f.op f.newer) v.items) }
@@ -69,7 +72,8 @@ impl Room {
     {
         self.suspect(history, notes)?;
         self.clear_suspects(alloc, history, notes)?;
-        // The links are let go before the sweep takes memory.
+        // The places and the links are let go before the sweep takes memory.
+        self.places = Vec::new(alloc);
         self.nexts = Vec::new(alloc);
         self.by_key = Vec::new(alloc);
         let table = self.table.as_slice();
@@ -143,8 +147,10 @@ impl Room {
         requires few { length self.old.table.items ≤ count_of history.now.sessions }
         ensures { IfOk result (IsVerdict history.now.sessions) }
     {
-        let hints = std::mem::replace(&mut self.hints, Vec::new(alloc));
-        let session_notes = SessionNotes::hinted(alloc, history, self.table.as_slice(), hints)?;
+        let table = self.table.as_slice();
+        set_places(&mut self.places, history, table)?;
+        let places = self.places.as_slice();
+        let session_notes = SessionNotes::new(alloc, history, table, places)?;
         let notes = session_notes.look();
         let found = self.judge_classes(alloc, history, &notes)?;
         if let Some(verdict) = found {
@@ -159,7 +165,8 @@ impl Room {
     }
 
     /// The verdict on a history. Beside the room it takes memory for the faults, and then for the names of all
-    /// operations, or for the names of the puts; and as long as they are gone through, for hints of where puts stand.
+    /// operations, or for the names of the puts; and as long as they are gone through, where a get came before its put,
+    /// for hints of where puts stand.
     pub fn judge(&mut self, alloc: Global, history: &History) -> Result<Verdict, AllocError>
         requires { IsReady history.now.sessions self.old }
         ensures { IfOk result (IsVerdict history.now.sessions) }

@@ -1,12 +1,11 @@
 ghost use Rattle.cops_types.specs.declared.limits.TheConstants.{MAX_OPS};
-ghost use Rattle.std.specs.Prelude.{◌≡◌, ◌≢◌, ◌<◌, ◌≤◌, ℕ, List, IfOk, IfSome, IfNone, IsTrue, Some, length, slice_get, slice_index_or};
+ghost use Rattle.std.specs.Prelude.{◌≡◌, ◌≢◌, ◌<◌, ◌≤◌, ℕ, IfSome, IfNone, IsTrue, length, slice_index_or};
 ghost use Rattle.cops_types.specs.declared.versioned_put.VersionedPut.{VersionedPut};
-ghost use Rattle.cops_audit.specs.Placing.{HintPlaces, TellPlaces};
-ghost use Rattle.cops_audit.specs.Tables.{IsVersionTable, VersionsNeverFall};
+ghost use Rattle.cops_audit.specs.Tables.{VersionsNeverFall};
 
 use crate::did::Did;
 use crate::table::place_of;
-use cops_types::{History, Version, VersionedPut};
+use cops_types::{Version, VersionedPut};
 use std::alloc::{AllocError, Global};
 
 /// A hint that says nothing: no place of a table.
@@ -23,34 +22,6 @@ fn stands_at(table: &[VersionedPut], place: u32, version: Version) -> bool
     }
 }
 
-/// Of each put, by its number, the place where it stands in the table of puts in order of versions.
-fn put_places(
-    alloc: Global,
-    history: &History,
-    table: &[VersionedPut],
-) -> Result<Vec<u32>, AllocError>
-    requires { IsVersionTable history.now.sessions table.now }
-    ensures { IfOk result (λ v. TellPlaces history.now.puts table.now v.items) }
-{
-    let mut places = Vec::new(alloc);
-    places.resize(history.puts(), NONE)?;
-    for place in 0..table.len() {
-        match history.put_number(table[place].name) {
-            Some(number) => places[number as usize] = place as u32,
-            None => unreachable!(),
-        }
-    }
-    Ok(places)
-}
-
-/// The place of the put of that number, if there is one.
-#[inline(always)]
-pub fn place_at(places: &[u32], number: u32) -> Option<u32>
-    ensures { result ≡ slice_get places.now number }
-{
-    places.get(number as usize).copied()
-}
-
 /// Where puts of a version may stand in a table of puts in order of versions. The versions are cut into stretches of
 /// one width, about as many as there are puts, and of each it is known where its puts begin. These are but hints: each
 /// is looked up in the table, and a version that does not stand there is searched for.
@@ -62,30 +33,31 @@ pub struct Stretches {
 }
 
 impl Stretches {
-    /// The stretches of a table, in a vector that may have room for them.
-    fn new(mut starts: Vec<u32>, table: &[VersionedPut]) -> Result<Self, AllocError>
-        requires { length table.now ≤ MAX_OPS }
-    {
-        starts.clear();
-        let mut stretches = Stretches {
+    /// Those of a table, which are made where a hint is first asked for: in most histories none is.
+    pub fn new(alloc: Global) -> Self {
+        Stretches {
             lowest: 0,
             shift: 0,
-            starts,
-        };
+            starts: Vec::new(alloc),
+        }
+    }
+
+    /// Makes the stretches of a table.
+    fn make(&mut self, table: &[VersionedPut]) -> Result<(), AllocError>
+        requires { length table.now ≤ MAX_OPS }
+    {
         if let (Some(first), Some(last)) = (table.first(), table.last()) {
-            stretches.lowest = first.version.as_u64();
-            stretches.shift = shift_for(stretches.offset(last.version), table.len() as u64);
+            self.lowest = first.version.as_u64();
+            self.shift = shift_for(self.offset(last.version), table.len() as u64);
         }
         for place in 0..table.len() {
-            let stretch = stretches.stretch(table[place].version);
-            if stretches.starts.len() <= stretch {
-                stretches
-                    .starts
-                    .resize(stretch.saturating_add(1), place as u32)?;
+            let stretch = self.stretch(table[place].version);
+            if self.starts.len() <= stretch {
+                self.starts.resize(stretch.saturating_add(1), place as u32)?;
             }
         }
-        stretches.starts.push(table.len() as u32)?;
-        Ok(stretches)
+        self.starts.push(table.len() as u32)?;
+        Ok(())
     }
 
     /// How far above the lowest version this one is.
@@ -98,11 +70,16 @@ impl Stretches {
         self.offset(version).wrapping_shr(self.shift) as usize
     }
 
-    /// The hint for the version that was put or got.
-    pub fn get(&self, table: &[VersionedPut], did: &Did) -> u32 {
+    /// The hint for the version that was put or got: none where there is no memory for the stretches.
+    pub fn hint(&mut self, table: &[VersionedPut], did: &Did) -> u32
+        requires { length table.now ≤ MAX_OPS }
+    {
         let Some(version) = did.version() else {
             return NONE;
         };
+        if self.starts.is_empty() && self.make(table).is_err() {
+            return NONE;
+        }
         let stretch = self.stretch(version);
         let Some(start) = self.starts.get(stretch) else {
             return NONE;
@@ -111,31 +88,6 @@ impl Stretches {
             return NONE;
         };
         first_within(table, *start, *end, version)
-    }
-}
-
-/// Where puts stand in a table of puts in order of versions, by their numbers, and where they may stand, by their
-/// versions.
-#[derive(Drop)]
-pub struct Hints {
-    pub places: Vec<u32>,
-    pub stretches: Stretches,
-}
-
-impl Hints {
-    /// The hints for a table, in a vector that may have room for those of versions.
-    pub fn new(
-        starts: Vec<u32>,
-        alloc: Global,
-        history: &History,
-        table: &[VersionedPut],
-    ) -> Result<Self, AllocError>
-        requires { IsVersionTable history.now.sessions table.now }
-        ensures { IfOk result (HintPlaces history.now.puts table.now) }
-    {
-        let stretches = Stretches::new(starts, table)?;
-        let places = put_places(alloc, history, table)?;
-        Ok(Hints { places, stretches })
     }
 }
 

@@ -3,6 +3,7 @@ ghost use Rattle.std.specs.Prelude.{◌≡◌, ◌<◌, ◌≤◌, ◌+◌, ℕ,
 ghost use Rattle.cops_types.specs.Counts.{count_of};
 ghost use Rattle.cops_types.specs.Histories.{IsNamed, Sessions};
 ghost use Rattle.cops_audit.specs.Keys.{AreFirsts, AreKeys, AreNexts, IsFirstFrom, IsOnKey, KnowsFirsts};
+ghost use Rattle.cops_audit.specs.Placing.{ArePutPlaces};
 ghost use Rattle.cops_audit.specs.Tables.{IsVersionTable};
 ghost use Rattle.cops_types.specs.declared.versioned_put.VersionedPut.{VersionedPut as APut};
 
@@ -44,32 +45,48 @@ fn set_none(places: &mut Vec<Option<u32>>, count: usize) -> Result<(), AllocErro
     places.resize(count, None)
 }
 
-/// Makes it, of each put, the number of its key: each is looked up by itself, so that a processor has many under way at
-/// once. It takes no memory where there is room for as many as there are puts.
+/// Makes it, of each put, the number of its key. They are looked up in the order of the puts' numbers, in which a
+/// history keeps its puts: a processor foresees what is read one after the other. It takes no memory where there is
+/// room for as many as there are puts.
 pub fn set_keys(
     keys: &mut Vec<u32>,
     history: &History,
     table: &[VersionedPut],
+    places: &[u32],
 ) -> Result<(), AllocError>
-    requires { IsVersionTable history.now.sessions table.now }
+    requires table { IsVersionTable history.now.sessions table.now }
+    requires places { ArePutPlaces history.now.puts table.now places.now }
     ensures keys { OnOk result (AreKeys history.now table.now keys.new.items) }
     ensures capacity { vec_capacity keys.old ≤ vec_capacity keys.new }
     ensures succeeds { length table.now ≤ vec_capacity keys.old → IsOk result }
 {
     keys.clear();
-    keys.reserve(table.len())?;
-    for place in 0..table.len() {
-        let put = &table[place];
-        let number = number_of(history, put.name);
-        keys.push_reserved(number);
+    keys.resize(table.len(), 0)?;
+    for told in places {
+        let place = *told as usize;
+        if place < table.len() {
+            let put = &table[place];
+            keys[place] = number_of(history, put.name);
+        }
     }
     Ok(())
 }
 
-/// Links each put to the next one on its key, and gives of each key, by its number, the first put on it. It takes no
-/// memory where there is room for as many links as there are puts and as many first puts as there are operations.
+/// Makes it so many links that point past the end. It takes no memory where there is room for them.
+fn set_past_end(nexts: &mut Vec<u32>, count: usize) -> Result<(), AllocError>
+    ensures count { OnOk result (length nexts.new.items ≡ count) }
+    ensures capacity { vec_capacity nexts.old ≤ vec_capacity nexts.new }
+    ensures succeeds { count ≤ vec_capacity nexts.old → IsOk result }
+{
+    nexts.clear();
+    nexts.resize(count, u32::MAX)
+}
+
+/// Links each put to the next one on its key, past the end where there is none, and gives of each key, by its number,
+/// the first put on it. It takes no memory where there is room for as many links as there are puts and as many first
+/// puts as there are operations.
 pub fn link(
-    nexts: &mut Vec<Option<u32>>,
+    nexts: &mut Vec<u32>,
     firsts: &mut Vec<Option<u32>>,
     history: &History,
     table: &[VersionedPut],
@@ -83,11 +100,12 @@ pub fn link(
     ensures firsts_capacity { vec_capacity firsts.old ≤ vec_capacity firsts.new }
     ensures succeeds { length table.now ≤ vec_capacity nexts.old → count_of history.now.sessions ≤ vec_capacity firsts.old → IsOk result }
 {
-    set_none(nexts, table.len())?;
+    let end = table.len() as u32;
+    set_past_end(nexts, table.len())?;
     set_none(firsts, history.keys())?;
     for place in (0..table.len()).rev() {
         let number = keys[place];
-        nexts[place] = firsts[number as usize];
+        nexts[place] = firsts[number as usize].unwrap_or(end);
         firsts[number as usize] = Some(place as u32);
     }
     Ok(())
@@ -114,7 +132,7 @@ fn set_own_places(places: &mut Vec<u32>, count: usize) -> Result<(), AllocError>
 pub fn set_firsts(
     places: &mut Vec<u32>,
     table: &[VersionedPut],
-    nexts: &[Option<u32>],
+    nexts: &[u32],
 ) -> Result<(), AllocError>
     requires { (h : Sessions) × IsVersionTable h table.now × AreNexts h table.now nexts.now }
     ensures firsts { (h : Sessions) → IsVersionTable h table.now → AreNexts h table.now nexts.now → OnOk result (AreFirsts h table.now places.new.items) }
@@ -123,8 +141,9 @@ pub fn set_firsts(
 {
     set_own_places(places, table.len())?;
     for place in 0..table.len() {
-        if let Some(next) = nexts[place] {
-            places[next as usize] = places[place];
+        let next = nexts[place] as usize;
+        if next < table.len() {
+            places[next] = places[place];
         }
     }
     Ok(())
@@ -134,7 +153,7 @@ pub fn set_firsts(
 pub fn passed_firsts(
     alloc: Global,
     table: &[VersionedPut],
-    nexts: &[Option<u32>],
+    nexts: &[u32],
 ) -> Result<Vec<u32>, AllocError>
     requires { (h : Sessions) × IsVersionTable h table.now × AreNexts h table.now nexts.now }
     ensures { (h : Sessions) → IsVersionTable h table.now → AreNexts h table.now nexts.now → IfOk result (λ v. AreFirsts h table.now v.items) }

@@ -26,6 +26,7 @@ mod links;
 mod names;
 mod notes;
 mod online;
+mod put_places;
 mod puts;
 mod rising;
 mod room;

@@ -6,13 +6,14 @@ ghost use Rattle.cops_types.specs.Operations.{GetsVersion};
 ghost use Rattle.cops_types.specs.Faults.{IsBefore};
 ghost use Rattle.cops_audit.specs.Names.{ListsAmong};
 ghost use Rattle.cops_audit.specs.Notes.{above as above_of, AreFrontsNoted, AreLongEnough, AreMarks, HasDone, IsFrontNoted, IsMark, IsSeen, IsSessionNoted, IsSourceless};
-ghost use Rattle.cops_audit.specs.Placing.{HintPlaces, TellPlaces};
+ghost use Rattle.cops_audit.specs.Placing.{ArePutPlaces};
 ghost use Rattle.cops_audit.specs.Tables.{IsVersionTable};
 ghost use Rattle.cops_types.specs.declared.versioned_put.VersionedPut.{VersionedPut};
 
 use crate::did::Did;
 use crate::flat::Span;
-use crate::hints::{Hints, hinted_place, place_at};
+use crate::hints::{Stretches, hinted_place};
+use crate::put_places::place_at;
 use crate::table::first_from;
 use cops_types::{History, OpName, VersionedPut};
 use std::alloc::{AllocError, Global};
@@ -84,7 +85,7 @@ fn see_named(
     name: OpName,
 ) -> Option<Seen>
     requires table { IsVersionTable history.now.sessions table.now }
-    requires places { TellPlaces history.now.puts table.now places.now }
+    requires places { ArePutPlaces history.now.puts table.now places.now }
     ensures { IfSome result (IsSeen history.now.sessions table.now name) }
 {
     if let Some(number) = history.source_number(name) {
@@ -96,18 +97,24 @@ fn see_named(
     Some(Seen::Put(place))
 }
 
-/// What an operation did, by the hints.
-fn see_hinted(history: &History, table: &[VersionedPut], hints: &Hints, name: OpName) -> Seen
+/// What an operation did, by a hint where the history does not know its put.
+fn see_hinted(
+    history: &History,
+    table: &[VersionedPut],
+    places: &[u32],
+    stretches: &mut Stretches,
+    name: OpName,
+) -> Seen
     requires table { IsVersionTable history.now.sessions table.now }
-    requires hints { HintPlaces history.now.puts table.now hints.now }
+    requires places { ArePutPlaces history.now.puts table.now places.now }
     requires named { IsNamed history.now.sessions name }
     ensures { IsSeen history.now.sessions table.now name result }
 {
-    if let Some(seen) = see_named(history, table, hints.places.as_slice(), name) {
+    if let Some(seen) = see_named(history, table, places, name) {
         return seen;
     }
     let did = Did::of(history, name);
-    let hint = hints.stretches.get(table, &did);
+    let hint = stretches.hint(table, &did);
     see(history, table, hint, name, &did)
 }
 
@@ -140,12 +147,13 @@ fn note_on(
     notes: &mut Vec<Note>,
     history: &History,
     table: &[VersionedPut],
-    hints: &Hints,
+    places: &[u32],
+    stretches: &mut Stretches,
     client: u16,
     place: usize,
 ) -> Result<(), AllocError>
     requires table { IsVersionTable history.now.sessions table.now }
-    requires hints { HintPlaces history.now.puts table.now hints.now }
+    requires places { ArePutPlaces history.now.puts table.now places.now }
     requires front { IsFrontNoted history.now.sessions table.now client notes.old.items }
     ensures front { OnOk result (IsFrontNoted history.now.sessions table.now client notes.new.items) }
     ensures whole { OnOk result (length table.now ≤ place → length (slice_index_or history.now.sessions client []) ≤ vec_len notes.new) }
@@ -159,7 +167,7 @@ fn note_on(
             client,
             index: index as u32,
         };
-        let seen = see_hinted(history, table, hints, name);
+        let seen = see_hinted(history, table, places, stretches, name);
         mark = mark.max(seen.above());
         notes.push(Note { seen, mark })?;
     }
@@ -171,12 +179,13 @@ fn note_all(
     sessions: &mut Vec<Vec<Note>>,
     history: &History,
     table: &[VersionedPut],
-    hints: &Hints,
+    places: &[u32],
+    stretches: &mut Stretches,
     first: usize,
     place: usize,
 ) -> Result<(), AllocError>
     requires table { IsVersionTable history.now.sessions table.now }
-    requires hints { HintPlaces history.now.puts table.now hints.now }
+    requires places { ArePutPlaces history.now.puts table.now places.now }
     requires few { first + length sessions.old.items ≤ MAX_CLIENTS }
     requires fronts { AreFrontsNoted history.now.sessions table.now first (map (λ s. s.items) sessions.old.items) }
     ensures count { length sessions.new.items ≡ length sessions.old.items }
@@ -186,7 +195,15 @@ fn note_all(
     for k in 0..sessions.len() {
         let notes = &mut sessions[k];
         let client = first + k;
-        note_on(notes, history, table, hints, client as u16, place)?;
+        note_on(
+            notes,
+            history,
+            table,
+            places,
+            stretches,
+            client as u16,
+            place,
+        )?;
     }
     Ok(())
 }
@@ -229,29 +246,22 @@ impl SessionNotes {
     ghost use Rattle.cops_types.specs.declared.versioned_put.VersionedPut.{VersionedPut};
     ghost use Rattle.std.specs.Prelude.{◌≡◌, ◌≤◌, ℕ, List, IfOk, length};
     ghost use Rattle.cops_audit.specs.Notes.{AreNoted, IsNoted};
-    ghost use Rattle.cops_audit.specs.Placing.{HintPlaces};
+    ghost use Rattle.cops_audit.specs.Placing.{ArePutPlaces};
     ghost use Rattle.cops_audit.specs.Tables.{IsVersionTable};
 
-    /// The notes on all operations.
-    pub fn new(alloc: Global, history: &History, table: &[VersionedPut]) -> Result<Self, AllocError>
-        requires { IsVersionTable history.now.sessions table.now }
-        ensures { IfOk result (λ notes. IsNoted history.now.sessions table.now notes) }
-    {
-        SessionNotes::hinted(alloc, history, table, Vec::new(alloc))
-    }
-
-    /// The same, with the hints of versions in a vector that may have room for them, and that is let go.
-    pub fn hinted(
+    /// The notes on all operations, by the places of the puts.
+    pub fn new(
         alloc: Global,
         history: &History,
         table: &[VersionedPut],
-        hints: Vec<u32>,
+        places: &[u32],
     ) -> Result<Self, AllocError>
-        requires { IsVersionTable history.now.sessions table.now }
+        requires table { IsVersionTable history.now.sessions table.now }
+        requires places { ArePutPlaces history.now.puts table.now places.now }
         ensures { IfOk result (λ notes. IsNoted history.now.sessions table.now notes) }
     {
-        let hints = Hints::new(hints, alloc, history, table)?;
-        let notes = SessionNotes::on_clients(alloc, history, table, &hints, 0, history.clients())?;
+        let clients = history.clients();
+        let notes = SessionNotes::on_clients(alloc, history, table, places, 0, clients)?;
         Ok(notes)
     }
 
@@ -260,12 +270,12 @@ impl SessionNotes {
         alloc: Global,
         history: &History,
         table: &[VersionedPut],
-        hints: &Hints,
+        places: &[u32],
         first: usize,
         end: usize,
     ) -> Result<Self, AllocError>
         requires table { IsVersionTable history.now.sessions table.now }
-        requires hints { HintPlaces history.now.puts table.now hints.now }
+        requires places { ArePutPlaces history.now.puts table.now places.now }
         requires first { first ≤ end }
         requires end { end ≤ length history.now.sessions }
         ensures some { IfOk result (AreNoted history.now.sessions table.now first end) }
@@ -273,11 +283,30 @@ impl SessionNotes {
     {
         let end = end.min(history.clients());
         let mut sessions = no_notes(alloc, history, first, end)?;
+        let mut stretches = Stretches::new(alloc);
         let step = STEP.max(4 * sessions.len());
         for round in 0..table.len() / step {
-            note_all(&mut sessions, history, table, hints, first, step * round)?;
+            let place = step * round;
+            note_all(
+                &mut sessions,
+                history,
+                table,
+                places,
+                &mut stretches,
+                first,
+                place,
+            )?;
         }
-        note_all(&mut sessions, history, table, hints, first, table.len())?;
+        let end = table.len();
+        note_all(
+            &mut sessions,
+            history,
+            table,
+            places,
+            &mut stretches,
+            first,
+            end,
+        )?;
         Ok(SessionNotes { sessions })
     }
 

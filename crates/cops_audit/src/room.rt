@@ -8,7 +8,7 @@ use crate::window::Suspect;
 use cops_types::{History, OpName, VersionedPut};
 use std::alloc::{AllocError, Global};
 
-/// What a look for faults fills, with room for a history as it grows: with the notes 100 bytes for each operation. A
+/// What a look for faults fills, with room for a history as it grows: with the notes 96 bytes for each operation. A
 /// vector doubles as it grows, so that up to twice as much may be held. The room is not touched until the look.
 #[derive(Drop)]
 pub struct Room {
@@ -16,9 +16,8 @@ pub struct Room {
     pub space: usize,
     pub names: Vec<OpName>,
     pub table: Vec<VersionedPut>,
-    /// Room for the hints of where versions stand, which no clause speaks of.
-    pub hints: Vec<u32>,
-    pub nexts: Vec<Option<u32>>,
+    pub places: Vec<u32>,
+    pub nexts: Vec<u32>,
     pub by_key: Vec<Option<u32>>,
     pub firsts: Vec<u32>,
     pub suspects: Vec<Suspect>,
@@ -56,7 +55,7 @@ impl Room {
             space: 0,
             names: Vec::new(alloc),
             table: Vec::new(alloc),
-            hints: Vec::new(alloc),
+            places: Vec::new(alloc),
             nexts: Vec::new(alloc),
             by_key: Vec::new(alloc),
             firsts: Vec::new(alloc),
@@ -84,7 +83,7 @@ impl Room {
         notes.reserve(space)?;
         make_room(&mut self.names, space)?;
         make_room(&mut self.table, space)?;
-        make_room(&mut self.hints, space)?;
+        make_room(&mut self.places, space)?;
         make_room(&mut self.nexts, space)?;
         make_room(&mut self.by_key, space)?;
         make_room(&mut self.firsts, space)?;

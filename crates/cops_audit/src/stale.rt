@@ -70,7 +70,7 @@ fn judge_suspects(
     history: &History,
     table: &[VersionedPut],
     notes: &Notes,
-    nexts: &[Option<u32>],
+    nexts: &[u32],
     firsts: &[u32],
     suspects: Vec<Suspect>,
 ) -> Result<Vec<Stale>, AllocError>

@@ -1,6 +1,7 @@
 use crate::beside::notes_and_links;
 use crate::links::Links;
 use crate::notes::{SessionNotes, without_source};
+use crate::put_places::put_places;
 use crate::puts::Puts;
 use crate::rising::not_above;
 use crate::stale::stale_among;
@@ -55,7 +56,8 @@ impl<'a> Tables<'a> {
             names,
             table,
         } = puts;
-        let notes = SessionNotes::new(alloc, history, table.as_slice())?;
+        let places = put_places(alloc, history, table.as_slice())?;
+        let notes = SessionNotes::new(alloc, history, table.as_slice(), places.as_slice())?;
         Ok(Tables {
             history,
             names,
@@ -162,7 +164,8 @@ impl<'a> Tables<'a> {
         let table = self.table.as_slice();
         let notes = self.notes.look();
         let Some(links) = &self.links else {
-            let links = Links::once(alloc, self.history, table)?;
+            let places = put_places(alloc, self.history, table)?;
+            let links = Links::once(alloc, self.history, table, places.as_slice())?;
             return stale_among(alloc, self.history, table, &notes, &links, names);
         };
         stale_among(alloc, self.history, table, &notes, links, names)

@@ -27,7 +27,7 @@ pub struct Suspect {
 fn got_suspect(
     history: &History,
     table: &[VersionedPut],
-    nexts: &[Option<u32>],
+    nexts: &[u32],
     firsts: &[Option<u32>],
     op: OpName,
     place: u32,
@@ -40,10 +40,8 @@ fn got_suspect(
     ensures suspect { IfSome result (λ s. (s.op ≡ op) × IsSuspect history.now.sessions table.now s) }
     ensures none { IfNone result (NoneWithin history.now.sessions table.now op mark) }
 {
-    let Some(from) = nexts[place as usize] else {
-        return None;
-    };
-    if from >= mark {
+    let from = nexts[place as usize];
+    if from >= mark || from as usize >= table.len() {
         return None;
     }
     let Some(first) = first_on(history, firsts, op) else {
@@ -115,7 +113,7 @@ fn find_suspect(
     history: &History,
     table: &[VersionedPut],
     notes: &Notes,
-    nexts: &[Option<u32>],
+    nexts: &[u32],
     firsts: &[Option<u32>],
     op: OpName,
 ) -> Option<Suspect>
@@ -145,7 +143,7 @@ pub fn push_suspects(
     history: &History,
     table: &[VersionedPut],
     notes: &Notes,
-    nexts: &[Option<u32>],
+    nexts: &[u32],
     firsts: &[Option<u32>],
     names: &[OpName],
 ) -> Result<(), AllocError>
@@ -177,7 +175,7 @@ fn push_session_suspects(
     history: &History,
     table: &[VersionedPut],
     notes: &Notes,
-    nexts: &[Option<u32>],
+    nexts: &[u32],
     firsts: &[Option<u32>],
     client: u16,
 ) -> Result<(), AllocError>
@@ -211,7 +209,7 @@ pub fn set_suspects(
     history: &History,
     table: &[VersionedPut],
     notes: &Notes,
-    nexts: &[Option<u32>],
+    nexts: &[u32],
     firsts: &[Option<u32>],
 ) -> Result<(), AllocError>
     requires table { IsVersionTable history.now.sessions table.now }

@@ -1,14 +1,15 @@
-use Rattle.std.proofs.Common.{◌+◌, ◌-◌, ◌/◌, IfOk, subst}
+use Rattle.std.proofs.Common.{◌/◌, IfOk, length, refl, subst}
 use Rattle.cops_audit.specs.Notes.{AreNoted}
+use Rattle.cops_audit.proofs.Noting.{noted_all}
 use Rattle.cops_audit.proofs.beside.notes_in_halves.Goals as goal
 
 pub returns : goal.returns
 returns g c =
     let h = c.args.history.now.sessions in
     let table = c.args.table.now in
-    let first = c.args.first in
-    let end = c.args.end in
-    let mid = first + (end - first) / 2 in
-    let low : AreNoted h table first mid c.in_ok-low.field-0 = subst (λ r. IfOk r (AreNoted h table first mid)) c.in_ok-low.was c.join-low.ensures.first in
-    let high : AreNoted h table mid end c.in_ok-high.field-0 = subst (λ r. IfOk r (AreNoted h table mid end)) c.in_ok-high.was c.join-low.ensures.second in
-    c.in_ok-notes.ensures h table first mid end low high
+    let clients = c.clients-clients.result in
+    let mid = clients / 2 in
+    let low : AreNoted h table 0 mid c.in_ok-low.field-0 = subst (λ r. IfOk r (AreNoted h table 0 mid)) c.in_ok-low.was c.join-low.ensures.first in
+    let high : AreNoted h table mid clients c.in_ok-high.field-0 = subst (λ r. IfOk r (AreNoted h table mid clients)) c.in_ok-high.was c.join-low.ensures.second in
+    noted_all h table 0 (length h) c.in_ok-notes.notes refl refl
+    (subst (λ end. AreNoted h table 0 end c.in_ok-notes.notes) c.clients-clients.ensures.count (c.in_ok-notes.ensures h table 0 mid clients low high))

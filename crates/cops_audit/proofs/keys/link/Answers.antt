@@ -1,21 +1,21 @@
 use Rattle.std.proofs.Common.{◌≡◌, ◌≢◌, ◌<◌, ◌+◌, ◌-◌, ℕ, Some, None, length, slice_index_or, get_or-set_same, get_or-set_other, slice_get, slice_set, sym, ◌∙◌, ap, subst, inl, inr, arith}
 use Rattle.std.proofs.Math.ListN.{length-set}
 use Rattle.std.proofs.lemmas.Bool.{cases_eq}
-use Rattle.cops_audit.specs.Keys.{IsFirstFrom, IsNext, OnKey}
+use Rattle.cops_audit.specs.Keys.{IsFirstFrom, LinksTo, OnKey}
 use Rattle.cops_audit.proofs.Collect.{get_or-default}
-use Rattle.cops_audit.proofs.Linking.{next_is, first_here, first_kept, keyed_at, none_past_end, written}
+use Rattle.cops_audit.proofs.Linking.{next_is, first_here, first_kept, keyed_at, linked, none_past_end, written}
 use Rattle.cops_audit.proofs.Marks.{slice_get_inside}
 use Rattle.cops_audit.proofs.keys.link.Goals as goal
 
 pub loop-place-init : goal.loop-place-init
 loop-place-init c = record {
-  whole = c.in_ok-set_none.ensures.count;
-  width = c.in_ok-set_none-2.ensures.count ∙ c.keys.ensures.count;
-  nexts = λ t next le at. let l = slice_get_inside c.set_none.new.places.items t next at in absurd (omega (arith, l, le, c.in_ok-set_none.ensures.count));
-  firsts = λ number key at. subst (IsFirstFrom c.args.history.now.sessions c.args.table.now (length c.args.table.now) key) (sym (c.in_ok-set_none-2.ensures.none number))
+  whole = c.in_ok-set_past_end.ensures.count;
+  width = c.in_ok-set_none.ensures.count ∙ c.keys.ensures.count;
+  nexts = λ t next le at. let l = slice_get_inside c.set_past_end.new.nexts.items t next at in absurd (omega (arith, l, le, c.in_ok-set_past_end.ensures.count));
+  firsts = λ number key at. subst (IsFirstFrom c.args.history.now.sessions c.args.table.now (length c.args.table.now) key) (sym (c.in_ok-set_none.ensures.none number))
       (none_past_end c.args.history.now.sessions c.args.table.now key);
-  nexts_capacity = c.in_ok-set_none.ensures.capacity;
-  firsts_capacity = c.in_ok-set_none-2.ensures.capacity;
+  nexts_capacity = c.in_ok-set_past_end.ensures.capacity;
+  firsts_capacity = c.in_ok-set_none.ensures.capacity;
 }
 
 pub index-requires : goal.index-requires
@@ -37,19 +37,21 @@ loop-place-preserved c =
     let k = c.loop-place.place - 1 in
     let e : c.loop-place.place ≡ k + 1 = omega arith in
     let number = slice_index_or c.args.keys.now k 0 in
-    let next = c.index.result.now in
+    let found = c.index.result.now in
+    let next = c.unwrap_or.result in
     let keyed = keyed_at c.args.history.now table c.args.keys.now c.requires.table c.requires.keys k (omega arith) in
     let key = keyed.0 in
     let here = keyed.1 in
     let at = keyed.2 in
     let inside : number < length firsts = omega (arith, slice_get_inside keys number key at, c.loop-place.invariant.width) in
-    let is_next : slice_index_or firsts number None ≡ next = get_or-default firsts number None next inside ∙ sym c.index.ensures in
+    let is_found : slice_index_or firsts number None ≡ found = get_or-default firsts number None found inside ∙ sym c.index.ensures in
+    let links : LinksTo h table k next = subst (LinksTo h table k) (sym c.unwrap_or.ensures) (linked h table k key found here
+    (next_is h table c.requires.table.rising k c.loop-place.place key found e here (subst (IsFirstFrom h table c.loop-place.place key) is_found (c.loop-place.invariant.firsts number key at)))) in
     record {
       whole = omega (arith, length-set c.loop-place.nexts.items k next, c.loop-place.invariant.whole);
       width = omega (arith, length-set firsts number (Some k), c.loop-place.invariant.width);
       nexts = λ t other le there. elim (written c.loop-place.nexts.items k t next other there) [
-        | inl w ↦ subst (λ o. IsNext h table t o) w.1 (subst (λ (j : ℕ). IsNext h table j next) (sym w.0) (next_is h table c.requires.table.rising k c.loop-place.place key next e here
-            (subst (IsFirstFrom h table c.loop-place.place key) is_next (c.loop-place.invariant.firsts number key at))))
+        | inl w ↦ subst (LinksTo h table t) w.1 (subst (λ (j : ℕ). LinksTo h table j next) (sym w.0) links)
         | inr w ↦ c.loop-place.invariant.nexts t other (omega (arith, le, w.0, e)) w.1
       ];
       firsts = λ other q there. elim (cases_eq other number) [

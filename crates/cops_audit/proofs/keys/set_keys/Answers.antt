@@ -1,38 +1,76 @@
-use Rattle.std.proofs.Common.{◌≡◌, ◌<◌, ℕ, ◌∷◌, [], Some, length, slice_get, sym, ◌∙◌, ap, subst, inl, inr, arith, length-append}
+use Rattle.std.proofs.Common.{◌≡◌, ◌≤◌, ℕ, List, Some, get_or, slice_get, sym, ◌∙◌, ap, subst, inl, inr, arith}
+use Rattle.std.proofs.Math.ListN.{length-set}
+use Rattle.std.proofs.Math.Nat.{eq-or-lt_of_le}
 use Rattle.std.specs.Option.{option_map}
 use Rattle.cops_types.specs.declared.op.Op.TheVariants.{Put}
 use Rattle.cops_types.specs.Operations.{key_of}
 use Rattle.cops_audit.specs.Keys.{OnKey}
-use Rattle.cops_audit.proofs.Linking.{on_key, same_key}
-use Rattle.cops_audit.proofs.Marks.{slice_get_push}
+use Rattle.cops_audit.proofs.Linking.{on_key, same_key, written}
+use Rattle.cops_audit.proofs.Marks.{slice_get_inside}
+use Rattle.cops_audit.proofs.Places.{inside_table}
+use Rattle.cops_audit.proofs.Unique.{stands}
 use Rattle.cops_audit.proofs.keys.set_keys.Goals as goal
+use Rattle.cops_audit.proofs.keys.set_keys.Goals.{then-place-table, else-place-table}
 
-pub number_of-number-requires : goal.number_of-number-requires
-number_of-number-requires c =
-    let own = (c.requires.table.members c.index-table-place.result).0 (c.loop-place.place, omega (arith, c.loop-place-test.true), sym c.index-table-place.is) in
+pub loop-told-init : goal.loop-told-init
+loop-told-init c = record {
+  count = omega (arith, c.in_ok-resize.ensures.len, c.resize.new.self.ok.0);
+  each = λ n place number key less. absurd (omega (arith, less));
+  capacity = omega (arith, c.clear.ensures.capacity, c.in_ok-resize.ensures.capacity);
+}
+
+pub number_of-requires : goal.number_of-requires
+number_of-requires c =
+    let own = (c.requires.table.table.members c.index-table-place.result).0 (get_or c.args.places.now c.loop-told.told-index 0, c.if-place-table.true, sym c.index-table-place.is) in
     (Put own.0 own.1 c.index-table-place.result.version, own.2)
 
-pub loop-place-preserved : goal.loop-place-preserved
-loop-place-preserved c =
+pub loop-told-preserved : goal.loop-told-preserved
+loop-told-preserved c =
     let h = c.args.history.now.sessions in
     let table = c.args.table.now in
-    let k = c.loop-place.place in
-    let keys = c.loop-place.keys.items in
-    let put = c.index-table-place.result in
-    let number = c.number_of-number.result in
-    let inside : k < length table = omega (arith, c.loop-place-test.true) in
-    let own = (c.requires.table.members put).0 (k, inside, sym c.index-table-place.is) in
-    let here : OnKey h table k own.0 = on_key h table c.requires k put own.0 put.version inside c.index-table-place.is (own.1, own.2) in
-    rw c.push_reserved.ensures.items
-    record {
-      count = omega (arith, length-append keys (number ∷ []), c.loop-place.invariant.count);
-      each = λ place n key at on. elim (slice_get_push keys number n place at) [
-        | inl old ↦ c.loop-place.invariant.each place n key old on
-        | inr new ↦
-            let there : OnKey h table k key = subst (λ (j : ℕ). OnKey h table j key) (omega (arith, new.0, c.loop-place.invariant.count)) on in
-            let one : own.0 ≡ key = same_key h table c.requires.rising k own.0 key here there in
-            subst (λ (m : ℕ). slice_get c.args.history.now.keys m ≡ Some key) new.1
-            (c.number_of-number.ensures.key key (ap (option_map key_of) own.2 ∙ ap (λ x. Some x) one))
-      ];
-      capacity = omega (arith, c.push_reserved.ensures.capacity, c.loop-place.invariant.capacity);
-    }
+    let places = c.args.places.now in
+    let keys = c.loop-told.keys.items in
+    let i = c.loop-told.told-index in
+    let l = c.loop-told.invariant in
+    let told = get_or places i 0 in
+    let here : slice_get places i ≡ Some told = stands places i 0 c.loop-told-test.true in
+    let same_place : (n place : ℕ) → n ≡ i → slice_get places n ≡ Some place → told ≡ place = λ n place same at. let e : Some told ≡ Some place = sym here ∙ ap (slice_get places) (sym same) ∙ at in cc in
+    elim c.if-place-table.branch [
+      | then-place-table w ↦ rw w.keys-is
+          (let put = w.index-table-place.result in
+          let inside = w.if-place-table.true in
+          let number = w.number_of.result in
+          let own = (c.requires.table.table.members put).0 (told, inside, sym w.index-table-place.is) in
+          let on_own : OnKey h table told own.0 = on_key h table c.requires.table told put own.0 put.version inside w.index-table-place.is (own.1, own.2) in
+          let right : (key : List ℕ) → OnKey h table told key → slice_get c.args.history.now.keys number ≡ Some key = λ key on.
+          let one = same_key h table c.requires.table.rising told own.0 key on_own on in
+          w.number_of.ensures.key key (ap (option_map key_of) own.2 ∙ ap (λ x. Some x) one) in
+          record {
+            count = omega (arith, length-set keys told number, l.count);
+            each = λ n place m key less at there on. elim (written keys told place number m there) [
+              | inl new ↦ subst (λ (x : ℕ). slice_get c.args.history.now.keys x ≡ Some key) new.1 (right key (subst (λ (j : ℕ). OnKey h table j key) new.0 on))
+              | inr old ↦ elim (eq-or-lt_of_le (let le : n ≤ i = omega (arith, less) in le)) [
+                | inl same ↦ absurd (old.0 (sym (same_place n place same at)))
+                | inr before ↦ l.each n place m key before at old.1 on
+              ]
+            ];
+            capacity = l.capacity;
+          })
+      | else-place-table w ↦ rw w.keys-is
+          record {
+            count = l.count;
+            each = λ n place m key less at there on. elim (eq-or-lt_of_le (let le : n ≤ i = omega (arith, less) in le)) [
+              | inl same ↦ let inside = inside_table table place on.0 on.1 on.2 in let e = same_place n place same at in absurd (omega (arith, inside, e, w.if-place-table.false))
+              | inr before ↦ l.each n place m key before at there on
+            ];
+            capacity = l.capacity;
+          }
+    ]
+
+pub returns-clause-keys : goal.returns-clause-keys
+returns-clause-keys c = record {
+  whole = c.loop-told.invariant.count;
+  each = λ place number key at on.
+      let told = c.requires.places.all place (inside_table c.args.table.now place on.0 on.1 on.2) in
+      c.loop-told.invariant.each told.0 place number key (let less = slice_get_inside c.args.places.now told.0 place told.1 in omega (arith, less, c.loop-told-test.false)) told.1 at on;
+}

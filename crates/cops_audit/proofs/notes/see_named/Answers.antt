@@ -9,7 +9,7 @@ returns-in-Some c =
     let put = c.in-Some.ensures.0 in
     let source = c.in-Some.ensures.2 in
     let at = stands_put c.args.history.now.sessions table c.requires.table.table put source.version (source.key, source.value, source.put) in
-    let found : Some c.in_ok-place.place ≡ Some at.0 = c.in_ok-place.ensures ∙ c.requires.places at.0 c.in-Some.number put source.version at.1 c.in-Some.ensures.1 in
+    let found : Some c.in_ok-place.place ≡ Some at.0 = c.in_ok-place.ensures ∙ c.requires.places.tell at.0 c.in-Some.number put source.version at.1 c.in-Some.ensures.1 in
     let same : at.0 ≡ c.in_ok-place.place = cc in
     (put, source.version, subst (λ (k : ℕ). StandsAt table k put source.version) same at.1, (source.key, source.value, source.got), source)
 
@@ -19,6 +19,6 @@ returns c =
     let puts = c.in_ok-number.ensures.put in
     let at = stands_put c.args.history.now.sessions table c.requires.table.table c.args.name puts.0 puts.1 in
     let named = (c.in_ok-number.ensures.number c.in_ok-number.number).0 refl in
-    let found : Some c.in_ok-place-2.place ≡ Some at.0 = c.in_ok-place-2.ensures ∙ c.requires.places at.0 c.in_ok-number.number c.args.name puts.0 at.1 named in
+    let found : Some c.in_ok-place-2.place ≡ Some at.0 = c.in_ok-place-2.ensures ∙ c.requires.places.tell at.0 c.in_ok-number.number c.args.name puts.0 at.1 named in
     let same : at.0 ≡ c.in_ok-place-2.place = cc in
     (puts.0, puts.1, subst (λ (k : ℕ). StandsAt table k c.args.name puts.0) same at.1)

@@ -7,4 +7,4 @@ returns c =
     let h = c.args.history.now.sessions in
     let links = c.in_ok-links.ensures in
     let nexts = subst (AreNexts h c.args.table.now) (sym c.as_slice.ensures.value) links.nexts in
-    record { nexts = links.nexts; knows = links.knows; firsts = c.in_ok-firsts.ensures h c.requires nexts }
+    record { nexts = links.nexts; knows = links.knows; firsts = c.in_ok-firsts.ensures h c.requires.table nexts }

@@ -26,6 +26,7 @@ returns-clause-ready c =
       space = record {
         names = ready.space.names;
         table = ready.space.table;
+        places = ready.space.places;
         nexts = ready.space.nexts;
         by_key = ready.space.by_key;
         firsts = ready.space.firsts;

@@ -13,6 +13,7 @@ returns-clause-ready c =
       space = record {
         names = omega arith;
         table = omega arith;
+        places = omega arith;
         nexts = omega arith;
         by_key = omega arith;
         firsts = omega arith;

@@ -62,6 +62,7 @@ returns-clause-ready c =
       space = record {
         names = ready.space.names;
         table = ready.space.table;
+        places = ready.space.places;
         nexts = omega (arith, ready.space.nexts, c.in_ok-link.ensures.nexts_capacity);
         by_key = omega (arith, ready.space.by_key, c.in_ok-link.ensures.firsts_capacity);
         firsts = omega (arith, ready.space.firsts, c.in_ok-set_firsts.ensures.capacity);
