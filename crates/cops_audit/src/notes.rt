@@ -297,7 +297,7 @@ impl SessionNotes {
                 place,
             )?;
         }
-        let end = table.len();
+        let last = table.len();
         note_all(
             &mut sessions,
             history,
@@ -305,7 +305,7 @@ impl SessionNotes {
             places,
             &mut stretches,
             first,
-            end,
+            last,
         )?;
         Ok(SessionNotes { sessions })
     }
