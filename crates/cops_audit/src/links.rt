@@ -2,8 +2,8 @@ use crate::keys::{link, passed_firsts, set_keys};
 use cops_types::{History, VersionedPut};
 use std::alloc::{AllocError, Global};
 
-/// The puts by their keys: of each put the next one on its key, past the end where there is none, of each key, by its number, the first put on it, and
-/// where many look for stale gets of each put the place of the first put on its key.
+/// The puts by their keys: of each put the next one on its key, past the end where there is none, of each key, by its
+/// number, the first put on it, and where many look for stale gets of each put the place of the first put on its key.
 #[derive(Drop)]
 pub struct Links {
     pub nexts: Vec<u32>,
