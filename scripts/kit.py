@@ -23,6 +23,14 @@ def kit():
     return module
 
 
+def build_program(module, crate, flags):
+    """Proves a program, and has it compiled by the process that proved it: to load all that it stands on is most of what it takes. Gives the status,
+    0 where all is well. The kit's gate has three processes for that, of which the last one compiles by a second compiler."""
+    words, to = crate.words(flags, keeps=False), f"out/{crate.name}"
+    status = crate.prove(["build", *words, "--toolchain", f"{module.KIT}/toolchain", "--backend", "llvm", "-o", f"{to}.o"])
+    return status or crate.link(f"{to}.o", to)
+
+
 def crate_of(module, name):
     """The crate of that name, or none."""
     return next((it for it in module.rtlib.crates_below(ROOT) if it.name == name), None)
