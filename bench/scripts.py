@@ -1,18 +1,20 @@
 #!/usr/bin/env python3
 """Times `cops run` of scripted clients on threads, until all is settled everywhere and the run is tied, beside a world on one thread that is
-given the events of such clients.
+given the events of such clients, and beside a plain program in Rust that does what the run does for the same scripts (`plain_run.rs`).
 
 usage: scripts.py [--quick]     --quick has scripts of 1,000 operations
 
 Each client has a script of 10,000 puts and gets of 100 keys. Times are of wall time, without the time to read the scenario, which is that of
 its text without its last byte, and without the audit of the trace, which the run makes at its end; each column is the median of seven rounds.
 An operation makes several events: a put is delivered to each other data centre, asked about, marked and settled there. The last columns are
-the run's rate by the world's, both in operations, and how many cores the run kept busy.
+the run's rate by the world's, both in operations, its time by the plain program's, and how many cores the run kept busy. The plain program takes
+no part where there is no `rustc`.
 """
 import json
 import os
 import random
 import resource
+import shutil
 import statistics
 import subprocess
 import sys
@@ -27,6 +29,7 @@ ROUNDS, KEYS, PUTS, EVENTS = 7, 100, 0.5, 100_000
 
 
 def scripts(clients, data_centres, operations):
+    """A scenario, and the same scripts as lines for the plain program."""
     pick = random.Random(clients * 100 + data_centres)
 
     def operation(n):
@@ -34,7 +37,18 @@ def scripts(clients, data_centres, operations):
         return {"put": [key, str(n)]} if pick.random() < PUTS else {"get": key}
 
     members = [{"at": n % data_centres, "script": [operation(n) for n in range(operations)]} for n in range(clients)]
-    return json.dumps({"data_centres": data_centres, "clients": members})
+    words = lambda it: " ".join(it["put"]) if "put" in it else it["get"]
+    plain = [f"{n} {it['at']} {words(one)}\n" for n, it in enumerate(members) for one in it["script"]]
+    return json.dumps({"data_centres": data_centres, "clients": members}), "".join(plain)
+
+
+def plain_program(folder):
+    """The plain program, built into a folder, or none."""
+    if not shutil.which("rustc"):
+        return None
+    program, source = os.path.join(folder, "plain_run"), os.path.join(ROOT, "bench", "plain_run.rs")
+    subprocess.run(["rustc", "-O", "--edition", "2021", "-o", program, source], check=True)
+    return program
 
 
 def took(status, *command):
@@ -54,6 +68,14 @@ def run_round(scenario, cut, trace, operations):
     return operations / max(1e-9, wall), busy / max(1e-9, wall)
 
 
+def plain_round(plain, lines):
+    """How many operations a second the plain program makes."""
+    if not plain:
+        return float("nan")
+    _, _, told = took(0, plain, lines)
+    return int(told.split()[0]) / float(told.split()[3])
+
+
 def world_round(program, events, *of):
     """How many operations a second a world makes, and how many events."""
     wall, _, told = took(0, program, "world", events, "run", *of)
@@ -62,27 +84,36 @@ def world_round(program, events, *of):
     return operations / max(1e-9, wall - read), made / max(1e-9, wall - read)
 
 
-def row(program, folder, clients, data_centres, operations):
-    scenario, cut, trace, events = (os.path.join(folder, name) for name in ("scripts.json", "cut.json", "run.trace", "events.txt"))
-    text, of = scripts(clients, data_centres, operations), (str(data_centres), str(clients))
-    for path, content in ((scenario, text), (cut, text[:-1]), (events, lines(EVENTS, data_centres, clients, KEYS, 1, PUTS))):
+def row(programs, folder, clients, data_centres, operations):
+    paths = scenario, cut, trace, events, lines_of = [os.path.join(folder, it) for it in ("s.json", "cut.json", "s.trace", "events", "lines")]
+    (text, plain), of = scripts(clients, data_centres, operations), (str(data_centres), str(clients))
+    for path, content in zip(paths, (text, text[:-1], "", lines(EVENTS, data_centres, clients, KEYS, 1, PUTS), plain)):
         with open(path, "w") as file:
             file.write(content)
-    rounds = [(*run_round(scenario, cut, trace, clients * operations), *world_round(program, events, *of)) for _ in range(ROUNDS)]
-    rate, cores, world, its_events = map(statistics.median, zip(*rounds))
-    ratio = statistics.median(one[0] / one[2] for one in rounds)
-    print(f"| {clients} | {data_centres} | {rate:,.0f} | {world:,.0f} | {its_events:,.0f} | {ratio:.2f} | {cores:.1f} |", flush=True)
+    rounds = [
+        (
+            *run_round(scenario, cut, trace, clients * operations),
+            plain_round(programs[1], lines_of),
+            *world_round(programs[0], events, *of),
+        )
+        for _ in range(ROUNDS)
+    ]
+    rate, cores, plain, world, its_events = map(statistics.median, zip(*rounds))
+    by_world, by_plain = (statistics.median(it) for it in zip(*((one[0] / one[3], one[2] / one[0]) for one in rounds)))
+    rates = f"{rate:,.0f} | {plain:,.0f} | {world:,.0f} | {its_events:,.0f}"
+    print(f"| {clients} | {data_centres} | {rates} | {by_world:.2f} | {by_plain:.2f} | {cores:.1f} |", flush=True)
 
 
 def main():
     operations = 1_000 if "--quick" in sys.argv else 10_000
     program = build()
-    print("| clients | data centres | operations/s | the world's operations/s | its events/s | run / world | cores |")
-    print("|---|---|---|---|---|---|---|")
+    print("| clients | data centres | operations/s | the plain program's | the world's | its events/s | run / world | time / plain | cores |")
+    print("|---|---|---|---|---|---|---|---|---|")
     with tempfile.TemporaryDirectory() as folder:
+        programs = program, plain_program(folder)
         for clients in (1, 2, 6, 12):
             for data_centres in (1, 2, 3):
-                row(program, folder, clients, data_centres, operations)
+                row(programs, folder, clients, data_centres, operations)
 
 
 if __name__ == "__main__":
