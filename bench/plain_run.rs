@@ -3,8 +3,8 @@
 //! frames between data centres, an entry for each step in the node's book and with whose step it is. In the end all
 //! entries are followed by their tickets through nodes of its own, and compared with what the callers were told.
 //!
-//! usage: plain_run FILE     a line of FILE is `CLIENT DATA_CENTRE KEY VALUE` for a put and `CLIENT DATA_CENTRE KEY`
-//! for a get
+//! usage: plain_run FILE DATA_CENTRES     a line of FILE is `CLIENT DATA_CENTRE KEY VALUE` for a put and `CLIENT
+//! DATA_CENTRE KEY` for a get
 //!
 //! It prints how many operations and steps there were, and the seconds of the threads and of the whole without the
 //! reading of FILE.
@@ -444,9 +444,9 @@ fn checked(books: &[Vec<Entry>], shares: &[Vec<Entry>], records: Vec<(usize, Op)
 }
 
 /// A run, of which nothing is kept: how many operations and steps there were, and the seconds of the threads.
-fn ran(homes: &[usize], scripts: &[Vec<Operation>]) -> (usize, usize, f64) {
+fn ran(dcs: usize, homes: &[usize], scripts: &[Vec<Operation>]) -> (usize, usize, f64) {
     let begun = Instant::now();
-    let cluster = Cluster::new(homes.iter().max().unwrap() + 1);
+    let cluster = Cluster::new(dcs);
     let shares = cluster.run(homes, scripts);
     let seconds = begun.elapsed().as_secs_f64();
     let books: Vec<Vec<Entry>> = cluster.nodes.into_iter().map(|it| it.into_inner().unwrap().1).collect();
@@ -470,8 +470,9 @@ fn read(text: &str) -> (Vec<usize>, Vec<Vec<Operation>>) {
 }
 
 fn main() {
-    let (homes, scripts) = read(&fs::read_to_string(env::args().nth(1).unwrap()).unwrap());
+    let words: Vec<String> = env::args().collect();
+    let (homes, scripts) = read(&fs::read_to_string(&words[1]).unwrap());
     let begun = Instant::now();
-    let (operations, steps, threads) = ran(&homes, &scripts);
+    let (operations, steps, threads) = ran(words[2].parse().unwrap(), &homes, &scripts);
     println!("{operations} {steps} {threads:.6} {:.6}", begun.elapsed().as_secs_f64());
 }

@@ -37,8 +37,7 @@ def scripts(clients, data_centres, operations):
         return {"put": [key, str(n)]} if pick.random() < PUTS else {"get": key}
 
     members = [{"at": n % data_centres, "script": [operation(n) for n in range(operations)]} for n in range(clients)]
-    words = lambda it: " ".join(it["put"]) if "put" in it else it["get"]
-    plain = [f"{n} {it['at']} {words(one)}\n" for n, it in enumerate(members) for one in it["script"]]
+    plain = [f"{n} {it['at']} {' '.join(one.get('put') or [one['get']])}\n" for n, it in enumerate(members) for one in it["script"]]
     return json.dumps({"data_centres": data_centres, "clients": members}), "".join(plain)
 
 
@@ -68,11 +67,11 @@ def run_round(scenario, cut, trace, operations):
     return operations / max(1e-9, wall), busy / max(1e-9, wall)
 
 
-def plain_round(plain, lines):
+def plain_round(plain, *of):
     """How many operations a second the plain program makes."""
     if not plain:
         return float("nan")
-    _, _, told = took(0, plain, lines)
+    _, _, told = took(0, plain, *of)
     return int(told.split()[0]) / float(told.split()[3])
 
 
@@ -93,7 +92,7 @@ def row(programs, folder, clients, data_centres, operations):
     rounds = [
         (
             *run_round(scenario, cut, trace, clients * operations),
-            plain_round(programs[1], lines_of),
+            plain_round(programs[1], lines_of, of[0]),
             *world_round(programs[0], events, *of),
         )
         for _ in range(ROUNDS)
