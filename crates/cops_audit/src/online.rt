@@ -1,5 +1,7 @@
+use crate::did::Did;
 use crate::feed_fault::FeedFault;
 use crate::flat::FlatNotes;
+use crate::heights::Heights;
 use crate::judged::Judged;
 use crate::room::Room;
 use crate::verdict::{SoFar, Verdict};
@@ -16,17 +18,19 @@ pub struct Online {
     history: History,
     room: Room,
     notes: FlatNotes,
+    heights: Heights,
 }
 
 impl Model for Online {
     ghost use Rattle.cops_types.specs.Histories.{Sessions};
+    ghost use Rattle.cops_audit.specs.Heights.{AreSessionHeights};
     ghost use Rattle.cops_audit.specs.Rooms.{Fits};
 
     ghost Value = { Sessions };
 
     ghost view = { λ a. a.history.sessions };
 
-    ghost invariant = { λ a. Fits a.history.sessions a.room a.notes };
+    ghost invariant = { λ a. Fits a.history.sessions a.room a.notes × AreSessionHeights a.history.sessions a.heights };
 }
 
 impl Online {
@@ -45,11 +49,13 @@ impl Online {
         let history = History::new(alloc, clients)?;
         let room = Room::new(alloc, clients)?;
         let notes = FlatNotes::new(alloc, clients)?;
+        let heights = Heights::new(alloc, clients)?;
         Ok(Online {
             alloc,
             history,
             room,
             notes,
+            heights,
         })
     }
 
@@ -70,10 +76,13 @@ impl Online {
             drop(op);
             return Err(FeedFault::Memory);
         }
+        let did = Did::by(&op);
         match self.history.push(client, op) {
-            Ok(()) => Ok(()),
+            Ok(()) => {}
             Err(_) => unreachable!(),
         }
+        self.heights.take_in(client, &did);
+        Ok(())
     }
 
     /// The same with an operation that is seen: what of it is new is copied.
@@ -94,6 +103,7 @@ impl Online {
             Ok(()) => {}
             Err(Memory) => return Err(FeedFault::Memory),
         }
+        self.heights.take_in(client, &Did::by_seen(op));
         Ok(())
     }
 
@@ -124,7 +134,8 @@ impl Online {
         ensures so_far { IsSoFar self.old result }
         ensures same { self.new ≡ self.old }
     {
-        match self.room.assess(&mut self.notes, &self.history) {
+        let are_above = self.heights.are_above;
+        match self.room.assess(&mut self.notes, &self.history, are_above) {
             Ok(so_far) => so_far,
             Err(_) => unreachable!(),
         }
@@ -149,11 +160,12 @@ impl Online {
             mut history,
             mut room,
             notes,
+            heights,
         } = self;
         history.forget_guesses();
         // The room for notes is given back before they are made for all at once, in rounds, which is sooner done.
         drop(notes);
-        let verdict = room.judge(alloc, &history)?;
+        let verdict = room.judge(alloc, &history, heights.are_above)?;
         Ok(Judged::new(history, verdict))
     }
 }

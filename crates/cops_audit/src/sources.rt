@@ -1,0 +1,95 @@
+ghost use Rattle.std.specs.Prelude.{◌≡◌, ◌↔◌, IfOk, IsTrue, AllPairs};
+ghost use Rattle.cops_types.specs.declared.op.OpName.{OpName};
+ghost use Rattle.cops_types.specs.Faults.{HasNoSource, IsBefore};
+ghost use Rattle.cops_types.specs.Verdicts.{AllHaveSources};
+ghost use Rattle.cops_audit.specs.Names.{ListsAmong};
+ghost use Rattle.cops_audit.specs.Tables.{IsVersionTable};
+
+use crate::did::Did;
+use crate::hints::Stretches;
+use crate::notes::{Seen, see};
+use cops_types::{History, OpName, VersionedPut};
+use std::alloc::{AllocError, Global};
+
+/// Whether it is a get whose put the history did not find as it came.
+fn is_open(history: &History, name: OpName) -> bool
+    ensures { ¬ IsTrue result → ¬ HasNoSource history.now.sessions name }
+{
+    if let Some(_number) = history.source_number(name) {
+        return false;
+    }
+    match history.got_version(name) {
+        Some(_version) => true,
+        None => false,
+    }
+}
+
+/// Whether the history found the put of each get of a client as it came.
+fn is_session_found(history: &History, client: u16) -> bool
+    ensures { IsTrue result → (name : OpName) → name.client ≡ client → ¬ HasNoSource history.now.sessions name }
+{
+    for index in 0..history.session_len(client) {
+        let index = index as u32;
+        if is_open(history, OpName { client, index }) {
+            return false;
+        }
+    }
+    true
+}
+
+/// Whether the history found the put of each get as it came. It looks at no put.
+pub fn are_all_found(history: &History) -> bool
+    ensures { IsTrue result → AllHaveSources history.now.sessions }
+{
+    for client in 0..history.clients() {
+        if !is_session_found(history, client as u16) {
+            return false;
+        }
+    }
+    true
+}
+
+/// Whether it is a get without a source.
+fn is_sourceless(
+    history: &History,
+    table: &[VersionedPut],
+    stretches: &mut Stretches,
+    name: OpName,
+) -> bool
+    requires { IsVersionTable history.now.sessions table.now }
+    ensures { IsTrue result ↔ HasNoSource history.now.sessions name }
+{
+    if let Some(_number) = history.source_number(name) {
+        return false;
+    }
+    let Some(version) = history.got_version(name) else {
+        return false;
+    };
+    let did = Did::Got(version);
+    let hint = stretches.hint(table, &did);
+    match see(history, table, hint, name, &did) {
+        Seen::Sourceless(_) => true,
+        _ => false,
+    }
+}
+
+/// The gets among these names that have no source.
+pub fn without_source(
+    alloc: Global,
+    history: &History,
+    table: &[VersionedPut],
+    names: &[OpName],
+) -> Result<Vec<OpName>, AllocError>
+    requires table { IsVersionTable history.now.sessions table.now }
+    requires in_order { AllPairs IsBefore names.now }
+    ensures { IfOk result (λ v. ListsAmong (λ n. n) (HasNoSource history.now.sessions) names.now v.items) }
+{
+    let mut stretches = Stretches::new(alloc);
+    let mut faults = Vec::new(alloc);
+    for name in names {
+        if is_sourceless(history, table, &mut stretches, *name) {
+            faults.push(*name)?;
+        }
+    }
+    Ok(faults)
+}
