@@ -16,14 +16,14 @@ use crate::names::all_names;
 use crate::notes::{Notes, SessionNotes};
 use crate::put_places::set_places;
 use crate::room::Room;
-use crate::sources::{are_all_found, without_source};
+use crate::sources::{have_all_sources, without_source};
 use crate::stale::stale_suspects;
 use crate::table::{doubled, is_rising, put_names, set_puts};
 use crate::verdict::{Faults, NotAbove, Stale, Verdict};
 use cops_types::{History, OpName, VersionedPut};
 use std::alloc::{AllocError, Global};
 
-/// All gets without a source. The names of the operations are made where the history did not find each get's put.
+/// All gets without a source. The names of the operations are made only where there is one.
 fn all_without_source(
     alloc: Global,
     history: &History,
@@ -32,7 +32,7 @@ fn all_without_source(
     requires { IsVersionTable history.now.sessions table.now }
     ensures { IfOk result (λ v. Lists (λ n. n) (HasNoSource history.now.sessions) v.items) }
 {
-    if are_all_found(history) {
+    if have_all_sources(alloc, history, table) {
         return Ok(Vec::new(alloc));
     }
     let names = all_names(alloc, history)?;

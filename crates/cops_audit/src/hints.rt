@@ -20,20 +20,25 @@ fn stands_at(table: &[VersionedPut], place: u32, version: Version) -> bool
     }
 }
 
+/// From so many hints on the stretches are made: a search in the whole table for each of fewer takes less time.
+const MANY_ASKED: u32 = 16_384;
+
 /// Where puts of a version may stand in a table of puts in order of versions. The versions are cut into stretches of
 /// one width, about as many as there are puts, and of each it is known where its puts begin. These are but hints: each
 /// is looked up in the table, and a version that does not stand there is searched for.
 #[derive(Drop)]
 pub struct Stretches {
+    asked: u32,
     lowest: u64,
     shift: u32,
     starts: Vec<u32>,
 }
 
 impl Stretches {
-    /// Those of a table, which are made where a hint is first asked for: in most histories none is.
+    /// Those of a table, which are made once many hints were asked for: in most histories few are.
     pub fn new(alloc: Global) -> Self {
         Stretches {
+            asked: 0,
             lowest: 0,
             shift: 0,
             starts: Vec::new(alloc),
@@ -68,16 +73,19 @@ impl Stretches {
         self.offset(version).wrapping_shr(self.shift) as usize
     }
 
-    /// The hint for the version that was put or got: `NO_PLACE` where nothing is known of it, or there is no memory for
-    /// the stretches.
+    /// The hint for the version that was put or got: `NO_PLACE` where the stretches are not made, or nothing is
+    /// known of it.
     pub fn hint(&mut self, table: &[VersionedPut], did: &Did) -> u32
         requires { length table.now ≤ MAX_OPS }
     {
         let Some(version) = did.version() else {
             return NO_PLACE;
         };
-        if self.starts.is_empty() && self.make(table).is_err() {
-            return NO_PLACE;
+        if self.starts.is_empty() {
+            self.asked = self.asked.saturating_add(1);
+            if self.asked < MANY_ASKED || self.make(table).is_err() {
+                return NO_PLACE;
+            }
         }
         let stretch = self.stretch(version);
         let Some(start) = self.starts.get(stretch) else {

@@ -11,44 +11,6 @@ use crate::notes::{Seen, see};
 use cops_types::{History, OpName, VersionedPut};
 use std::alloc::{AllocError, Global};
 
-/// Whether it is a get whose put the history did not find as it came.
-fn is_open(history: &History, name: OpName) -> bool
-    ensures { ¬ IsTrue result → ¬ HasNoSource history.now.sessions name }
-{
-    if let Some(_number) = history.source_number(name) {
-        return false;
-    }
-    match history.got_version(name) {
-        Some(_version) => true,
-        None => false,
-    }
-}
-
-/// Whether the history found the put of each get of a client as it came.
-fn is_session_found(history: &History, client: u16) -> bool
-    ensures { IsTrue result → (name : OpName) → name.client ≡ client → ¬ HasNoSource history.now.sessions name }
-{
-    for index in 0..history.session_len(client) {
-        let index = index as u32;
-        if is_open(history, OpName { client, index }) {
-            return false;
-        }
-    }
-    true
-}
-
-/// Whether the history found the put of each get as it came. It looks at no put.
-pub fn are_all_found(history: &History) -> bool
-    ensures { IsTrue result → AllHaveSources history.now.sessions }
-{
-    for client in 0..history.clients() {
-        if !is_session_found(history, client as u16) {
-            return false;
-        }
-    }
-    true
-}
-
 /// Whether it is a get without a source.
 fn is_sourceless(
     history: &History,
@@ -59,7 +21,10 @@ fn is_sourceless(
     requires { IsVersionTable history.now.sessions table.now }
     ensures { IsTrue result ↔ HasNoSource history.now.sessions name }
 {
-    if let Some(_number) = history.source_number(name) {
+    if let Some(_put) = history.put_number(name) {
+        return false;
+    }
+    if let Some(_source) = history.source_number(name) {
         return false;
     }
     let Some(version) = history.got_version(name) else {
@@ -71,6 +36,40 @@ fn is_sourceless(
         Seen::Sourceless(_) => true,
         _ => false,
     }
+}
+
+/// Whether each get of a client has its source.
+fn has_session_sources(
+    history: &History,
+    table: &[VersionedPut],
+    stretches: &mut Stretches,
+    client: u16,
+) -> bool
+    requires { IsVersionTable history.now.sessions table.now }
+    ensures { IsTrue result → (name : OpName) → name.client ≡ client → ¬ HasNoSource history.now.sessions name }
+{
+    for index in 0..history.session_len(client) {
+        let index = index as u32;
+        let name = OpName { client, index };
+        if is_sourceless(history, table, stretches, name) {
+            return false;
+        }
+    }
+    true
+}
+
+/// Whether each get has its source. A put is looked at only for a get whose put the history did not find as it came.
+pub fn have_all_sources(alloc: Global, history: &History, table: &[VersionedPut]) -> bool
+    requires { IsVersionTable history.now.sessions table.now }
+    ensures { IsTrue result → AllHaveSources history.now.sessions }
+{
+    let mut stretches = Stretches::new(alloc);
+    for client in 0..history.clients() {
+        if !has_session_sources(history, table, &mut stretches, client as u16) {
+            return false;
+        }
+    }
+    true
 }
 
 /// The gets among these names that have no source.

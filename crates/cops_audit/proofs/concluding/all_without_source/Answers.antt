@@ -5,8 +5,8 @@ use Rattle.cops_audit.proofs.Classes.{without_source_listed}
 use Rattle.cops_audit.proofs.Collect.{lists_none}
 use Rattle.cops_audit.proofs.concluding.all_without_source.Goals as goal
 
-pub returns-then-are_all_found : goal.returns-then-are_all_found
-returns-then-are_all_found c = lists_none (λ n. n) (HasNoSource c.args.history.now.sessions) (c.are_all_found.ensures c.if-are_all_found.true) _ c.new.ensures.items
+pub returns-then-have_all_sources : goal.returns-then-have_all_sources
+returns-then-have_all_sources c = lists_none (λ n. n) (HasNoSource c.args.history.now.sessions) (c.have_all_sources.ensures c.if-have_all_sources.true) _ c.new.ensures.items
 
 pub without_source-requires-clause-in_order : goal.without_source-requires-clause-in_order
 without_source-requires-clause-in_order c = subst (AllPairs IsBefore) (sym c.as_slice.ensures.value) c.in_ok-names.ensures.names.in_order
