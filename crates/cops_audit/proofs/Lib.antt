@@ -1,6 +1,5 @@
 pub mod Acyclic
 pub mod Firsts
-pub mod Climbing
 pub mod Reach
 pub mod Members
 pub mod PastOrder
@@ -21,6 +20,7 @@ pub mod Marks
 pub mod Doubling
 pub mod Noting
 pub mod Flattening
+pub mod Crossing
 pub mod Reading
 pub mod TallyLemmas
 pub mod Linking
@@ -40,6 +40,7 @@ pub mod Bridging
 pub mod Chaining
 pub mod Telling
 pub mod Classes
+pub mod Faultless
 pub mod Leaving
 pub mod Searching
 pub mod Counting

@@ -13,7 +13,6 @@ pub mod Sweeps
 pub mod Tables
 pub mod Tallies
 pub mod Faults
-pub mod Heights
 pub mod Floors
 pub mod Verdicts
 pub mod Windows

@@ -1,6 +1,6 @@
 ghost use Rattle.std.specs.Prelude.{◌≡◌, ◌<◌, ◌≤◌, ℕ, IfOk, IsOk, IsTrue, OnOk, length, slice_index_or};
 ghost use Rattle.cops_types.specs.declared.op.OpName.{OpName};
-ghost use Rattle.cops_types.specs.Faults.{HasNoSource, IsNotAbove, IsStale};
+ghost use Rattle.cops_types.specs.Faults.{HasNoSource, IsStale};
 ghost use Rattle.cops_types.specs.Recorded.{IsWithinLimits};
 ghost use Rattle.cops_types.specs.Verdicts.{AllAbove, NoneStale};
 ghost use Rattle.cops_audit.specs.Notes.{IsNoted};
@@ -15,6 +15,7 @@ use crate::keys::{link, set_firsts, set_keys};
 use crate::names::set_names;
 use crate::notes::{Notes, count_sourceless, is_sourceless};
 use crate::put_places::set_places;
+use crate::rising::has_not_above;
 use crate::room::Room;
 use crate::stale::has_stale;
 use crate::table::{is_rising, place_of, set_puts};
@@ -121,10 +122,8 @@ impl Room {
         Ok(found)
     }
 
-    /// What is said so far of a history in which no version is borne by two puts, each is above what its session saw,
-    /// and whose operations are noted.
+    /// What is said so far of a history in which no version is borne by two puts, and whose operations are noted.
     fn assess_notes(&mut self, history: &History, notes: &Notes) -> Result<SoFar, AllocError>
-        requires above { AllAbove history.now.sessions }
         requires noted { IsNotedIn history.now.sessions self.old notes.now }
         requires places { ArePutPlaces history.now.puts self.old.table.items self.old.places.items }
         requires filled { IsFilled history.now.sessions self.old }
@@ -138,6 +137,9 @@ impl Room {
         if has_mismatched(history, table, notes, names) {
             return Ok(SoFar::Refused);
         }
+        if has_not_above(notes, names) {
+            return Ok(SoFar::Refused);
+        }
         let stale = self.has_stale(history, notes)?;
         if stale {
             return Ok(SoFar::Refused);
@@ -149,10 +151,8 @@ impl Room {
         Ok(SoFar::Waiting(waiting))
     }
 
-    /// What is said so far of a history in which no version is borne by two puts, and each is above what its session
-    /// saw.
+    /// What is said so far of a history in which no version is borne by two puts.
     fn assess_gets(&mut self, flat: &mut FlatNotes, history: &History) -> Result<SoFar, AllocError>
-        requires above { AllAbove history.now.sessions }
         requires fits { Fits history.now.sessions self.old flat.old }
         requires limits { IsWithinLimits history.now.sessions }
         requires filled { IsFilled history.now.sessions self.old }
@@ -168,24 +168,13 @@ impl Room {
         Ok(so_far)
     }
 
-    /// What is said so far of a history that goes on, of which it is known whether each put is above what its session
-    /// saw. It takes no memory.
-    pub fn assess(
-        &mut self,
-        flat: &mut FlatNotes,
-        history: &History,
-        are_above: bool,
-    ) -> Result<SoFar, AllocError>
-        requires fits { Fits history.now.sessions self.old flat.old }
-        requires above { IsTrue are_above → AllAbove history.now.sessions }
-        requires not_above { ¬ IsTrue are_above → (name : OpName) × (earlier : OpName) × IsNotAbove history.now.sessions name earlier }
+    /// What is said so far of a history that goes on. It takes no memory.
+    pub fn assess(&mut self, flat: &mut FlatNotes, history: &History) -> Result<SoFar, AllocError>
+        requires { Fits history.now.sessions self.old flat.old }
         ensures ok { IsOk result }
         ensures so_far { IfOk result (IsSoFar history.now.sessions) }
         ensures fits { OnOk result (Fits history.now.sessions self.new flat.new) }
     {
-        if !are_above {
-            return Ok(SoFar::Refused);
-        }
         set_names(&mut self.names, history);
         set_puts(&mut self.table, history)?;
         if !is_rising(self.table.as_slice()) {

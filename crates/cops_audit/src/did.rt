@@ -1,10 +1,7 @@
 ghost use Rattle.cops_types.specs.Histories.{IsNamed};
-ghost use Rattle.std.specs.Prelude.{◌≡◌};
-ghost use Rattle.cops_types.specs.OpViews.{viewed};
-ghost use Rattle.cops_audit.specs.Heights.{did_by};
 ghost use Rattle.cops_audit.specs.Notes.{HasDone};
 
-use cops_types::{History, Op, OpName, OpView, Version};
+use cops_types::{History, OpName, Version};
 
 /// What an operation did: the version that it put or got.
 #[derive(Drop)]
@@ -27,30 +24,6 @@ impl Did {
         match history.got_version(name) {
             Some(version) => Did::Got(version),
             None => Did::Missed,
-        }
-    }
-
-    /// What an operation does.
-    #[inline(always)]
-    pub fn by(op: &Op) -> Self
-        ensures { result ≡ did_by op.now }
-    {
-        match op {
-            Op::Put { version, .. } => Did::Put(*version),
-            Op::Got { version, .. } => Did::Got(*version),
-            Op::Missed { .. } => Did::Missed,
-        }
-    }
-
-    /// What an operation that is seen does.
-    #[inline(always)]
-    pub fn by_seen(op: &OpView<'_>) -> Self
-        ensures { result ≡ did_by (viewed op.now) }
-    {
-        match op {
-            OpView::Put { version, .. } => Did::Put(*version),
-            OpView::Got { version, .. } => Did::Got(*version),
-            OpView::Missed { .. } => Did::Missed,
         }
     }
 

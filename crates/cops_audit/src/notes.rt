@@ -398,6 +398,24 @@ pub fn is_sourceless(notes: &Notes, name: OpName) -> bool
     }
 }
 
+/// The gets among these names that have no source.
+pub fn without_source(
+    alloc: Global,
+    notes: &Notes,
+    names: &[OpName],
+) -> Result<Vec<OpName>, AllocError>
+    requires { AllPairs IsBefore names.now }
+    ensures { IfOk result (λ v. ListsAmong (λ n. n) (IsSourceless notes.now) names.now v.items) }
+{
+    let mut faults = Vec::new(alloc);
+    for name in names {
+        if is_sourceless(notes, *name) {
+            faults.push(*name)?;
+        }
+    }
+    Ok(faults)
+}
+
 /// How many of the gets among these names have no source.
 pub fn count_sourceless(notes: &Notes, names: &[OpName]) -> usize
     requires { AllPairs IsBefore names.now }

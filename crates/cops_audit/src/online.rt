@@ -1,7 +1,5 @@
-use crate::did::Did;
 use crate::feed_fault::FeedFault;
 use crate::flat::FlatNotes;
-use crate::heights::Heights;
 use crate::judged::Judged;
 use crate::room::Room;
 use crate::verdict::{SoFar, Verdict};
@@ -18,19 +16,17 @@ pub struct Online {
     history: History,
     room: Room,
     notes: FlatNotes,
-    heights: Heights,
 }
 
 impl Model for Online {
     ghost use Rattle.cops_types.specs.Histories.{Sessions};
-    ghost use Rattle.cops_audit.specs.Heights.{AreSessionHeights};
     ghost use Rattle.cops_audit.specs.Rooms.{Fits};
 
     ghost Value = { Sessions };
 
     ghost view = { λ a. a.history.sessions };
 
-    ghost invariant = { λ a. Fits a.history.sessions a.room a.notes × AreSessionHeights a.history.sessions a.heights };
+    ghost invariant = { λ a. Fits a.history.sessions a.room a.notes };
 }
 
 impl Online {
@@ -49,13 +45,11 @@ impl Online {
         let history = History::new(alloc, clients)?;
         let room = Room::new(alloc, clients)?;
         let notes = FlatNotes::new(alloc, clients)?;
-        let heights = Heights::new(alloc, clients)?;
         Ok(Online {
             alloc,
             history,
             room,
             notes,
-            heights,
         })
     }
 
@@ -76,13 +70,10 @@ impl Online {
             drop(op);
             return Err(FeedFault::Memory);
         }
-        let did = Did::by(&op);
         match self.history.push(client, op) {
-            Ok(()) => {}
+            Ok(()) => Ok(()),
             Err(_) => unreachable!(),
         }
-        self.heights.take_in(client, &did);
-        Ok(())
     }
 
     /// The same with an operation that is seen: what of it is new is copied.
@@ -103,7 +94,6 @@ impl Online {
             Ok(()) => {}
             Err(Memory) => return Err(FeedFault::Memory),
         }
-        self.heights.take_in(client, &Did::by_seen(op));
         Ok(())
     }
 
@@ -134,8 +124,7 @@ impl Online {
         ensures so_far { IsSoFar self.old result }
         ensures same { self.new ≡ self.old }
     {
-        let are_above = self.heights.are_above;
-        match self.room.assess(&mut self.notes, &self.history, are_above) {
+        match self.room.assess(&mut self.notes, &self.history) {
             Ok(so_far) => so_far,
             Err(_) => unreachable!(),
         }
@@ -160,12 +149,11 @@ impl Online {
             mut history,
             mut room,
             notes,
-            heights,
         } = self;
         history.forget_guesses();
         // The room for notes is given back before they are made for all at once, in rounds, which is sooner done.
         drop(notes);
-        let verdict = room.judge(alloc, &history, heights.are_above)?;
+        let verdict = room.judge(alloc, &history)?;
         Ok(Judged::new(history, verdict))
     }
 }

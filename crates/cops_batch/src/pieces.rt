@@ -1,6 +1,5 @@
 ghost use Rattle.std.specs.Prelude.{◌≡◌, ◌<◌, ℕ, IfOk, OnOk, length, vec_len, All, slice_index_or};
 ghost use Rattle.cops_types.specs.Verdicts.{AllAbove, AllHaveSources};
-ghost use Rattle.cops_audit.specs.Tables.{Rises};
 ghost use Rattle.cops_batch.specs.Found.{HasDoubled, HasStale, IsSearched};
 ghost use Rattle.cops_batch.specs.Pieces.{IsCut, IsHeldByGate, IsReady, LiesWithin, SamePlace, piece_len};
 ghost use Rattle.cops_batch.specs.declared.pieces.Piece.{Piece};
@@ -126,14 +125,13 @@ pub fn look_for_doubled<R: Wait, G: Gate>(
 }
 
 /// Puts into a piece what it has of the classes before the stale gets.
-fn search_before_stale(alloc: Global, puts: &Puts, piece: &mut Piece) -> Result<(), AllocError>
-    requires rising { Rises puts.now.table }
-    requires within { LiesWithin (length puts.now.names) piece.old }
+fn search_before_stale(alloc: Global, tables: &Tables, piece: &mut Piece) -> Result<(), AllocError>
+    requires { LiesWithin (length tables.now.names) piece.old }
     ensures place { SamePlace piece.old piece.new }
-    ensures found { OnOk result (IsSearched puts.now piece.new) }
+    ensures found { OnOk result (IsSearched tables.now piece.new) }
 {
-    piece.names = puts.without_source(alloc, piece.start, piece.len)?;
-    piece.not_above = puts.not_above(alloc, piece.start, piece.len)?;
+    piece.names = tables.without_source(alloc, piece.start, piece.len)?;
+    piece.not_above = tables.not_above(alloc, piece.start, piece.len)?;
     Ok(())
 }
 
@@ -141,21 +139,20 @@ fn search_before_stale(alloc: Global, puts: &Puts, piece: &mut Piece) -> Result<
 pub fn look_before_stale<R: Wait, G: Gate>(
     rt: &R,
     alloc: Global,
-    puts: &Puts,
+    tables: &Tables,
     gate: &G,
     piece: &mut Piece,
 )
-    requires rising { Rises puts.now.table }
-    requires within { LiesWithin (length puts.now.names) piece.old }
+    requires { LiesWithin (length tables.now.names) piece.old }
     ensures place { SamePlace piece.old piece.new }
     ensures held { IsHeldByGate (G.may_hold gate.now) piece.new }
-    ensures found { piece.new.state ≡ Fine → IsSearched puts.now piece.new }
+    ensures found { piece.new.state ≡ Fine → IsSearched tables.now piece.new }
 {
     if gate.pass(rt, Point::PieceStart(piece.number)).is_err() {
         piece.state = State::Held;
         return;
     }
-    match search_before_stale(alloc, puts, piece) {
+    match search_before_stale(alloc, tables, piece) {
         Ok(()) => piece.state = State::Fine,
         Err(_) => piece.state = State::Memory,
     }

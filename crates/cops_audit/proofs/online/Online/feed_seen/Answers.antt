@@ -1,7 +1,6 @@
 use Rattle.std.proofs.Common.{◌<◌, ap, arith, inl, inr, length, sym, subst}
 use Rattle.std.proofs.lemmas.Bool.{cases_lt}
 use Rattle.cops_types.specs.OpViews.{viewed}
-use Rattle.cops_audit.specs.Heights.{AreSessionHeights}
 use Rattle.cops_audit.specs.Rooms.{Fits}
 use Rattle.cops_audit.proofs.Growing.{succeeded}
 use Rattle.cops_audit.proofs.online.Online.feed_seen.Goals as goal
@@ -10,10 +9,4 @@ pub invariant_of-self-2 : goal.invariant_of-self-2
 invariant_of-self-2 c =
     let sessions = c.reserve.new.self.sessions in
     let inside : c.args.client < length sessions = elim (cases_lt c.args.client (length sessions)) [ inl less ↦ less | inr le ↦ let unknown = c.in_default.ensures.unknown.1 (omega (arith, le, ap length c.in_default.ensures.same)) in absurd cc ] in
-    let had : AreSessionHeights sessions c.self.inside.heights = subst (λ h. AreSessionHeights h c.self.inside.heights) (sym c.in_default.ensures.same) c.self.invariant.1 in (
-      subst (λ h. Fits h c.grow.new.self c.grow.new.notes) (sym c.in-Ok.ensures.ok) (succeeded c.grow.result _ (c.grow.ensures.ok c.args.client (viewed c.args.op.now) inside) c.if-is_err.ensures.value),
-      subst (λ h. AreSessionHeights h c.take_in.new.self) (sym c.in-Ok.ensures.ok) (c.take_in.ensures sessions (viewed c.args.op.now) (sym c.by_seen.ensures) had),
-    )
-
-pub take_in-requires : goal.take_in-requires
-take_in-requires c = omega (arith, c.in_default.ensures.admitted.0, c.self.invariant.1.clients, ap length c.in_default.ensures.same)
+    subst (λ h. Fits h c.grow.new.self c.grow.new.notes) (sym c.in-Ok.ensures.ok) (succeeded c.grow.result _ (c.grow.ensures.ok c.args.client (viewed c.args.op.now) inside) c.if-is_err.ensures.value)
