@@ -1,6 +1,6 @@
 //! The events of a world, read from a file with a line for each.
 
-use crate::words::world_event;
+use crate::words::told_event;
 use anyhow::Error;
 use cops_core::{Event, World};
 use cops_place::Place;
@@ -8,17 +8,11 @@ use std::alloc::Global;
 use std::fs;
 use std::rt::Files;
 
-/// The event of a line.
-fn event(alloc: Global, line: &str) -> Result<Event, Error> {
-    let words: Vec<&str> = line.split(' ').collect(alloc)?;
-    world_event(alloc, &words)
-}
-
 /// The events of a text, one a line.
 fn events_of(alloc: Global, text: &str) -> Result<Vec<Event>, Error> {
     let mut events = Vec::new(alloc);
     for line in text.lines() {
-        events.push(event(alloc, line)?)?;
+        events.push(told_event(alloc, line, ' ')?)?;
     }
     Ok(events)
 }
@@ -43,7 +37,9 @@ fn run(world: &mut World, events: &[Event]) -> Result<usize, Error> {
 fn count(alloc: Global, events: &[Event], of: (u8, u16)) -> Result<usize, Error> {
     let (dcs, clients) = of;
     let mut world = open(alloc, dcs, clients)?;
-    run(&mut world, events)
+    let counted = run(&mut world, events);
+    drop(world);
+    counted
 }
 
 fn say<R: Print + AllocGlobal>(rt: &R, events: &[Event], of: (u8, u16)) -> Result<(), Error> {
