@@ -17,10 +17,8 @@ struct Inputs {
     report: Vec<u8>,
 }
 
-fn read<R: Files + AllocGlobal>(rt: &R, paths: &[String]) -> Result<Inputs, Error> {
-    let [events, happened, trace, report] = paths else {
-        bail!("not four files");
-    };
+fn read<R: Files + AllocGlobal>(rt: &R, paths: &[&String; 4]) -> Result<Inputs, Error> {
+    let [events, happened, trace, report] = paths;
     Ok(Inputs {
         events: fs::read(rt, events)?,
         happened: fs::read(rt, happened)?,
@@ -43,7 +41,7 @@ fn go<R: Threads + Wait + Sync + AllocGlobal>(rt: &R, inputs: &Inputs) -> Result
 /// what is told of it. It fails where memory is refused to a work that has that for an answer.
 pub fn say<R: Files + Threads + Wait + Sync + Print + AllocGlobal>(
     rt: &R,
-    paths: &[String],
+    paths: &[&String; 4],
 ) -> Result<(), Error> {
     match go(rt, &read(rt, paths)?) {
         Ok(true) => println!(rt; "as wanted")?,

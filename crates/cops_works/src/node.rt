@@ -46,15 +46,15 @@ fn ask(alloc: Global, node: &mut Node, turns: u64, among: u64) -> Result<u64, Er
     Ok(answered)
 }
 
-fn fill_and_ask(
-    alloc: Global,
-    node: &mut Node,
-    pairs: u64,
-    turns: u64,
-    among: u64,
-) -> Result<u64, Error> {
-    fill(alloc, node, pairs)?;
-    ask(alloc, node, turns, among)
+fn fill_and_ask(alloc: Global, pairs: u64, turns: u64, among: u64) -> Result<u64, Error> {
+    let mut node = Node::open(alloc, 0);
+    match fill(alloc, &mut node, pairs) {
+        Ok(()) => ask(alloc, &mut node, turns, among),
+        Err(error) => {
+            drop(node);
+            Err(error)
+        }
+    }
 }
 
 /// Fills a node with so many settled pairs, and then makes turns of an ask and a get, about so many of the pairs.
@@ -64,10 +64,7 @@ pub fn answer<R: Print + AllocGlobal>(
     turns: u64,
     among: u64,
 ) -> Result<(), Error> {
-    let mut node = Node::open(rt.alloc(), 0);
-    let answered = fill_and_ask(rt.alloc(), &mut node, pairs, turns, among);
-    drop(node);
-    let answered = answered?;
+    let answered = fill_and_ask(rt.alloc(), pairs, turns, among)?;
     println!(rt; "{answered}")?;
     Ok(())
 }

@@ -107,10 +107,7 @@ fn heard<R: Print + AllocGlobal>(rt: &R, history: &History, mode: &str) -> Resul
 
 /// Reads a trace and, by the mode, judges it, or feeds it in turns or by sessions and asks at the end, once, or twice,
 /// or not at all.
-pub fn say<R: Files + Print + AllocGlobal>(rt: &R, words: &[String]) -> Result<(), Error> {
-    let [path, mode] = words else {
-        return Ok(());
-    };
+pub fn say<R: Files + Print + AllocGlobal>(rt: &R, path: &str, mode: &str) -> Result<(), Error> {
     let file = File::open(rt, path)?;
     let trace = read_trace(rt.alloc(), &mut Counted::new(file))?;
     heard(rt, trace.history(), mode)

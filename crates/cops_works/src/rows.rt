@@ -1,12 +1,19 @@
 //! Rows of calls and the answers that are wanted: `CALL ARGUMENTS.. = ANSWER`.
 
+mod book;
+mod clock;
+mod context;
 mod explain;
 mod held;
+mod history;
 mod node;
+mod place;
 mod scenario;
+mod store;
 mod subjects;
 mod tie;
 mod trace;
+mod types;
 mod wire;
 mod world;
 

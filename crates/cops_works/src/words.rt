@@ -1,15 +1,20 @@
 //! The words of rows and of other files: what they stand for, numbers, keys, values, versions, dependencies,
-//! operations, and the events of a node and of a world; and the words that tell such and outcomes.
+//! operations, outcomes, and the events of a node and of a world; and the words that tell such.
 mod hex;
 mod nodes;
 mod outcomes;
 mod reading;
+mod telling;
 mod texts;
 mod worlds;
 
 pub use hex::{bytes, digits};
 pub use nodes::node_event;
-pub use outcomes::{outcome_text, told_outcome};
-pub use reading::{keys, no_row, op, put, u8_of, u16_of, u32_of, u64_of};
-pub use texts::{Part, lossy, text, word};
-pub use worlds::{told_event, world_event};
+pub use outcomes::{outcome, outcome_text, told_outcome};
+pub use reading::{
+    deps, key, key_and_value, keys, no_node, no_row, op, pair, parts, put, u8_of, u16_of, u32_of,
+    u64_of, usize_of, value, version, version_of,
+};
+pub use telling::{op_text, pair_text, session_text, value_at, yes_or_no};
+pub use texts::{Part, line_of, lossy, text, word};
+pub use worlds::world_event;

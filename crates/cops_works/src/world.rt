@@ -1,6 +1,6 @@
 //! The events of a world, read from a file with a line for each.
 
-use crate::words::told_event;
+use crate::words::world_event;
 use anyhow::Error;
 use cops_core::{Event, World};
 use cops_place::Place;
@@ -8,11 +8,17 @@ use std::alloc::Global;
 use std::fs;
 use std::rt::Files;
 
+/// The event of a line.
+fn event(alloc: Global, line: &str) -> Result<Event, Error> {
+    let words: Vec<&str> = line.split(' ').collect(alloc)?;
+    world_event(alloc, &words)
+}
+
 /// The events of a text, one a line.
 fn events_of(alloc: Global, text: &str) -> Result<Vec<Event>, Error> {
     let mut events = Vec::new(alloc);
     for line in text.lines() {
-        events.push(told_event(alloc, line, ' ')?)?;
+        events.push(event(alloc, line)?)?;
     }
     Ok(events)
 }
@@ -37,9 +43,7 @@ fn run(world: &mut World, events: &[Event]) -> Result<usize, Error> {
 fn count(alloc: Global, events: &[Event], of: (u8, u16)) -> Result<usize, Error> {
     let (dcs, clients) = of;
     let mut world = open(alloc, dcs, clients)?;
-    let counted = run(&mut world, events);
-    drop(world);
-    counted
+    run(&mut world, events)
 }
 
 fn say<R: Print + AllocGlobal>(rt: &R, events: &[Event], of: (u8, u16)) -> Result<(), Error> {

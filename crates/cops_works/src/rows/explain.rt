@@ -9,11 +9,11 @@ use cops_types::{History, Selection};
 use std::alloc::Global;
 
 /// The faults that words ask for.
-fn asked(words: &[&str]) -> Result<Selection, Error> {
+fn read_asked(words: &[&str]) -> Result<Selection, Error> {
     match words {
-        [what] if *what == "first" => Ok(Selection::First),
-        [what] if *what == "all" => Ok(Selection::All),
-        [what, number] if *what == "one" => Ok(Selection::One(u32_of(number)?)),
+        ["first"] => Ok(Selection::First),
+        ["all"] => Ok(Selection::All),
+        ["one", number] => Ok(Selection::One(u32_of(number)?)),
         _ => Err(no_row()),
     }
 }
@@ -40,30 +40,37 @@ fn last_line(alloc: Global, told: &str) -> Result<String, Error> {
 }
 
 /// The bytes of what is explained of a history.
-fn explained(alloc: Global, history: &History, asked: Selection) -> Result<Vec<u8>, Error> {
+fn explained(alloc: Global, history: &History, words: &[&str]) -> Result<Vec<u8>, Error> {
+    let asked = read_asked(words)?;
     let verdict = judge(alloc, history)?;
     Ok(explain(alloc, history, &verdict, asked)?)
 }
 
 /// What is explained of a history, as text.
 fn told(alloc: Global, history: &History, words: &[&str]) -> Result<String, Error> {
-    let bytes = explained(alloc, history, asked(words)?)?;
+    let bytes = explained(alloc, history, words)?;
     lossy(alloc, &bytes)
 }
 
-/// The answer to a call of the trace that there is: all lines, or the last one.
+/// The lines of what is explained.
+fn lines(alloc: Global, history: &History, words: &[&str]) -> Result<String, Error> {
+    let told = told(alloc, history, words)?;
+    joined(alloc, &told)
+}
+
+/// The last of these lines.
+fn end(alloc: Global, history: &History, words: &[&str]) -> Result<String, Error> {
+    let told = told(alloc, history, words)?;
+    last_line(alloc, &told)
+}
+
+/// The answer to a call of the trace that there is.
 pub fn answer(alloc: Global, trace: &Option<Trace>, words: &[&str]) -> Result<String, Error> {
     let Some(trace) = trace else {
         bail!("there is no trace");
     };
     match words {
-        [what, rest @ ..] if *what == "end" => {
-            let told = told(alloc, trace.history(), rest)?;
-            last_line(alloc, &told)
-        }
-        _ => {
-            let told = told(alloc, trace.history(), words)?;
-            joined(alloc, &told)
-        }
+        ["end", rest @ ..] => end(alloc, trace.history(), rest),
+        _ => lines(alloc, trace.history(), words),
     }
 }

@@ -1,9 +1,12 @@
 //! Rows of one node.
 
 use crate::words::Part::{Number, Word};
-use crate::words::{no_row, node_event, text, told_outcome, u16_of};
-use anyhow::{Error, bail};
-use cops_node::Node;
+use crate::words::{
+    key, no_node, no_row, node_event, pair_text, text, told_outcome, u16_of, value_at, version,
+    word,
+};
+use anyhow::Error;
+use cops_node::{Node, NodeEvent, Outcome};
 use cops_types::NODES;
 use std::alloc::Global;
 
@@ -11,10 +14,37 @@ use std::alloc::Global;
 fn begin(alloc: Global, node: &mut Node, number: &str) -> Result<String, Error> {
     let number = u16_of(number)?;
     if number >= NODES {
-        bail!("there is no such node");
+        return Err(no_node());
     }
-    drop(std::mem::replace(node, Node::open(alloc, number)));
+    *node = Node::open(alloc, number);
     text(alloc, &[Word("node "), Number(u64::from(node.number()))])
+}
+
+/// The node takes an event by that event's own call.
+fn taken(node: &mut Node, event: NodeEvent) -> Outcome {
+    match event {
+        NodeEvent::Put {
+            client,
+            key,
+            value,
+            deps,
+        } => node.put(client, key, value, deps),
+        NodeEvent::Get { client, key } => node.get(client, &key),
+        NodeEvent::Deliver(put) => node.deliver(put),
+        NodeEvent::Ask { key, version } => node.ask(&key, version),
+        NodeEvent::Mark { version, dep } => node.mark(version, dep),
+        NodeEvent::Settle { version } => node.settle(version),
+    }
+}
+
+fn step(alloc: Global, node: &mut Node, words: &[&str]) -> Result<String, Error> {
+    let event = node_event(alloc, words)?;
+    told_outcome(alloc, node.step(event))
+}
+
+fn call(alloc: Global, node: &mut Node, words: &[&str]) -> Result<String, Error> {
+    let event = node_event(alloc, words)?;
+    told_outcome(alloc, taken(node, event))
 }
 
 /// The node's clock, and how much there is in it.
@@ -33,17 +63,31 @@ fn status(alloc: Global, node: &Node) -> Result<String, Error> {
     text(alloc, &parts)
 }
 
-/// The node takes an event.
-fn step(alloc: Global, node: &mut Node, words: &[&str]) -> Result<String, Error> {
-    let event = node_event(alloc, words)?;
-    told_outcome(alloc, node.step(event))
+fn shown(alloc: Global, node: &Node, name: &str) -> Result<String, Error> {
+    let key = key(alloc, name)?;
+    match node.shown(&key) {
+        Some((value, version)) => value_at(alloc, value, version),
+        None => word(alloc, "nothing"),
+    }
+}
+
+fn dep_of(alloc: Global, node: &Node, at: &str, dep: &str) -> Result<String, Error> {
+    let version = version(at)?;
+    let dep = u16_of(dep)?;
+    match node.dep_of(version, dep) {
+        Some(pair) => pair_text(alloc, pair),
+        None => word(alloc, "nothing"),
+    }
 }
 
 /// The answer to a call.
 pub fn answer(alloc: Global, node: &mut Node, words: &[&str]) -> Result<String, Error> {
     match words {
-        [what, number] if *what == "new" => begin(alloc, node, number),
-        [what] if *what == "status" => status(alloc, node),
-        event => step(alloc, node, event),
+        ["new", number] => begin(alloc, node, number),
+        ["status"] => status(alloc, node),
+        ["shown", name] => shown(alloc, node, name),
+        ["dep", at, dep] => dep_of(alloc, node, at, dep),
+        ["step", event @ ..] => step(alloc, node, event),
+        event => call(alloc, node, event),
     }
 }

@@ -1,9 +1,12 @@
 //! Rows of scenario files.
 
-use crate::words::Part::{Count, Number, Word};
-use crate::words::{no_row, text};
-use anyhow::Error;
-use cops_scenario::Scenario;
+use crate::words::Part::{At, Bytes, Count, Number, Word};
+use crate::words::{line_of, no_row, outcome, text, usize_of, word};
+use anyhow::{Error, bail};
+use cops_core::{Event, ScriptOp, ScriptedClient};
+use cops_node::Outcome;
+use cops_scenario::{Scenario, outcome_line};
+use cops_types::{Key, Value, Version};
 use std::alloc::Global;
 
 /// What a scenario is made of.
@@ -25,28 +28,178 @@ fn counts(alloc: Global, scenario: &Scenario) -> Result<String, Error> {
 }
 
 /// Begins a scenario anew.
-fn begin(alloc: Global, scenario: &mut Option<Scenario>, words: &[&str]) -> Result<String, Error> {
-    let [text] = words else {
-        return Err(no_row());
-    };
+fn begin(alloc: Global, scenario: &mut Option<Scenario>, text: &str) -> Result<String, Error> {
     let read = Scenario::from_json(alloc, text.as_bytes())?;
-    let told = counts(alloc, &read);
-    drop(scenario.replace(read));
-    told
+    let told = counts(alloc, &read)?;
+    *scenario = Some(read);
+    Ok(told)
 }
 
-/// A number of the scenario that there is, by which a run goes.
-fn number(alloc: Global, scenario: &Option<Scenario>, what: &str) -> Result<String, Error> {
-    let Some(scenario) = scenario else {
-        return Err(no_row());
-    };
-    let number = match what {
-        "retries" => u64::from(scenario.retries()),
-        "repeat" => u64::from(scenario.repeat()),
-        "hold" => u64::from(scenario.hold()),
-        _ => return Err(no_row()),
-    };
-    text(alloc, &[Number(number)])
+/// Where a client lives, and how long its script is.
+fn client(alloc: Global, scenario: &Scenario, number: &str) -> Result<String, Error> {
+    match scenario.clients().get(usize_of(number)?) {
+        Some(client) => {
+            let (at, length) = (Number(u64::from(client.at)), Count(client.script.len()));
+            text(
+                alloc,
+                &[Word("at "), at, Word(", "), length, Word(" operations")],
+            )
+        }
+        None => word(alloc, "nothing"),
+    }
+}
+
+/// The text of an operation of a script.
+fn op_text(alloc: Global, op: &ScriptOp) -> Result<String, Error> {
+    match op {
+        ScriptOp::Put { key, value } => {
+            let (key, value) = (key.as_bytes(), value.as_bytes());
+            text(alloc, &[Word("put "), Bytes(key), Word("="), Bytes(value)])
+        }
+        ScriptOp::Get { key } => text(alloc, &[Word("get "), Bytes(key.as_bytes())]),
+    }
+}
+
+/// An operation of a client's script.
+fn scripted(alloc: Global, client: &ScriptedClient, index: usize) -> Result<String, Error> {
+    match client.script.get(index) {
+        Some(op) => op_text(alloc, op),
+        None => word(alloc, "nothing"),
+    }
+}
+
+/// An operation of a script, by its client and its place.
+fn script(alloc: Global, scenario: &Scenario, number: &str, index: &str) -> Result<String, Error> {
+    match scenario.clients().get(usize_of(number)?) {
+        Some(client) => scripted(alloc, client, usize_of(index)?),
+        None => bail!("there is no such client"),
+    }
+}
+
+/// How many events are listed.
+fn events(alloc: Global, scenario: &Scenario) -> Result<String, Error> {
+    match scenario.events() {
+        Some(events) => text(alloc, &[Count(events.len()), Word(" events")]),
+        None => word(alloc, "no list"),
+    }
+}
+
+fn client_put<'a>(
+    alloc: Global,
+    client: u16,
+    key: &'a Key,
+    value: &'a Value,
+) -> Result<String, Error> {
+    let client = u64::from(client);
+    let (key, value) = (key.as_bytes(), value.as_bytes());
+    let parts = [
+        Word("client "),
+        Number(client),
+        Word(": put "),
+        Bytes(key),
+        Word("="),
+        Bytes(value),
+    ];
+    text(alloc, &parts)
+}
+
+fn client_get(alloc: Global, client: u16, key: &Key) -> Result<String, Error> {
+    let client = u64::from(client);
+    text(
+        alloc,
+        &[
+            Word("client "),
+            Number(client),
+            Word(": get "),
+            Bytes(key.as_bytes()),
+        ],
+    )
+}
+
+/// An event about a version at a data centre.
+fn about(alloc: Global, event: &str, dc: u8, version: Version) -> Result<String, Error> {
+    text(
+        alloc,
+        &[Word(event), Number(u64::from(dc)), Word(" "), At(version)],
+    )
+}
+
+fn mark_text(alloc: Global, dc: u8, version: Version, dep: u16) -> Result<String, Error> {
+    let (dc, dep) = (u64::from(dc), u64::from(dep));
+    text(
+        alloc,
+        &[
+            Word("mark "),
+            Number(dc),
+            Word(" "),
+            At(version),
+            Word(" "),
+            Number(dep),
+        ],
+    )
+}
+
+/// The text of a world's event.
+fn event_text(alloc: Global, event: &Event) -> Result<String, Error> {
+    match event {
+        Event::Put { client, key, value } => client_put(alloc, *client, key, value),
+        Event::Get { client, key } => client_get(alloc, *client, key),
+        Event::Deliver { dc, version } => about(alloc, "deliver ", *dc, *version),
+        Event::Ask { dc, version, .. } => about(alloc, "ask ", *dc, *version),
+        Event::Mark { dc, version, dep } => mark_text(alloc, *dc, *version, *dep),
+        Event::Settle { dc, version } => about(alloc, "settle ", *dc, *version),
+    }
+}
+
+/// The event at a place of a list.
+fn listed(alloc: Global, events: &[Event], index: &str) -> Result<String, Error> {
+    match events.get(usize_of(index)?) {
+        Some(event) => event_text(alloc, event),
+        None => word(alloc, "nothing"),
+    }
+}
+
+/// The event at a place of the list.
+fn event(alloc: Global, scenario: &Scenario, index: &str) -> Result<String, Error> {
+    match scenario.events() {
+        Some(events) => listed(alloc, events, index),
+        None => bail!("no list"),
+    }
+}
+
+/// The line of an outcome, without its line feed.
+fn told(alloc: Global, number: usize, outcome: &Outcome) -> Result<String, Error> {
+    let mut bytes = Vec::new(alloc);
+    outcome_line(alloc, number, outcome, &mut bytes)?;
+    line_of(alloc, &bytes)
+}
+
+fn line(alloc: Global, number: &str, words: &[&str]) -> Result<String, Error> {
+    let number = usize_of(number)?;
+    let outcome = outcome(alloc, words)?;
+    told(alloc, number, &outcome)
+}
+
+/// The answer to a call of the scenario that there is.
+fn ask(alloc: Global, scenario: &Scenario, words: &[&str]) -> Result<String, Error> {
+    match words {
+        ["retries"] => text(alloc, &[Number(u64::from(scenario.retries()))]),
+        ["repeat"] => text(alloc, &[Number(u64::from(scenario.repeat()))]),
+        ["hold"] => text(alloc, &[Number(u64::from(scenario.hold()))]),
+        ["client", number] => client(alloc, scenario, number),
+        ["script", number, index] => script(alloc, scenario, number, index),
+        ["events"] => events(alloc, scenario),
+        ["event", index] => event(alloc, scenario, index),
+        _ => Err(no_row()),
+    }
+}
+
+/// The answer to a call that asks for a scenario.
+fn ask_any(alloc: Global, scenario: &Option<Scenario>, words: &[&str]) -> Result<String, Error> {
+    match scenario {
+        Some(scenario) => ask(alloc, scenario, words),
+        None => bail!("there is no scenario"),
+    }
 }
 
 /// The answer to a call.
@@ -55,11 +208,9 @@ pub fn answer(
     scenario: &mut Option<Scenario>,
     words: &[&str],
 ) -> Result<String, Error> {
-    let [what, rest @ ..] = words else {
-        return Err(no_row());
-    };
-    match *what {
-        "new" => begin(alloc, scenario, rest),
-        what => number(alloc, scenario, what),
+    match words {
+        ["new", text] => begin(alloc, scenario, text),
+        ["line", number, outcome @ ..] => line(alloc, number, outcome),
+        _ => ask_any(alloc, scenario, words),
     }
 }

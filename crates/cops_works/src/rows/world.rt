@@ -1,39 +1,59 @@
 //! Rows of the world.
 
+use crate::rows::place;
 use crate::words::Part::{Count, Word};
 use crate::words::{
-    keys, no_row, outcome_text, text, told_event, told_outcome, u8_of, u16_of, u32_of, world_event,
+    no_row, outcome_text, parts, session_text, text, told_outcome, u8_of, u32_of, world_event,
 };
-use anyhow::Error;
+use anyhow::{Error, bail};
 use cops_core::{Event, World};
 use cops_node::Outcome;
-use cops_place::Place;
 use std::alloc::Global;
+
+/// So many clients at a data centre.
+fn add_clients(homes: &mut Vec<u8>, dc: &str, count: &str) -> Result<(), Error> {
+    let dc = u8_of(dc)?;
+    for _ in 0..u32_of(count)? {
+        homes.push(dc)?;
+    }
+    Ok(())
+}
+
+/// The clients of a word `DATA_CENTRE`, or `DATA_CENTRE*COUNT` for so many at it.
+fn add_told(homes: &mut Vec<u8>, word: &str) -> Result<(), Error> {
+    match word.split_once('*') {
+        Some((dc, count)) => add_clients(homes, dc, count),
+        None => add_clients(homes, word, "1"),
+    }
+}
 
 /// Where the clients live.
 fn homes(alloc: Global, word: &str) -> Result<Vec<u8>, Error> {
     let mut homes = Vec::new(alloc);
-    for dc in word.split(',') {
-        homes.push(u8_of(dc)?)?;
+    for one in word.split(',') {
+        add_told(&mut homes, one)?;
     }
     Ok(homes)
 }
 
-fn open(alloc: Global, words: &[&str]) -> Result<World, Error> {
-    let [dcs, splits, clients] = words else {
-        return Err(no_row());
-    };
-    let place = Place::new(u8_of(dcs)?, keys(alloc, splits)?)?;
+fn open(alloc: Global, dcs: &str, splits: &str, clients: &str) -> Result<World, Error> {
+    let place = place::open(alloc, dcs, splits)?;
     let homes = homes(alloc, clients)?;
     Ok(World::open(alloc, place, homes)?)
 }
 
 /// Begins a world anew.
-fn begin(alloc: Global, world: &mut Option<World>, words: &[&str]) -> Result<String, Error> {
-    let opened = open(alloc, words)?;
+fn begin(alloc: Global, world: &mut Option<World>, words: &[&str; 3]) -> Result<String, Error> {
+    let [dcs, splits, clients] = words;
+    let opened = open(alloc, dcs, splits, clients)?;
     let count = opened.history().clients();
-    drop(world.replace(opened));
+    *world = Some(opened);
     text(alloc, &[Count(count), Word(" clients")])
+}
+
+fn apply(alloc: Global, world: &mut World, words: &[&str]) -> Result<String, Error> {
+    let event = world_event(alloc, words)?;
+    told_outcome(alloc, world.apply(event))
 }
 
 /// The last outcome of the same event, so many times.
@@ -46,22 +66,20 @@ fn last(world: &mut World, count: u32, event: &Event) -> Outcome {
 }
 
 /// The same event so many times: the last outcome.
-fn again(alloc: Global, world: &mut World, words: &[&str]) -> Result<String, Error> {
-    let [count, event @ ..] = words else {
-        return Err(no_row());
-    };
+fn again(alloc: Global, world: &mut World, count: &str, words: &[&str]) -> Result<String, Error> {
     let count = u32_of(count)?;
-    let event = world_event(alloc, event)?;
+    let event = world_event(alloc, words)?;
     let last = last(world, count, &event);
     drop(event);
     told_outcome(alloc, last)
 }
 
-/// The events of words, each with commas between its own words.
+/// The events whose words stand between `/`.
 fn events(alloc: Global, words: &[&str]) -> Result<Vec<Event>, Error> {
     let mut events = Vec::new(alloc);
-    for told in words {
-        events.push(told_event(alloc, told, ',')?)?;
+    let parts = parts(alloc, words, "/")?;
+    for part in &parts {
+        events.push(world_event(alloc, part)?)?;
     }
     Ok(events)
 }
@@ -85,40 +103,34 @@ fn run(alloc: Global, world: &mut World, words: &[&str]) -> Result<String, Error
     outcomes_text(alloc, &outcomes)
 }
 
-/// How many operations the clients saw, or one of them.
-fn count(alloc: Global, world: &World, words: &[&str]) -> Result<String, Error> {
-    let operations = match words {
-        [client] => world.history().session_len(u16_of(client)?),
-        _ => world.history().len(),
-    };
-    text(alloc, &[Count(operations), Word(" operations")])
-}
-
-fn apply(alloc: Global, world: &mut World, words: &[&str]) -> Result<String, Error> {
-    let event = world_event(alloc, words)?;
-    told_outcome(alloc, world.apply(event))
+/// How many operations the clients saw.
+fn count(alloc: Global, world: &World) -> Result<String, Error> {
+    text(alloc, &[Count(world.history().len()), Word(" operations")])
 }
 
 /// The answer to a call of the world that there is.
-fn ask(alloc: Global, world: &mut Option<World>, words: &[&str]) -> Result<String, Error> {
-    let Some(world) = world else {
-        return Err(no_row());
-    };
-    let [what, rest @ ..] = words else {
-        return Err(no_row());
-    };
-    match *what {
-        "counts" => count(alloc, world, rest),
-        "again" => again(alloc, world, rest),
-        "run" => run(alloc, world, rest),
-        _ => apply(alloc, world, words),
+fn ask_world(alloc: Global, world: &mut World, words: &[&str]) -> Result<String, Error> {
+    match words {
+        ["counts"] => count(alloc, world),
+        ["session", client] => session_text(alloc, world.history(), client),
+        ["again", count, event @ ..] => again(alloc, world, count, event),
+        ["run", events @ ..] => run(alloc, world, events),
+        event => apply(alloc, world, event),
+    }
+}
+
+/// The answer to a call that asks for a world.
+fn ask_any(alloc: Global, world: &mut Option<World>, words: &[&str]) -> Result<String, Error> {
+    match world {
+        Some(world) => ask_world(alloc, world, words),
+        None => bail!("there is no world"),
     }
 }
 
 /// The answer to a call.
 pub fn answer(alloc: Global, world: &mut Option<World>, words: &[&str]) -> Result<String, Error> {
     match words {
-        [what, rest @ ..] if *what == "open" => begin(alloc, world, rest),
-        _ => ask(alloc, world, words),
+        ["open", dcs, splits, clients] => begin(alloc, world, &[dcs, splits, clients]),
+        _ => ask_any(alloc, world, words),
     }
 }

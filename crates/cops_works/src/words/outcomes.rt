@@ -1,23 +1,49 @@
-//! The words that tell an outcome.
+//! The words that tell a node's outcome.
 
+use crate::words::reading::{no_row, u8_of, value, version};
 use crate::words::texts::Part::{At, Bytes, Number, Word};
 use crate::words::texts::{text, word};
 use anyhow::Error;
 use cops_node::Outcome;
+use cops_types::{Refusal, Value, Version};
 use std::alloc::Global;
+
+/// The refusals of a node and of the world.
+const REFUSALS: [Refusal; 11] = [
+    Refusal::ClockExhausted,
+    Refusal::ContextFull,
+    Refusal::UnknownClient,
+    Refusal::NeverSent,
+    Refusal::NotHeld,
+    Refusal::NoSuchDep,
+    Refusal::NoYes,
+    Refusal::DepsOpen,
+    Refusal::Memory,
+    Refusal::UnknownDc,
+    Refusal::SessionFull,
+];
+
+fn got(alloc: Global, value: &Value, version: Version) -> Result<String, Error> {
+    text(
+        alloc,
+        &[
+            Word("got "),
+            Bytes(value.as_bytes()),
+            Word(" at "),
+            At(version),
+        ],
+    )
+}
 
 /// The words of an outcome, as a run prints them; what a get found stands there with its value.
 pub fn outcome_text(alloc: Global, outcome: &Outcome) -> Result<String, Error> {
     match outcome {
         Outcome::PutDone(version) => text(alloc, &[Word("done "), At(*version)]),
-        Outcome::Got(value, version) => {
-            let value = Bytes(value.as_bytes());
-            text(alloc, &[Word("got "), value, Word(" at "), At(*version)])
-        }
-        Outcome::Refused(refusal) => {
-            let code = Number(u64::from(refusal.code()));
-            text(alloc, &[Word("refused "), code])
-        }
+        Outcome::Got(value, version) => got(alloc, value, *version),
+        Outcome::Refused(refusal) => text(
+            alloc,
+            &[Word("refused "), Number(u64::from(refusal.code()))],
+        ),
         Outcome::Missed => word(alloc, "missed"),
         Outcome::Held => word(alloc, "held"),
         Outcome::Repeat => word(alloc, "repeat"),
@@ -33,4 +59,50 @@ pub fn told_outcome(alloc: Global, outcome: Outcome) -> Result<String, Error> {
     let told = outcome_text(alloc, &outcome);
     drop(outcome);
     told
+}
+
+fn done(at: &str) -> Result<Outcome, Error> {
+    let version = version(at)?;
+    Ok(Outcome::PutDone(version))
+}
+
+fn found(alloc: Global, bytes: &str, at: &str) -> Result<Outcome, Error> {
+    let version = version(at)?;
+    let value = value(alloc, bytes)?;
+    Ok(Outcome::Got(value, version))
+}
+
+fn refused(code: &str) -> Result<Outcome, Error> {
+    let code = u8_of(code)?;
+    for refusal in REFUSALS {
+        if refusal.code() == code {
+            return Ok(Outcome::Refused(refusal));
+        }
+    }
+    Err(no_row())
+}
+
+/// The outcome of one word.
+fn plain(word: &str) -> Result<Outcome, Error> {
+    match word {
+        "missed" => Ok(Outcome::Missed),
+        "held" => Ok(Outcome::Held),
+        "repeat" => Ok(Outcome::Repeat),
+        "yes" => Ok(Outcome::Yes),
+        "wait" => Ok(Outcome::Wait),
+        "marked" => Ok(Outcome::Marked),
+        "settled" => Ok(Outcome::Settled),
+        _ => Err(no_row()),
+    }
+}
+
+/// The outcome that such words tell.
+pub fn outcome(alloc: Global, words: &[&str]) -> Result<Outcome, Error> {
+    match words {
+        ["done", at] => done(at),
+        ["got", bytes, "at", at] => found(alloc, bytes, at),
+        ["refused", code] => refused(code),
+        [word] => plain(word),
+        _ => Err(no_row()),
+    }
 }

@@ -1,6 +1,6 @@
 //! Texts that are made of parts.
 
-use anyhow::Error;
+use anyhow::{Error, bail};
 use cops_types::Version;
 use std::alloc::Global;
 
@@ -62,4 +62,13 @@ pub fn word(alloc: Global, word: &str) -> Result<String, Error> {
 pub fn lossy(alloc: Global, bytes: &[u8]) -> Result<String, Error> {
     let text = String::from_utf8_lossy(alloc, bytes)?;
     word(alloc, &text)
+}
+
+/// The text of a line's bytes, without its line feed.
+pub fn line_of(alloc: Global, bytes: &[u8]) -> Result<String, Error> {
+    let text = String::from_utf8_lossy(alloc, bytes)?;
+    match text.strip_suffix('\n') {
+        Some(line) => word(alloc, line),
+        None => bail!("no line feed"),
+    }
 }

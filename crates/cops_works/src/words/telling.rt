@@ -1,0 +1,75 @@
+//! The words that tell pairs, values, operations and sessions.
+
+use crate::words::reading::u16_of;
+use crate::words::texts::Part::{At, Bytes, Count, Word};
+use crate::words::texts::{text, word};
+use anyhow::Error;
+use cops_types::{Dep, History, Key, OpRef, Value, Version};
+use std::alloc::Global;
+
+/// `yes` or `no`.
+pub fn yes_or_no(alloc: Global, is: bool) -> Result<String, Error> {
+    if is {
+        word(alloc, "yes")
+    } else {
+        word(alloc, "no")
+    }
+}
+
+/// `VALUE at VERSION`.
+pub fn value_at(alloc: Global, value: &Value, version: Version) -> Result<String, Error> {
+    text(alloc, &[Bytes(value.as_bytes()), Word(" at "), At(version)])
+}
+
+/// `KEY@VERSION`.
+pub fn pair_text(alloc: Global, pair: &Dep) -> Result<String, Error> {
+    text(
+        alloc,
+        &[Bytes(pair.key.as_bytes()), Word("@"), At(pair.version)],
+    )
+}
+
+/// What was done: `KEY=VALUE at VERSION`.
+fn done_text<'a>(
+    alloc: Global,
+    done: &'a str,
+    key: &'a Key,
+    value: &'a Value,
+    version: Version,
+) -> Result<String, Error> {
+    let (key, value) = (key.as_bytes(), value.as_bytes());
+    text(
+        alloc,
+        &[
+            Word(done),
+            Bytes(key),
+            Word("="),
+            Bytes(value),
+            Word(" at "),
+            At(version),
+        ],
+    )
+}
+
+/// The text of what a client did.
+pub fn op_text(alloc: Global, op: &OpRef<'_>) -> Result<String, Error> {
+    match op {
+        OpRef::Put {
+            key,
+            value,
+            version,
+        } => done_text(alloc, "put ", key, value, **version),
+        OpRef::Got {
+            key,
+            value,
+            version,
+        } => done_text(alloc, "got ", key, value, **version),
+        OpRef::Missed { key } => text(alloc, &[Word("missed "), Bytes(key.as_bytes())]),
+    }
+}
+
+/// How many operations a client has.
+pub fn session_text(alloc: Global, history: &History, client: &str) -> Result<String, Error> {
+    let operations = history.session_len(u16_of(client)?);
+    text(alloc, &[Count(operations), Word(" operations")])
+}
