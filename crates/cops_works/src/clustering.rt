@@ -54,13 +54,17 @@ fn surely<R: Wait>(
 ) -> Result<Option<Outcome>, Memory> {
     let before = client.share().entries().len();
     let answer = step(rt, alloc, cluster, client, puts)?;
-    if answer != Some(Outcome::Refused(Refusal::Memory)) {
+    let is_refused = answer == Some(Outcome::Refused(Refusal::Memory));
+    if !is_refused || client.share().entries().len() != before {
         return Ok(answer);
     }
-    if client.share().entries().len() != before {
-        return Ok(answer);
-    }
+    drop(answer);
     step(rt, alloc, cluster, client, puts)
+}
+
+/// Whether the value was got, at a version.
+fn is_got(alloc: Global, answer: &Option<Outcome>, version: Version) -> Result<bool, Memory> {
+    Ok(*answer == Some(Outcome::Got(value(alloc)?, version)))
 }
 
 /// Whether a client gets what it put, and each of the two has its entry.
@@ -74,12 +78,12 @@ fn gets_what_it_put<R: Wait>(
         return Ok(false);
     };
     let put = surely(rt, alloc, cluster, client, true)?;
+    let has_put = put == Some(Outcome::PutDone(version));
+    drop(put);
     let got = surely(rt, alloc, cluster, client, false)?;
-    Ok(
-        put == Some(Outcome::PutDone(version))
-            && got == Some(Outcome::Got(value(alloc)?, version))
-            && client.share().entries().len() == 2,
-    )
+    let has_got = is_got(alloc, &got, version);
+    drop(got);
+    Ok(has_put && has_got? && client.share().entries().len() == 2)
 }
 
 /// What is left of a cluster, which is closed again where memory was refused.

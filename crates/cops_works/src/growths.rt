@@ -41,12 +41,19 @@ fn go<R: Threads + Wait + Sync + AllocGlobal>(rt: &R, inputs: &Inputs) -> Result
 /// what is told of it. It fails where memory is refused to a work that has that for an answer.
 pub fn say<R: Files + Threads + Wait + Sync + Print + AllocGlobal>(
     rt: &R,
-    paths: &[&String; 4],
+    words: &[String],
 ) -> Result<(), Error> {
-    match go(rt, &read(rt, paths)?) {
-        Ok(true) => println!(rt; "as wanted")?,
-        Ok(false) => println!(rt; "not as wanted")?,
+    let [events, happened, trace, report] = words else {
+        return Ok(());
+    };
+    let inputs = read(rt, &[events, happened, trace, report])?;
+    let went = go(rt, &inputs);
+    drop(inputs);
+    let said = match went {
+        Ok(true) => "as wanted",
+        Ok(false) => "not as wanted",
         Err(Memory) => bail!("out of memory"),
-    }
+    };
+    println!(rt; "{said}")?;
     Ok(())
 }

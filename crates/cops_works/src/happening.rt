@@ -42,7 +42,9 @@ fn told(alloc: Global, world: &mut World, events: &[Event]) -> Result<Vec<u8>, M
 /// The same of a world in a setting, in which nothing has happened.
 fn told_in(alloc: Global, setting: Setting, events: &[Event]) -> Result<Vec<u8>, Memory> {
     let mut world = World::of(alloc, setting)?;
-    told(alloc, &mut world, events)
+    let told = told(alloc, &mut world, events);
+    drop(world);
+    told
 }
 
 /// Whether these lines are told of the events of a scenario.
@@ -57,7 +59,11 @@ fn tells(alloc: Global, scenario: &Scenario, wanted: &[u8]) -> Result<bool, Memo
 /// The same of a scenario's bytes.
 pub fn happens(alloc: Global, bytes: &[u8], wanted: &[u8]) -> Result<bool, Memory> {
     match Scenario::from_json(alloc, bytes) {
-        Ok(scenario) => tells(alloc, &scenario, wanted),
+        Ok(scenario) => {
+            let tells = tells(alloc, &scenario, wanted);
+            drop(scenario);
+            tells
+        }
         Err(ScenarioFault::Memory) => Err(Memory),
         Err(_) => Ok(false),
     }

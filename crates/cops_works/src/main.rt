@@ -21,13 +21,17 @@ use std::rt::Files;
 use std::sync::Wait;
 use std::thread::Threads;
 
-fn time_node<R: Print + AllocGlobal>(rt: &R, words: &[&String; 3]) -> Result<(), Error> {
-    let [pairs, turns, among] = words;
+fn time_node<R: Print + AllocGlobal>(rt: &R, words: &[String]) -> Result<(), Error> {
+    let [pairs, turns, among] = words else {
+        return Ok(());
+    };
     node::answer(rt, u64_of(pairs)?, u64_of(turns)?, u64_of(among)?)
 }
 
-fn time_world<R: Files + Print + AllocGlobal>(rt: &R, words: &[&String; 4]) -> Result<(), Error> {
-    let [path, mode, dcs, clients] = words;
+fn time_world<R: Files + Print + AllocGlobal>(rt: &R, words: &[String]) -> Result<(), Error> {
+    let [path, mode, dcs, clients] = words else {
+        return Ok(());
+    };
     world::happen(rt, path, mode, (u8_of(dcs)?, u16_of(clients)?))
 }
 
@@ -36,18 +40,15 @@ fn perform<R: Files + Threads + Wait + Sync + Print + AllocGlobal>(
     rt: &R,
     words: &[String],
 ) -> Result<(), Error> {
-    match words {
-        [what, files @ ..] if what.as_str() == "rows" => rows::say_files(rt, files),
-        [what, pairs, turns, among] if what.as_str() == "node" => {
-            time_node(rt, &[pairs, turns, among])
-        }
-        [what, path, mode, dcs, clients] if what.as_str() == "world" => {
-            time_world(rt, &[path, mode, dcs, clients])
-        }
-        [what, path, mode] if what.as_str() == "online" => online::say(rt, path, mode),
-        [what, events, happened, trace, report] if what.as_str() == "growths" => {
-            growths::say(rt, &[events, happened, trace, report])
-        }
+    let [what, rest @ ..] = words else {
+        return Ok(());
+    };
+    match what.as_str() {
+        "rows" => rows::say_files(rt, rest),
+        "node" => time_node(rt, rest),
+        "world" => time_world(rt, rest),
+        "online" => online::say(rt, rest),
+        "growths" => growths::say(rt, rest),
         _ => Ok(()),
     }
 }

@@ -15,15 +15,7 @@ fn put(alloc: Global, node: &mut Node, number: u64) -> Result<(), Error> {
     let deps = Deps::new(Vec::new(alloc))?;
     let key = key(alloc, number)?;
     let value = Value::new(alloc, b"12345678")?;
-    let _done = node.put(0, key, value, deps);
-    Ok(())
-}
-
-/// Settles so many puts, each on a key of its own.
-fn fill(alloc: Global, node: &mut Node, pairs: u64) -> Result<(), Error> {
-    for number in 0..pairs {
-        put(alloc, node, number)?;
-    }
+    drop(node.put(0, key, value, deps));
     Ok(())
 }
 
@@ -33,6 +25,7 @@ fn found(alloc: Global, node: &mut Node, number: u64) -> Result<u64, Error> {
     let key = key(alloc, number)?;
     let asked = node.ask(&key, version) == Outcome::Yes;
     let shown = node.get(0, &key) != Outcome::Missed;
+    drop(key);
     Ok(u64::from(asked).wrapping_add(u64::from(shown)))
 }
 
@@ -46,15 +39,18 @@ fn ask(alloc: Global, node: &mut Node, turns: u64, among: u64) -> Result<u64, Er
     Ok(answered)
 }
 
-fn fill_and_ask(alloc: Global, pairs: u64, turns: u64, among: u64) -> Result<u64, Error> {
-    let mut node = Node::open(alloc, 0);
-    match fill(alloc, &mut node, pairs) {
-        Ok(()) => ask(alloc, &mut node, turns, among),
-        Err(error) => {
-            drop(node);
-            Err(error)
-        }
+/// Settles so many puts, each on a key of its own, and then asks.
+fn fill_and_ask(
+    alloc: Global,
+    node: &mut Node,
+    pairs: u64,
+    turns: u64,
+    among: u64,
+) -> Result<u64, Error> {
+    for number in 0..pairs {
+        put(alloc, node, number)?;
     }
+    ask(alloc, node, turns, among)
 }
 
 /// Fills a node with so many settled pairs, and then makes turns of an ask and a get, about so many of the pairs.
@@ -64,7 +60,10 @@ pub fn answer<R: Print + AllocGlobal>(
     turns: u64,
     among: u64,
 ) -> Result<(), Error> {
-    let answered = fill_and_ask(rt.alloc(), pairs, turns, among)?;
+    let mut node = Node::open(rt.alloc(), 0);
+    let answered = fill_and_ask(rt.alloc(), &mut node, pairs, turns, among);
+    drop(node);
+    let answered = answered?;
     println!(rt; "{answered}")?;
     Ok(())
 }

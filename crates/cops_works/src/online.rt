@@ -17,17 +17,20 @@ fn longest(history: &History) -> u32 {
     longest
 }
 
+/// Feeds the operation of a name, where there is one.
+fn feed(online: &mut Online, history: &History, name: OpName) -> Result<(), Error> {
+    if let Some(op) = history.op(name) {
+        online.feed(name.client, op.to_op()?)?;
+    }
+    Ok(())
+}
+
 /// Feeds an operation of each client in turn.
 fn feed_in_turns(online: &mut Online, history: &History) -> Result<(), Error> {
     for index in 0..longest(history) {
         for client in 0..history.clients() {
-            let name = OpName {
-                client: client as u16,
-                index,
-            };
-            if let Some(op) = history.op(name) {
-                online.feed(name.client, op.to_op()?)?;
-            }
+            let client = client as u16;
+            feed(online, history, OpName { client, index })?;
         }
     }
     Ok(())
@@ -39,21 +42,10 @@ fn feed_by_sessions(online: &mut Online, history: &History) -> Result<(), Error>
         let client = client as u16;
         for index in 0..history.session_len(client) {
             let index = index as u32;
-            if let Some(op) = history.op(OpName { client, index }) {
-                online.feed(client, op.to_op()?)?;
-            }
+            feed(online, history, OpName { client, index })?;
         }
     }
     Ok(())
-}
-
-/// Feeds a history in one of two orders.
-fn feed(online: &mut Online, history: &History, by_sessions: bool) -> Result<(), Error> {
-    if by_sessions {
-        feed_by_sessions(online, history)
-    } else {
-        feed_in_turns(online, history)
-    }
 }
 
 fn ask<R: Print>(rt: &R, online: &mut Online) -> Result<(), Error> {
@@ -70,7 +62,11 @@ fn feed_and_ask<R: Print>(
     by_sessions: bool,
     questions: u32,
 ) -> Result<(), Error> {
-    feed(online, history, by_sessions)?;
+    if by_sessions {
+        feed_by_sessions(online, history)?;
+    } else {
+        feed_in_turns(online, history)?;
+    }
     for _ in 0..questions {
         ask(rt, online)?;
     }
@@ -85,11 +81,13 @@ fn fed<R: Print>(
     questions: u32,
 ) -> Result<(), Error> {
     let mut online = Online::new(alloc, history.clients() as u16)?;
-    feed_and_ask(rt, &mut online, history, by_sessions, questions)
+    let fed = feed_and_ask(rt, &mut online, history, by_sessions, questions);
+    drop(online);
+    fed
 }
 
 fn judge_only(alloc: Global, history: &History) -> Result<(), Error> {
-    let _verdict = judge(alloc, history)?;
+    drop(judge(alloc, history)?);
     Ok(())
 }
 
@@ -107,8 +105,13 @@ fn heard<R: Print + AllocGlobal>(rt: &R, history: &History, mode: &str) -> Resul
 
 /// Reads a trace and, by the mode, judges it, or feeds it in turns or by sessions and asks at the end, once, or twice,
 /// or not at all.
-pub fn say<R: Files + Print + AllocGlobal>(rt: &R, path: &str, mode: &str) -> Result<(), Error> {
+pub fn say<R: Files + Print + AllocGlobal>(rt: &R, words: &[String]) -> Result<(), Error> {
+    let [path, mode] = words else {
+        return Ok(());
+    };
     let file = File::open(rt, path)?;
     let trace = read_trace(rt.alloc(), &mut Counted::new(file))?;
-    heard(rt, trace.history(), mode)
+    let heard = heard(rt, trace.history(), mode);
+    drop(trace);
+    heard
 }

@@ -19,33 +19,18 @@ mod world;
 
 use crate::rows::subjects::Subjects;
 use crate::words::Part::{Number, Word};
-use crate::words::{text, word};
+use crate::words::{Part, text, word};
 use anyhow::{Error, bail};
 use std::alloc::Global;
 use std::fs;
 use std::rt::Files;
 
-/// Whether a line is no row: it is empty, or a heading.
-fn is_heading(line: &str) -> bool {
-    line.is_empty() || line.starts_with('#')
-}
-
-/// The words of a call, between which one space stands.
-fn words_of<'a>(alloc: Global, call: &'a str) -> Result<Vec<&'a str>, Error> {
-    Ok(call.split(' ').collect(alloc)?)
-}
-
-/// The text of an error.
-fn refusal(alloc: Global, error: &Error) -> Result<String, Error> {
-    Ok(format!(in alloc; "error: {error}")?)
-}
-
 /// The answer to a row's call, or the text of its error.
 fn told(alloc: Global, subjects: &mut Subjects, call: &str) -> Result<String, Error> {
-    let words = words_of(alloc, call)?;
+    let words: Vec<&str> = call.split(' ').collect(alloc)?;
     match subjects.answer(alloc, &words) {
         Ok(text) => Ok(text),
-        Err(error) => refusal(alloc, &error),
+        Err(error) => Ok(format!(in alloc; "error: {error}")?),
     }
 }
 
@@ -70,25 +55,31 @@ fn difference(alloc: Global, subjects: &mut Subjects, row: &str) -> Result<Strin
     }
 }
 
-/// Prints a line.
-fn say<R: Print>(rt: &R, line: &str) -> Result<(), Error> {
-    Ok(println!(rt; "{line}")?)
+/// Prints a line of parts.
+fn say<R: Print + AllocGlobal>(rt: &R, parts: &[Part]) -> Result<(), Error> {
+    let line = text(rt.alloc(), parts)?;
+    println!(rt; "{line}")?;
+    Ok(())
 }
 
-fn row_line<'a>(alloc: Global, name: &'a str, number: u64, what: &'a str) -> Result<String, Error> {
-    text(
-        alloc,
-        &[
-            Word(name),
-            Word(":"),
-            Number(number),
-            Word(": "),
-            Word(what),
-        ],
-    )
+/// Prints what differs in a row.
+fn say_difference<'a, R: Print + AllocGlobal>(
+    rt: &R,
+    name: &'a str,
+    number: u64,
+    what: &'a str,
+) -> Result<(), Error> {
+    let parts = [
+        Word(name),
+        Word(":"),
+        Number(number),
+        Word(": "),
+        Word(what),
+    ];
+    say(rt, &parts)
 }
 
-/// Prints what differs in a row, and counts it.
+/// Prints what differs in a row, if anything does, and counts it.
 fn say_row<R: Print + AllocGlobal>(
     rt: &R,
     subjects: &mut Subjects,
@@ -100,12 +91,12 @@ fn say_row<R: Print + AllocGlobal>(
     if what.is_empty() {
         return Ok(0);
     }
-    let line = row_line(rt.alloc(), name, number, &what)?;
-    say(rt, &line)?;
+    say_difference(rt, name, number, &what)?;
     Ok(1)
 }
 
-/// Makes the calls of a text's rows, and counts the rows and those that differ.
+/// Makes the calls of a text's rows, and counts the rows and those that differ. A line that is empty, or a heading, is
+/// no row.
 fn say_rows<R: Print + AllocGlobal>(
     rt: &R,
     subjects: &mut Subjects,
@@ -117,7 +108,7 @@ fn say_rows<R: Print + AllocGlobal>(
     let mut differing = 0u64;
     for line in text.lines() {
         number = number.saturating_add(1);
-        if !is_heading(line) {
+        if !line.is_empty() && !line.starts_with('#') {
             rows = rows.saturating_add(1);
             differing = differing.saturating_add(say_row(rt, subjects, (name, number), line)?);
         }
@@ -135,25 +126,21 @@ fn say_text<R: Print + AllocGlobal>(rt: &R, name: &str, text: &str) -> Result<(u
 
 /// Prints that a file's rows are as wanted, where none differs. A file without rows differs.
 fn say_count<R: Print + AllocGlobal>(rt: &R, name: &str, counts: (u64, u64)) -> Result<u64, Error> {
-    match counts {
-        (0, _) => {
-            let line = text(rt.alloc(), &[Word(name), Word(": no rows")])?;
-            say(rt, &line)?;
-            Ok(1)
-        }
-        (rows, 0) => {
-            let parts = [
-                Word(name),
-                Word(": "),
-                Number(rows),
-                Word(" rows as wanted"),
-            ];
-            let line = text(rt.alloc(), &parts)?;
-            say(rt, &line)?;
-            Ok(0)
-        }
-        (_, differing) => Ok(differing),
+    let (rows, differing) = counts;
+    if rows == 0 {
+        say(rt, &[Word(name), Word(": no rows")])?;
+        return Ok(1);
     }
+    if differing == 0 {
+        let parts = [
+            Word(name),
+            Word(": "),
+            Number(rows),
+            Word(" rows as wanted"),
+        ];
+        say(rt, &parts)?;
+    }
+    Ok(differing)
 }
 
 /// Reads the rows of a file, and counts those that differ.

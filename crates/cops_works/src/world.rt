@@ -43,7 +43,9 @@ fn run(world: &mut World, events: &[Event]) -> Result<usize, Error> {
 fn count(alloc: Global, events: &[Event], of: (u8, u16)) -> Result<usize, Error> {
     let (dcs, clients) = of;
     let mut world = open(alloc, dcs, clients)?;
-    run(&mut world, events)
+    let counted = run(&mut world, events);
+    drop(world);
+    counted
 }
 
 fn say<R: Print + AllocGlobal>(rt: &R, events: &[Event], of: (u8, u16)) -> Result<(), Error> {

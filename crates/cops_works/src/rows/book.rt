@@ -16,18 +16,24 @@ pub fn entries_text(alloc: Global, count: usize) -> Result<String, Error> {
 }
 
 /// Begins a book anew.
-fn begin(alloc: Global, book: &mut Book, number: &str) -> Result<String, Error> {
+fn begin(alloc: Global, book: &mut Book, words: &[&str]) -> Result<String, Error> {
+    let [number] = words else {
+        return Err(no_row());
+    };
     let number = u16_of(number)?;
     if number >= NODES {
         return Err(no_node());
     }
-    *book = Book::open(alloc, number);
+    drop(std::mem::replace(book, Book::open(alloc, number)));
     entries_text(alloc, book.entries().len())
 }
 
-fn step(alloc: Global, book: &mut Book, ticket: &str, words: &[&str]) -> Result<String, Error> {
+fn step(alloc: Global, book: &mut Book, words: &[&str]) -> Result<String, Error> {
+    let [ticket, rest @ ..] = words else {
+        return Err(no_row());
+    };
     let ticket = u64_of(ticket)?;
-    let event = node_event(alloc, words)?;
+    let event = node_event(alloc, rest)?;
     told_outcome(alloc, book.step(ticket, event))
 }
 
@@ -71,16 +77,14 @@ fn entry_line<'a>(
     event: &'a str,
     outcome: &'a str,
 ) -> Result<String, Error> {
-    text(
-        alloc,
-        &[
-            Number(ticket),
-            Word(": "),
-            Word(event),
-            Word(": "),
-            Word(outcome),
-        ],
-    )
+    let parts = [
+        Number(ticket),
+        Word(": "),
+        Word(event),
+        Word(": "),
+        Word(outcome),
+    ];
+    text(alloc, &parts)
 }
 
 /// An entry: its ticket, its event and its outcome.
@@ -91,7 +95,10 @@ fn entry_text(alloc: Global, entry: &Entry) -> Result<String, Error> {
 }
 
 /// The entry at a place.
-fn entry(alloc: Global, book: &Book, index: &str) -> Result<String, Error> {
+fn entry(alloc: Global, book: &Book, words: &[&str]) -> Result<String, Error> {
+    let [index] = words else {
+        return Err(no_row());
+    };
     match book.entries().get(usize_of(index)?) {
         Some(entry) => entry_text(alloc, entry),
         None => bail!("there is no such entry"),
@@ -116,18 +123,33 @@ fn node(alloc: Global, book: &Book) -> Result<String, Error> {
 /// Closes the book, and begins that of node 0.
 fn close(alloc: Global, book: &mut Book) -> Result<String, Error> {
     let entries = std::mem::replace(book, Book::open(alloc, 0)).into_entries();
-    entries_text(alloc, entries.len())
+    let count = entries.len();
+    drop(entries);
+    entries_text(alloc, count)
+}
+
+/// The answer to a call of one word, behind which none may stand.
+fn ask(alloc: Global, book: &mut Book, what: &str, rest: &[&str]) -> Result<String, Error> {
+    if !rest.is_empty() {
+        return Err(no_row());
+    }
+    match what {
+        "counts" => entries_text(alloc, book.entries().len()),
+        "node" => node(alloc, book),
+        "close" => close(alloc, book),
+        _ => Err(no_row()),
+    }
 }
 
 /// The answer to a call.
 pub fn answer(alloc: Global, book: &mut Book, words: &[&str]) -> Result<String, Error> {
-    match words {
-        ["new", number] => begin(alloc, book, number),
-        ["step", ticket, event @ ..] => step(alloc, book, ticket, event),
-        ["counts"] => entries_text(alloc, book.entries().len()),
-        ["entry", index] => entry(alloc, book, index),
-        ["node"] => node(alloc, book),
-        ["close"] => close(alloc, book),
-        _ => Err(no_row()),
+    let [what, rest @ ..] = words else {
+        return Err(no_row());
+    };
+    match *what {
+        "new" => begin(alloc, book, rest),
+        "step" => step(alloc, book, rest),
+        "entry" => entry(alloc, book, rest),
+        what => ask(alloc, book, what, rest),
     }
 }

@@ -1,7 +1,7 @@
 //! Rows of a node's clock.
 
 use crate::words::Part::{At, Number, Word};
-use crate::words::{no_node, no_row, text, u16_of, version};
+use crate::words::{no_node, no_row, only_version, text, u16_of};
 use anyhow::Error;
 use cops_types::{Clock, NODES};
 use std::alloc::Global;
@@ -12,7 +12,10 @@ fn told(alloc: Global, clock: &Clock) -> Result<String, Error> {
 }
 
 /// Begins a clock anew.
-fn begin(alloc: Global, clock: &mut Clock, number: &str) -> Result<String, Error> {
+fn begin(alloc: Global, clock: &mut Clock, words: &[&str]) -> Result<String, Error> {
+    let [number] = words else {
+        return Err(no_row());
+    };
     let number = u16_of(number)?;
     if number >= NODES {
         return Err(no_node());
@@ -21,23 +24,29 @@ fn begin(alloc: Global, clock: &mut Clock, number: &str) -> Result<String, Error
     told(alloc, clock)
 }
 
-fn next(alloc: Global, clock: &mut Clock) -> Result<String, Error> {
-    let version = clock.next()?;
-    text(alloc, &[At(version)])
-}
-
-fn raise(alloc: Global, clock: &mut Clock, at: &str) -> Result<String, Error> {
-    clock.raise(version(at)?);
-    told(alloc, clock)
+/// The answer to a call of one word, behind which none may stand.
+fn ask(alloc: Global, clock: &mut Clock, what: &str, rest: &[&str]) -> Result<String, Error> {
+    if !rest.is_empty() {
+        return Err(no_row());
+    }
+    match what {
+        "next" => text(alloc, &[At(clock.next()?)]),
+        "told" => told(alloc, clock),
+        _ => Err(no_row()),
+    }
 }
 
 /// The answer to a call.
 pub fn answer(alloc: Global, clock: &mut Clock, words: &[&str]) -> Result<String, Error> {
-    match words {
-        ["new", number] => begin(alloc, clock, number),
-        ["next"] => next(alloc, clock),
-        ["raise", at] => raise(alloc, clock, at),
-        ["told"] => told(alloc, clock),
-        _ => Err(no_row()),
+    let [what, rest @ ..] = words else {
+        return Err(no_row());
+    };
+    match *what {
+        "new" => begin(alloc, clock, rest),
+        "raise" => {
+            clock.raise(only_version(rest)?);
+            told(alloc, clock)
+        }
+        what => ask(alloc, clock, what, rest),
     }
 }

@@ -1,6 +1,6 @@
 //! Rows of explanations.
 
-use crate::words::{lossy, no_row, u32_of, word};
+use crate::words::{add_behind, lossy, no_row, u32_of, word};
 use anyhow::{Error, bail};
 use cops_audit::judge;
 use cops_explain::explain;
@@ -10,10 +10,15 @@ use std::alloc::Global;
 
 /// The faults that words ask for.
 fn read_asked(words: &[&str]) -> Result<Selection, Error> {
-    match words {
-        ["first"] => Ok(Selection::First),
-        ["all"] => Ok(Selection::All),
-        ["one", number] => Ok(Selection::One(u32_of(number)?)),
+    if let ["one", number] = words {
+        return Ok(Selection::One(u32_of(number)?));
+    }
+    let [what] = words else {
+        return Err(no_row());
+    };
+    match *what {
+        "first" => Ok(Selection::First),
+        "all" => Ok(Selection::All),
         _ => Err(no_row()),
     }
 }
@@ -22,10 +27,7 @@ fn read_asked(words: &[&str]) -> Result<Selection, Error> {
 fn joined(alloc: Global, told: &str) -> Result<String, Error> {
     let mut joined = String::new(alloc);
     for line in told.lines() {
-        if !joined.is_empty() {
-            joined.push('|')?;
-        }
-        joined.push_str(line)?;
+        add_behind(&mut joined, "|", line)?;
     }
     Ok(joined)
 }
@@ -43,7 +45,9 @@ fn last_line(alloc: Global, told: &str) -> Result<String, Error> {
 fn explained(alloc: Global, history: &History, words: &[&str]) -> Result<Vec<u8>, Error> {
     let asked = read_asked(words)?;
     let verdict = judge(alloc, history)?;
-    Ok(explain(alloc, history, &verdict, asked)?)
+    let told = explain(alloc, history, &verdict, asked);
+    drop(verdict);
+    Ok(told?)
 }
 
 /// What is explained of a history, as text.
@@ -52,25 +56,19 @@ fn told(alloc: Global, history: &History, words: &[&str]) -> Result<String, Erro
     lossy(alloc, &bytes)
 }
 
-/// The lines of what is explained.
-fn lines(alloc: Global, history: &History, words: &[&str]) -> Result<String, Error> {
-    let told = told(alloc, history, words)?;
-    joined(alloc, &told)
-}
-
-/// The last of these lines.
-fn end(alloc: Global, history: &History, words: &[&str]) -> Result<String, Error> {
-    let told = told(alloc, history, words)?;
-    last_line(alloc, &told)
-}
-
-/// The answer to a call of the trace that there is.
+/// The answer to a call of the trace that there is: all lines, or the last one.
 pub fn answer(alloc: Global, trace: &Option<Trace>, words: &[&str]) -> Result<String, Error> {
     let Some(trace) = trace else {
         bail!("there is no trace");
     };
-    match words {
-        ["end", rest @ ..] => end(alloc, trace.history(), rest),
-        _ => lines(alloc, trace.history(), words),
+    let (is_end, words) = match words {
+        ["end", rest @ ..] => (true, rest),
+        _ => (false, words),
+    };
+    let told = told(alloc, trace.history(), words)?;
+    if is_end {
+        last_line(alloc, &told)
+    } else {
+        joined(alloc, &told)
     }
 }

@@ -1,7 +1,7 @@
 //! Rows of the puts that wait at a node.
 
 use crate::words::Part::{At, Bytes, Count, Number, Word};
-use crate::words::{no_row, put, text, u16_of, version, word, yes_or_no};
+use crate::words::{mark, no_row, only_version, put, text, word, yes_or_no};
 use anyhow::Error;
 use cops_held::{Held, HeldFault, Taken};
 use cops_types::PutRecord;
@@ -12,11 +12,12 @@ fn counts(alloc: Global, held: &Held) -> Result<String, Error> {
     text(alloc, &[Count(held.len()), Word(" puts")])
 }
 
-fn hold(alloc: Global, held: &mut Held, words: &[&str; 4]) -> Result<String, Error> {
-    match held.hold(put(alloc, words)?)? {
-        Taken::New => word(alloc, "New"),
-        Taken::Repeat => word(alloc, "Repeat"),
-    }
+fn hold(alloc: Global, held: &mut Held, words: &[&str]) -> Result<String, Error> {
+    let taken = match held.hold(put(alloc, words)?)? {
+        Taken::New => "New",
+        Taken::Repeat => "Repeat",
+    };
+    word(alloc, taken)
 }
 
 /// A fault's code and its text.
@@ -34,14 +35,13 @@ fn refused(alloc: Global, fault: HeldFault) -> Result<String, Error> {
 }
 
 /// The indexes of the dependencies that are not marked.
-fn open(alloc: Global, held: &Held, at: &str) -> Result<String, Error> {
-    let open = held.open_deps(version(at)?)?;
+fn open(alloc: Global, held: &Held, words: &[&str]) -> Result<String, Error> {
+    let open = held.open_deps(only_version(words)?)?;
     Ok(format!(in alloc; "{open:?}")?)
 }
 
-fn mark(alloc: Global, held: &mut Held, at: &str, dep: &str) -> Result<String, Error> {
-    let version = version(at)?;
-    let dep = u16_of(dep)?;
+fn marked(alloc: Global, held: &mut Held, words: &[&str]) -> Result<String, Error> {
+    let (version, dep) = mark(words)?;
     match held.mark(version, dep) {
         Ok(()) => word(alloc, "marked"),
         Err(fault) => refused(alloc, fault),
@@ -63,34 +63,46 @@ fn put_text(alloc: Global, put: &PutRecord) -> Result<String, Error> {
     )
 }
 
-fn take(alloc: Global, held: &mut Held, at: &str) -> Result<String, Error> {
-    match held.take_ready(version(at)?) {
-        Ok(put) => put_text(alloc, &put),
+fn take(alloc: Global, held: &mut Held, words: &[&str]) -> Result<String, Error> {
+    match held.take_ready(only_version(words)?) {
+        Ok(put) => {
+            let told = put_text(alloc, &put);
+            drop(put);
+            told
+        }
         Err(fault) => refused(alloc, fault),
     }
 }
 
-fn has(alloc: Global, held: &Held, at: &str) -> Result<String, Error> {
-    let version = version(at)?;
+fn has(alloc: Global, held: &Held, words: &[&str]) -> Result<String, Error> {
+    let version = only_version(words)?;
     yes_or_no(alloc, held.record(version).is_some())
 }
 
-/// Begins a held table anew.
-fn begin(alloc: Global, held: &mut Held) -> Result<String, Error> {
-    *held = Held::new(alloc);
+/// The answer to a call of one word, behind which none may stand.
+fn ask(alloc: Global, held: &mut Held, what: &str, rest: &[&str]) -> Result<String, Error> {
+    if !rest.is_empty() {
+        return Err(no_row());
+    }
+    match what {
+        "new" => drop(std::mem::replace(held, Held::new(alloc))),
+        "counts" => {}
+        _ => return Err(no_row()),
+    }
     counts(alloc, held)
 }
 
 /// The answer to a call.
 pub fn answer(alloc: Global, held: &mut Held, words: &[&str]) -> Result<String, Error> {
-    match words {
-        ["new"] => begin(alloc, held),
-        ["counts"] => counts(alloc, held),
-        ["hold", name, bytes, at, pairs] => hold(alloc, held, &[name, bytes, at, pairs]),
-        ["open", at] => open(alloc, held, at),
-        ["has", at] => has(alloc, held, at),
-        ["mark", at, dep] => mark(alloc, held, at, dep),
-        ["take", at] => take(alloc, held, at),
-        _ => Err(no_row()),
+    let [what, rest @ ..] = words else {
+        return Err(no_row());
+    };
+    match *what {
+        "hold" => hold(alloc, held, rest),
+        "open" => open(alloc, held, rest),
+        "has" => has(alloc, held, rest),
+        "mark" => marked(alloc, held, rest),
+        "take" => take(alloc, held, rest),
+        what => ask(alloc, held, what, rest),
     }
 }

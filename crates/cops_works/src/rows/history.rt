@@ -18,62 +18,89 @@ fn counts(alloc: Global, history: &History) -> Result<String, Error> {
 /// Begins a history anew.
 fn begin(alloc: Global, history: &mut Option<History>, clients: &str) -> Result<String, Error> {
     let opened = History::new(alloc, u16_of(clients)?)?;
-    let told = counts(alloc, &opened)?;
-    *history = Some(opened);
-    Ok(told)
+    let told = counts(alloc, &opened);
+    drop(history.replace(opened));
+    told
 }
 
-fn reserve(alloc: Global, history: &mut History, client: &str) -> Result<String, Error> {
-    let client = u16_of(client)?;
-    history.reserve(client)?;
+fn reserve(alloc: Global, history: &mut History, words: &[&str]) -> Result<String, Error> {
+    let [client] = words else {
+        return Err(no_row());
+    };
+    history.reserve(u16_of(client)?)?;
     counts(alloc, history)
 }
 
-fn push(
-    alloc: Global,
-    history: &mut History,
-    client: &str,
-    words: &[&str],
-) -> Result<String, Error> {
+fn push(alloc: Global, history: &mut History, words: &[&str]) -> Result<String, Error> {
+    let [client, rest @ ..] = words else {
+        return Err(no_row());
+    };
     let client = u16_of(client)?;
-    let op = op(alloc, words)?;
+    let op = op(alloc, rest)?;
     history.push(client, op)?;
     counts(alloc, history)
 }
 
-/// The name of a client's operation at an index.
-pub fn name(client: &str, index: &str) -> Result<OpName, Error> {
+/// The name `CLIENT INDEX` of an operation.
+pub fn name(words: &[&str]) -> Result<OpName, Error> {
+    let [client, index] = words else {
+        return Err(no_row());
+    };
     let client = u16_of(client)?;
     let index = u32_of(index)?;
     Ok(OpName { client, index })
 }
 
-/// What a client did at an index.
-pub fn op_at(alloc: Global, history: &History, client: &str, index: &str) -> Result<String, Error> {
-    match history.op(name(client, index)?) {
+/// What was done by the operation of a name.
+pub fn op_at(alloc: Global, history: &History, words: &[&str]) -> Result<String, Error> {
+    match history.op(name(words)?) {
         Some(op) => op_text(alloc, &op),
         None => word(alloc, "nothing"),
     }
 }
 
-/// The answer to a call of the history that there is.
-fn ask(alloc: Global, history: &mut History, words: &[&str]) -> Result<String, Error> {
-    match words {
-        ["reserve", client] => reserve(alloc, history, client),
-        ["push", client, rest @ ..] => push(alloc, history, client, rest),
-        ["counts"] => counts(alloc, history),
-        ["empty"] => yes_or_no(alloc, history.is_empty()),
-        ["session", client] => session_text(alloc, history, client),
-        ["op", client, index] => op_at(alloc, history, client, index),
+/// How many gets are open; the one of a number; or the number of the one of a name.
+fn open_gets(alloc: Global, history: &History, words: &[&str]) -> Result<String, Error> {
+    if words.is_empty() {
+        return text(alloc, &[Count(history.open_gets()), Word(" open gets")]);
+    }
+    if let [number] = words {
+        return match history.open_get(u32_of(number)?) {
+            Some(op) => op_text(alloc, &op),
+            None => word(alloc, "nothing"),
+        };
+    }
+    match history.open_number(name(words)?) {
+        Some(number) => text(alloc, &[Word("number "), Count(number as usize)]),
+        None => word(alloc, "none"),
+    }
+}
+
+/// The answer to a call of one word, behind which none may stand.
+fn ask(alloc: Global, history: &History, what: &str, rest: &[&str]) -> Result<String, Error> {
+    if !rest.is_empty() {
+        return Err(no_row());
+    }
+    match what {
+        "counts" => counts(alloc, history),
+        "empty" => yes_or_no(alloc, history.is_empty()),
+        "above" => yes_or_no(alloc, history.are_puts_above()),
         _ => Err(no_row()),
     }
 }
 
-/// The answer to a call that asks for a history.
-fn ask_any(alloc: Global, history: &mut Option<History>, words: &[&str]) -> Result<String, Error> {
-    match history {
-        Some(history) => ask(alloc, history, words),
-        None => bail!("there is no history"),
+/// The answer to a call of the history that there is.
+fn ask_any(alloc: Global, history: &mut History, words: &[&str]) -> Result<String, Error> {
+    let [what, rest @ ..] = words else {
+        return Err(no_row());
+    };
+    match *what {
+        "reserve" => reserve(alloc, history, rest),
+        "push" => push(alloc, history, rest),
+        "session" => session_text(alloc, history, rest),
+        "op" => op_at(alloc, history, rest),
+        "open" => open_gets(alloc, history, rest),
+        what => ask(alloc, history, what, rest),
     }
 }
 
@@ -83,8 +110,11 @@ pub fn answer(
     history: &mut Option<History>,
     words: &[&str],
 ) -> Result<String, Error> {
-    match words {
-        ["new", clients] => begin(alloc, history, clients),
-        _ => ask_any(alloc, history, words),
+    if let ["new", clients] = words {
+        return begin(alloc, history, clients);
+    }
+    match history {
+        Some(history) => ask_any(alloc, history, words),
+        None => bail!("there is no history"),
     }
 }

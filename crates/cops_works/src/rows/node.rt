@@ -2,7 +2,7 @@
 
 use crate::words::Part::{Number, Word};
 use crate::words::{
-    key, no_node, no_row, node_event, pair_text, text, told_outcome, u16_of, value_at, version,
+    mark, no_node, no_row, node_event, only_key, pair_text, text, told_outcome, u16_of, value_at,
     word,
 };
 use anyhow::Error;
@@ -11,12 +11,15 @@ use cops_types::NODES;
 use std::alloc::Global;
 
 /// Begins a node anew.
-fn begin(alloc: Global, node: &mut Node, number: &str) -> Result<String, Error> {
+fn begin(alloc: Global, node: &mut Node, words: &[&str]) -> Result<String, Error> {
+    let [number] = words else {
+        return Err(no_row());
+    };
     let number = u16_of(number)?;
     if number >= NODES {
         return Err(no_node());
     }
-    *node = Node::open(alloc, number);
+    drop(std::mem::replace(node, Node::open(alloc, number)));
     text(alloc, &[Word("node "), Number(u64::from(node.number()))])
 }
 
@@ -29,9 +32,17 @@ fn taken(node: &mut Node, event: NodeEvent) -> Outcome {
             value,
             deps,
         } => node.put(client, key, value, deps),
-        NodeEvent::Get { client, key } => node.get(client, &key),
+        NodeEvent::Get { client, key } => {
+            let outcome = node.get(client, &key);
+            drop(key);
+            outcome
+        }
         NodeEvent::Deliver(put) => node.deliver(put),
-        NodeEvent::Ask { key, version } => node.ask(&key, version),
+        NodeEvent::Ask { key, version } => {
+            let outcome = node.ask(&key, version);
+            drop(key);
+            outcome
+        }
         NodeEvent::Mark { version, dep } => node.mark(version, dep),
         NodeEvent::Settle { version } => node.settle(version),
     }
@@ -48,7 +59,10 @@ fn call(alloc: Global, node: &mut Node, words: &[&str]) -> Result<String, Error>
 }
 
 /// The node's clock, and how much there is in it.
-fn status(alloc: Global, node: &Node) -> Result<String, Error> {
+fn status(alloc: Global, node: &Node, words: &[&str]) -> Result<String, Error> {
+    if !words.is_empty() {
+        return Err(no_row());
+    }
     let status = node.status();
     let parts = [
         Word("clock "),
@@ -63,17 +77,18 @@ fn status(alloc: Global, node: &Node) -> Result<String, Error> {
     text(alloc, &parts)
 }
 
-fn shown(alloc: Global, node: &Node, name: &str) -> Result<String, Error> {
-    let key = key(alloc, name)?;
-    match node.shown(&key) {
+fn shown(alloc: Global, node: &Node, words: &[&str]) -> Result<String, Error> {
+    let key = only_key(alloc, words)?;
+    let told = match node.shown(&key) {
         Some((value, version)) => value_at(alloc, value, version),
         None => word(alloc, "nothing"),
-    }
+    };
+    drop(key);
+    told
 }
 
-fn dep_of(alloc: Global, node: &Node, at: &str, dep: &str) -> Result<String, Error> {
-    let version = version(at)?;
-    let dep = u16_of(dep)?;
+fn dep_of(alloc: Global, node: &Node, words: &[&str]) -> Result<String, Error> {
+    let (version, dep) = mark(words)?;
     match node.dep_of(version, dep) {
         Some(pair) => pair_text(alloc, pair),
         None => word(alloc, "nothing"),
@@ -82,12 +97,15 @@ fn dep_of(alloc: Global, node: &Node, at: &str, dep: &str) -> Result<String, Err
 
 /// The answer to a call.
 pub fn answer(alloc: Global, node: &mut Node, words: &[&str]) -> Result<String, Error> {
-    match words {
-        ["new", number] => begin(alloc, node, number),
-        ["status"] => status(alloc, node),
-        ["shown", name] => shown(alloc, node, name),
-        ["dep", at, dep] => dep_of(alloc, node, at, dep),
-        ["step", event @ ..] => step(alloc, node, event),
-        event => call(alloc, node, event),
+    let [what, rest @ ..] = words else {
+        return Err(no_row());
+    };
+    match *what {
+        "new" => begin(alloc, node, rest),
+        "status" => status(alloc, node, rest),
+        "shown" => shown(alloc, node, rest),
+        "dep" => dep_of(alloc, node, rest),
+        "step" => step(alloc, node, rest),
+        _ => call(alloc, node, words),
     }
 }

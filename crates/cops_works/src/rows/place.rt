@@ -1,7 +1,7 @@
 //! Rows of where keys live.
 
 use crate::words::Part::{Number, Word};
-use crate::words::{key, keys, no_row, text, u8_of};
+use crate::words::{key, keys, no_row, only_key, text, u8_of};
 use anyhow::{Error, bail};
 use cops_place::Place;
 use std::alloc::Global;
@@ -27,24 +27,37 @@ pub fn open(alloc: Global, dcs: &str, splits: &str) -> Result<Place, Error> {
     Ok(Place::new(dcs, splits)?)
 }
 
-fn primary(alloc: Global, place: &Place, name: &str) -> Result<String, Error> {
-    let key = key(alloc, name)?;
-    text(alloc, &[Number(u64::from(place.primary(&key)))])
+fn primary(alloc: Global, place: &Place, words: &[&str]) -> Result<String, Error> {
+    let key = only_key(alloc, words)?;
+    let primary = place.primary(&key);
+    drop(key);
+    text(alloc, &[Number(u64::from(primary))])
 }
 
-fn node(alloc: Global, place: &Place, dc: &str, name: &str) -> Result<String, Error> {
+fn node(alloc: Global, place: &Place, words: &[&str]) -> Result<String, Error> {
+    let [dc, name] = words else {
+        return Err(no_row());
+    };
     let dc = u8_of(dc)?;
     let key = key(alloc, name)?;
     if dc >= place.dcs() {
+        drop(key);
         bail!("no such data centre");
     }
-    text(alloc, &[Number(u64::from(place.node(dc, &key)))])
+    let node = place.node(dc, &key);
+    drop(key);
+    text(alloc, &[Number(u64::from(node))])
 }
 
 /// The node in a copy of the place.
-fn copy_node(alloc: Global, place: &Place, dc: &str, name: &str) -> Result<String, Error> {
+fn copy_node(alloc: Global, place: &Place, words: &[&str]) -> Result<String, Error> {
+    let ["node", rest @ ..] = words else {
+        return Err(no_row());
+    };
     let copy = place.clone()?;
-    node(alloc, &copy, dc, name)
+    let told = node(alloc, &copy, rest);
+    drop(copy);
+    told
 }
 
 /// Begins a place anew.
@@ -55,33 +68,31 @@ fn begin(
     splits: &str,
 ) -> Result<String, Error> {
     let opened = open(alloc, dcs, splits)?;
-    let text = counts(alloc, &opened)?;
-    *place = Some(opened);
-    Ok(text)
+    let told = counts(alloc, &opened);
+    drop(place.replace(opened));
+    told
 }
 
 /// The answer to a call of the place that there is.
-fn ask(alloc: Global, place: &Place, words: &[&str]) -> Result<String, Error> {
-    match words {
-        ["primary", name] => primary(alloc, place, name),
-        ["node", dc, name] => node(alloc, place, dc, name),
-        ["copy", "node", dc, name] => copy_node(alloc, place, dc, name),
+fn ask_any(alloc: Global, place: &Place, words: &[&str]) -> Result<String, Error> {
+    let [what, rest @ ..] = words else {
+        return Err(no_row());
+    };
+    match *what {
+        "primary" => primary(alloc, place, rest),
+        "node" => node(alloc, place, rest),
+        "copy" => copy_node(alloc, place, rest),
         _ => Err(no_row()),
-    }
-}
-
-/// The answer to a call that asks for a place.
-fn ask_any(alloc: Global, place: &Option<Place>, words: &[&str]) -> Result<String, Error> {
-    match place {
-        Some(place) => ask(alloc, place, words),
-        None => bail!("there is no place"),
     }
 }
 
 /// The answer to a call.
 pub fn answer(alloc: Global, place: &mut Option<Place>, words: &[&str]) -> Result<String, Error> {
-    match words {
-        ["new", dcs, splits] => begin(alloc, place, dcs, splits),
-        _ => ask_any(alloc, place, words),
+    if let ["new", dcs, splits] = words {
+        return begin(alloc, place, dcs, splits);
+    }
+    match place {
+        Some(place) => ask_any(alloc, place, words),
+        None => bail!("there is no place"),
     }
 }

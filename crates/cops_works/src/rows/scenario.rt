@@ -3,7 +3,7 @@
 use crate::words::Part::{At, Bytes, Count, Number, Word};
 use crate::words::{line_of, no_row, outcome, text, usize_of, word};
 use anyhow::{Error, bail};
-use cops_core::{Event, ScriptOp, ScriptedClient};
+use cops_core::{Event, ScriptOp};
 use cops_node::Outcome;
 use cops_scenario::{Scenario, outcome_line};
 use cops_types::{Key, Value, Version};
@@ -30,13 +30,16 @@ fn counts(alloc: Global, scenario: &Scenario) -> Result<String, Error> {
 /// Begins a scenario anew.
 fn begin(alloc: Global, scenario: &mut Option<Scenario>, text: &str) -> Result<String, Error> {
     let read = Scenario::from_json(alloc, text.as_bytes())?;
-    let told = counts(alloc, &read)?;
-    *scenario = Some(read);
-    Ok(told)
+    let told = counts(alloc, &read);
+    drop(scenario.replace(read));
+    told
 }
 
 /// Where a client lives, and how long its script is.
-fn client(alloc: Global, scenario: &Scenario, number: &str) -> Result<String, Error> {
+fn client(alloc: Global, scenario: &Scenario, words: &[&str]) -> Result<String, Error> {
+    let [number] = words else {
+        return Err(no_row());
+    };
     match scenario.clients().get(usize_of(number)?) {
         Some(client) => {
             let (at, length) = (Number(u64::from(client.at)), Count(client.script.len()));
@@ -60,19 +63,17 @@ fn op_text(alloc: Global, op: &ScriptOp) -> Result<String, Error> {
     }
 }
 
-/// An operation of a client's script.
-fn scripted(alloc: Global, client: &ScriptedClient, index: usize) -> Result<String, Error> {
-    match client.script.get(index) {
+/// An operation of a script, by its client and its place.
+fn script(alloc: Global, scenario: &Scenario, words: &[&str]) -> Result<String, Error> {
+    let [number, index] = words else {
+        return Err(no_row());
+    };
+    let Some(client) = scenario.clients().get(usize_of(number)?) else {
+        bail!("there is no such client");
+    };
+    match client.script.get(usize_of(index)?) {
         Some(op) => op_text(alloc, op),
         None => word(alloc, "nothing"),
-    }
-}
-
-/// An operation of a script, by its client and its place.
-fn script(alloc: Global, scenario: &Scenario, number: &str, index: &str) -> Result<String, Error> {
-    match scenario.clients().get(usize_of(number)?) {
-        Some(client) => scripted(alloc, client, usize_of(index)?),
-        None => bail!("there is no such client"),
     }
 }
 
@@ -151,19 +152,17 @@ fn event_text(alloc: Global, event: &Event) -> Result<String, Error> {
     }
 }
 
-/// The event at a place of a list.
-fn listed(alloc: Global, events: &[Event], index: &str) -> Result<String, Error> {
+/// The event at a place of the list.
+fn event(alloc: Global, scenario: &Scenario, words: &[&str]) -> Result<String, Error> {
+    let [index] = words else {
+        return Err(no_row());
+    };
+    let Some(events) = scenario.events() else {
+        bail!("no list");
+    };
     match events.get(usize_of(index)?) {
         Some(event) => event_text(alloc, event),
         None => word(alloc, "nothing"),
-    }
-}
-
-/// The event at a place of the list.
-fn event(alloc: Global, scenario: &Scenario, index: &str) -> Result<String, Error> {
-    match scenario.events() {
-        Some(events) => listed(alloc, events, index),
-        None => bail!("no list"),
     }
 }
 
@@ -177,28 +176,36 @@ fn told(alloc: Global, number: usize, outcome: &Outcome) -> Result<String, Error
 fn line(alloc: Global, number: &str, words: &[&str]) -> Result<String, Error> {
     let number = usize_of(number)?;
     let outcome = outcome(alloc, words)?;
-    told(alloc, number, &outcome)
+    let told = told(alloc, number, &outcome);
+    drop(outcome);
+    told
+}
+
+/// The answer to a call of one word, behind which none may stand.
+fn ask(alloc: Global, scenario: &Scenario, what: &str, rest: &[&str]) -> Result<String, Error> {
+    if !rest.is_empty() {
+        return Err(no_row());
+    }
+    let number = match what {
+        "retries" => u64::from(scenario.retries()),
+        "repeat" => u64::from(scenario.repeat()),
+        "hold" => u64::from(scenario.hold()),
+        "events" => return events(alloc, scenario),
+        _ => return Err(no_row()),
+    };
+    text(alloc, &[Number(number)])
 }
 
 /// The answer to a call of the scenario that there is.
-fn ask(alloc: Global, scenario: &Scenario, words: &[&str]) -> Result<String, Error> {
-    match words {
-        ["retries"] => text(alloc, &[Number(u64::from(scenario.retries()))]),
-        ["repeat"] => text(alloc, &[Number(u64::from(scenario.repeat()))]),
-        ["hold"] => text(alloc, &[Number(u64::from(scenario.hold()))]),
-        ["client", number] => client(alloc, scenario, number),
-        ["script", number, index] => script(alloc, scenario, number, index),
-        ["events"] => events(alloc, scenario),
-        ["event", index] => event(alloc, scenario, index),
-        _ => Err(no_row()),
-    }
-}
-
-/// The answer to a call that asks for a scenario.
-fn ask_any(alloc: Global, scenario: &Option<Scenario>, words: &[&str]) -> Result<String, Error> {
-    match scenario {
-        Some(scenario) => ask(alloc, scenario, words),
-        None => bail!("there is no scenario"),
+fn ask_any(alloc: Global, scenario: &Scenario, words: &[&str]) -> Result<String, Error> {
+    let [what, rest @ ..] = words else {
+        return Err(no_row());
+    };
+    match *what {
+        "client" => client(alloc, scenario, rest),
+        "script" => script(alloc, scenario, rest),
+        "event" => event(alloc, scenario, rest),
+        what => ask(alloc, scenario, what, rest),
     }
 }
 
@@ -208,9 +215,14 @@ pub fn answer(
     scenario: &mut Option<Scenario>,
     words: &[&str],
 ) -> Result<String, Error> {
-    match words {
-        ["new", text] => begin(alloc, scenario, text),
-        ["line", number, outcome @ ..] => line(alloc, number, outcome),
-        _ => ask_any(alloc, scenario, words),
+    if let ["new", text] = words {
+        return begin(alloc, scenario, text);
+    }
+    if let ["line", number, outcome @ ..] = words {
+        return line(alloc, number, outcome);
+    }
+    match scenario {
+        Some(scenario) => ask_any(alloc, scenario, words),
+        None => bail!("there is no scenario"),
     }
 }

@@ -1,7 +1,7 @@
 //! Rows of a node's settled puts.
 
 use crate::words::Part::{Count, Word};
-use crate::words::{key, key_and_value, no_row, text, value_at, version, word, yes_or_no};
+use crate::words::{key, no_row, only_key, pair, text, value, value_at, version, word, yes_or_no};
 use anyhow::Error;
 use cops_store::{Settled, Store};
 use std::alloc::Global;
@@ -12,50 +12,60 @@ fn counts(alloc: Global, store: &Store) -> Result<String, Error> {
     text(alloc, &[keys, Word(" keys, "), pairs, Word(" pairs")])
 }
 
-fn settle(
-    alloc: Global,
-    store: &mut Store,
-    name: &str,
-    bytes: &str,
-    at: &str,
-) -> Result<String, Error> {
-    let version = version(at)?;
-    let (key, value) = key_and_value(alloc, name, bytes)?;
-    match store.settle(key, value, version)? {
-        Settled::Shown => word(alloc, "Shown"),
-        Settled::Older => word(alloc, "Older"),
-        Settled::Repeat => word(alloc, "Repeat"),
-    }
-}
-
-fn has(alloc: Global, store: &Store, name: &str, at: &str) -> Result<String, Error> {
+fn settle(alloc: Global, store: &mut Store, words: &[&str]) -> Result<String, Error> {
+    let [name, bytes, at] = words else {
+        return Err(no_row());
+    };
     let version = version(at)?;
     let key = key(alloc, name)?;
-    yes_or_no(alloc, store.has(&key, version))
+    let value = value(alloc, bytes)?;
+    let settled = match store.settle(key, value, version)? {
+        Settled::Shown => "Shown",
+        Settled::Older => "Older",
+        Settled::Repeat => "Repeat",
+    };
+    word(alloc, settled)
 }
 
-fn get(alloc: Global, store: &Store, name: &str) -> Result<String, Error> {
-    let key = key(alloc, name)?;
-    match store.get(&key) {
+fn has(alloc: Global, store: &Store, words: &[&str]) -> Result<String, Error> {
+    let pair = pair(alloc, words)?;
+    let has = store.has(&pair.key, pair.version);
+    drop(pair);
+    yes_or_no(alloc, has)
+}
+
+fn get(alloc: Global, store: &Store, words: &[&str]) -> Result<String, Error> {
+    let key = only_key(alloc, words)?;
+    let told = match store.get(&key) {
         Some((value, version)) => value_at(alloc, value, version),
         None => word(alloc, "nothing"),
-    }
+    };
+    drop(key);
+    told
 }
 
-/// Begins a store anew.
-fn begin(alloc: Global, store: &mut Store) -> Result<String, Error> {
-    *store = Store::new(alloc);
+/// The answer to a call of one word, behind which none may stand.
+fn ask(alloc: Global, store: &mut Store, what: &str, rest: &[&str]) -> Result<String, Error> {
+    if !rest.is_empty() {
+        return Err(no_row());
+    }
+    match what {
+        "new" => drop(std::mem::replace(store, Store::new(alloc))),
+        "counts" => {}
+        _ => return Err(no_row()),
+    }
     counts(alloc, store)
 }
 
 /// The answer to a call.
 pub fn answer(alloc: Global, store: &mut Store, words: &[&str]) -> Result<String, Error> {
-    match words {
-        ["new"] => begin(alloc, store),
-        ["counts"] => counts(alloc, store),
-        ["settle", name, bytes, at] => settle(alloc, store, name, bytes, at),
-        ["has", name, at] => has(alloc, store, name, at),
-        ["get", name] => get(alloc, store, name),
-        _ => Err(no_row()),
+    let [what, rest @ ..] = words else {
+        return Err(no_row());
+    };
+    match *what {
+        "settle" => settle(alloc, store, rest),
+        "has" => has(alloc, store, rest),
+        "get" => get(alloc, store, rest),
+        what => ask(alloc, store, what, rest),
     }
 }

@@ -20,66 +20,6 @@ use cops_types::{Clock, History};
 use cops_wire::Feeder;
 use std::alloc::Global;
 
-/// What a row of traces and messages is about.
-#[derive(Clone, Copy)]
-enum OfTraces {
-    Explain,
-    History,
-    Trace,
-    Types,
-    Wire,
-}
-
-/// What a row of nodes is about.
-#[derive(Clone, Copy)]
-enum OfNodes {
-    Book,
-    Clock,
-    Context,
-    Held,
-    Node,
-    Store,
-}
-
-/// What a row of worlds is about.
-#[derive(Clone, Copy)]
-enum OfWorlds {
-    Place,
-    Scenario,
-    Tie,
-    World,
-}
-
-/// What a row is about, by its first word.
-#[derive(Clone, Copy)]
-enum Name {
-    Traces(OfTraces),
-    Nodes(OfNodes),
-    Worlds(OfWorlds),
-}
-
-/// The name that a word is.
-fn read_name(word: &str) -> Result<Name, Error> {
-    match word {
-        "book" => Ok(Name::Nodes(OfNodes::Book)),
-        "clock" => Ok(Name::Nodes(OfNodes::Clock)),
-        "context" => Ok(Name::Nodes(OfNodes::Context)),
-        "explain" => Ok(Name::Traces(OfTraces::Explain)),
-        "held" => Ok(Name::Nodes(OfNodes::Held)),
-        "history" => Ok(Name::Traces(OfTraces::History)),
-        "node" => Ok(Name::Nodes(OfNodes::Node)),
-        "place" => Ok(Name::Worlds(OfWorlds::Place)),
-        "scenario" => Ok(Name::Worlds(OfWorlds::Scenario)),
-        "store" => Ok(Name::Nodes(OfNodes::Store)),
-        "tie" => Ok(Name::Worlds(OfWorlds::Tie)),
-        "trace" => Ok(Name::Traces(OfTraces::Trace)),
-        "types" => Ok(Name::Traces(OfTraces::Types)),
-        "wire" => Ok(Name::Traces(OfTraces::Wire)),
-        "world" => Ok(Name::Worlds(OfWorlds::World)),
-        _ => Err(no_row()),
-    }
-}
-
 /// What rows of traces and messages act on.
 #[derive(Drop)]
 struct Traces {
@@ -94,16 +34,6 @@ impl Traces {
             feeder: Feeder::new(alloc),
             history: None,
             trace: None,
-        }
-    }
-
-    fn answer(&mut self, alloc: Global, on: OfTraces, call: &[&str]) -> Result<String, Error> {
-        match on {
-            OfTraces::Explain => explain::answer(alloc, &self.trace, call),
-            OfTraces::History => history::answer(alloc, &mut self.history, call),
-            OfTraces::Trace => trace::answer(alloc, &mut self.trace, call),
-            OfTraces::Types => types::answer(alloc, call),
-            OfTraces::Wire => wire::answer(alloc, &mut self.feeder, call),
         }
     }
 }
@@ -130,17 +60,6 @@ impl Nodes {
             store: Store::new(alloc),
         }
     }
-
-    fn answer(&mut self, alloc: Global, on: OfNodes, call: &[&str]) -> Result<String, Error> {
-        match on {
-            OfNodes::Book => book::answer(alloc, &mut self.book, call),
-            OfNodes::Clock => clock::answer(alloc, &mut self.clock, call),
-            OfNodes::Context => context::answer(alloc, &mut self.context, call),
-            OfNodes::Held => held::answer(alloc, &mut self.held, call),
-            OfNodes::Node => node::answer(alloc, &mut self.node, call),
-            OfNodes::Store => store::answer(alloc, &mut self.store, call),
-        }
-    }
 }
 
 /// What rows of worlds act on.
@@ -162,12 +81,13 @@ impl Worlds {
         }
     }
 
-    fn answer(&mut self, alloc: Global, on: OfWorlds, call: &[&str]) -> Result<String, Error> {
+    fn answer(&mut self, alloc: Global, on: &str, call: &[&str]) -> Result<String, Error> {
         match on {
-            OfWorlds::Place => place::answer(alloc, &mut self.place, call),
-            OfWorlds::Scenario => scenario::answer(alloc, &mut self.scenario, call),
-            OfWorlds::Tie => tie::answer(alloc, &mut self.run, call),
-            OfWorlds::World => world::answer(alloc, &mut self.world, call),
+            "place" => place::answer(alloc, &mut self.place, call),
+            "scenario" => scenario::answer(alloc, &mut self.scenario, call),
+            "tie" => tie::answer(alloc, &mut self.run, call),
+            "world" => world::answer(alloc, &mut self.world, call),
+            _ => Err(no_row()),
         }
     }
 }
@@ -190,15 +110,31 @@ impl Subjects {
         }
     }
 
+    /// The answer to a row that acts on nodes or on worlds.
+    fn answer_of_nodes(&mut self, alloc: Global, on: &str, call: &[&str]) -> Result<String, Error> {
+        match on {
+            "book" => book::answer(alloc, &mut self.nodes.book, call),
+            "clock" => clock::answer(alloc, &mut self.nodes.clock, call),
+            "context" => context::answer(alloc, &mut self.nodes.context, call),
+            "held" => held::answer(alloc, &mut self.nodes.held, call),
+            "node" => node::answer(alloc, &mut self.nodes.node, call),
+            "store" => store::answer(alloc, &mut self.nodes.store, call),
+            _ => self.worlds.answer(alloc, on, call),
+        }
+    }
+
     /// The answer to a row's words, of which the first names what it acts on.
     pub fn answer(&mut self, alloc: Global, words: &[&str]) -> Result<String, Error> {
-        let [first, call @ ..] = words else {
+        let [on, call @ ..] = words else {
             return Err(no_row());
         };
-        match read_name(first)? {
-            Name::Traces(on) => self.traces.answer(alloc, on, call),
-            Name::Nodes(on) => self.nodes.answer(alloc, on, call),
-            Name::Worlds(on) => self.worlds.answer(alloc, on, call),
+        match *on {
+            "explain" => explain::answer(alloc, &self.traces.trace, call),
+            "history" => history::answer(alloc, &mut self.traces.history, call),
+            "trace" => trace::answer(alloc, &mut self.traces.trace, call),
+            "types" => types::answer(alloc, call),
+            "wire" => wire::answer(alloc, &mut self.traces.feeder, call),
+            on => self.answer_of_nodes(alloc, on, call),
         }
     }
 }

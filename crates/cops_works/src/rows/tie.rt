@@ -4,41 +4,43 @@ use crate::rows::book::entries_text;
 use crate::words::Part::{Count, Word};
 use crate::words::{no_row, node_event, op, outcome, parts, text, u16_of, u64_of, word};
 use anyhow::{Error, bail};
+use cops_core::Setting;
 use cops_scenario::Scenario;
 use cops_tie::{Entry, tie};
 use cops_trace::Trace;
 use std::alloc::Global;
+use std::slice;
 
-/// The one book of a scenario's one node, and what its clients saw.
+/// The book of a scenario's one node, and what its clients saw.
 #[derive(Drop)]
 pub struct Run {
-    scenario: Scenario,
-    books: Vec<Vec<Entry>>,
+    setting: Setting,
+    book: Vec<Entry>,
     trace: Trace,
 }
 
-/// One book, without entries.
-fn one_book(alloc: Global) -> Result<Vec<Vec<Entry>>, Error> {
-    let mut books = Vec::new(alloc);
-    books.push(Vec::new(alloc))?;
-    Ok(books)
-}
-
 /// A run of a scenario, in which nothing has happened.
-fn open(alloc: Global, text: &str) -> Result<Run, Error> {
-    let scenario = Scenario::from_json(alloc, text.as_bytes())?;
+fn run_of(alloc: Global, scenario: &Scenario) -> Result<Run, Error> {
     let trace = Trace::new(alloc, scenario.clients().len() as u16)?;
-    let books = one_book(alloc)?;
+    let setting = scenario.setting(alloc)?;
     Ok(Run {
-        scenario,
-        books,
+        setting,
+        book: Vec::new(alloc),
         trace,
     })
 }
 
+/// The same of a scenario's text.
+fn open(alloc: Global, text: &str) -> Result<Run, Error> {
+    let scenario = Scenario::from_json(alloc, text.as_bytes())?;
+    let run = run_of(alloc, &scenario);
+    drop(scenario);
+    run
+}
+
 /// Begins a run anew.
 fn begin(alloc: Global, run: &mut Option<Run>, text: &str) -> Result<String, Error> {
-    *run = Some(open(alloc, text)?);
+    drop(run.replace(open(alloc, text)?));
     word(alloc, "opened")
 }
 
@@ -68,67 +70,60 @@ fn entry(alloc: Global, ticket: &str, words: &[&str]) -> Result<Entry, Error> {
     }
 }
 
-/// Adds an entry to a book.
-fn add(alloc: Global, book: &mut Vec<Entry>, entry: Entry) -> Result<String, Error> {
-    book.push(entry)?;
+/// Adds an entry to the book.
+fn enter(alloc: Global, book: &mut Vec<Entry>, words: &[&str]) -> Result<String, Error> {
+    let [ticket, rest @ ..] = words else {
+        return Err(no_row());
+    };
+    book.push(entry(alloc, ticket, rest)?)?;
     entries_text(alloc, book.len())
 }
 
-/// Adds an entry to the one book.
-fn added(alloc: Global, books: &mut [Vec<Entry>], entry: Entry) -> Result<String, Error> {
-    match books.first_mut() {
-        Some(book) => add(alloc, book, entry),
-        None => {
-            drop(entry);
-            bail!("there is no book")
-        }
-    }
-}
-
-fn enter(alloc: Global, run: &mut Run, ticket: &str, words: &[&str]) -> Result<String, Error> {
-    let entry = entry(alloc, ticket, words)?;
-    added(alloc, &mut run.books, entry)
-}
-
-fn record(alloc: Global, run: &mut Run, client: &str, words: &[&str]) -> Result<String, Error> {
+fn record(alloc: Global, trace: &mut Trace, words: &[&str]) -> Result<String, Error> {
+    let [client, rest @ ..] = words else {
+        return Err(no_row());
+    };
     let client = u16_of(client)?;
-    let op = op(alloc, words)?;
-    run.trace.push(client, op)?;
-    text(alloc, &[Count(run.trace.len()), Word(" records")])
+    let op = op(alloc, rest)?;
+    trace.push(client, op)?;
+    text(alloc, &[Count(trace.len()), Word(" records")])
 }
 
-/// How many events the books tell.
-fn tied(alloc: Global, run: &Run) -> Result<String, Error> {
-    let setting = run.scenario.setting(alloc)?;
-    if run.books.len() != setting.dcs() as usize * setting.nodes() as usize {
+/// How many events the book tells.
+fn tied(alloc: Global, run: &Run, words: &[&str]) -> Result<String, Error> {
+    if !words.is_empty() {
+        return Err(no_row());
+    }
+    let books = slice::from_ref(&run.book);
+    if books.len() != run.setting.dcs() as usize * run.setting.nodes() as usize {
         bail!("there is more than one node");
     }
-    let events = tie(alloc, &setting, &run.books, &run.trace)?;
-    text(alloc, &[Count(events.len()), Word(" events")])
+    let events = tie(alloc, &run.setting, books, &run.trace)?;
+    let count = events.len();
+    drop(events);
+    text(alloc, &[Count(count), Word(" events")])
 }
 
 /// The answer to a call of the run that there is.
-fn ask(alloc: Global, run: &mut Run, words: &[&str]) -> Result<String, Error> {
-    match words {
-        ["entry", ticket, rest @ ..] => enter(alloc, run, ticket, rest),
-        ["record", client, rest @ ..] => record(alloc, run, client, rest),
-        ["books"] => tied(alloc, run),
+fn ask_any(alloc: Global, run: &mut Run, words: &[&str]) -> Result<String, Error> {
+    let [what, rest @ ..] = words else {
+        return Err(no_row());
+    };
+    match *what {
+        "entry" => enter(alloc, &mut run.book, rest),
+        "record" => record(alloc, &mut run.trace, rest),
+        "books" => tied(alloc, run, rest),
         _ => Err(no_row()),
-    }
-}
-
-/// The answer to a call that asks for a run.
-fn ask_any(alloc: Global, run: &mut Option<Run>, words: &[&str]) -> Result<String, Error> {
-    match run {
-        Some(run) => ask(alloc, run, words),
-        None => bail!("there is no run"),
     }
 }
 
 /// The answer to a call.
 pub fn answer(alloc: Global, run: &mut Option<Run>, words: &[&str]) -> Result<String, Error> {
-    match words {
-        ["new", text] => begin(alloc, run, text),
-        _ => ask_any(alloc, run, words),
+    if let ["new", text] = words {
+        return begin(alloc, run, text);
+    }
+    match run {
+        Some(run) => ask_any(alloc, run, words),
+        None => bail!("there is no run"),
     }
 }

@@ -24,14 +24,16 @@ fn counts(alloc: Global, trace: &Trace) -> Result<String, Error> {
 /// Keeps a trace.
 fn kept(alloc: Global, trace: &mut Option<Trace>, read: Trace) -> Result<String, Error> {
     let told = counts(alloc, &read);
-    *trace = Some(read);
+    drop(trace.replace(read));
     told
 }
 
 /// Begins a trace anew.
-fn begin(alloc: Global, trace: &mut Option<Trace>, clients: &str) -> Result<String, Error> {
-    let clients = u16_of(clients)?;
-    let opened = Trace::new(alloc, clients)?;
+fn begin(alloc: Global, trace: &mut Option<Trace>, words: &[&str]) -> Result<String, Error> {
+    let [clients] = words else {
+        return Err(no_row());
+    };
+    let opened = Trace::new(alloc, u16_of(clients)?)?;
     kept(alloc, trace, opened)
 }
 
@@ -49,12 +51,10 @@ fn read_pieces(alloc: Global, piece: usize, bytes: &[u8]) -> Result<Trace, Trace
 }
 
 /// Begins the trace that bytes are, or tells their first fault.
-fn read(
-    alloc: Global,
-    trace: &mut Option<Trace>,
-    piece: &str,
-    word: &str,
-) -> Result<String, Error> {
+fn read(alloc: Global, trace: &mut Option<Trace>, words: &[&str]) -> Result<String, Error> {
+    let [piece, word] = words else {
+        return Err(no_row());
+    };
     let piece = usize_of(piece)?;
     let bytes = bytes(alloc, word)?;
     match read_pieces(alloc, piece, &bytes) {
@@ -63,16 +63,20 @@ fn read(
     }
 }
 
-/// The fault of a trace's bytes, of which only so many pieces come.
-fn fault_of(alloc: Global, bytes: &[u8], reads: u64, piece: usize) -> Option<TraceFault> {
+/// The fault of a trace, or else of what stands whole at the front, of whose bytes only so many pieces come.
+fn fault_of(
+    alloc: Global,
+    is_trace: bool,
+    bytes: &[u8],
+    reads: u64,
+    piece: usize,
+) -> Option<TraceFault> {
     let mut reader = Counted::new(FailingReader::new(bytes, reads, 1_000_000, piece));
-    read_trace(alloc, &mut reader).err()
-}
-
-/// The fault of what stands whole in bytes, of which only so many pieces come.
-fn fault_of_front(alloc: Global, bytes: &[u8], reads: u64, piece: usize) -> Option<TraceFault> {
-    let mut reader = Counted::new(FailingReader::new(bytes, reads, 1_000_000, piece));
-    read_so_far(alloc, &mut reader).err()
+    if is_trace {
+        read_trace(alloc, &mut reader).err()
+    } else {
+        read_so_far(alloc, &mut reader).err()
+    }
 }
 
 fn fault_text(alloc: Global, fault: Option<TraceFault>) -> Result<String, Error> {
@@ -83,17 +87,19 @@ fn fault_text(alloc: Global, fault: Option<TraceFault>) -> Result<String, Error>
 }
 
 /// The first fault of bytes, of which only so many pieces of so many come.
-fn failing(alloc: Global, front: bool, words: &[&str; 3]) -> Result<String, Error> {
-    let [reads, piece, word] = words;
+fn failing(alloc: Global, words: &[&str]) -> Result<String, Error> {
+    let [what, reads, piece, word] = words else {
+        return Err(no_row());
+    };
+    let is_trace = match *what {
+        "read" => true,
+        "front" => false,
+        _ => return Err(no_row()),
+    };
     let reads = u64_of(reads)?;
     let piece = usize_of(piece)?;
     let bytes = bytes(alloc, word)?;
-    let fault = if front {
-        fault_of_front(alloc, &bytes, reads, piece)
-    } else {
-        fault_of(alloc, &bytes, reads, piece)
-    };
-    fault_text(alloc, fault)
+    fault_text(alloc, fault_of(alloc, is_trace, &bytes, reads, piece))
 }
 
 /// What stands whole in bytes before a cut.
@@ -111,10 +117,15 @@ fn partial_text(alloc: Global, partial: &Partial) -> Result<String, Error> {
 }
 
 /// How much stands whole before a cut.
-fn front(alloc: Global, word: &str) -> Result<String, Error> {
+fn front(alloc: Global, words: &[&str]) -> Result<String, Error> {
+    let [word] = words else {
+        return Err(no_row());
+    };
     let bytes = bytes(alloc, word)?;
     let partial = whole(alloc, &bytes)?;
-    partial_text(alloc, &partial)
+    let told = partial_text(alloc, &partial);
+    drop(partial);
+    told
 }
 
 /// The bytes of a trace.
@@ -142,57 +153,71 @@ fn short_line<'a>(alloc: Global, fault: &'a str, taken: &'a str) -> Result<Strin
     text(alloc, &[Word(fault), Word(": "), Word(taken)])
 }
 
-fn short_text(alloc: Global, fault: WriteFault, taken: &str) -> Result<String, Error> {
-    let told = format!(in alloc; "{fault}")?;
-    short_line(alloc, &told, taken)
-}
-
 /// The bytes that a device takes which fails once it has so many, and what is told then.
-fn short(alloc: Global, trace: &Trace, bytes: &str) -> Result<String, Error> {
+fn short(alloc: Global, trace: &Trace, words: &[&str]) -> Result<String, Error> {
+    let [bytes] = words else {
+        return Err(no_row());
+    };
     let (bytes, fault) = cut_short(alloc, trace, u64_of(bytes)?);
     let taken = digits(alloc, &bytes)?;
-    match fault {
-        Some(fault) => short_text(alloc, fault, &taken),
-        None => Ok(taken),
-    }
+    let Some(fault) = fault else {
+        return Ok(taken);
+    };
+    let told = format!(in alloc; "{fault}")?;
+    short_line(alloc, &told, &taken)
 }
 
-fn push(alloc: Global, trace: &mut Trace, client: &str, words: &[&str]) -> Result<String, Error> {
+fn push(alloc: Global, trace: &mut Trace, words: &[&str]) -> Result<String, Error> {
+    let [client, rest @ ..] = words else {
+        return Err(no_row());
+    };
     let client = u16_of(client)?;
-    let op = op(alloc, words)?;
+    let op = op(alloc, rest)?;
     trace.push(client, op)?;
     counts(alloc, trace)
 }
 
-/// The answer to a call of the trace that there is.
-fn ask(alloc: Global, trace: &mut Trace, words: &[&str]) -> Result<String, Error> {
-    match words {
-        ["push", client, rest @ ..] => push(alloc, trace, client, rest),
-        ["counts"] => counts(alloc, trace),
-        ["empty"] => yes_or_no(alloc, trace.is_empty()),
-        ["write"] => write(alloc, trace),
-        ["short", bytes] => short(alloc, trace, bytes),
-        ["op", client, index] => op_at(alloc, trace.history(), client, index),
+/// The answer to a call of one word, behind which none may stand.
+fn ask(alloc: Global, trace: &Trace, what: &str, rest: &[&str]) -> Result<String, Error> {
+    if !rest.is_empty() {
+        return Err(no_row());
+    }
+    match what {
+        "counts" => counts(alloc, trace),
+        "empty" => yes_or_no(alloc, trace.is_empty()),
+        "write" => write(alloc, trace),
         _ => Err(no_row()),
     }
 }
 
-/// The answer to a call that asks for a trace.
-fn ask_any(alloc: Global, trace: &mut Option<Trace>, words: &[&str]) -> Result<String, Error> {
-    match trace {
-        Some(trace) => ask(alloc, trace, words),
-        None => bail!("there is no trace"),
+/// The answer to a call of the trace that there is.
+fn ask_any(
+    alloc: Global,
+    trace: &mut Option<Trace>,
+    what: &str,
+    rest: &[&str],
+) -> Result<String, Error> {
+    let Some(trace) = trace else {
+        bail!("there is no trace");
+    };
+    match what {
+        "push" => push(alloc, trace, rest),
+        "short" => short(alloc, trace, rest),
+        "op" => op_at(alloc, trace.history(), rest),
+        what => ask(alloc, trace, what, rest),
     }
 }
 
 /// The answer to a call.
 pub fn answer(alloc: Global, trace: &mut Option<Trace>, words: &[&str]) -> Result<String, Error> {
-    match words {
-        ["new", clients] => begin(alloc, trace, clients),
-        ["read", piece, word] => read(alloc, trace, piece, word),
-        ["front", word] => front(alloc, word),
-        ["failing", "read", reads, piece, word] => { failing(alloc, false, &[reads, piece, word]) }
-        ["failing", "front", reads, piece, word] => { failing(alloc, true, &[reads, piece, word]) }
-        _ => ask_any(alloc, trace, words),
+    let [what, rest @ ..] = words else {
+        return Err(no_row());
+    };
+    match *what {
+        "new" => begin(alloc, trace, rest),
+        "read" => read(alloc, trace, rest),
+        "front" => front(alloc, rest),
+        "failing" => failing(alloc, rest),
+        what => ask_any(alloc, trace, what, rest),
     }
 }

@@ -10,8 +10,11 @@ use anyhow::Error;
 use cops_types::{Format, Key, Value, Version};
 use std::alloc::Global;
 
-/// So many bytes.
-fn letters(alloc: Global, count: &str) -> Result<Vec<u8>, Error> {
+/// So many bytes, of the number of one word.
+fn letters(alloc: Global, words: &[&str]) -> Result<Vec<u8>, Error> {
+    let [count] = words else {
+        return Err(no_row());
+    };
     let count = usize_of(count)?;
     Ok(vec![in alloc; b'k'; count]?)
 }
@@ -21,39 +24,57 @@ fn length(alloc: Global, bytes: &[u8]) -> Result<String, Error> {
     text(alloc, &[Count(bytes.len()), Word(" bytes")])
 }
 
-fn key_of(alloc: Global, count: &str) -> Result<String, Error> {
-    let letters = letters(alloc, count)?;
+fn key_of(alloc: Global, words: &[&str]) -> Result<String, Error> {
+    let letters = letters(alloc, words)?;
     let key = Key::new(alloc, &letters)?;
-    length(alloc, key.as_bytes())
+    let told = length(alloc, key.as_bytes());
+    drop(key);
+    told
 }
 
-fn value_of(alloc: Global, count: &str) -> Result<String, Error> {
-    let letters = letters(alloc, count)?;
+fn value_of(alloc: Global, words: &[&str]) -> Result<String, Error> {
+    let letters = letters(alloc, words)?;
     let value = Value::new(alloc, &letters)?;
-    length(alloc, value.as_bytes())
+    let told = length(alloc, value.as_bytes());
+    drop(value);
+    told
 }
 
-fn same_keys(alloc: Global, one: &str, other: &str) -> Result<String, Error> {
+/// Whether two keys are the same, or one stands before the other.
+fn keys(alloc: Global, words: &[&str]) -> Result<String, Error> {
+    let [one, how, other] = words else {
+        return Err(no_row());
+    };
+    let is_same = match *how {
+        "is" => true,
+        "before" => false,
+        _ => return Err(no_row()),
+    };
     let one = key(alloc, one)?;
     let other = key(alloc, other)?;
-    yes_or_no(alloc, one.is(&other))
+    let are = if is_same { one.is(&other) } else { one < other };
+    drop(one);
+    drop(other);
+    yes_or_no(alloc, are)
 }
 
-/// Whether one key stands before the other.
-fn before(alloc: Global, one: &str, other: &str) -> Result<String, Error> {
-    let one = key(alloc, one)?;
-    let other = key(alloc, other)?;
-    yes_or_no(alloc, one < other)
-}
-
-fn same_values(alloc: Global, one: &str, other: &str) -> Result<String, Error> {
+fn same_values(alloc: Global, words: &[&str]) -> Result<String, Error> {
+    let [one, "is", other] = words else {
+        return Err(no_row());
+    };
     let one = Value::new_in(Format::One, alloc, one.as_bytes())?;
     let other = value(alloc, other)?;
-    yes_or_no(alloc, one.is(&other))
+    let are = one.is(&other);
+    drop(one);
+    drop(other);
+    yes_or_no(alloc, are)
 }
 
 /// A version's number, and the data centre of its node.
-fn number(alloc: Global, clock: &str, node: &str) -> Result<String, Error> {
+fn number(alloc: Global, words: &[&str]) -> Result<String, Error> {
+    let [clock, node] = words else {
+        return Err(no_row());
+    };
     let version = version_of(clock, node)?;
     let (number, dc) = (version.as_u64(), u64::from(version.dc()));
     text(
@@ -63,7 +84,10 @@ fn number(alloc: Global, clock: &str, node: &str) -> Result<String, Error> {
 }
 
 /// The version of a number.
-fn numbered(alloc: Global, number: &str) -> Result<String, Error> {
+fn numbered(alloc: Global, words: &[&str]) -> Result<String, Error> {
+    let [number] = words else {
+        return Err(no_row());
+    };
     let version = Version::from_u64(u64_of(number)?)?;
     let (clock, node) = (version.clock(), u64::from(version.node()));
     text(
@@ -73,33 +97,59 @@ fn numbered(alloc: Global, number: &str) -> Result<String, Error> {
 }
 
 /// The text of an operation's name, and of its version.
-fn name(alloc: Global, client: &str, index: &str, at: &str) -> Result<String, Error> {
-    let name = history::name(client, index)?;
+fn name(alloc: Global, words: &[&str]) -> Result<String, Error> {
+    let [client, index, at] = words else {
+        return Err(no_row());
+    };
+    let name = history::name(&[*client, *index])?;
     let version = version(at)?;
     let told = format!(in alloc; "{name}")?;
     text(alloc, &[Word(&told), Word(" at "), At(version)])
 }
 
-fn pairs(alloc: Global, word: &str) -> Result<String, Error> {
+fn pairs(alloc: Global, words: &[&str]) -> Result<String, Error> {
+    let [word] = words else {
+        return Err(no_row());
+    };
     let deps = deps(alloc, word)?;
-    text(alloc, &[Count(deps.as_slice().len()), Word(" pairs")])
+    let count = deps.as_slice().len();
+    drop(deps);
+    text(alloc, &[Count(count), Word(" pairs")])
 }
 
 /// The copy of what a client did.
 fn op_copy(alloc: Global, words: &[&str]) -> Result<String, Error> {
     let op = op(alloc, words)?;
-    let copy = op.clone()?;
-    op_text(alloc, &copy.as_ref())
+    let copy: Result<_, _> = op.clone();
+    drop(op);
+    let copy = copy?;
+    let told = op_text(alloc, &copy.as_ref());
+    drop(copy);
+    told
 }
 
-fn pair_copy(alloc: Global, name: &str, at: &str) -> Result<String, Error> {
-    let pair = pair(alloc, name, at)?;
-    let copy = pair.clone()?;
-    pair_text(alloc, &copy)
+fn pair_copy(alloc: Global, words: &[&str]) -> Result<String, Error> {
+    let pair = pair(alloc, words)?;
+    let copy: Result<_, _> = pair.clone();
+    drop(pair);
+    let copy = copy?;
+    let told = pair_text(alloc, &copy);
+    drop(copy);
+    told
+}
+
+fn copied(alloc: Global, words: &[&str]) -> Result<String, Error> {
+    match words {
+        ["pair", rest @ ..] => pair_copy(alloc, rest),
+        _ => op_copy(alloc, words),
+    }
 }
 
 /// The limits of the first format.
-fn limits(alloc: Global) -> Result<String, Error> {
+fn limits(alloc: Global, words: &[&str]) -> Result<String, Error> {
+    if !words.is_empty() {
+        return Err(no_row());
+    }
     let (body, deps) = (
         Count(Format::One.longest_body()),
         Count(Format::One.most_deps()),
@@ -118,19 +168,20 @@ fn limits(alloc: Global) -> Result<String, Error> {
 
 /// The answer to a call.
 pub fn answer(alloc: Global, words: &[&str]) -> Result<String, Error> {
-    match words {
-        ["key", count] => key_of(alloc, count),
-        ["value", count] => value_of(alloc, count),
-        ["keys", one, "is", other] => same_keys(alloc, one, other),
-        ["keys", one, "before", other] => before(alloc, one, other),
-        ["values", one, "is", other] => same_values(alloc, one, other),
-        ["version", clock, node] => number(alloc, clock, node),
-        ["number", raw] => numbered(alloc, raw),
-        ["name", client, index, at] => name(alloc, client, index, at),
-        ["deps", word] => pairs(alloc, word),
-        ["copy", "pair", name, at] => pair_copy(alloc, name, at),
-        ["copy", rest @ ..] => op_copy(alloc, rest),
-        ["limits"] => limits(alloc),
+    let [what, rest @ ..] = words else {
+        return Err(no_row());
+    };
+    match *what {
+        "key" => key_of(alloc, rest),
+        "value" => value_of(alloc, rest),
+        "keys" => keys(alloc, rest),
+        "values" => same_values(alloc, rest),
+        "version" => number(alloc, rest),
+        "number" => numbered(alloc, rest),
+        "name" => name(alloc, rest),
+        "deps" => pairs(alloc, rest),
+        "copy" => copied(alloc, rest),
+        "limits" => limits(alloc, rest),
         _ => Err(no_row()),
     }
 }

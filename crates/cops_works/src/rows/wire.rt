@@ -2,40 +2,37 @@
 
 use crate::words::Part::{Count, Number, Word};
 use crate::words::{bytes, digits, lossy, no_row, text, u8_of, u32_of, u64_of, word, yes_or_no};
-use anyhow::{Error, anyhow, bail};
+use anyhow::{Error, bail};
 use cops_wire::{Decoded, Feeder, Message, body_len, decode, encode, kind, legal, show};
 use std::alloc::Global;
 
-/// The bytes of a message's line.
-fn line_bytes(alloc: Global, message: &Message) -> Result<Vec<u8>, Error> {
-    let mut line = Vec::new(alloc);
-    show(alloc, message, &mut line)?;
-    Ok(line)
-}
-
 /// The line of a message.
 fn line(alloc: Global, message: &Message) -> Result<String, Error> {
-    let line = line_bytes(alloc, message)?;
+    let mut line = Vec::new(alloc);
+    show(alloc, message, &mut line)?;
     lossy(alloc, &line)
 }
 
-/// The frame at the front.
-fn front(alloc: Global, word: &str) -> Result<Decoded, Error> {
+/// The frame at the front of the bytes of one word.
+fn front(alloc: Global, words: &[&str]) -> Result<Decoded, Error> {
+    let [word] = words else {
+        return Err(no_row());
+    };
     let bytes = bytes(alloc, word)?;
     Ok(decode(alloc, &bytes)?)
 }
 
 /// The line of the frame at the front.
-fn show_frame(alloc: Global, word: &str) -> Result<String, Error> {
-    let front = front(alloc, word)?;
+fn show_frame(alloc: Global, words: &[&str]) -> Result<String, Error> {
+    let front = front(alloc, words)?;
     let line = line(alloc, &front.message);
     drop(front);
     line
 }
 
 /// The kind of the message at the front, and the bytes of its body and of its frame.
-fn measures(alloc: Global, word: &str) -> Result<String, Error> {
-    let front = front(alloc, word)?;
+fn measures(alloc: Global, words: &[&str]) -> Result<String, Error> {
+    let front = front(alloc, words)?;
     let kind = Number(u64::from(kind(&front.message)));
     let body = Count(body_len(&front.message));
     let frame = Count(front.used);
@@ -62,8 +59,8 @@ fn spelled(alloc: Global, message: &Message) -> Result<Vec<u8>, Error> {
 }
 
 /// The bytes of the message at the front, spelled anew.
-fn spell(alloc: Global, word: &str) -> Result<String, Error> {
-    let front = front(alloc, word)?;
+fn spell(alloc: Global, words: &[&str]) -> Result<String, Error> {
+    let front = front(alloc, words)?;
     let spelling = spelled(alloc, &front.message);
     drop(front);
     digits(alloc, &spelling?)
@@ -93,10 +90,13 @@ fn feed_byte(
 }
 
 /// Bytes come one by one: the line of each frame that they complete, behind the number of bytes then fed.
-fn feed(alloc: Global, feeder: &mut Feeder, word: &str) -> Result<String, Error> {
+fn feed(alloc: Global, feeder: &mut Feeder, words: &[&str]) -> Result<String, Error> {
+    let [word] = words else {
+        return Err(no_row());
+    };
+    let bytes = bytes(alloc, word)?;
     let mut lines = String::new(alloc);
     let mut count = 0u64;
-    let bytes = bytes(alloc, word)?;
     for byte in &bytes {
         count = count.saturating_add(1);
         feed_byte(alloc, feeder, &mut lines, count, *byte)?;
@@ -104,24 +104,24 @@ fn feed(alloc: Global, feeder: &mut Feeder, word: &str) -> Result<String, Error>
     Ok(lines)
 }
 
-/// The fault of a message where none is wanted.
-fn unwanted(message: Message) -> Error {
-    drop(message);
-    anyhow!("a message")
-}
-
 /// A piece comes: whether it leaves a faulty frame, and not one that is not whole.
 fn feed_piece(feeder: &mut Feeder, piece: &[u8]) -> Result<bool, Error> {
     feeder.feed(piece)?;
     match feeder.next() {
         Ok(None) => Ok(false),
-        Ok(Some(message)) => Err(unwanted(message)),
+        Ok(Some(message)) => {
+            drop(message);
+            bail!("a message")
+        }
         Err(_) => Ok(true),
     }
 }
 
 /// So many pieces of a thousand like bytes come: how many leave a frame that is not whole, and how many a faulty one.
-fn flood(alloc: Global, feeder: &mut Feeder, count: &str, byte: &str) -> Result<String, Error> {
+fn flood(alloc: Global, feeder: &mut Feeder, words: &[&str]) -> Result<String, Error> {
+    let [count, byte] = words else {
+        return Err(no_row());
+    };
     let piece = [u8_of(byte)?; 1000];
     let (mut waiting, mut faulty) = (0u64, 0u64);
     for _ in 0..u32_of(count)? {
@@ -140,79 +140,69 @@ fn flood(alloc: Global, feeder: &mut Feeder, count: &str, byte: &str) -> Result<
     text(alloc, &parts)
 }
 
-fn hello_ok(dc: &str, nodes: &str) -> Result<Message, Error> {
-    let dc = u8_of(dc)?;
-    let nodes = u8_of(nodes)?;
-    Ok(Message::HelloOk { dc, nodes })
-}
-
-fn refused(seq: &str, code: &str) -> Result<Message, Error> {
-    let seq = u32_of(seq)?;
-    let code = u8_of(code)?;
-    Ok(Message::Refused { seq, code })
-}
-
-fn status(seq: &str, node: &str) -> Result<Message, Error> {
-    let seq = u32_of(seq)?;
-    let node = u8_of(node)?;
-    Ok(Message::Status { seq, node })
-}
-
 /// A message of two numbers.
 fn pair_message(name: &str, first: &str, second: &str) -> Result<Message, Error> {
     match name {
-        "HelloOk" => hello_ok(first, second),
-        "Refused" => refused(first, second),
-        "Status" => status(first, second),
+        "HelloOk" => Ok(Message::HelloOk {
+            dc: u8_of(first)?,
+            nodes: u8_of(second)?,
+        }),
+        "Refused" => Ok(Message::Refused {
+            seq: u32_of(first)?,
+            code: u8_of(second)?,
+        }),
+        "Status" => Ok(Message::Status {
+            seq: u32_of(first)?,
+            node: u8_of(second)?,
+        }),
         _ => Err(no_row()),
     }
 }
 
-/// An answer to a status, of counts of 1.
-fn status_message(clock: &str) -> Result<Message, Error> {
-    let clock = u64_of(clock)?;
-    Ok(Message::StatusIs {
-        seq: 1,
-        clock,
-        keys: 1,
-        settled: 1,
-        held: 1,
-    })
+/// A message of two numbers, or an answer to a status, of counts of 1.
+fn message(words: &[&str]) -> Result<Message, Error> {
+    match words {
+        ["StatusIs", clock] => Ok(Message::StatusIs {
+            seq: 1,
+            clock: u64_of(clock)?,
+            keys: 1,
+            settled: 1,
+            held: 1,
+        }),
+        [name, first, second] => pair_message(name, first, second),
+        _ => Err(no_row()),
+    }
 }
 
-fn is_legal(alloc: Global, message: Message) -> Result<String, Error> {
+fn is_legal(alloc: Global, words: &[&str]) -> Result<String, Error> {
+    let message = message(words)?;
     let is = legal(&message);
     drop(message);
     yes_or_no(alloc, is)
 }
 
-fn is_status_legal(alloc: Global, clock: &str) -> Result<String, Error> {
-    let message = status_message(clock)?;
-    is_legal(alloc, message)
-}
-
-fn is_pair_legal(alloc: Global, name: &str, first: &str, second: &str) -> Result<String, Error> {
-    let message = pair_message(name, first, second)?;
-    is_legal(alloc, message)
-}
-
 /// Begins a feeder anew.
-fn begin(alloc: Global, feeder: &mut Feeder) -> Result<String, Error> {
-    *feeder = Feeder::new(alloc);
+fn begin(alloc: Global, feeder: &mut Feeder, words: &[&str]) -> Result<String, Error> {
+    if !words.is_empty() {
+        return Err(no_row());
+    }
+    drop(std::mem::replace(feeder, Feeder::new(alloc)));
     word(alloc, "opened")
 }
 
 /// The answer to a call.
 pub fn answer(alloc: Global, feeder: &mut Feeder, words: &[&str]) -> Result<String, Error> {
-    match words {
-        ["new"] => begin(alloc, feeder),
-        ["feed", frame] => feed(alloc, feeder, frame),
-        ["flood", count, byte] => flood(alloc, feeder, count, byte),
-        ["show", frame] => show_frame(alloc, frame),
-        ["decode", frame] => measures(alloc, frame),
-        ["spell", frame] => spell(alloc, frame),
-        ["legal", "StatusIs", clock] => is_status_legal(alloc, clock),
-        ["legal", name, first, second] => is_pair_legal(alloc, name, first, second),
+    let [what, rest @ ..] = words else {
+        return Err(no_row());
+    };
+    match *what {
+        "new" => begin(alloc, feeder, rest),
+        "feed" => feed(alloc, feeder, rest),
+        "flood" => flood(alloc, feeder, rest),
+        "show" => show_frame(alloc, rest),
+        "decode" => measures(alloc, rest),
+        "spell" => spell(alloc, rest),
+        "legal" => is_legal(alloc, rest),
         _ => Err(no_row()),
     }
 }

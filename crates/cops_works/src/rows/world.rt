@@ -3,15 +3,20 @@
 use crate::rows::place;
 use crate::words::Part::{Count, Word};
 use crate::words::{
-    no_row, outcome_text, parts, session_text, text, told_outcome, u8_of, u32_of, world_event,
+    add_behind, no_row, outcome_text, parts, session_text, text, told_outcome, u8_of, u32_of,
+    world_event,
 };
 use anyhow::{Error, bail};
 use cops_core::{Event, World};
 use cops_node::Outcome;
 use std::alloc::Global;
 
-/// So many clients at a data centre.
-fn add_clients(homes: &mut Vec<u8>, dc: &str, count: &str) -> Result<(), Error> {
+/// The clients of a word `DATA_CENTRE`, or `DATA_CENTRE*COUNT` for so many at it.
+fn add_clients(homes: &mut Vec<u8>, word: &str) -> Result<(), Error> {
+    let (dc, count) = match word.split_once('*') {
+        Some(halves) => halves,
+        None => (word, "1"),
+    };
     let dc = u8_of(dc)?;
     for _ in 0..u32_of(count)? {
         homes.push(dc)?;
@@ -19,24 +24,17 @@ fn add_clients(homes: &mut Vec<u8>, dc: &str, count: &str) -> Result<(), Error> 
     Ok(())
 }
 
-/// The clients of a word `DATA_CENTRE`, or `DATA_CENTRE*COUNT` for so many at it.
-fn add_told(homes: &mut Vec<u8>, word: &str) -> Result<(), Error> {
-    match word.split_once('*') {
-        Some((dc, count)) => add_clients(homes, dc, count),
-        None => add_clients(homes, word, "1"),
-    }
-}
-
 /// Where the clients live.
 fn homes(alloc: Global, word: &str) -> Result<Vec<u8>, Error> {
     let mut homes = Vec::new(alloc);
     for one in word.split(',') {
-        add_told(&mut homes, one)?;
+        add_clients(&mut homes, one)?;
     }
     Ok(homes)
 }
 
-fn open(alloc: Global, dcs: &str, splits: &str, clients: &str) -> Result<World, Error> {
+fn open(alloc: Global, words: &[&str; 3]) -> Result<World, Error> {
+    let [dcs, splits, clients] = words;
     let place = place::open(alloc, dcs, splits)?;
     let homes = homes(alloc, clients)?;
     Ok(World::open(alloc, place, homes)?)
@@ -44,10 +42,9 @@ fn open(alloc: Global, dcs: &str, splits: &str, clients: &str) -> Result<World, 
 
 /// Begins a world anew.
 fn begin(alloc: Global, world: &mut Option<World>, words: &[&str; 3]) -> Result<String, Error> {
-    let [dcs, splits, clients] = words;
-    let opened = open(alloc, dcs, splits, clients)?;
+    let opened = open(alloc, words)?;
     let count = opened.history().clients();
-    *world = Some(opened);
+    drop(world.replace(opened));
     text(alloc, &[Count(count), Word(" clients")])
 }
 
@@ -60,15 +57,18 @@ fn apply(alloc: Global, world: &mut World, words: &[&str]) -> Result<String, Err
 fn last(world: &mut World, count: u32, event: &Event) -> Outcome {
     let mut last = Outcome::Missed;
     for _ in 0..count {
-        last = world.answer(event);
+        drop(std::mem::replace(&mut last, world.answer(event)));
     }
     last
 }
 
 /// The same event so many times: the last outcome.
-fn again(alloc: Global, world: &mut World, count: &str, words: &[&str]) -> Result<String, Error> {
+fn again(alloc: Global, world: &mut World, words: &[&str]) -> Result<String, Error> {
+    let [count, rest @ ..] = words else {
+        return Err(no_row());
+    };
     let count = u32_of(count)?;
-    let event = world_event(alloc, words)?;
+    let event = world_event(alloc, rest)?;
     let last = last(world, count, &event);
     drop(event);
     told_outcome(alloc, last)
@@ -88,49 +88,51 @@ fn events(alloc: Global, words: &[&str]) -> Result<Vec<Event>, Error> {
 fn outcomes_text(alloc: Global, outcomes: &[Outcome]) -> Result<String, Error> {
     let mut text = String::new(alloc);
     for outcome in outcomes {
-        if !text.is_empty() {
-            text.push_str(" / ")?;
-        }
         let one = outcome_text(alloc, outcome)?;
-        text.push_str(&one)?;
+        add_behind(&mut text, " / ", &one)?;
     }
     Ok(text)
 }
 
 fn run(alloc: Global, world: &mut World, words: &[&str]) -> Result<String, Error> {
     let events = events(alloc, words)?;
-    let outcomes = world.run(&events)?;
-    outcomes_text(alloc, &outcomes)
+    let outcomes = world.run(&events);
+    drop(events);
+    let outcomes = outcomes?;
+    let told = outcomes_text(alloc, &outcomes);
+    drop(outcomes);
+    told
 }
 
 /// How many operations the clients saw.
-fn count(alloc: Global, world: &World) -> Result<String, Error> {
+fn count(alloc: Global, world: &World, words: &[&str]) -> Result<String, Error> {
+    if !words.is_empty() {
+        return Err(no_row());
+    }
     text(alloc, &[Count(world.history().len()), Word(" operations")])
 }
 
 /// The answer to a call of the world that there is.
-fn ask_world(alloc: Global, world: &mut World, words: &[&str]) -> Result<String, Error> {
-    match words {
-        ["counts"] => count(alloc, world),
-        ["session", client] => session_text(alloc, world.history(), client),
-        ["again", count, event @ ..] => again(alloc, world, count, event),
-        ["run", events @ ..] => run(alloc, world, events),
-        event => apply(alloc, world, event),
-    }
-}
-
-/// The answer to a call that asks for a world.
-fn ask_any(alloc: Global, world: &mut Option<World>, words: &[&str]) -> Result<String, Error> {
-    match world {
-        Some(world) => ask_world(alloc, world, words),
-        None => bail!("there is no world"),
+fn ask_any(alloc: Global, world: &mut World, words: &[&str]) -> Result<String, Error> {
+    let [what, rest @ ..] = words else {
+        return Err(no_row());
+    };
+    match *what {
+        "counts" => count(alloc, world, rest),
+        "session" => session_text(alloc, world.history(), rest),
+        "again" => again(alloc, world, rest),
+        "run" => run(alloc, world, rest),
+        _ => apply(alloc, world, words),
     }
 }
 
 /// The answer to a call.
 pub fn answer(alloc: Global, world: &mut Option<World>, words: &[&str]) -> Result<String, Error> {
-    match words {
-        ["open", dcs, splits, clients] => begin(alloc, world, &[dcs, splits, clients]),
-        _ => ask_any(alloc, world, words),
+    if let ["open", dcs, splits, clients] = words {
+        return begin(alloc, world, &[*dcs, *splits, *clients]);
+    }
+    match world {
+        Some(world) => ask_any(alloc, world, words),
+        None => bail!("there is no world"),
     }
 }

@@ -1,16 +1,20 @@
 //! The events of a node: `put CLIENT KEY VALUE DEPS`, `get CLIENT KEY`, `deliver KEY VALUE VERSION DEPS`, `ask KEY
 //! VERSION`, `mark VERSION DEP`, `settle VERSION`.
 
-use crate::words::reading::{deps, key, key_and_value, no_row, put, u16_of, version};
+use crate::words::reading::{deps, key, mark, no_row, only_version, pair, put, u16_of, value};
 use anyhow::Error;
 use cops_node::NodeEvent;
+use cops_types::Dep;
 use std::alloc::Global;
 
-fn put_event(alloc: Global, words: &[&str; 4]) -> Result<NodeEvent, Error> {
-    let [client, name, bytes, pairs] = words;
+fn put_event(alloc: Global, words: &[&str]) -> Result<NodeEvent, Error> {
+    let [client, name, bytes, pairs] = words else {
+        return Err(no_row());
+    };
     let client = u16_of(client)?;
     let deps = deps(alloc, pairs)?;
-    let (key, value) = key_and_value(alloc, name, bytes)?;
+    let key = key(alloc, name)?;
+    let value = value(alloc, bytes)?;
     Ok(NodeEvent::Put {
         client,
         key,
@@ -19,43 +23,42 @@ fn put_event(alloc: Global, words: &[&str; 4]) -> Result<NodeEvent, Error> {
     })
 }
 
-fn get_event(alloc: Global, client: &str, name: &str) -> Result<NodeEvent, Error> {
+fn get_event(alloc: Global, words: &[&str]) -> Result<NodeEvent, Error> {
+    let [client, name] = words else {
+        return Err(no_row());
+    };
     let client = u16_of(client)?;
     let key = key(alloc, name)?;
     Ok(NodeEvent::Get { client, key })
 }
 
-fn deliver_event(alloc: Global, words: &[&str; 4]) -> Result<NodeEvent, Error> {
-    let put = put(alloc, words)?;
-    Ok(NodeEvent::Deliver(put))
-}
-
-fn ask_event(alloc: Global, name: &str, at: &str) -> Result<NodeEvent, Error> {
-    let version = version(at)?;
-    let key = key(alloc, name)?;
+fn ask_event(alloc: Global, words: &[&str]) -> Result<NodeEvent, Error> {
+    let Dep { key, version } = pair(alloc, words)?;
     Ok(NodeEvent::Ask { key, version })
 }
 
-fn mark_event(at: &str, dep: &str) -> Result<NodeEvent, Error> {
-    let version = version(at)?;
-    let dep = u16_of(dep)?;
+fn mark_event(words: &[&str]) -> Result<NodeEvent, Error> {
+    let (version, dep) = mark(words)?;
     Ok(NodeEvent::Mark { version, dep })
 }
 
-fn settle_event(at: &str) -> Result<NodeEvent, Error> {
-    let version = version(at)?;
+fn settle_event(words: &[&str]) -> Result<NodeEvent, Error> {
+    let version = only_version(words)?;
     Ok(NodeEvent::Settle { version })
 }
 
 /// The event of a node that words tell.
 pub fn node_event(alloc: Global, words: &[&str]) -> Result<NodeEvent, Error> {
-    match words {
-        ["put", client, name, bytes, pairs] => put_event(alloc, &[client, name, bytes, pairs]),
-        ["get", client, name] => get_event(alloc, client, name),
-        ["deliver", name, bytes, at, pairs] => deliver_event(alloc, &[name, bytes, at, pairs]),
-        ["ask", name, at] => ask_event(alloc, name, at),
-        ["mark", at, dep] => mark_event(at, dep),
-        ["settle", at] => settle_event(at),
+    let [what, rest @ ..] = words else {
+        return Err(no_row());
+    };
+    match *what {
+        "put" => put_event(alloc, rest),
+        "get" => get_event(alloc, rest),
+        "deliver" => Ok(NodeEvent::Deliver(put(alloc, rest)?)),
+        "ask" => ask_event(alloc, rest),
+        "mark" => mark_event(rest),
+        "settle" => settle_event(rest),
         _ => Err(no_row()),
     }
 }

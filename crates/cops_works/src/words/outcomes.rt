@@ -1,11 +1,11 @@
 //! The words that tell a node's outcome.
 
-use crate::words::reading::{no_row, u8_of, value, version};
+use crate::words::reading::{no_row, only_version, u8_of, value, version};
 use crate::words::texts::Part::{At, Bytes, Number, Word};
 use crate::words::texts::{text, word};
 use anyhow::Error;
 use cops_node::Outcome;
-use cops_types::{Refusal, Value, Version};
+use cops_types::Refusal;
 use std::alloc::Global;
 
 /// The refusals of a node and of the world.
@@ -23,27 +23,18 @@ const REFUSALS: [Refusal; 11] = [
     Refusal::SessionFull,
 ];
 
-fn got(alloc: Global, value: &Value, version: Version) -> Result<String, Error> {
-    text(
-        alloc,
-        &[
-            Word("got "),
-            Bytes(value.as_bytes()),
-            Word(" at "),
-            At(version),
-        ],
-    )
-}
-
 /// The words of an outcome, as a run prints them; what a get found stands there with its value.
 pub fn outcome_text(alloc: Global, outcome: &Outcome) -> Result<String, Error> {
     match outcome {
         Outcome::PutDone(version) => text(alloc, &[Word("done "), At(*version)]),
-        Outcome::Got(value, version) => got(alloc, value, *version),
-        Outcome::Refused(refusal) => text(
-            alloc,
-            &[Word("refused "), Number(u64::from(refusal.code()))],
-        ),
+        Outcome::Got(value, version) => {
+            let value = Bytes(value.as_bytes());
+            text(alloc, &[Word("got "), value, Word(" at "), At(*version)])
+        }
+        Outcome::Refused(refusal) => {
+            let code = Number(u64::from(refusal.code()));
+            text(alloc, &[Word("refused "), code])
+        }
         Outcome::Missed => word(alloc, "missed"),
         Outcome::Held => word(alloc, "held"),
         Outcome::Repeat => word(alloc, "repeat"),
@@ -61,18 +52,24 @@ pub fn told_outcome(alloc: Global, outcome: Outcome) -> Result<String, Error> {
     told
 }
 
-fn done(at: &str) -> Result<Outcome, Error> {
-    let version = version(at)?;
+fn done(words: &[&str]) -> Result<Outcome, Error> {
+    let version = only_version(words)?;
     Ok(Outcome::PutDone(version))
 }
 
-fn found(alloc: Global, bytes: &str, at: &str) -> Result<Outcome, Error> {
+fn found(alloc: Global, words: &[&str]) -> Result<Outcome, Error> {
+    let [bytes, "at", at] = words else {
+        return Err(no_row());
+    };
     let version = version(at)?;
     let value = value(alloc, bytes)?;
     Ok(Outcome::Got(value, version))
 }
 
-fn refused(code: &str) -> Result<Outcome, Error> {
+fn refused(words: &[&str]) -> Result<Outcome, Error> {
+    let [code] = words else {
+        return Err(no_row());
+    };
     let code = u8_of(code)?;
     for refusal in REFUSALS {
         if refusal.code() == code {
@@ -82,8 +79,11 @@ fn refused(code: &str) -> Result<Outcome, Error> {
     Err(no_row())
 }
 
-/// The outcome of one word.
-fn plain(word: &str) -> Result<Outcome, Error> {
+/// The outcome of one word, behind which none may stand.
+fn plain(word: &str, rest: &[&str]) -> Result<Outcome, Error> {
+    if !rest.is_empty() {
+        return Err(no_row());
+    }
     match word {
         "missed" => Ok(Outcome::Missed),
         "held" => Ok(Outcome::Held),
@@ -98,11 +98,13 @@ fn plain(word: &str) -> Result<Outcome, Error> {
 
 /// The outcome that such words tell.
 pub fn outcome(alloc: Global, words: &[&str]) -> Result<Outcome, Error> {
-    match words {
-        ["done", at] => done(at),
-        ["got", bytes, "at", at] => found(alloc, bytes, at),
-        ["refused", code] => refused(code),
-        [word] => plain(word),
-        _ => Err(no_row()),
+    let [what, rest @ ..] = words else {
+        return Err(no_row());
+    };
+    match *what {
+        "done" => done(rest),
+        "got" => found(alloc, rest),
+        "refused" => refused(rest),
+        word => plain(word, rest),
     }
 }

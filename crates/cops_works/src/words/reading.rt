@@ -14,9 +14,19 @@ pub fn no_node() -> Error {
     anyhow!("there is no such node")
 }
 
-/// The fault of a number that its type has not, in the words of the types themselves.
-fn too_large() -> Error {
-    anyhow!("number too large to fit in target type")
+/// The number below 2 ^ 8 of these digits.
+pub fn u8_of(word: &str) -> Result<u8, Error> {
+    Ok(word.parse::<u8>()?)
+}
+
+/// The number below 2 ^ 16 of these digits.
+pub fn u16_of(word: &str) -> Result<u16, Error> {
+    Ok(word.parse::<u16>()?)
+}
+
+/// The number below 2 ^ 32 of these digits.
+pub fn u32_of(word: &str) -> Result<u32, Error> {
+    Ok(word.parse::<u32>()?)
 }
 
 /// The number below 2 ^ 64 of these digits.
@@ -24,44 +34,9 @@ pub fn u64_of(word: &str) -> Result<u64, Error> {
     Ok(word.parse::<u64>()?)
 }
 
-/// The number below 2 ^ 8 of these digits.
-pub fn u8_of(word: &str) -> Result<u8, Error> {
-    let number = u64_of(word)?;
-    if number > 255 {
-        return Err(too_large());
-    }
-    Ok(number as u8)
-}
-
-/// The number below 2 ^ 16 of these digits.
-pub fn u16_of(word: &str) -> Result<u16, Error> {
-    let number = u64_of(word)?;
-    if number > 65_535 {
-        return Err(too_large());
-    }
-    Ok(number as u16)
-}
-
-/// The number below 2 ^ 32 of these digits.
-pub fn u32_of(word: &str) -> Result<u32, Error> {
-    let number = u64_of(word)?;
-    if number > 4_294_967_295 {
-        return Err(too_large());
-    }
-    Ok(number as u32)
-}
-
 /// The number of these digits, as a length or an index.
 pub fn usize_of(word: &str) -> Result<usize, Error> {
     Ok(u64_of(word)? as usize)
-}
-
-/// What stands before a sign and behind it.
-fn halves(word: &str, sign: char) -> Result<(&str, &str), Error> {
-    match word.split_once(sign) {
-        Some(halves) => Ok(halves),
-        None => Err(no_row()),
-    }
 }
 
 /// The key of these bytes.
@@ -83,8 +58,36 @@ pub fn version_of(clock: &str, node: &str) -> Result<Version, Error> {
 
 /// The version `CLOCK.NODE`.
 pub fn version(word: &str) -> Result<Version, Error> {
-    let (clock, node) = halves(word, '.')?;
-    version_of(clock, node)
+    match word.split_once('.') {
+        Some((clock, node)) => version_of(clock, node),
+        None => Err(no_row()),
+    }
+}
+
+/// The key of one word.
+pub fn only_key(alloc: Global, words: &[&str]) -> Result<Key, Error> {
+    match words {
+        [name] => key(alloc, name),
+        _ => Err(no_row()),
+    }
+}
+
+/// The version of one word.
+pub fn only_version(words: &[&str]) -> Result<Version, Error> {
+    match words {
+        [at] => version(at),
+        _ => Err(no_row()),
+    }
+}
+
+/// The version of a put, and the place of one of its dependencies: `VERSION DEP`.
+pub fn mark(words: &[&str]) -> Result<(Version, u16), Error> {
+    let [at, dep] = words else {
+        return Err(no_row());
+    };
+    let version = version(at)?;
+    let dep = u16_of(dep)?;
+    Ok((version, dep))
 }
 
 /// The keys `KEY,KEY..`, or none where the word is `-`.
@@ -98,8 +101,11 @@ pub fn keys(alloc: Global, word: &str) -> Result<Vec<Key>, Error> {
     Ok(keys)
 }
 
-/// The pair of a key and a version.
-pub fn pair(alloc: Global, name: &str, at: &str) -> Result<Dep, Error> {
+/// The pair `KEY VERSION`.
+pub fn pair(alloc: Global, words: &[&str]) -> Result<Dep, Error> {
+    let [name, at] = words else {
+        return Err(no_row());
+    };
     let version = version(at)?;
     let key = key(alloc, name)?;
     Ok(Dep { key, version })
@@ -107,39 +113,32 @@ pub fn pair(alloc: Global, name: &str, at: &str) -> Result<Dep, Error> {
 
 /// The pair `KEY@VERSION`.
 fn told_pair(alloc: Global, word: &str) -> Result<Dep, Error> {
-    let (name, at) = halves(word, '@')?;
-    pair(alloc, name, at)
+    match word.split_once('@') {
+        Some((name, at)) => pair(alloc, &[name, at]),
+        None => Err(no_row()),
+    }
 }
 
-/// The pairs `KEY@VERSION,KEY@VERSION..`, or none where the word is `-`.
-fn pairs(alloc: Global, word: &str) -> Result<Vec<Dep>, Error> {
+/// The dependencies `KEY@VERSION,KEY@VERSION..`, or none where the word is `-`.
+pub fn deps(alloc: Global, word: &str) -> Result<Deps, Error> {
     let mut pairs = Vec::new(alloc);
     if word != "-" {
         for told in word.split(',') {
             pairs.push(told_pair(alloc, told)?)?;
         }
     }
-    Ok(pairs)
+    Ok(Deps::new(pairs)?)
 }
 
-/// The dependencies `KEY@VERSION,KEY@VERSION..`, or none where the word is `-`.
-pub fn deps(alloc: Global, word: &str) -> Result<Deps, Error> {
-    Ok(Deps::new(pairs(alloc, word)?)?)
-}
-
-/// The key and the value of these bytes.
-pub fn key_and_value(alloc: Global, name: &str, bytes: &str) -> Result<(Key, Value), Error> {
-    let key = key(alloc, name)?;
-    let value = value(alloc, bytes)?;
-    Ok((key, value))
-}
-
-/// The put of a key, a value, a version and dependencies.
-pub fn put(alloc: Global, words: &[&str; 4]) -> Result<PutRecord, Error> {
-    let [name, bytes, at, pairs] = words;
+/// The put `KEY VALUE VERSION DEPS`.
+pub fn put(alloc: Global, words: &[&str]) -> Result<PutRecord, Error> {
+    let [name, bytes, at, pairs] = words else {
+        return Err(no_row());
+    };
     let version = version(at)?;
     let deps = deps(alloc, pairs)?;
-    let (key, value) = key_and_value(alloc, name, bytes)?;
+    let key = key(alloc, name)?;
+    let value = value(alloc, bytes)?;
     Ok(PutRecord {
         key,
         value,
@@ -148,37 +147,40 @@ pub fn put(alloc: Global, words: &[&str; 4]) -> Result<PutRecord, Error> {
     })
 }
 
-fn put_op(alloc: Global, name: &str, bytes: &str, at: &str) -> Result<Op, Error> {
+/// A put `KEY VALUE VERSION`, or else a get that found it.
+fn valued_op(alloc: Global, is_put: bool, words: &[&str]) -> Result<Op, Error> {
+    let [name, bytes, at] = words else {
+        return Err(no_row());
+    };
     let version = version(at)?;
-    let (key, value) = key_and_value(alloc, name, bytes)?;
-    Ok(Op::Put {
-        key,
-        value,
-        version,
-    })
-}
-
-fn got_op(alloc: Global, name: &str, bytes: &str, at: &str) -> Result<Op, Error> {
-    let version = version(at)?;
-    let (key, value) = key_and_value(alloc, name, bytes)?;
-    Ok(Op::Got {
-        key,
-        value,
-        version,
-    })
-}
-
-fn missed_op(alloc: Global, name: &str) -> Result<Op, Error> {
     let key = key(alloc, name)?;
-    Ok(Op::Missed { key })
+    let value = value(alloc, bytes)?;
+    if is_put {
+        Ok(Op::Put {
+            key,
+            value,
+            version,
+        })
+    } else {
+        Ok(Op::Got {
+            key,
+            value,
+            version,
+        })
+    }
 }
 
-/// What a client did.
+/// What a client did: `put KEY VALUE VERSION`, `got KEY VALUE VERSION` or `missed KEY`.
 pub fn op(alloc: Global, words: &[&str]) -> Result<Op, Error> {
-    match words {
-        ["put", name, bytes, at] => put_op(alloc, name, bytes, at),
-        ["got", name, bytes, at] => got_op(alloc, name, bytes, at),
-        ["missed", name] => missed_op(alloc, name),
+    let [what, rest @ ..] = words else {
+        return Err(no_row());
+    };
+    match *what {
+        "put" => valued_op(alloc, true, rest),
+        "got" => valued_op(alloc, false, rest),
+        "missed" => Ok(Op::Missed {
+            key: only_key(alloc, rest)?,
+        }),
         _ => Err(no_row()),
     }
 }

@@ -1,6 +1,6 @@
 //! The words that tell pairs, values, operations and sessions.
 
-use crate::words::reading::u16_of;
+use crate::words::reading::{no_row, u16_of};
 use crate::words::texts::Part::{At, Bytes, Count, Word};
 use crate::words::texts::{text, word};
 use anyhow::Error;
@@ -9,11 +9,8 @@ use std::alloc::Global;
 
 /// `yes` or `no`.
 pub fn yes_or_no(alloc: Global, is: bool) -> Result<String, Error> {
-    if is {
-        word(alloc, "yes")
-    } else {
-        word(alloc, "no")
-    }
+    let answer = if is { "yes" } else { "no" };
+    word(alloc, answer)
 }
 
 /// `VALUE at VERSION`.
@@ -68,8 +65,11 @@ pub fn op_text(alloc: Global, op: &OpRef<'_>) -> Result<String, Error> {
     }
 }
 
-/// How many operations a client has.
-pub fn session_text(alloc: Global, history: &History, client: &str) -> Result<String, Error> {
+/// How many operations the client of one word has.
+pub fn session_text(alloc: Global, history: &History, words: &[&str]) -> Result<String, Error> {
+    let [client] = words else {
+        return Err(no_row());
+    };
     let operations = history.session_len(u16_of(client)?);
     text(alloc, &[Count(operations), Word(" operations")])
 }

@@ -53,6 +53,14 @@ pub fn text(alloc: Global, parts: &[Part]) -> Result<String, Error> {
     Ok(text)
 }
 
+/// Adds a part to a text, behind a sign where others stand before it.
+pub fn add_behind(text: &mut String, sign: &str, part: &str) -> Result<(), Error> {
+    if !text.is_empty() {
+        text.push_str(sign)?;
+    }
+    Ok(text.push_str(part)?)
+}
+
 /// The text of one word.
 pub fn word(alloc: Global, word: &str) -> Result<String, Error> {
     Ok(String::from_str(alloc, word)?)

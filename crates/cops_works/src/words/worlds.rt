@@ -1,44 +1,63 @@
 //! The events of a world: `put CLIENT KEY VALUE`, `get CLIENT KEY`, `deliver DATA_CENTRE VERSION`, `ask DATA_CENTRE KEY
 //! VERSION`, `mark DATA_CENTRE VERSION DEP`, `settle DATA_CENTRE VERSION`.
 
-use crate::words::reading::{key, key_and_value, no_row, u8_of, u16_of, version};
+use crate::words::reading::{key, no_row, pair, u8_of, u16_of, value, version};
 use anyhow::Error;
 use cops_core::Event;
+use cops_types::Dep;
 use std::alloc::Global;
 
-fn put(alloc: Global, client: &str, name: &str, bytes: &str) -> Result<Event, Error> {
+fn put(alloc: Global, words: &[&str]) -> Result<Event, Error> {
+    let [client, name, bytes] = words else {
+        return Err(no_row());
+    };
     let client = u16_of(client)?;
-    let (key, value) = key_and_value(alloc, name, bytes)?;
+    let key = key(alloc, name)?;
+    let value = value(alloc, bytes)?;
     Ok(Event::Put { client, key, value })
 }
 
-fn get(alloc: Global, client: &str, name: &str) -> Result<Event, Error> {
+fn get(alloc: Global, words: &[&str]) -> Result<Event, Error> {
+    let [client, name] = words else {
+        return Err(no_row());
+    };
     let client = u16_of(client)?;
     let key = key(alloc, name)?;
     Ok(Event::Get { client, key })
 }
 
-fn deliver(dc: &str, at: &str) -> Result<Event, Error> {
+fn deliver(words: &[&str]) -> Result<Event, Error> {
+    let [dc, at] = words else {
+        return Err(no_row());
+    };
     let dc = u8_of(dc)?;
     let version = version(at)?;
     Ok(Event::Deliver { dc, version })
 }
 
-fn ask(alloc: Global, dc: &str, name: &str, at: &str) -> Result<Event, Error> {
+fn ask(alloc: Global, words: &[&str]) -> Result<Event, Error> {
+    let [dc, name, at] = words else {
+        return Err(no_row());
+    };
     let dc = u8_of(dc)?;
-    let version = version(at)?;
-    let key = key(alloc, name)?;
+    let Dep { key, version } = pair(alloc, &[*name, *at])?;
     Ok(Event::Ask { dc, key, version })
 }
 
-fn mark(dc: &str, at: &str, dep: &str) -> Result<Event, Error> {
+fn mark(words: &[&str]) -> Result<Event, Error> {
+    let [dc, at, dep] = words else {
+        return Err(no_row());
+    };
     let dc = u8_of(dc)?;
     let version = version(at)?;
     let dep = u16_of(dep)?;
     Ok(Event::Mark { dc, version, dep })
 }
 
-fn settle(dc: &str, at: &str) -> Result<Event, Error> {
+fn settle(words: &[&str]) -> Result<Event, Error> {
+    let [dc, at] = words else {
+        return Err(no_row());
+    };
     let dc = u8_of(dc)?;
     let version = version(at)?;
     Ok(Event::Settle { dc, version })
@@ -46,13 +65,16 @@ fn settle(dc: &str, at: &str) -> Result<Event, Error> {
 
 /// The event of a world that words tell.
 pub fn world_event(alloc: Global, words: &[&str]) -> Result<Event, Error> {
-    match words {
-        ["put", client, name, bytes] => put(alloc, client, name, bytes),
-        ["get", client, name] => get(alloc, client, name),
-        ["deliver", dc, at] => deliver(dc, at),
-        ["ask", dc, name, at] => ask(alloc, dc, name, at),
-        ["mark", dc, at, dep] => mark(dc, at, dep),
-        ["settle", dc, at] => settle(dc, at),
+    let [what, rest @ ..] = words else {
+        return Err(no_row());
+    };
+    match *what {
+        "put" => put(alloc, rest),
+        "get" => get(alloc, rest),
+        "deliver" => deliver(rest),
+        "ask" => ask(alloc, rest),
+        "mark" => mark(rest),
+        "settle" => settle(rest),
         _ => Err(no_row()),
     }
 }
