@@ -14,13 +14,13 @@ use Rattle.cops_audit.specs.declared.verdict.NotAbove.{NotAbove}
 use Rattle.cops_audit.specs.declared.verdict.Stale.{Stale}
 use Rattle.cops_audit.specs.declared.window.Suspect.{Suspect}
 use Rattle.cops_audit.specs.Names.{ListsAmong}
-use Rattle.cops_audit.specs.Notes.{IsNoted, IsSourceless, SeesNotAbove}
+use Rattle.cops_audit.specs.Notes.{IsNoted, IsSourceless}
 use Rattle.cops_audit.specs.Tables.{IsPutTable, IsVersionTable}
 use Rattle.cops_audit.specs.Windows.{AreSuspects, IsSuspect}
 use Rattle.cops_audit.proofs.Collect.{among_all, among_none, among_same, get_or-default}
 use Rattle.cops_audit.proofs.PastOrder.{past_to}
 use Rattle.cops_audit.proofs.Places.{doubled_by_neighbour, neighbour_of_doubled, place_of_put, put_at}
-use Rattle.cops_audit.proofs.Reading.{above_same, sourceless_same}
+use Rattle.cops_audit.proofs.Reading.{sourceless_same}
 
 -- where each get has a source, none waits
 pub sourced_wait : (h : Sessions) → AllHaveSources h → HaveSourcesOrWait h
@@ -78,15 +78,16 @@ module _ (h : Sessions) (names : List OpName) (all : Lists (λ n. n) (IsNamed h)
   pub stale_listed : (faults : List Stale) → ListsAmong (λ f. f.op) (λ f. IsStale h f.op f.newer) names faults → Lists (λ f. f.op) (λ f. IsStale h f.op f.newer) faults
   stale_listed faults lists = among_all (λ f. f.op) (λ f. IsStale h f.op f.newer) names faults lists (λ x f. (all.members x.op).1 (past_to h x.newer x.op f.is_newer.past))
 
+  pub without_source_listed : (faults : List OpName) → ListsAmong (λ n. n) (HasNoSource h) names faults → Lists (λ n. n) (HasNoSource h) faults
+  without_source_listed faults lists = among_all (λ n. n) (HasNoSource h) names faults lists (λ x f. (all.members x).1 (_, f.got))
+
+  pub above_listed : (faults : List NotAbove) → ListsAmong (λ f. f.op) (λ f. IsNotAbove h f.op f.earlier) names faults → Lists (λ f. f.op) (λ f. IsNotAbove h f.op f.earlier) faults
+  above_listed faults lists = among_all (λ f. f.op) (λ f. IsNotAbove h f.op f.earlier) names faults lists (λ x f. (all.members x.op).1 (_, f.is_not_below.put.2))
+
   module _ (table : List VersionedPut) (t : IsVersionTable h table) (notes : List (List Note)) (noted : IsNoted h table notes) where
     pub sourceless_listed : (faults : List OpName) → ListsAmong (λ n. n) (IsSourceless notes) names faults → Lists (λ n. n) (HasNoSource h) faults
     sourceless_listed faults lists = among_all (λ n. n) (HasNoSource h) names faults
         (among_same (λ n. n) (IsSourceless notes) (HasNoSource h) names faults (sourceless_same h table t notes noted) lists) (λ x f. (all.members x).1 (_, f.got))
-
-    pub above_listed : HaveSourcesOrWait h → (faults : List NotAbove) → ListsAmong (λ f. f.op) (λ f. SeesNotAbove notes f.op f.earlier) names faults → Lists (λ f. f.op) (λ f. IsNotAbove h f.op f.earlier) faults
-    above_listed sources faults lists = among_all (λ f. f.op) (λ f. IsNotAbove h f.op f.earlier) names faults
-        (among_same (λ f. f.op) (λ f. SeesNotAbove notes f.op f.earlier) (λ f. IsNotAbove h f.op f.earlier) names faults (λ x. above_same h table t notes noted sources x.op x.earlier) lists)
-        (λ x f. (all.members x.op).1 (_, f.is_not_below.put.2))
 
 -- where no suspect is stale, no get is
 pub none_stale : (h : Sessions) (table : List VersionedPut) (names : List OpName) (suspects : List Suspect) → Lists (λ n. n) (IsNamed h) names → AreSuspects h table names suspects

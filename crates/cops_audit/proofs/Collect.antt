@@ -50,6 +50,20 @@ module _ {A : Type 0} (name_of : A → OpName) (IsFault : A → Type 0) where
         (λ k d inside. before (name_of (get_or faults k d)) ((lists.members (get_or faults k d)).0 (Contains-get_or faults k d inside)).1);
   }
 
+  -- among any names where there is no fault
+  pub among_faultless : (names : List OpName) → ((x : A) → ¬ IsFault x) → (faults : List A) → faults ≡ [] → ListsAmong name_of IsFault names faults
+  among_faultless names none faults empty = subst (ListsAmong name_of IsFault names) (sym empty) (record {
+    members = λ x. ((λ at. absurd (omega (arith, at.1))), (λ w. absurd (none x w.0)));
+    in_order = λ i j d less inside. absurd (omega (arith, inside));
+  })
+
+  -- where there is no fault
+  pub lists_none : ((x : A) → ¬ IsFault x) → (faults : List A) → faults ≡ [] → Lists name_of IsFault faults
+  lists_none none faults empty = subst (Lists name_of IsFault) (sym empty) (record {
+    members = λ x. ((λ at. absurd (omega (arith, at.1))), (λ fault. absurd (none x fault)));
+    in_order = λ i j d less inside. absurd (omega (arith, inside));
+  })
+
   pub among_all : (names : List OpName) (faults : List A) → ListsAmong name_of IsFault names faults
       → ((x : A) → IsFault x → Contains names (name_of x)) → Lists name_of IsFault faults
   among_all names faults lists named = record {

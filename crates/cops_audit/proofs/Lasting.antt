@@ -8,13 +8,12 @@ use Rattle.cops_types.specs.VersionOrder.{NoneDoubled}
 use Rattle.cops_audit.specs.declared.notes.Note.{Note}
 use Rattle.cops_types.specs.declared.versioned_put.VersionedPut.{VersionedPut}
 use Rattle.cops_audit.specs.Names.{ListsAmong}
-use Rattle.cops_audit.specs.Notes.{IsNoted, IsSourceless, SeesNotBelow}
+use Rattle.cops_audit.specs.Notes.{IsNoted, IsSourceless}
 use Rattle.cops_audit.specs.Tables.{IsVersionTable}
 use Rattle.cops_audit.specs.SoFar.{HasLastingFault, HaveSourcesOrWait, IsMismatched, IsWaiting}
 use Rattle.cops_audit.proofs.Classes.{none_doubled, sourceless_listed}
 use Rattle.cops_audit.proofs.Differing.{name_cases}
 use Rattle.cops_audit.proofs.Exact.{source_version}
-use Rattle.cops_audit.proofs.Reading.{above_same}
 use Rattle.cops_audit.proofs.Gets.{one_get_version}
 
 -- a get that waits has no source
@@ -62,14 +61,6 @@ all_wait {h} all waits n f =
     let at = (all.members n).1 (_, f.got) in
     subst (IsWaiting h) at.2 (waits at.0 n at.1 (subst (HasNoSource h) (sym at.2) f))
 
--- where none of the names is a put that saw what is not below it, all puts are above what their sessions saw
-pub all_above : {h : Sessions} {names : List OpName} {table : List VersionedPut} {notes : List (List Note)} → Lists (λ n. n) (IsNamed h) names → IsVersionTable h table → IsNoted h table notes → HaveSourcesOrWait h
-    → ((k : ℕ) (d : OpName) → k < length names → (earlier : OpName) → ¬ SeesNotBelow notes earlier (get_or names k d)) → AllAbove h
-all_above {h} {table = table} {notes = notes} all t noted waits none n earlier f =
-    let at = (all.members n).1 (_, f.is_not_below.put.2) in
-    let sees = ((above_same h table t notes noted waits n earlier).1 f).not_below in
-    none at.0 n at.1 earlier (subst (SeesNotBelow notes earlier) (sym at.2) sees)
-
 -- those are all that wait
 pub waiting_listed : (h : Sessions) (gets : List OpName) → Lists (λ n. n) (HasNoSource h) gets → HaveSourcesOrWait h → Lists (λ n. n) (IsWaiting h) gets
 waiting_listed h gets lists sources = record {
@@ -99,11 +90,10 @@ pub record Waits (h : Sessions) (gets : List OpName) : Type 0 where
 -- what is known where no class that lasts has a fault among the names, and those without a source are listed
 pub waits : {h : Sessions} {table : List VersionedPut} {notes : List (List Note)} {names same_names gets : List OpName} → Lists (λ n. n) (IsNamed h) names → IsVersionTable h table → IsNoted h table notes
     → ((k : ℕ) (d : OpName) → k < length names → HasNoSource h (get_or names k d) → IsWaiting h (get_or names k d))
-    → ((k : ℕ) (d : OpName) → k < length names → (earlier : OpName) → ¬ SeesNotBelow notes earlier (get_or names k d))
-    → NoneStale h → Lists (λ n. n) (IsNamed h) same_names → ListsAmong (λ n. n) (IsSourceless notes) same_names gets → Waits h gets
-waits {h} {table} {notes} {names} {same_names} {gets} all t noted waiting none_below stale same_all listed =
+    → AllAbove h → NoneStale h → Lists (λ n. n) (IsNamed h) same_names → ListsAmong (λ n. n) (IsSourceless notes) same_names gets → Waits h gets
+waits {h} {table} {notes} {names} {same_names} {gets} all t noted waiting above stale same_all listed =
     let sources = all_wait all waiting in
     record {
-      lasting = no_lasting_fault h (none_doubled h table t) sources (all_above all t noted sources none_below) stale;
+      lasting = no_lasting_fault h (none_doubled h table t) sources above stale;
       waiting = waiting_listed h gets (sourceless_listed h same_names same_all table t notes noted gets listed) sources;
     }

@@ -1,5 +1,6 @@
 pub mod Acyclic
 pub mod Firsts
+pub mod Ascending
 pub mod Reach
 pub mod Members
 pub mod PastOrder
@@ -20,7 +21,6 @@ pub mod Marks
 pub mod Doubling
 pub mod Noting
 pub mod Flattening
-pub mod Crossing
 pub mod Reading
 pub mod TallyLemmas
 pub mod Linking
@@ -40,7 +40,6 @@ pub mod Bridging
 pub mod Chaining
 pub mod Telling
 pub mod Classes
-pub mod Faultless
 pub mod Leaving
 pub mod Searching
 pub mod Counting
@@ -49,3 +48,4 @@ pub mod Continuing
 pub mod Lasting
 pub mod Growing
 pub mod FaultLemmas
+pub mod Sourcing

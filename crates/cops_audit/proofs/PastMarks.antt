@@ -1,5 +1,5 @@
 -- Marks do not fall along a past.
-use Rattle.std.proofs.Common.{◌≡◌, ◌<◌, ◌≤◌, ◌+◌, ℕ, List, [], Some, refl, sym, ◌∙◌, ap, inl, inr, arith, slice_index_or, slice_get}
+use Rattle.std.proofs.Common.{◌≡◌, ◌<◌, ◌≤◌, ◌+◌, ℕ, List, [], Some, refl, sym, ◌∙◌, ap, subst, inl, inr, arith, slice_index_or, slice_get}
 use Rattle.std.proofs.Math.Nat.{eq-or-lt_of_le}
 use Rattle.cops_types.specs.declared.op.OpName.{OpName}
 use Rattle.cops_types.specs.Histories.{Sessions}
@@ -8,16 +8,15 @@ use Rattle.cops_types.specs.Verdicts.{AllAbove}
 use Rattle.cops_audit.specs.SoFar.{HaveSourcesOrWait}
 use Rattle.cops_types.specs.declared.versioned_put.VersionedPut.{VersionedPut}
 use Rattle.cops_audit.specs.declared.notes.Note.{Note}
-use Rattle.cops_audit.specs.declared.notes.Seen.{Seen}
 use Rattle.cops_audit.specs.declared.notes.Seen.TheVariants.{Put}
 use Rattle.cops_audit.specs.Tables.{IsVersionTable}
-use Rattle.cops_audit.specs.Notes.{above, IsNoted, note_at}
+use Rattle.cops_audit.specs.Notes.{above, IsNoted, IsSeen, note_at}
 use Rattle.cops_audit.proofs.Firsts.{versions_rise}
 use Rattle.cops_audit.proofs.Marks.{mark_grows}
 use Rattle.cops_audit.proofs.Noting.{note_there, session_of}
 use Rattle.cops_audit.proofs.PastOrder.{past_to}
 use Rattle.cops_audit.proofs.Places.{same_place}
-use Rattle.cops_audit.proofs.Reading.{below_same, says, seen_got, seen_put}
+use Rattle.cops_audit.proofs.Reading.{above_version, says, seen_got, seen_put}
 
 module _ (h : Sessions) (table : List VersionedPut) (t : IsVersionTable h table) (notes : List (List Note)) (noted : IsNoted h table notes) (sources : HaveSourcesOrWait h) (above_all : AllAbove h) where
   -- the mark of an operation
@@ -38,16 +37,10 @@ module _ (h : Sessions) (table : List VersionedPut) (t : IsVersionTable h table)
               omega (arith, s, r.4)
           | inr before ↦
               let other : OpName = record { client = n.client; index = r.0 } in
-              let not : ¬ (place < above r.1.seen) = λ less. versions_rise h above_all other n ((below_same h table t notes noted sources other n).0 (record {
-                place = place;
-                mark = note.mark;
-                put = at ∙ ap (λ (s : Seen). Some (let x : Note = record { seen = s; mark = note.mark } in x)) is;
-                note = r.1;
-                at = r.3;
-                same_client = refl;
-                before = before;
-                not_below = less;
-              })) in
+              let own = subst (IsSeen h table n) is (says h table t notes noted n note at) in
+              let not : ¬ (place < above r.1.seen) = λ less.
+              let v = above_version h table t notes noted own.0 place n other r.1.seen own.2 (says h table t notes noted other r.1 r.3) less in
+              versions_rise h above_all other n (record { version = v.0; own = own.0; put = own.1; has = v.1; same_client = refl; before = before; not_below = v.2 }) in
               omega (arith, not, r.4)
         ]
       ]

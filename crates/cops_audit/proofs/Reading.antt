@@ -1,21 +1,20 @@
 -- What notes say of a history.
-use Rattle.std.proofs.Common.{◌≡◌, ◌≢◌, ◌<◌, ◌≤◌, ◌↔◌, ◌⊎◌, ℕ, List, Some, refl, sym, ◌∙◌, ap, subst, inl, inr, arith}
+use Rattle.std.proofs.Common.{◌≡◌, ◌<◌, ◌≤◌, ◌↔◌, ◌⊎◌, ℕ, List, Some, refl, sym, ◌∙◌, ap, subst, inl, inr, arith}
 use Rattle.cops_types.specs.declared.op.Op.TheVariants as op
 use Rattle.cops_types.specs.declared.op.OpName.{OpName}
-use Rattle.cops_types.specs.Histories.{Sessions, IsMissed, IsNamed, PutsVersion, SourceStep}
+use Rattle.cops_types.specs.Histories.{Sessions, IsMissed, PutsVersion, SourceStep}
 use Rattle.cops_types.specs.Operations.{GetsVersion}
-use Rattle.cops_types.specs.Faults.{HasNoSource, HasVersion, IsNotAbove, IsNotBelow}
-use Rattle.cops_audit.specs.SoFar.{HaveSourcesOrWait}
+use Rattle.cops_types.specs.Faults.{HasNoSource, HasVersion}
 use Rattle.cops_types.specs.declared.versioned_put.VersionedPut.{VersionedPut}
 use Rattle.cops_audit.specs.declared.notes.Note.{Note}
 use Rattle.cops_audit.specs.declared.notes.Seen.{Seen}
 use Rattle.cops_audit.specs.declared.notes.Seen.TheVariants.{Put, Got, Missed, Sourceless}
 use Rattle.cops_audit.specs.Tables.{IsVersionTable}
-use Rattle.cops_audit.specs.Notes.{above, IsNoted, IsSeen, IsSourceless, SeesNotAbove, SeesNotBelow, StandsAt, note_at}
+use Rattle.cops_audit.specs.Notes.{above, IsNoted, IsSeen, IsSourceless, StandsAt, note_at}
 use Rattle.cops_audit.proofs.Acyclic.{one_version, put_is_no_get}
 use Rattle.cops_audit.proofs.Gets.{one_get_version}
 use Rattle.cops_audit.proofs.Noting.{note_there, session_of}
-use Rattle.cops_audit.proofs.Places.{place_rises, version_rises}
+use Rattle.cops_audit.proofs.Places.{place_rises}
 
 -- an operation that missed is no put and no get
 pub missed_puts_nothing : (h : Sessions) (n : OpName) (k : List ℕ) (v : ℕ) → IsMissed h n k → PutsVersion h n v → ⊥
@@ -47,7 +46,7 @@ module _ (h : Sessions) (table : List VersionedPut) where
   seen_get n v (Sourceless p) s got = inr (p, refl)
 
   -- a get without a source is seen to have none
-  seen_sourceless : (n : OpName) (seen : Seen) → IsSeen h table n seen → HasNoSource h n → (p : ℕ) × (seen ≡ Sourceless p)
+  pub seen_sourceless : (n : OpName) (seen : Seen) → IsSeen h table n seen → HasNoSource h n → (p : ℕ) × (seen ≡ Sourceless p)
   seen_sourceless n (Put p) s f = absurd (put_is_no_get h n n s.0 f.version s.1 (f.key, f.value, f.got) refl)
   seen_sourceless n (Got p) s f = absurd (f.none s.0 s.4)
   seen_sourceless n Missed s f = absurd (missed_gets_nothing h n s.0 f.version s.1 (f.key, f.value, f.got))
@@ -68,7 +67,7 @@ module _ (h : Sessions) (table : List VersionedPut) (t : IsVersionTable h table)
   )
 
   -- a put at a place and what was seen not below it
-  above_version : (own place : ℕ) (name e : OpName) (seen : Seen) → StandsAt table place name own → IsSeen h table e seen → place < above seen → (w : ℕ) × HasVersion h e w × (own ≤ w)
+  pub above_version : (own place : ℕ) (name e : OpName) (seen : Seen) → StandsAt table place name own → IsSeen h table e seen → place < above seen → (w : ℕ) × HasVersion h e w × (own ≤ w)
   above_version own place name e (Put p) at s less =
       let not : ¬ (s.0 < own) = λ l. let q : p < place = place_rises table t.rising p place e name s.0 own s.2 at l in omega (arith, q, less) in
       (s.0, inl s.1, omega (arith, not))
@@ -77,58 +76,3 @@ module _ (h : Sessions) (table : List VersionedPut) (t : IsVersionTable h table)
       (s.1, inr s.3, omega (arith, not))
   above_version own place name e Missed at s less = absurd (omega (arith, less))
   above_version own place name e (Sourceless p) at s less = let l = s.1.before place name own at less in (s.0.version, inr (s.0.key, s.0.value, s.0.got), omega (arith, l))
-
-  pub below_same : HaveSourcesOrWait h → (e n : OpName) → SeesNotBelow notes e n ↔ IsNotBelow h e n
-  below_same sources e n = (forth, back)
-    where
-      forth : SeesNotBelow notes e n → IsNotBelow h e n
-      forth w =
-          let own = says n (record { seen = Put w.place; mark = w.mark }) w.put in
-          let v = above_version own.0 w.place n e w.note.seen own.2 (says e w.note w.at) w.not_below in
-          record { version = v.0; own = own.0; put = own.1; has = v.1; same_client = w.same_client; before = w.before; not_below = v.2 }
-
-      -- a put that is not above a version stands below what was seen with it
-      below : (own place w : ℕ) (seen : Seen) → PutsVersion h n own → StandsAt table place n own → own ≤ w → HasVersion h e w → IsSeen h table e seen → place < above seen
-      below own place w (Put p) puts at le has s =
-          let same : s.0 ≡ w = elim has [ inl put ↦ one_version h e e s.0 w s.1 put refl | inr got ↦ absurd (put_is_no_get h e e s.0 w s.1 got refl) ] in
-          let not : ¬ (p < place) = λ l. let v : s.0 < own = version_rises table t.rising p place e n s.0 own s.2 at l in omega (arith, v, le, same) in
-          omega (arith, not)
-      below own place w (Got p) puts at le has s =
-          let same : s.1 ≡ w = elim has [ inl put ↦ absurd (put_is_no_get h e e w s.1 put s.3 refl) | inr got ↦ one_get_version h e s.1 w s.3 got ] in
-          let not : ¬ (p < place) = λ l. let v : s.1 < own = version_rises table t.rising p place s.0 n s.1 own s.2 at l in omega (arith, v, le, same) in
-          omega (arith, not)
-      below own place w Missed puts at le has s = elim has [ inl put ↦ absurd (missed_puts_nothing h e s.0 w s.1 put) | inr got ↦ absurd (missed_gets_nothing h e s.0 w s.1 got) ]
-      below own place w (Sourceless p) puts at le has s =
-          let waits = sources e s.0 in
-          let gets : GetsVersion h e s.0.version = (s.0.key, s.0.value, s.0.got) in
-          let same : s.0.version ≡ w = elim has [ inl put ↦ absurd (put_is_no_get h e e w s.0.version put gets refl) | inr got ↦ one_get_version h e s.0.version w gets got ] in
-          let late : waits.version ≡ s.0.version = one_get_version h e waits.version s.0.version waits.gets gets in
-          let differs : own ≢ s.0.version = λ e'. waits.none n (subst (PutsVersion h n) (e' ∙ sym late) puts) in
-          let not : ¬ (p ≤ place) = λ l. let v : s.0.version ≤ own = s.1.from place n own at l in omega (arith, v, le, same, differs) in
-          omega (arith, not)
-
-      named_e : (w : ℕ) → HasVersion h e w → IsNamed h e
-      named_e w (inl put) = (_, put.2)
-      named_e w (inr got) = (_, got.2)
-
-      back : IsNotBelow h e n → SeesNotBelow notes e n
-      back f =
-          let at_n = note_there h table notes noted n (_, f.put.2) in
-          let own = seen_put h table n f.own at_n.0.seen (says n at_n.0 at_n.1) f.put in
-          let at_e = note_there h table notes noted e (named_e f.version f.has) in
-          record {
-            place = own.0;
-            mark = at_n.0.mark;
-            put = at_n.1 ∙ ap (λ (s : Seen). Some (let x : Note = record { seen = s; mark = at_n.0.mark } in x)) own.1;
-            note = at_e.0;
-            at = at_e.1;
-            same_client = f.same_client;
-            before = f.before;
-            not_below = below f.own own.0 f.version at_e.0.seen f.put own.2 f.not_below f.has (says e at_e.0 at_e.1);
-          }
-
-  pub above_same : HaveSourcesOrWait h → (n e : OpName) → SeesNotAbove notes n e ↔ IsNotAbove h n e
-  above_same sources n e = (
-    (λ w. record { is_not_below = (below_same sources e n).0 w.not_below; first = λ x f. w.first x ((below_same sources x n).1 f) }),
-    (λ f. record { not_below = (below_same sources e n).1 f.is_not_below; first = λ x w. f.first x ((below_same sources x n).0 w) }),
-  )

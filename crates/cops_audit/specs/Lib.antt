@@ -13,6 +13,7 @@ pub mod Sweeps
 pub mod Tables
 pub mod Tallies
 pub mod Faults
+pub mod Climbs
 pub mod Floors
 pub mod Verdicts
 pub mod Windows

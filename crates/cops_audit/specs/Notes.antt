@@ -90,33 +90,6 @@ IsSourceless notes name = (place : ℕ) × (mark : ℕ) × (note_at notes name �
 abbrev pub AreMarks : List Note → Type 0
 AreMarks session = (i : ℕ) (note : Note) → slice_get session i ≡ Some note → IsMark session (i + 1) note.mark
 
--- what an operation saw is no fault, where those before it saw places below this mark: a put is not below it, and a get has its source
-abbrev pub IsRight : ℕ → Seen → Type 0
-IsRight mark (Put place) = mark ≤ place
-IsRight mark (Got place) = Unit {0}
-IsRight mark Missed = Unit {0}
-IsRight mark (Sourceless place) = ⊥
-
--- no operation of a session is a fault
-abbrev pub IsFaultless : List Note → Type 0
-IsFaultless session = (i : ℕ) (note : Note) → slice_get session i ≡ Some note → (mark : ℕ) × IsMark session i mark × IsRight mark note.seen
-
--- an earlier operation of a put's session saw a place that is not below the put's
-pub record SeesNotBelow (notes : List (List Note)) (earlier name : OpName) : Type 0 where
-  pub place : ℕ
-  pub mark : ℕ
-  pub put : note_at notes name ≡ Some (record { seen = Put place; mark = mark })
-  pub note : Note
-  pub at : note_at notes earlier ≡ Some note
-  pub same_client : earlier.client ≡ name.client
-  pub before : earlier.index < name.index
-  pub not_below : place < above note.seen
-
--- the first such operation
-pub record SeesNotAbove (notes : List (List Note)) (name earlier : OpName) : Type 0 where
-  pub not_below : SeesNotBelow notes earlier name
-  pub first : (e : OpName) → SeesNotBelow notes e name → earlier.index ≤ e.index
-
 -- the notes that stand from one place up to another
 abbrev pub span_of : List Note → Span → List Note
 span_of notes span = slice_range notes span.from span.to

@@ -15,7 +15,6 @@ use crate::keys::{link, set_firsts, set_keys};
 use crate::names::set_names;
 use crate::notes::{Notes, count_sourceless, is_sourceless};
 use crate::put_places::set_places;
-use crate::rising::has_not_above;
 use crate::room::Room;
 use crate::stale::has_stale;
 use crate::table::{is_rising, place_of, set_puts};
@@ -122,8 +121,10 @@ impl Room {
         Ok(found)
     }
 
-    /// What is said so far of a history in which no version is borne by two puts, and whose operations are noted.
+    /// What is said so far of a history in which no version is borne by two puts, each is above what its session saw,
+    /// and whose operations are noted.
     fn assess_notes(&mut self, history: &History, notes: &Notes) -> Result<SoFar, AllocError>
+        requires above { AllAbove history.now.sessions }
         requires noted { IsNotedIn history.now.sessions self.old notes.now }
         requires places { ArePutPlaces history.now.puts self.old.table.items self.old.places.items }
         requires filled { IsFilled history.now.sessions self.old }
@@ -137,9 +138,6 @@ impl Room {
         if has_mismatched(history, table, notes, names) {
             return Ok(SoFar::Refused);
         }
-        if has_not_above(notes, names) {
-            return Ok(SoFar::Refused);
-        }
         let stale = self.has_stale(history, notes)?;
         if stale {
             return Ok(SoFar::Refused);
@@ -151,8 +149,10 @@ impl Room {
         Ok(SoFar::Waiting(waiting))
     }
 
-    /// What is said so far of a history in which no version is borne by two puts.
+    /// What is said so far of a history in which no version is borne by two puts, and each is above what its session
+    /// saw.
     fn assess_gets(&mut self, flat: &mut FlatNotes, history: &History) -> Result<SoFar, AllocError>
+        requires above { AllAbove history.now.sessions }
         requires fits { Fits history.now.sessions self.old flat.old }
         requires limits { IsWithinLimits history.now.sessions }
         requires filled { IsFilled history.now.sessions self.old }
@@ -175,6 +175,9 @@ impl Room {
         ensures so_far { IfOk result (IsSoFar history.now.sessions) }
         ensures fits { OnOk result (Fits history.now.sessions self.new flat.new) }
     {
+        if !history.are_puts_above() {
+            return Ok(SoFar::Refused);
+        }
         set_names(&mut self.names, history);
         set_puts(&mut self.table, history)?;
         if !is_rising(self.table.as_slice()) {

@@ -1,7 +1,7 @@
 ghost use Rattle.std.specs.Prelude.{◌≡◌, ◌≤◌, IfOk, length};
 ghost use Rattle.cops_audit.specs.Links.{AreLinks};
 ghost use Rattle.cops_audit.specs.Notes.{AreNoted, IsNoted};
-ghost use Rattle.cops_audit.specs.Placing.{ArePutPlaces};
+ghost use Rattle.cops_audit.specs.Placing.{ArePutPlaces, AreSourcePlaces};
 ghost use Rattle.cops_audit.specs.Tables.{IsVersionTable};
 
 use crate::links::Links;
@@ -22,9 +22,11 @@ fn notes_in_halves<R: Threads + Sync>(
     history: &History,
     table: &[VersionedPut],
     places: &[u32],
+    sources: &[u32],
 ) -> Result<SessionNotes, AllocError>
     requires table { IsVersionTable history.now.sessions table.now }
     requires places { ArePutPlaces history.now.puts table.now places.now }
+    requires sources { AreSourcePlaces history.now table.now sources.now }
     ensures { IfOk result (λ notes. IsNoted history.now.sessions table.now notes) }
 {
     let clients = history.clients();
@@ -34,15 +36,17 @@ fn notes_in_halves<R: Threads + Sync>(
         || -> Result<SessionNotes, AllocError>
             requires table { IsVersionTable history.now.sessions table.now }
             requires places { ArePutPlaces history.now.puts table.now places.now }
+            requires sources { AreSourcePlaces history.now table.now sources.now }
             requires inside { mid ≤ length history.now.sessions }
             ensures { IfOk result (AreNoted history.entry.now.sessions table.entry.now 0 mid) }
-        { SessionNotes::on_clients(alloc, history, table, places, 0, mid) },
+        { SessionNotes::on_clients(alloc, history, table, places, sources, 0, mid) },
         || -> Result<SessionNotes, AllocError>
             requires table { IsVersionTable history.now.sessions table.now }
             requires places { ArePutPlaces history.now.puts table.now places.now }
+            requires sources { AreSourcePlaces history.now table.now sources.now }
             requires inside { (mid ≤ clients) × (clients ≤ length history.now.sessions) }
             ensures { IfOk result (AreNoted history.entry.now.sessions table.entry.now mid clients) }
-        { SessionNotes::on_clients(alloc, history, table, places, mid, clients) },
+        { SessionNotes::on_clients(alloc, history, table, places, sources, mid, clients) },
     );
     let notes = SessionNotes::joined(low?, high?)?;
     Ok(notes)
@@ -55,9 +59,11 @@ fn notes_beside_links<R: Threads + Sync>(
     history: &History,
     table: &[VersionedPut],
     places: &[u32],
+    sources: &[u32],
 ) -> Result<(SessionNotes, Links), AllocError>
     requires table { IsVersionTable history.now.sessions table.now }
     requires places { ArePutPlaces history.now.puts table.now places.now }
+    requires sources { AreSourcePlaces history.now table.now sources.now }
     ensures notes { IfOk result (λ r. IsNoted history.now.sessions table.now r.0) }
     ensures links { IfOk result (λ r. AreLinks history.now table.now r.1) }
 {
@@ -66,8 +72,9 @@ fn notes_beside_links<R: Threads + Sync>(
         || -> Result<SessionNotes, AllocError>
             requires table { IsVersionTable history.now.sessions table.now }
             requires places { ArePutPlaces history.now.puts table.now places.now }
+            requires sources { AreSourcePlaces history.now table.now sources.now }
             ensures { IfOk result (λ notes. IsNoted history.entry.now.sessions table.entry.now notes) }
-        { notes_in_halves(rt, alloc, history, table, places) },
+        { notes_in_halves(rt, alloc, history, table, places, sources) },
         || -> Result<Links, AllocError>
             requires table { IsVersionTable history.now.sessions table.now }
             requires places { ArePutPlaces history.now.puts table.now places.now }
@@ -84,22 +91,24 @@ pub fn notes_and_links<R: Threads + Sync>(
     alloc: Global,
     history: &History,
     table: &[VersionedPut],
+    sources: &[u32],
     threads: u8,
 ) -> Result<(SessionNotes, Links), AllocError>
-    requires { IsVersionTable history.now.sessions table.now }
+    requires table { IsVersionTable history.now.sessions table.now }
+    requires sources { AreSourcePlaces history.now table.now sources.now }
     ensures notes { IfOk result (λ r. IsNoted history.now.sessions table.now r.0) }
     ensures links { IfOk result (λ r. AreLinks history.now table.now r.1) }
 {
     let places = put_places(alloc, history, table)?;
     let places = places.as_slice();
     if threads >= THREADS_FOR_LINKS {
-        return notes_beside_links(rt, alloc, history, table, places);
+        return notes_beside_links(rt, alloc, history, table, places, sources);
     }
     let links = Links::new(alloc, history, table, places)?;
     let notes = if threads < 2 {
-        SessionNotes::new(alloc, history, table, places)?
+        SessionNotes::new(alloc, history, table, places, sources)?
     } else {
-        notes_in_halves(rt, alloc, history, table, places)?
+        notes_in_halves(rt, alloc, history, table, places, sources)?
     };
     Ok((notes, links))
 }

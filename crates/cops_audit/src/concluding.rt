@@ -1,10 +1,8 @@
-ghost use Rattle.std.specs.Prelude.{◌≡◌, ◌≤◌, IfOk, IfNone, IfSome, OnOk, length};
+ghost use Rattle.std.specs.Prelude.{◌≡◌, ◌≤◌, IfOk, IfNone, IfSome, IsTrue, OnOk, length};
 ghost use Rattle.cops_types.specs.Counts.{count_of};
-ghost use Rattle.cops_types.specs.Histories.{IsNamed};
 ghost use Rattle.cops_types.specs.Recorded.{IsWithinLimits};
 ghost use Rattle.cops_types.specs.Verdicts.{AllAbove, AllHaveSources};
-ghost use Rattle.cops_types.specs.Faults.{IsStale, Lists};
-ghost use Rattle.cops_audit.specs.Notes.{IsNoted};
+ghost use Rattle.cops_types.specs.Faults.{HasNoSource, IsNotAbove, IsStale, Lists};
 ghost use Rattle.cops_audit.specs.Placing.{ArePutPlaces};
 ghost use Rattle.cops_audit.specs.Rooms.{IsNotedIn, IsReady, IsSuspected};
 ghost use Rattle.cops_audit.specs.SoFar.{HaveSourcesOrWait};
@@ -12,17 +10,49 @@ ghost use Rattle.cops_audit.specs.Tables.{IsVersionTable};
 ghost use Rattle.cops_audit.specs.Verdicts.{IsVerdict};
 
 use crate::cleared::clear;
+use crate::climbing::not_above;
 use crate::floors::set_floors;
 use crate::names::all_names;
-use crate::notes::{Notes, SessionNotes, without_source};
+use crate::notes::{Notes, SessionNotes};
 use crate::put_places::set_places;
-use crate::rising::{is_faultless, not_above};
 use crate::room::Room;
+use crate::sources::{find_sources, without_source};
 use crate::stale::stale_suspects;
 use crate::table::{doubled, is_rising, put_names, set_puts};
-use crate::verdict::{Faults, Stale, Verdict};
-use cops_types::{History, OpName};
+use crate::verdict::{Faults, NotAbove, Stale, Verdict};
+use cops_types::{History, OpName, VersionedPut};
 use std::alloc::{AllocError, Global};
+
+/// All gets without a source. The names of the operations are made only where it is not known that there is none.
+fn all_without_source(
+    alloc: Global,
+    history: &History,
+    table: &[VersionedPut],
+    are_all: bool,
+) -> Result<Vec<OpName>, AllocError>
+    requires table { IsVersionTable history.now.sessions table.now }
+    requires all { IsTrue are_all → AllHaveSources history.now.sessions }
+    ensures { IfOk result (λ v. Lists (λ n. n) (HasNoSource history.now.sessions) v.items) }
+{
+    if are_all {
+        return Ok(Vec::new(alloc));
+    }
+    let names = all_names(alloc, history)?;
+    let faults = without_source(alloc, history, table, names.as_slice())?;
+    Ok(faults)
+}
+
+/// All puts that are not above what their sessions saw, each with the first such operation.
+fn all_not_above(alloc: Global, history: &History) -> Result<Vec<NotAbove>, AllocError>
+    ensures { IfOk result (λ v. Lists (λ f. f.op) (λ f. IsNotAbove history.now.sessions f.op f.earlier) v.items) }
+{
+    if history.are_puts_above() {
+        return Ok(Vec::new(alloc));
+    }
+    let names = all_names(alloc, history)?;
+    let faults = not_above(alloc, history, names.as_slice())?;
+    Ok(faults)
+}
 
 impl Room {
     /// Takes those away from the suspects that are told to have no newer put in their past.
@@ -93,50 +123,29 @@ impl Room {
         Ok(faults)
     }
 
-    /// The verdict on a history by the classes before the stale gets: none where they are empty.
-    fn judge_notes(
-        &self,
-        alloc: Global,
-        history: &History,
-        notes: &Notes,
-        names: &[OpName],
-    ) -> Result<Option<Verdict>, AllocError>
-        requires names { Lists (λ n. n) (IsNamed history.now.sessions) names.now }
-        requires table { IsVersionTable history.now.sessions self.now.table.items }
-        requires notes { IsNoted history.now.sessions self.now.table.items notes.now }
-        ensures refused { IfOk result (λ found. IfSome found (IsVerdict history.now.sessions)) }
-        ensures sources { IfOk result (λ found. IfNone found (AllHaveSources history.now.sessions)) }
-        ensures above { IfOk result (λ found. IfNone found (AllAbove history.now.sessions)) }
-    {
-        let sourceless = without_source(alloc, notes, names)?;
-        if !sourceless.is_empty() {
-            return Ok(Some(Verdict::Refused(Faults::NoSource(sourceless))));
-        }
-        let not_above = not_above(alloc, notes, names)?;
-        if !not_above.is_empty() {
-            return Ok(Some(Verdict::Refused(Faults::NotAbove(not_above))));
-        }
-        Ok(None)
-    }
-
-    /// The same, for which the names of the operations are made where there is a fault alone.
+    /// The verdict on a history by the classes before the stale gets: none where they are empty. It may be known that
+    /// each get has its source.
     fn judge_classes(
         &self,
         alloc: Global,
         history: &History,
-        notes: &Notes,
+        are_all: bool,
     ) -> Result<Option<Verdict>, AllocError>
         requires table { IsVersionTable history.now.sessions self.now.table.items }
-        requires notes { IsNoted history.now.sessions self.now.table.items notes.now }
+        requires all { IsTrue are_all → AllHaveSources history.now.sessions }
         ensures refused { IfOk result (λ found. IfSome found (IsVerdict history.now.sessions)) }
         ensures sources { IfOk result (λ found. IfNone found (AllHaveSources history.now.sessions)) }
         ensures above { IfOk result (λ found. IfNone found (AllAbove history.now.sessions)) }
     {
-        if is_faultless(history, notes) {
-            return Ok(None);
+        let sourceless = all_without_source(alloc, history, self.table.as_slice(), are_all)?;
+        if !sourceless.is_empty() {
+            return Ok(Some(Verdict::Refused(Faults::NoSource(sourceless))));
         }
-        let names = all_names(alloc, history)?;
-        self.judge_notes(alloc, history, notes, names.as_slice())
+        let not_above = all_not_above(alloc, history)?;
+        if !not_above.is_empty() {
+            return Ok(Some(Verdict::Refused(Faults::NotAbove(not_above))));
+        }
+        Ok(None)
     }
 
     /// The verdict on a history in which no version is borne by two puts.
@@ -148,14 +157,17 @@ impl Room {
         ensures { IfOk result (IsVerdict history.now.sessions) }
     {
         let table = self.table.as_slice();
-        set_places(&mut self.places, history, table)?;
-        let places = self.places.as_slice();
-        let session_notes = SessionNotes::new(alloc, history, table, places)?;
-        let notes = session_notes.look();
-        let found = self.judge_classes(alloc, history, &notes)?;
+        let sources = find_sources(alloc, history, table)?;
+        let found = self.judge_classes(alloc, history, sources.are_all)?;
         if let Some(verdict) = found {
             return Ok(verdict);
         }
+        let table = self.table.as_slice();
+        set_places(&mut self.places, history, table)?;
+        let places = self.places.as_slice();
+        let sources = sources.places.as_slice();
+        let session_notes = SessionNotes::new(alloc, history, table, places, sources)?;
+        let notes = session_notes.look();
         let stale = self.stale(alloc, history, &notes)?;
         if !stale.is_empty() {
             return Ok(Verdict::Refused(Faults::Stale(stale)));
@@ -165,8 +177,8 @@ impl Room {
     }
 
     /// The verdict on a history. Beside the room it takes memory for the faults, and then for the names of all
-    /// operations, or for the names of the puts; and as long as they are gone through, where a get came before its put,
-    /// for hints of where puts stand.
+    /// operations, or for the names of the puts; 4 bytes for each open get; and as long as the sources of many of these
+    /// are looked for, for hints of where puts stand.
     pub fn judge(&mut self, alloc: Global, history: &History) -> Result<Verdict, AllocError>
         requires { IsReady history.now.sessions self.old }
         ensures { IfOk result (IsVerdict history.now.sessions) }

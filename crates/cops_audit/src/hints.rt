@@ -4,12 +4,10 @@ ghost use Rattle.cops_types.specs.declared.versioned_put.VersionedPut.{Versioned
 ghost use Rattle.cops_audit.specs.Tables.{VersionsNeverFall};
 
 use crate::did::Did;
+use crate::put_places::NO_PLACE;
 use crate::table::place_of;
 use cops_types::{Version, VersionedPut};
 use std::alloc::{AllocError, Global};
-
-/// A hint that says nothing: no place of a table.
-const NONE: u32 = u32::MAX;
 
 /// Whether a put of this version stands at a place.
 fn stands_at(table: &[VersionedPut], place: u32, version: Version) -> bool
@@ -22,6 +20,9 @@ fn stands_at(table: &[VersionedPut], place: u32, version: Version) -> bool
     }
 }
 
+/// For so many hints the stretches are made: a search in the whole table for each of fewer takes less time.
+const MANY: usize = 16_384;
+
 /// Where puts of a version may stand in a table of puts in order of versions. The versions are cut into stretches of
 /// one width, about as many as there are puts, and of each it is known where its puts begin. These are but hints: each
 /// is looked up in the table, and a version that does not stand there is searched for.
@@ -33,13 +34,19 @@ pub struct Stretches {
 }
 
 impl Stretches {
-    /// Those of a table, which are made where a hint is first asked for: in most histories none is.
-    pub fn new(alloc: Global) -> Self {
-        Stretches {
+    /// Those of a table, for so many hints: none where there are few, or no memory.
+    pub fn new(alloc: Global, table: &[VersionedPut], count: usize) -> Self
+        requires { length table.now ≤ MAX_OPS }
+    {
+        let mut stretches = Stretches {
             lowest: 0,
             shift: 0,
             starts: Vec::new(alloc),
+        };
+        if count >= MANY && stretches.make(table).is_err() {
+            stretches.starts.clear();
         }
+        stretches
     }
 
     /// Makes the stretches of a table.
@@ -70,22 +77,16 @@ impl Stretches {
         self.offset(version).wrapping_shr(self.shift) as usize
     }
 
-    /// The hint for the version that was put or got: none where there is no memory for the stretches.
-    pub fn hint(&mut self, table: &[VersionedPut], did: &Did) -> u32
+    /// The hint for a version: `NO_PLACE` where nothing is known of it.
+    pub fn hint(&self, table: &[VersionedPut], version: Version) -> u32
         requires { length table.now ≤ MAX_OPS }
     {
-        let Some(version) = did.version() else {
-            return NONE;
-        };
-        if self.starts.is_empty() && self.make(table).is_err() {
-            return NONE;
-        }
         let stretch = self.stretch(version);
         let Some(start) = self.starts.get(stretch) else {
-            return NONE;
+            return NO_PLACE;
         };
         let Some(end) = self.starts.get(stretch.saturating_add(1)) else {
-            return NONE;
+            return NO_PLACE;
         };
         first_within(table, *start, *end, version)
     }
@@ -102,7 +103,7 @@ fn first_within(table: &[VersionedPut], start: u32, end: u32, version: Version) 
     let from = (start as usize).min(to);
     let version = version.as_u64();
     let before = table[from..to].partition_point(|put| put.version.as_u64() < version);
-    from.saturating_add(before).min(NONE as usize) as u32
+    from.saturating_add(before).min(NO_PLACE as usize) as u32
 }
 
 /// The place of a put that bears a version, which may stand at a hint.
@@ -124,7 +125,7 @@ const WIDTHS: [usize; 3] = [16, 256, 4096];
 /// A hint for the version that was put or got, by the puts that stand near a place.
 pub fn hint_near(table: &[VersionedPut], did: &Did, place: u32) -> u32 {
     let Some(version) = did.version() else {
-        return NONE;
+        return NO_PLACE;
     };
     let version = version.as_u64();
     for width in WIDTHS {
@@ -134,9 +135,9 @@ pub fn hint_near(table: &[VersionedPut], did: &Did, place: u32) -> u32 {
         if let (Some(first), Some(last)) = (near.first(), near.last()) {
             if first.version.as_u64() <= version && version <= last.version.as_u64() {
                 let before = near.partition_point(|put| put.version.as_u64() < version);
-                return from.saturating_add(before).min(NONE as usize) as u32;
+                return from.saturating_add(before).min(NO_PLACE as usize) as u32;
             }
         }
     }
-    NONE
+    NO_PLACE
 }

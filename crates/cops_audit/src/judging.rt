@@ -1,5 +1,7 @@
 ghost use Rattle.std.specs.Prelude.{IfOk, ◌↔◌};
 ghost use Rattle.cops_types.specs.Convergence.{IsCausallyConvergent};
+ghost use Rattle.cops_types.specs.Verdicts.{AllAbove, AllHaveSources};
+ghost use Rattle.cops_audit.specs.Tables.{Rises};
 ghost use Rattle.cops_audit.specs.Verdicts.{IsVerdict, Accepts, ConvergesByVersions};
 
 use crate::puts::Puts;
@@ -28,20 +30,31 @@ fn classify(alloc: Global, history: &History) -> Result<Verdict, Memory>
         let faults = puts.doubled(alloc, 0, puts.count())?;
         return Ok(puts.refused_doubled(faults));
     }
-    let tables = Tables::new(alloc, puts)?;
-    classify_gets(alloc, &tables)
+    classify_gets(alloc, puts)
 }
 
 /// The same of a history in which no version is borne by two puts.
-fn classify_gets(alloc: Global, tables: &Tables) -> Result<Verdict, Memory>
+fn classify_gets(alloc: Global, puts: Puts) -> Result<Verdict, Memory>
+    requires { Rises puts.table }
+    ensures { IfOk result (IsVerdict puts.entry.sessions) }
+{
+    let count = puts.count();
+    let sourceless = puts.without_source(alloc, 0, count)?;
+    let not_above = puts.not_above(alloc, 0, count)?;
+    if let Some(verdict) = puts.verdict_before_stale(sourceless, not_above) {
+        return Ok(verdict);
+    }
+    let tables = Tables::new(alloc, puts)?;
+    classify_stale(alloc, &tables)
+}
+
+/// The same of a history in which the classes before the stale gets are empty.
+fn classify_stale(alloc: Global, tables: &Tables) -> Result<Verdict, Memory>
+    requires sources { AllHaveSources tables.now.sessions }
+    requires above { AllAbove tables.now.sessions }
     ensures { IfOk result (IsVerdict tables.now.sessions) }
 {
     let count = tables.count();
-    let sourceless = tables.without_source(alloc, 0, count)?;
-    let not_above = tables.not_above(alloc, 0, count)?;
-    if let Some(verdict) = tables.verdict_before_stale(sourceless, not_above) {
-        return Ok(verdict);
-    }
     let stale = tables.stale(alloc, 0, count)?;
     tables.verdict(alloc, stale)
 }

@@ -7,6 +7,7 @@ ghost use Rattle.cops_audit.specs.Placing.{ArePutPlaces};
 ghost use Rattle.cops_audit.specs.Tables.{IsVersionTable};
 ghost use Rattle.cops_types.specs.declared.versioned_put.VersionedPut.{VersionedPut as APut};
 
+use crate::put_places::NO_PLACE;
 use cops_types::{History, OpName, VersionedPut};
 use std::alloc::{AllocError, Global};
 
@@ -79,7 +80,7 @@ fn set_past_end(nexts: &mut Vec<u32>, count: usize) -> Result<(), AllocError>
     ensures succeeds { count ≤ vec_capacity nexts.old → IsOk result }
 {
     nexts.clear();
-    nexts.resize(count, u32::MAX)
+    nexts.resize(count, NO_PLACE)
 }
 
 /// Links each put to the next one on its key, past the end where there is none, and gives of each key, by its number,

@@ -10,6 +10,7 @@
 mod assessing;
 mod beside;
 mod cleared;
+mod climbing;
 mod clocks;
 mod concluding;
 mod did;
@@ -28,9 +29,9 @@ mod notes;
 mod online;
 mod put_places;
 mod puts;
-mod rising;
 mod room;
 mod search;
+mod sources;
 mod stale;
 mod sweep;
 mod table;

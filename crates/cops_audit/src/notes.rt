@@ -6,14 +6,14 @@ ghost use Rattle.cops_types.specs.Operations.{GetsVersion};
 ghost use Rattle.cops_types.specs.Faults.{IsBefore};
 ghost use Rattle.cops_audit.specs.Names.{ListsAmong};
 ghost use Rattle.cops_audit.specs.Notes.{above as above_of, AreFrontsNoted, AreLongEnough, AreMarks, HasDone, IsFrontNoted, IsMark, IsSeen, IsSessionNoted, IsSourceless};
-ghost use Rattle.cops_audit.specs.Placing.{ArePutPlaces};
+ghost use Rattle.cops_audit.specs.Placing.{ArePutPlaces, AreSourcePlaces};
 ghost use Rattle.cops_audit.specs.Tables.{IsVersionTable};
 ghost use Rattle.cops_types.specs.declared.versioned_put.VersionedPut.{VersionedPut};
 
 use crate::did::Did;
 use crate::flat::Span;
-use crate::hints::{Stretches, hinted_place};
-use crate::put_places::place_at;
+use crate::hints::hinted_place;
+use crate::put_places::{NO_PLACE, place_at};
 use crate::table::first_from;
 use cops_types::{History, OpName, VersionedPut};
 use std::alloc::{AllocError, Global};
@@ -77,45 +77,51 @@ fn see_source(history: &History, table: &[VersionedPut], got: OpName, place: usi
     }
 }
 
-/// What an operation did, where it is a put, or a get whose put the history knows.
+/// What an operation did, where it is a put, or a get whose put the history knows or was found.
 fn see_named(
     history: &History,
     table: &[VersionedPut],
     places: &[u32],
+    sources: &[u32],
     name: OpName,
 ) -> Option<Seen>
     requires table { IsVersionTable history.now.sessions table.now }
     requires places { ArePutPlaces history.now.puts table.now places.now }
+    requires sources { AreSourcePlaces history.now table.now sources.now }
     ensures { IfSome result (IsSeen history.now.sessions table.now name) }
 {
     if let Some(number) = history.source_number(name) {
         let place = place_at(places, number)?;
         return Some(Seen::Got(place));
     }
-    let number = history.put_number(name)?;
-    let place = place_at(places, number)?;
-    Some(Seen::Put(place))
+    if let Some(number) = history.put_number(name) {
+        let place = place_at(places, number)?;
+        return Some(Seen::Put(place));
+    }
+    let number = history.open_number(name)?;
+    let place = place_at(sources, number)?;
+    Some(Seen::Got(place))
 }
 
-/// What an operation did, by a hint where the history does not know its put.
-fn see_hinted(
+/// What an operation did, by a search where its put is not known.
+fn see_placed(
     history: &History,
     table: &[VersionedPut],
     places: &[u32],
-    stretches: &mut Stretches,
+    sources: &[u32],
     name: OpName,
 ) -> Seen
     requires table { IsVersionTable history.now.sessions table.now }
     requires places { ArePutPlaces history.now.puts table.now places.now }
+    requires sources { AreSourcePlaces history.now table.now sources.now }
     requires named { IsNamed history.now.sessions name }
     ensures { IsSeen history.now.sessions table.now name result }
 {
-    if let Some(seen) = see_named(history, table, places, name) {
+    if let Some(seen) = see_named(history, table, places, sources, name) {
         return seen;
     }
     let did = Did::of(history, name);
-    let hint = stretches.hint(table, &did);
-    see(history, table, hint, name, &did)
+    see(history, table, NO_PLACE, name, &did)
 }
 
 impl Seen {
@@ -148,12 +154,13 @@ fn note_on(
     history: &History,
     table: &[VersionedPut],
     places: &[u32],
-    stretches: &mut Stretches,
+    sources: &[u32],
     client: u16,
     place: usize,
 ) -> Result<(), AllocError>
     requires table { IsVersionTable history.now.sessions table.now }
     requires places { ArePutPlaces history.now.puts table.now places.now }
+    requires sources { AreSourcePlaces history.now table.now sources.now }
     requires front { IsFrontNoted history.now.sessions table.now client notes.old.items }
     ensures front { OnOk result (IsFrontNoted history.now.sessions table.now client notes.new.items) }
     ensures whole { OnOk result (length table.now ≤ place → length (slice_index_or history.now.sessions client []) ≤ vec_len notes.new) }
@@ -167,7 +174,7 @@ fn note_on(
             client,
             index: index as u32,
         };
-        let seen = see_hinted(history, table, places, stretches, name);
+        let seen = see_placed(history, table, places, sources, name);
         mark = mark.max(seen.above());
         notes.push(Note { seen, mark })?;
     }
@@ -180,12 +187,13 @@ fn note_all(
     history: &History,
     table: &[VersionedPut],
     places: &[u32],
-    stretches: &mut Stretches,
+    sources: &[u32],
     first: usize,
     place: usize,
 ) -> Result<(), AllocError>
     requires table { IsVersionTable history.now.sessions table.now }
     requires places { ArePutPlaces history.now.puts table.now places.now }
+    requires sources { AreSourcePlaces history.now table.now sources.now }
     requires few { first + length sessions.old.items ≤ MAX_CLIENTS }
     requires fronts { AreFrontsNoted history.now.sessions table.now first (map (λ s. s.items) sessions.old.items) }
     ensures count { length sessions.new.items ≡ length sessions.old.items }
@@ -195,15 +203,7 @@ fn note_all(
     for k in 0..sessions.len() {
         let notes = &mut sessions[k];
         let client = first + k;
-        note_on(
-            notes,
-            history,
-            table,
-            places,
-            stretches,
-            client as u16,
-            place,
-        )?;
+        note_on(notes, history, table, places, sources, client as u16, place)?;
     }
     Ok(())
 }
@@ -246,22 +246,24 @@ impl SessionNotes {
     ghost use Rattle.cops_types.specs.declared.versioned_put.VersionedPut.{VersionedPut};
     ghost use Rattle.std.specs.Prelude.{◌≡◌, ◌≤◌, ℕ, List, IfOk, length};
     ghost use Rattle.cops_audit.specs.Notes.{AreNoted, IsNoted};
-    ghost use Rattle.cops_audit.specs.Placing.{ArePutPlaces};
+    ghost use Rattle.cops_audit.specs.Placing.{ArePutPlaces, AreSourcePlaces};
     ghost use Rattle.cops_audit.specs.Tables.{IsVersionTable};
 
-    /// The notes on all operations, by the places of the puts.
+    /// The notes on all operations, by the places of the puts, and of the sources of open gets.
     pub fn new(
         alloc: Global,
         history: &History,
         table: &[VersionedPut],
         places: &[u32],
+        sources: &[u32],
     ) -> Result<Self, AllocError>
         requires table { IsVersionTable history.now.sessions table.now }
         requires places { ArePutPlaces history.now.puts table.now places.now }
+        requires sources { AreSourcePlaces history.now table.now sources.now }
         ensures { IfOk result (λ notes. IsNoted history.now.sessions table.now notes) }
     {
         let clients = history.clients();
-        let notes = SessionNotes::on_clients(alloc, history, table, places, 0, clients)?;
+        let notes = SessionNotes::on_clients(alloc, history, table, places, sources, 0, clients)?;
         Ok(notes)
     }
 
@@ -271,11 +273,13 @@ impl SessionNotes {
         history: &History,
         table: &[VersionedPut],
         places: &[u32],
+        sources: &[u32],
         first: usize,
         end: usize,
     ) -> Result<Self, AllocError>
         requires table { IsVersionTable history.now.sessions table.now }
         requires places { ArePutPlaces history.now.puts table.now places.now }
+        requires sources { AreSourcePlaces history.now table.now sources.now }
         requires first { first ≤ end }
         requires end { end ≤ length history.now.sessions }
         ensures some { IfOk result (AreNoted history.now.sessions table.now first end) }
@@ -283,30 +287,13 @@ impl SessionNotes {
     {
         let end = end.min(history.clients());
         let mut sessions = no_notes(alloc, history, first, end)?;
-        let mut stretches = Stretches::new(alloc);
         let step = STEP.max(4 * sessions.len());
         for round in 0..table.len() / step {
             let place = step * round;
-            note_all(
-                &mut sessions,
-                history,
-                table,
-                places,
-                &mut stretches,
-                first,
-                place,
-            )?;
+            note_all(&mut sessions, history, table, places, sources, first, place)?;
         }
         let last = table.len();
-        note_all(
-            &mut sessions,
-            history,
-            table,
-            places,
-            &mut stretches,
-            first,
-            last,
-        )?;
+        note_all(&mut sessions, history, table, places, sources, first, last)?;
         Ok(SessionNotes { sessions })
     }
 
@@ -396,24 +383,6 @@ pub fn is_sourceless(notes: &Notes, name: OpName) -> bool
         Seen::Sourceless(_) => true,
         _ => false,
     }
-}
-
-/// The gets among these names that have no source.
-pub fn without_source(
-    alloc: Global,
-    notes: &Notes,
-    names: &[OpName],
-) -> Result<Vec<OpName>, AllocError>
-    requires { AllPairs IsBefore names.now }
-    ensures { IfOk result (λ v. ListsAmong (λ n. n) (IsSourceless notes.now) names.now v.items) }
-{
-    let mut faults = Vec::new(alloc);
-    for name in names {
-        if is_sourceless(notes, *name) {
-            faults.push(*name)?;
-        }
-    }
-    Ok(faults)
 }
 
 /// How many of the gets among these names have no source.

@@ -7,7 +7,7 @@ use cops_types::{History, VersionedPut};
 use std::alloc::{AllocError, Global};
 
 /// No place of a table.
-const NONE: u32 = u32::MAX;
+pub const NO_PLACE: u32 = u32::MAX;
 
 /// Makes it, of each put by its number, the place where it stands in the table of puts in order of versions. It takes
 /// no memory where there is room for as many as there are operations.
@@ -22,7 +22,7 @@ pub fn set_places(
     ensures succeeds { count_of history.now.sessions ≤ vec_capacity places.old → IsOk result }
 {
     places.clear();
-    places.resize(history.puts(), NONE)?;
+    places.resize(history.puts(), NO_PLACE)?;
     for place in 0..table.len() {
         match history.put_number(table[place].name) {
             Some(number) => places[number as usize] = place as u32,

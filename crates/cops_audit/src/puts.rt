@@ -1,34 +1,60 @@
+ghost use Rattle.std.specs.Prelude.{IfOk};
+ghost use Rattle.cops_audit.specs.Placing.{AreSources};
+ghost use Rattle.cops_audit.specs.Tables.{IsPutTable};
+
+use crate::climbing::not_above;
 use crate::names::all_names;
+use crate::sources::{Sources, find_sources, without_source};
 use crate::table::{doubled, is_rising, puts_by_version};
-use crate::verdict::{Faults, Verdict};
+use crate::verdict::{Faults, NotAbove, Verdict};
 use cops_types::{History, OpName, VersionedPut};
 use std::alloc::{AllocError, Global};
 use std::marker::Model;
 use std::thread;
 use std::thread::Threads;
 
-/// A history, the names of its operations in their order, and its puts in order of versions.
+/// A history, the names of its operations in their order, its puts in order of versions, and where the sources of its
+/// open gets stand.
 #[derive(Drop)]
 pub struct Puts<'a> {
     pub(crate) history: &'a History,
     pub(crate) names: Vec<OpName>,
     pub(crate) table: Vec<VersionedPut>,
+    pub(crate) sources: Sources,
+}
+
+/// The places of the sources of open gets where no version is borne by two puts, and else none.
+fn sources_where_rising(
+    alloc: Global,
+    history: &History,
+    table: &[VersionedPut],
+) -> Result<Sources, AllocError>
+    requires { IsPutTable history.now.sessions table.now }
+    ensures { IfOk result (AreSources history.now table.now) }
+{
+    if !is_rising(table) {
+        return Ok(Sources::none(alloc));
+    }
+    find_sources(alloc, history, table)
 }
 
 impl<'a> Model for Puts<'a> {
+    ghost use Rattle.cops_audit.specs.Placing.{AreSources};
     ghost use Rattle.cops_audit.specs.Sorted.{IsSorted, Sorted};
 
     ghost Value = { Sorted };
 
     ghost view = { λ p. record { sessions = p.history.now.sessions; names = p.names.items; table = p.table.items } };
 
-    ghost invariant = { λ p. IsSorted (record { sessions = p.history.now.sessions; names = p.names.items; table = p.table.items }) };
+    ghost invariant = { λ p. IsSorted (record { sessions = p.history.now.sessions; names = p.names.items; table = p.table.items })
+        × AreSources p.history.now p.table.items p.sources };
 }
 
 impl<'a> Puts<'a> {
-    ghost use Rattle.std.specs.Prelude.{◌≡◌, ◌≤◌, ◌+◌, IfOk, IsTrue, length, slice_range, AllPairs};
-    ghost use Rattle.cops_types.specs.Faults.{IsBefore, Lists};
+    ghost use Rattle.std.specs.Prelude.{◌≡◌, ◌≤◌, ◌+◌, IfOk, IfSome, IfNone, IsTrue, length, slice_range, AllPairs};
+    ghost use Rattle.cops_types.specs.Faults.{HasNoSource, IsBefore, IsNotAbove, Lists};
     ghost use Rattle.cops_types.specs.Histories.{IsNamed};
+    ghost use Rattle.cops_types.specs.Verdicts.{AllAbove, AllHaveSources};
     ghost use Rattle.cops_types.specs.VersionOrder.{IsDoubled};
     ghost use Rattle.cops_audit.specs.Names.{ListsAmong};
     ghost use Rattle.cops_audit.specs.Tables.{IsPutTable, Repeats, Rises};
@@ -40,10 +66,12 @@ impl<'a> Puts<'a> {
     {
         let names = all_names(alloc, history)?;
         let table = puts_by_version(alloc, history)?;
+        let sources = sources_where_rising(alloc, history, table.as_slice())?;
         Ok(Puts {
             history,
             names,
             table,
+            sources,
         })
     }
 
@@ -68,10 +96,14 @@ impl<'a> Puts<'a> {
                 ensures { IfOk result (λ v. IsPutTable history.entry.now.sessions v.items) }
             { puts_by_version(alloc, history) },
         );
+        let names = names?;
+        let table = table?;
+        let sources = sources_where_rising(alloc, history, table.as_slice())?;
         Ok(Puts {
             history,
-            names: names?,
-            table: table?,
+            names,
+            table,
+            sources,
         })
     }
 
@@ -113,5 +145,65 @@ impl<'a> Puts<'a> {
     {
         let _ = &self.history;
         Verdict::Refused(Faults::Doubled(faults))
+    }
+
+    /// The gets without a source among so many names from a place on, where no version is borne by two puts.
+    pub fn without_source(
+        &self,
+        alloc: Global,
+        start: usize,
+        len: usize,
+    ) -> Result<Vec<OpName>, AllocError>
+        requires rising { Rises self.now.table }
+        requires inside { start + len ≤ length self.now.names }
+        ensures { IfOk result (λ v. ListsAmong (λ n. n) (HasNoSource self.now.sessions) (slice_range self.now.names start (start + len)) v.items) }
+    {
+        if self.sources.are_all {
+            return Ok(Vec::new(alloc));
+        }
+        let names = &self.names[start..start + len];
+        without_source(alloc, self.history, self.table.as_slice(), names)
+    }
+
+    /// The puts among so many names from a place on that are not above what their sessions saw, each with the first
+    /// such operation.
+    pub fn not_above(
+        &self,
+        alloc: Global,
+        start: usize,
+        len: usize,
+    ) -> Result<Vec<NotAbove>, AllocError>
+        requires { start + len ≤ length self.now.names }
+        ensures { IfOk result (λ v. ListsAmong (λ f. f.op) (λ f. IsNotAbove self.now.sessions f.op f.earlier) (slice_range self.now.names start (start + len)) v.items) }
+    {
+        if self.history.are_puts_above() {
+            return Ok(Vec::new(alloc));
+        }
+        let names = &self.names[start..start + len];
+        not_above(alloc, self.history, names)
+    }
+
+    /// The verdict by the classes before the stale gets, where no version is borne by two puts, of the faults among all
+    /// names: none where they are empty.
+    pub fn verdict_before_stale(
+        &self,
+        sourceless: Vec<OpName>,
+        not_above: Vec<NotAbove>,
+    ) -> Option<Verdict>
+        requires rising { Rises self.now.table }
+        requires sourceless { ListsAmong (λ n. n) (HasNoSource self.now.sessions) self.now.names sourceless.items }
+        requires not_above { ListsAmong (λ f. f.op) (λ f. IsNotAbove self.now.sessions f.op f.earlier) self.now.names not_above.items }
+        ensures refused { IfSome result (IsVerdict self.now.sessions) }
+        ensures sources { IfNone result (AllHaveSources self.now.sessions) }
+        ensures above { IfNone result (AllAbove self.now.sessions) }
+    {
+        let _ = &self.history;
+        if !sourceless.is_empty() {
+            return Some(Verdict::Refused(Faults::NoSource(sourceless)));
+        }
+        if !not_above.is_empty() {
+            return Some(Verdict::Refused(Faults::NotAbove(not_above)));
+        }
+        None
     }
 }

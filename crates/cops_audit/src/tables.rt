@@ -1,19 +1,18 @@
 use crate::beside::notes_and_links;
 use crate::links::Links;
-use crate::notes::{SessionNotes, without_source};
+use crate::notes::SessionNotes;
 use crate::put_places::put_places;
 use crate::puts::Puts;
-use crate::rising::not_above;
 use crate::stale::stale_among;
 use crate::table::put_names;
-use crate::verdict::{Faults, NotAbove, Stale, Verdict};
+use crate::verdict::{Faults, Stale, Verdict};
 use cops_types::{History, Memory, OpName, VersionedPut};
 use std::alloc::{AllocError, Global};
 use std::marker::Model;
 use std::thread::Threads;
 
-/// What faults are looked up in, of a history in which no version is borne by two puts: its puts, the notes on its
-/// operations, and where many look for stale gets the links between its puts.
+/// What stale gets are looked up in, of a history in which no version is borne by two puts: its puts, the notes on its
+/// operations, and where many look for them the links between its puts.
 #[derive(Drop)]
 pub struct Tables<'a> {
     history: &'a History,
@@ -37,11 +36,10 @@ impl<'a> Model for Tables<'a> {
 }
 
 impl<'a> Tables<'a> {
-    ghost use Rattle.std.specs.Prelude.{◌≡◌, ◌≤◌, ◌+◌, IfOk, IfSome, IfNone, length, slice_range, AllPairs};
+    ghost use Rattle.std.specs.Prelude.{◌≡◌, ◌≤◌, ◌+◌, IfOk, length, slice_range, AllPairs};
     ghost use Rattle.cops_types.specs.Faults.{IsBefore, IsStale};
     ghost use Rattle.cops_types.specs.Verdicts.{AllAbove, AllHaveSources};
     ghost use Rattle.cops_audit.specs.Names.{ListsAmong};
-    ghost use Rattle.cops_audit.specs.Notes.{IsSourceless, SeesNotAbove};
     ghost use Rattle.cops_audit.specs.Tables.{Rises};
     ghost use Rattle.cops_audit.specs.Verdicts.{IsVerdict};
 
@@ -55,9 +53,16 @@ impl<'a> Tables<'a> {
             history,
             names,
             table,
+            sources,
         } = puts;
         let places = put_places(alloc, history, table.as_slice())?;
-        let notes = SessionNotes::new(alloc, history, table.as_slice(), places.as_slice())?;
+        let notes = SessionNotes::new(
+            alloc,
+            history,
+            table.as_slice(),
+            places.as_slice(),
+            sources.places.as_slice(),
+        )?;
         Ok(Tables {
             history,
             names,
@@ -82,8 +87,16 @@ impl<'a> Tables<'a> {
             history,
             names,
             table,
+            sources,
         } = puts;
-        let (notes, links) = notes_and_links(rt, alloc, history, table.as_slice(), threads)?;
+        let (notes, links) = notes_and_links(
+            rt,
+            alloc,
+            history,
+            table.as_slice(),
+            sources.places.as_slice(),
+            threads,
+        )?;
         Ok(Tables {
             history,
             names,
@@ -99,57 +112,6 @@ impl<'a> Tables<'a> {
         ensures in_order { AllPairs IsBefore self.now.names }
     {
         self.names.len()
-    }
-
-    /// The gets without a source among so many names from a place on.
-    pub fn without_source(
-        &self,
-        alloc: Global,
-        start: usize,
-        len: usize,
-    ) -> Result<Vec<OpName>, AllocError>
-        requires { start + len ≤ length self.now.names }
-        ensures { IfOk result (λ v. ListsAmong (λ n. n) (IsSourceless self.now.notes) (slice_range self.now.names start (start + len)) v.items) }
-    {
-        let names = &self.names[start..start + len];
-        without_source(alloc, &self.notes.look(), names)
-    }
-
-    /// The puts among so many names from a place on that are not above what their sessions saw, each with the first
-    /// such operation.
-    pub fn not_above(
-        &self,
-        alloc: Global,
-        start: usize,
-        len: usize,
-    ) -> Result<Vec<NotAbove>, AllocError>
-        requires { start + len ≤ length self.now.names }
-        ensures { IfOk result (λ v. ListsAmong (λ f. f.op) (λ f. SeesNotAbove self.now.notes f.op f.earlier) (slice_range self.now.names start (start + len)) v.items) }
-    {
-        let names = &self.names[start..start + len];
-        not_above(alloc, &self.notes.look(), names)
-    }
-
-    /// The verdict by the classes before the stale gets, of the faults among all names: none where they are empty.
-    pub fn verdict_before_stale(
-        &self,
-        sourceless: Vec<OpName>,
-        not_above: Vec<NotAbove>,
-    ) -> Option<Verdict>
-        requires sourceless { ListsAmong (λ n. n) (IsSourceless self.now.notes) self.now.names sourceless.items }
-        requires not_above { ListsAmong (λ f. f.op) (λ f. SeesNotAbove self.now.notes f.op f.earlier) self.now.names not_above.items }
-        ensures refused { IfSome result (IsVerdict self.now.sessions) }
-        ensures sources { IfNone result (AllHaveSources self.now.sessions) }
-        ensures above { IfNone result (AllAbove self.now.sessions) }
-    {
-        let _ = &self.history;
-        if !sourceless.is_empty() {
-            return Some(Verdict::Refused(Faults::NoSource(sourceless)));
-        }
-        if !not_above.is_empty() {
-            return Some(Verdict::Refused(Faults::NotAbove(not_above)));
-        }
-        None
     }
 
     /// The stale gets among so many names from a place on, each with the newest put on its key in its past, where the

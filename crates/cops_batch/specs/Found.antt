@@ -1,9 +1,8 @@
 -- What workers find in their pieces.
-use Rattle.cops_types.specs.Faults.{IsStale}
+use Rattle.cops_types.specs.Faults.{HasNoSource, IsNotAbove, IsStale}
 use Rattle.cops_types.specs.VersionOrder.{IsDoubled}
 use Rattle.cops_audit.specs.Names.{ListsAmong}
 use Rattle.cops_audit.specs.Noted.{Noted}
-use Rattle.cops_audit.specs.Notes.{IsSourceless, SeesNotAbove}
 use Rattle.cops_audit.specs.Sorted.{Sorted}
 use Rattle.cops_batch.specs.Pieces.{names_of}
 use Rattle.cops_batch.specs.declared.pieces.Piece.{Piece}
@@ -13,9 +12,9 @@ abbrev pub HasDoubled : Sorted → Piece → Type 0
 HasDoubled puts p = ListsAmong (λ n. n) (IsDoubled puts.sessions) (names_of puts.names p) p.names.items
 
 -- the piece has its faults of the classes before the stale gets
-pub record IsSearched (tables : Noted) (p : Piece) : Type 0 where
-  pub sourceless : ListsAmong (λ n. n) (IsSourceless tables.notes) (names_of tables.names p) p.names.items
-  pub not_above : ListsAmong (λ f. f.op) (λ f. SeesNotAbove tables.notes f.op f.earlier) (names_of tables.names p) p.not_above.items
+pub record IsSearched (puts : Sorted) (p : Piece) : Type 0 where
+  pub sourceless : ListsAmong (λ n. n) (HasNoSource puts.sessions) (names_of puts.names p) p.names.items
+  pub not_above : ListsAmong (λ f. f.op) (λ f. IsNotAbove puts.sessions f.op f.earlier) (names_of puts.names p) p.not_above.items
 
 -- the piece has its stale gets
 abbrev pub HasStale : Noted → Piece → Type 0

@@ -2,7 +2,7 @@ ghost use Rattle.std.specs.Prelude.{◌≡◌, ◌≢◌, ◌<◌, ◌⊎◌, �
 ghost use Rattle.cops_types.specs.Convergence.{IsCausallyConvergent};
 ghost use Rattle.cops_types.specs.declared.limits.TheConstants.{MAX_WORKERS};
 ghost use Rattle.cops_types.specs.Verdicts.{AllAbove, AllHaveSources};
-ghost use Rattle.cops_audit.specs.Tables.{Repeats};
+ghost use Rattle.cops_audit.specs.Tables.{Repeats, Rises};
 ghost use Rattle.cops_audit.specs.Verdicts.{Accepts, ConvergesByVersions, IsVerdict};
 ghost use Rattle.cops_batch.specs.Pieces.{IsCut, IsHeldByGate, IsReady, LiesWithin, MayHoldPiece};
 ghost use Rattle.cops_batch.specs.declared.fault.BatchFault.TheVariants.{BadWorkers, Held};
@@ -66,10 +66,7 @@ fn judge_in_pieces<R: Threads + Wait + Sync, G: Gate>(
     if !puts.is_rising() {
         return judge_doubled(rt, alloc, &puts, gate, pieces.as_mut_slice());
     }
-    let Ok(tables) = Tables::linked(rt, alloc, puts, workers) else {
-        return Err(BatchFault::Memory);
-    };
-    judge_gets(rt, alloc, &tables, gate, pieces.as_mut_slice())
+    judge_gets(rt, alloc, puts, workers, gate, pieces.as_mut_slice())
 }
 
 /// The verdict where a version is borne by two puts.
@@ -101,26 +98,29 @@ fn judge_doubled<R: Threads + Wait + Sync, G: Gate>(
 fn judge_gets<R: Threads + Wait + Sync, G: Gate>(
     rt: &R,
     alloc: Global,
-    tables: &Tables,
+    puts: Puts,
+    workers: u8,
     gate: &G,
     pieces: &mut [Piece],
 ) -> Result<Verdict, BatchFault>
-    requires cut { IsCut 0 0 pieces.old (length tables.now.names) }
-    requires within { All (LiesWithin (length tables.now.names)) pieces.old }
+    requires rising { Rises puts.table }
+    requires cut { IsCut 0 0 pieces.old (length puts.names) }
+    requires within { All (LiesWithin (length puts.names)) pieces.old }
     requires some { 0 < length pieces.old }
-    ensures ok { IfOk result (IsVerdict tables.now.sessions) }
+    ensures ok { IfOk result (IsVerdict puts.entry.sessions) }
     ensures bad { IfErr result (λ e. e ≢ BadWorkers) }
     ensures held { IsErrOf result Held → (i : ℕ) × (i < length pieces.old) × MayHoldPiece (G.may_hold gate.now) i }
 {
-    round_before_stale(rt, alloc, tables, gate, pieces);
-    match joined_before_stale(alloc, tables, gate, pieces) {
-        Ok(None) => judge_stale(rt, alloc, tables, gate, pieces),
+    round_before_stale(rt, alloc, &puts, gate, pieces);
+    let count = puts.count();
+    match joined_before_stale(alloc, &puts, gate, pieces) {
+        Ok(None) => judge_stale(rt, alloc, puts, workers, gate, pieces),
         Ok(Some(verdict)) => {
-            last_round(rt, gate, pieces, tables.count())?;
+            last_round(rt, gate, pieces, count)?;
             Ok(verdict)
         }
         Err(fault) => {
-            last_round(rt, gate, pieces, tables.count())?;
+            last_round(rt, gate, pieces, count)?;
             Err(fault)
         }
     }
@@ -143,8 +143,36 @@ fn last_round<R: Threads + Wait + Sync, G: Gate>(
     finished(gate, pieces, count)
 }
 
-/// The verdict where the classes before the stale gets are empty.
+/// The verdict where the classes before the stale gets are empty. What stale gets are looked up in is made here.
 fn judge_stale<R: Threads + Wait + Sync, G: Gate>(
+    rt: &R,
+    alloc: Global,
+    puts: Puts,
+    workers: u8,
+    gate: &G,
+    pieces: &mut [Piece],
+) -> Result<Verdict, BatchFault>
+    requires rising { Rises puts.table }
+    requires sources { AllHaveSources puts.sessions }
+    requires above { AllAbove puts.sessions }
+    requires cut { IsCut 0 0 pieces.old (length puts.names) }
+    requires ready { All (IsReady (length puts.names) (G.may_hold gate.now)) pieces.old }
+    requires held { All (IsHeldByGate (G.may_hold gate.now)) pieces.old }
+    requires some { 0 < length pieces.old }
+    ensures ok { IfOk result (IsVerdict puts.entry.sessions) }
+    ensures bad { IfErr result (λ e. e ≢ BadWorkers) }
+    ensures held { IsErrOf result Held → (i : ℕ) × (i < length pieces.old) × MayHoldPiece (G.may_hold gate.now) i }
+{
+    let count = puts.count();
+    let Ok(tables) = Tables::linked(rt, alloc, puts, workers) else {
+        last_round(rt, gate, pieces, count)?;
+        return Err(BatchFault::Memory);
+    };
+    judge_tables(rt, alloc, &tables, gate, pieces)
+}
+
+/// The same, by what stale gets are looked up in.
+fn judge_tables<R: Threads + Wait + Sync, G: Gate>(
     rt: &R,
     alloc: Global,
     tables: &Tables,

@@ -1,5 +1,6 @@
 ghost use Rattle.std.specs.Prelude.{◌≡◌, ◌≢◌, ◌<◌, ℕ, IfOk, IfErr, IfSome, IfNone, IsErrOf, OnOk, length, flat_map};
 ghost use Rattle.cops_types.specs.Verdicts.{AllAbove, AllHaveSources};
+ghost use Rattle.cops_audit.specs.Tables.{Rises};
 ghost use Rattle.cops_audit.specs.Verdicts.{IsVerdict};
 ghost use Rattle.cops_batch.specs.Pieces.{Each, IsCut, IsHeldByGate, MayHoldPiece};
 ghost use Rattle.cops_batch.specs.Found.{IsSearched};
@@ -8,7 +9,7 @@ ghost use Rattle.cops_batch.specs.declared.fault.BatchFault.TheVariants.{BadWork
 
 use crate::fault::BatchFault;
 use crate::pieces::{Piece, State};
-use cops_audit::{NotAbove, Stale, Tables, Verdict};
+use cops_audit::{NotAbove, Puts, Stale, Verdict};
 use cops_types::{Gate, OpName};
 use std::alloc::{AllocError, Global};
 
@@ -71,25 +72,26 @@ pub fn joined_stale(alloc: Global, pieces: &[Piece]) -> Result<Vec<Stale>, Alloc
 /// The verdict of the classes before the stale gets, or `None` where they are empty in all pieces.
 pub fn joined_before_stale<G: Gate>(
     alloc: Global,
-    tables: &Tables,
+    puts: &Puts,
     gate: &G,
     pieces: &[Piece],
 ) -> Result<Option<Verdict>, BatchFault>
-    requires cut { IsCut 0 0 pieces.now (length tables.now.names) }
+    requires rising { Rises puts.now.table }
+    requires cut { IsCut 0 0 pieces.now (length puts.now.names) }
     requires held { Each (IsHeldByGate (G.may_hold gate.now)) pieces.now }
-    requires found { Each (λ p. p.state ≡ Fine → IsSearched tables.now p) pieces.now }
-    ensures refused { IfOk result (λ r. IfSome r (IsVerdict tables.now.sessions)) }
-    ensures sources { IfOk result (λ r. IfNone r (AllHaveSources tables.now.sessions)) }
-    ensures above { IfOk result (λ r. IfNone r (AllAbove tables.now.sessions)) }
+    requires found { Each (λ p. p.state ≡ Fine → IsSearched puts.now p) pieces.now }
+    ensures refused { IfOk result (λ r. IfSome r (IsVerdict puts.now.sessions)) }
+    ensures sources { IfOk result (λ r. IfNone r (AllHaveSources puts.now.sessions)) }
+    ensures above { IfOk result (λ r. IfNone r (AllAbove puts.now.sessions)) }
     ensures bad { IfErr result (λ e. e ≢ BadWorkers) }
     ensures held { IsErrOf result Held → (i : ℕ) × (i < length pieces.now) × MayHoldPiece (G.may_hold gate.now) i }
 {
-    finished(gate, pieces, tables.count())?;
+    finished(gate, pieces, puts.count())?;
     let Ok(sourceless) = joined_names(alloc, pieces) else {
         return Err(BatchFault::Memory);
     };
     let Ok(not_above) = joined_not_above(alloc, pieces) else {
         return Err(BatchFault::Memory);
     };
-    Ok(tables.verdict_before_stale(sourceless, not_above))
+    Ok(puts.verdict_before_stale(sourceless, not_above))
 }

@@ -1,5 +1,6 @@
 ghost use Rattle.std.specs.Prelude.{◌≡◌, ◌<◌, ℕ, IfOk, OnOk, length, vec_len, All, slice_index_or};
 ghost use Rattle.cops_types.specs.Verdicts.{AllAbove, AllHaveSources};
+ghost use Rattle.cops_audit.specs.Tables.{Rises};
 ghost use Rattle.cops_batch.specs.Found.{HasDoubled, HasStale, IsSearched};
 ghost use Rattle.cops_batch.specs.Pieces.{IsCut, IsHeldByGate, IsReady, LiesWithin, SamePlace, piece_len};
 ghost use Rattle.cops_batch.specs.declared.pieces.Piece.{Piece};
@@ -125,13 +126,14 @@ pub fn look_for_doubled<R: Wait, G: Gate>(
 }
 
 /// Puts into a piece what it has of the classes before the stale gets.
-fn search_before_stale(alloc: Global, tables: &Tables, piece: &mut Piece) -> Result<(), AllocError>
-    requires { LiesWithin (length tables.now.names) piece.old }
+fn search_before_stale(alloc: Global, puts: &Puts, piece: &mut Piece) -> Result<(), AllocError>
+    requires rising { Rises puts.now.table }
+    requires within { LiesWithin (length puts.now.names) piece.old }
     ensures place { SamePlace piece.old piece.new }
-    ensures found { OnOk result (IsSearched tables.now piece.new) }
+    ensures found { OnOk result (IsSearched puts.now piece.new) }
 {
-    piece.names = tables.without_source(alloc, piece.start, piece.len)?;
-    piece.not_above = tables.not_above(alloc, piece.start, piece.len)?;
+    piece.names = puts.without_source(alloc, piece.start, piece.len)?;
+    piece.not_above = puts.not_above(alloc, piece.start, piece.len)?;
     Ok(())
 }
 
@@ -139,20 +141,21 @@ fn search_before_stale(alloc: Global, tables: &Tables, piece: &mut Piece) -> Res
 pub fn look_before_stale<R: Wait, G: Gate>(
     rt: &R,
     alloc: Global,
-    tables: &Tables,
+    puts: &Puts,
     gate: &G,
     piece: &mut Piece,
 )
-    requires { LiesWithin (length tables.now.names) piece.old }
+    requires rising { Rises puts.now.table }
+    requires within { LiesWithin (length puts.now.names) piece.old }
     ensures place { SamePlace piece.old piece.new }
     ensures held { IsHeldByGate (G.may_hold gate.now) piece.new }
-    ensures found { piece.new.state ≡ Fine → IsSearched tables.now piece.new }
+    ensures found { piece.new.state ≡ Fine → IsSearched puts.now piece.new }
 {
     if gate.pass(rt, Point::PieceStart(piece.number)).is_err() {
         piece.state = State::Held;
         return;
     }
-    match search_before_stale(alloc, tables, piece) {
+    match search_before_stale(alloc, puts, piece) {
         Ok(()) => piece.state = State::Fine,
         Err(_) => piece.state = State::Memory,
     }

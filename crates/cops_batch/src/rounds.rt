@@ -1,5 +1,6 @@
 ghost use Rattle.std.specs.Prelude.{◌≡◌, ◌<◌, length, All};
 ghost use Rattle.cops_types.specs.Verdicts.{AllAbove, AllHaveSources};
+ghost use Rattle.cops_audit.specs.Tables.{Rises};
 ghost use Rattle.cops_batch.specs.Found.{HasDoubled, HasStale, IsSearched};
 ghost use Rattle.cops_batch.specs.Pieces.{Each, IsHeldByGate, IsReady, LiesWithin, SamePlace, SamePlaces};
 ghost use Rattle.cops_batch.specs.declared.pieces.State.TheVariants.{Fine};
@@ -45,16 +46,17 @@ pub fn round_of_doubled<R: Threads + Wait + Sync, G: Gate>(
 pub fn round_before_stale<R: Threads + Wait + Sync, G: Gate>(
     rt: &R,
     alloc: Global,
-    tables: &Tables,
+    puts: &Puts,
     gate: &G,
     pieces: &mut [Piece],
 )
-    requires within { All (LiesWithin (length tables.now.names)) pieces.old }
+    requires rising { Rises puts.now.table }
+    requires within { All (LiesWithin (length puts.now.names)) pieces.old }
     requires some { 0 < length pieces.old }
     ensures len { length pieces.new ≡ length pieces.old }
     ensures places { SamePlaces pieces.old pieces.new }
     ensures held { Each (IsHeldByGate (G.may_hold gate.now)) pieces.new }
-    ensures found { Each (λ p. p.state ≡ Fine → IsSearched tables.now p) pieces.new }
+    ensures found { Each (λ p. p.state ≡ Fine → IsSearched puts.now p) pieces.new }
 {
     let threads = pieces.len();
     thread::for_each_mut(
@@ -62,11 +64,12 @@ pub fn round_before_stale<R: Threads + Wait + Sync, G: Gate>(
         pieces,
         threads,
         &|_, piece: &mut Piece|
-            requires { LiesWithin (length tables.now.names) piece.now }
+            requires rising { Rises puts.now.table }
+            requires within { LiesWithin (length puts.now.names) piece.now }
             ensures place { SamePlace piece.entry.now piece.exit.now }
             ensures held { IsHeldByGate (G.may_hold gate.entry.now) piece.exit.now }
-            ensures found { piece.exit.now.state ≡ Fine → IsSearched tables.entry.now piece.exit.now }
-        { look_before_stale(rt, alloc, tables, gate, piece) },
+            ensures found { piece.exit.now.state ≡ Fine → IsSearched puts.entry.now piece.exit.now }
+        { look_before_stale(rt, alloc, puts, gate, piece) },
     );
 }
 

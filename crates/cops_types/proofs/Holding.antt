@@ -1,5 +1,5 @@
 -- What a history keeps, as clients hold places and use them.
-use Rattle.std.proofs.Common.{◌≡◌, ◌≢◌, ℕ, zero, suc, ◌+◌, ◌-◌, ◌<◌, ◌≤◌, Bool, true, false, List, [], ◌∷◌, map, length, get_or, slice_get, replicate, sum_by, Some, None, ◌++◌, refl, sym, ap, ◌∙◌, subst, arith, get_or-set_same, get_or-set_other, inl, inr}
+use Rattle.std.proofs.Common.{◌≡◌, ◌≢◌, ℕ, zero, suc, ◌+◌, ◌-◌, ◌<◌, ◌≤◌, Bool, true, false, List, [], ◌∷◌, map, length, length-append, get_or, slice_get, replicate, sum_by, Some, None, ◌++◌, refl, sym, ap, ◌∙◌, subst, arith, get_or-set_same, get_or-set_other, inl, inr}
 use Rattle.std.proofs.Math.ListN.{set, length-set}
 use Rattle.std.proofs.lemmas.List.{length-replicate, length-map}
 use Rattle.std.proofs.lemmas.List.Sums.{sum_by-set, sum_by-cons}
@@ -7,14 +7,17 @@ use Rattle.std.proofs.lemmas.List.Folds.{sum_by-replicate}
 use Rattle.cops_types.specs.declared.op.Op.{Op}
 use Rattle.cops_types.specs.declared.entry.Entry.{Entry}
 use Rattle.cops_types.specs.Counts.{count_of, is_put, put_count}
-use Rattle.cops_types.specs.Entries.{EntryLists, KeptEntries, KeepsEntries, GainsEntry, IsSound, AreSound, told, told_by, puts_in}
+use Rattle.cops_types.specs.Entries.{EntryLists, KeptEntries, KeepsEntries, GainsEntry, IsSound, AreSound, told, told_by, key_number_of, puts_in}
 use Rattle.cops_types.specs.declared.entry.Entry.TheVariants.{Put, Got, Sourced, Missed}
 use Rattle.cops_types.specs.Lists.{item_at, with_item}
-use Rattle.cops_types.specs.Histories.{with_op}
+use Rattle.cops_types.specs.Histories.{Sessions, with_op}
+use Rattle.cops_types.specs.Heights.{AreSessionHeights}
+use Rattle.cops_types.specs.declared.heights.Heights.{Heights}
 use Rattle.cops_types.specs.Keeping.{IsKept, flag_count}
 use Rattle.cops_types.specs.KeySets.{AreDistinct, GainsKey, KeptKeys}
 use Rattle.cops_types.specs.Recorded.{IsWithinLimits}
 use Rattle.cops_types.proofs.Sessions.{at_or_other, count-with_op, within_with_op, none_of, none_within, count-none, puts-none, puts-with_op}
+use Rattle.cops_types.proofs.Showing.{slice_get-end}
 use Rattle.cops_types.proofs.Telling.{told_by-with_item, sound-with_item, told-none}
 
 -- ---- puts
@@ -51,8 +54,9 @@ no_flag (suc n) (suc c) = no_flag n c
 
 -- ---- a history with no operation
 
-pub new_kept : (keys : KeptKeys) (entries : KeptEntries) (n : ℕ) → n ≤ 65535 → keys.keys ≡ [] → entries.all ≡ replicate n [] → entries.names ≡ [] → entries.gets ≡ 0 → IsKept keys entries (replicate n false) 0 0
-new_kept keys entries n le no_keys no_entries no_names no_gets =
+pub new_kept : (keys : KeptKeys) (entries : KeptEntries) (heights : Heights) (n : ℕ) → n ≤ 65535 → keys.keys ≡ [] → entries.all ≡ replicate n [] → entries.names ≡ [] → entries.gets ≡ []
+    → AreSessionHeights (replicate n []) heights → IsKept keys entries heights (replicate n false) 0 0
+new_kept keys entries heights n le no_keys no_entries no_names no_gets low =
     let none : told_by keys.keys entries.all ≡ replicate n [] = ap (λ (all : EntryLists). map (map (told keys.keys entries.all)) all) no_entries ∙ told-none keys.keys entries.all n in
     record {
       limits = subst IsWithinLimits (sym none) (none_within n le);
@@ -68,13 +72,15 @@ new_kept keys entries n le no_keys no_entries no_names no_gets =
       put_places = omega arith;
       get_places = omega arith;
       few_names = omega (arith, ap length no_names);
-      few_gets = omega (arith, no_gets);
+      few_gets = omega (arith, ap length no_gets);
+      get_keys = λ number e at. let gone : None ≡ Some e = ap (λ (s : List Entry). slice_get s number) (sym no_gets) ∙ at in cc;
+      session_heights = subst (λ (h : Sessions). AreSessionHeights h heights) (sym none) low;
     }
 
 -- ---- places that are held
 
-module _ (k k' : KeptKeys) (e e' : KeptEntries) (reserved : List Bool) (reservations len : ℕ) (keys : k'.keys ≡ k.keys) (spare : k.spare ≤ k'.spare) (keeps : KeepsEntries e e')
-    (kept : IsKept k e reserved reservations len) where
+module _ (k k' : KeptKeys) (e e' : KeptEntries) (heights : Heights) (reserved : List Bool) (reservations len : ℕ) (keys : k'.keys ≡ k.keys) (spare : k.spare ≤ k'.spare) (keeps : KeepsEntries e e')
+    (kept : IsKept k e heights reserved reservations len) where
   abbrev all : e'.all ≡ e.all
   all = keeps.all
 
@@ -82,7 +88,7 @@ module _ (k k' : KeptKeys) (e e' : KeptEntries) (reserved : List Bool) (reservat
   same_told = λ j. told_by (keys j) (all j)
 
   -- more room changes nothing
-  pub room_kept : IsKept k' e' reserved reservations len
+  pub room_kept : IsKept k' e' heights reserved reservations len
   room_kept = record {
     limits = subst IsWithinLimits (sym same_told) kept.limits;
     count = kept.count ∙ ap count_of (sym same_told);
@@ -97,12 +103,14 @@ module _ (k k' : KeptKeys) (e e' : KeptEntries) (reserved : List Bool) (reservat
     put_places = omega (arith, kept.put_places, keeps.more_puts);
     get_places = omega (arith, kept.get_places, keeps.more_gets);
     few_names = omega (arith, kept.few_names, ap length keeps.names);
-    few_gets = omega (arith, kept.few_gets, keeps.gets);
+    few_gets = omega (arith, kept.few_gets, ap length keeps.gets);
+    get_keys = λ number x at. omega (arith, kept.get_keys number x (sym (ap (λ (s : List Entry). slice_get s number) keeps.gets) ∙ at), ap length keys);
+    session_heights = subst (λ (h : Sessions). AreSessionHeights h heights) (sym same_told) kept.session_heights;
   }
 
   -- one more place is held
   pub flag_kept : (client : ℕ) → client < length e.all → get_or reserved client false ≡ false → get_or e'.room client false ≡ true → reservations + 1 ≤ k'.spare → reservations + 1 ≤ e'.more_puts → reservations + 1 ≤ e'.more_gets
-      → IsKept k' e' (set reserved client true) (reservations + 1) len
+      → IsKept k' e' heights (set reserved client true) (reservations + 1) len
   flag_kept client inside was has places put_places get_places = record {
     limits = room_kept.limits;
     count = room_kept.count;
@@ -121,18 +129,38 @@ module _ (k k' : KeptKeys) (e e' : KeptEntries) (reserved : List Bool) (reservat
     get_places = get_places;
     few_names = room_kept.few_names;
     few_gets = room_kept.few_gets;
+    get_keys = room_kept.get_keys;
+    session_heights = room_kept.session_heights;
   }
 
 -- ---- one more operation
 
-module _ (k k' : KeptKeys) (e e' : KeptEntries) (reserved : List Bool) (reservations len client : ℕ) (entry : Entry) (op : Op) (inside : client < length e.all) (kept : IsKept k e reserved reservations len)
+module _ (k k' : KeptKeys) (e e' : KeptEntries) (heights : Heights) (reserved : List Bool) (reservations len client : ℕ) (entry : Entry) (op : Op) (inside : client < length e.all) (kept : IsKept k e heights reserved reservations len)
     (gains : GainsKey k k') (fits : IsSound k'.keys e.all entry) (is : told k'.keys e.all entry ≡ op) (all : e'.all ≡ with_item e.all client entry) (more : GainsEntry entry e e') where
   pub put_told : told_by k'.keys e'.all ≡ with_op (told_by k.keys e.all) client op
   put_told = ap (told_by k'.keys) all ∙ told_by-with_item k.keys k'.keys gains.places e.all client entry inside kept.sound fits op is
 
-  pub put_kept : get_or reserved client false ≡ true → ((c : ℕ) → c ≢ client → get_or e.room c false ≡ true → get_or e'.room c false ≡ true)
-      → length (get_or (told_by k.keys e.all) client []) < 1000000 → count_of (told_by k.keys e.all) < 16000000 → IsKept k' e' (set reserved client false) (reservations - 1) (len + 1)
-  put_kept flag room session most =
+  -- the keys of the gets that are kept with what they returned
+  gets_keyed : (number : ℕ) (x : Entry) → slice_get e'.gets number ≡ Some x → key_number_of x < length k'.keys
+  gets_keyed number x at = elim more.gets [
+    | inl same ↦ omega (arith, kept.get_keys number x (sym (ap (λ (s : List Entry). slice_get s number) same) ∙ at), gains.places.longer)
+    | inr grown ↦ elim (slice_get-end e.gets entry number x (sym (ap (λ (s : List Entry). slice_get s number) grown) ∙ at)) [
+      | inl was ↦ omega (arith, kept.get_keys number x was, gains.places.longer)
+      | inr new ↦ subst (λ (y : Entry). key_number_of y < length k'.keys) new.1 fits.key
+    ]
+  ]
+
+  -- there is at most one more of them
+  gets_more : length e'.gets ≤ length e.gets + 1
+  gets_more = elim more.gets [
+    | inl same ↦ omega (arith, ap length same)
+    | inr grown ↦ omega (arith, ap length grown, length-append e.gets (entry ∷ []))
+  ]
+
+  pub put_kept : (heights' : Heights) → (AreSessionHeights (told_by k.keys e.all) heights → AreSessionHeights (with_op (told_by k.keys e.all) client op) heights') → get_or reserved client false ≡ true → ((c : ℕ) → c ≢ client → get_or e.room c false ≡ true → get_or e'.room c false ≡ true)
+      → length (get_or (told_by k.keys e.all) client []) < 1000000 → count_of (told_by k.keys e.all) < 16000000
+      → IsKept k' e' heights' (set reserved client false) (reservations - 1) (len + 1)
+  put_kept heights' takes flag room session most =
       let h = told_by k.keys e.all in
       let there : client < length h = omega (arith, length-map e.all (map (told k.keys e.all))) in
       let flags : client < length reserved = omega (arith, kept.flags) in
@@ -154,5 +182,7 @@ module _ (k k' : KeptKeys) (e e' : KeptEntries) (reserved : List Bool) (reservat
         put_places = omega (arith, kept.held, kept.put_places, more.more_puts, clear_flag reserved client flags flag);
         get_places = omega (arith, kept.held, kept.get_places, more.more_gets, clear_flag reserved client flags flag);
         few_names = omega (arith, kept.few_names, more.names, puts-told k'.keys e.all entry, flag-le (is_put (told k'.keys e.all entry)));
-        few_gets = omega (arith, kept.few_gets, more.gets);
+        few_gets = omega (arith, kept.few_gets, gets_more);
+        get_keys = gets_keyed;
+        session_heights = subst (λ (h : Sessions). AreSessionHeights h heights') (sym put_told) (takes kept.session_heights);
       }

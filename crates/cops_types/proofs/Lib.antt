@@ -5,5 +5,6 @@ pub mod Telling
 pub mod Sources
 pub mod Showing
 mod Joining
+pub mod Climbing
 pub mod Holding
 pub mod Devices

@@ -6,7 +6,7 @@ use Rattle.std.proofs.Math.ListN.{set, get_or-map}
 use Rattle.std.proofs.lemmas.List.{map-set, map-append, length-map, get_or-map as get_or-map-inside}
 use Rattle.std.proofs.lemmas.Option.{slice_get-map, get_or_from_slice_get, slice_get_within}
 use Rattle.cops_types.specs.declared.entry.Entry.{Entry}
-use Rattle.cops_types.specs.declared.entry.Entry.TheVariants.{Put, Sourced}
+use Rattle.cops_types.specs.declared.entry.Entry.TheVariants.{Put, Got, Sourced}
 use Rattle.cops_types.specs.declared.entry.EntryRef.{EntryRef}
 use Rattle.cops_types.specs.declared.entry.EntryRef.TheVariants.{Put as PutRef, Got as GotRef, Sourced as SourcedRef, Missed as MissedRef}
 use Rattle.cops_types.specs.declared.entry.NumberedPut.{NumberedPut}
@@ -43,7 +43,7 @@ pub end_of : {X : Type 0} (xs : List X) (y : X) → slice_get (xs ++ y ∷ []) (
 end_of [] y = refl
 end_of (x ∷ xs) y = end_of xs y
 
-stays_left : {X : Type 0} (xs ys : List X) (i : ℕ) (x : X) → slice_get xs i ≡ Some x → slice_get (xs ++ ys) i ≡ Some x
+pub stays_left : {X : Type 0} (xs ys : List X) (i : ℕ) (x : X) → slice_get xs i ≡ Some x → slice_get (xs ++ ys) i ≡ Some x
 stays_left [] ys i x at = cc
 stays_left (y ∷ xs) ys zero x at = at
 stays_left (y ∷ xs) ys (suc i) x at = stays_left xs ys i x at
@@ -317,6 +317,67 @@ module _ (puts : List KeptPut) (gets : List KeptGot) (slots : List (List Slot)) 
       × (key version : ℕ) × (item_at (shown_by puts gets slots) name ≡ Some (Sourced key (record { name = put; number = n }) version)))
   names_source (Some n) at = source_of puts gets slots kept name n at
   names_source None at = tt
+
+-- ---- gets that are kept with what they returned
+
+abbrev pub entries_of : List KeptGot → List Entry
+entries_of gets = map (λ (g : KeptGot). got_shown (Some g)) gets
+
+got_entry : (o : Option KeptGot) (key version : ℕ) (value : List ℕ) → got_shown o ≡ Got key value version → option_map (λ (g : KeptGot). got_shown (Some g)) o ≡ Some (Got key value version)
+got_entry (Some g) key version value is = ap (λ (e : Entry). Some e) is
+got_entry None key version value is = cc
+
+no_put_got : (o : Option KeptPut) (key : ℕ) (value : List ℕ) (version : ℕ) → put_shown o ≡ Got key value version → ⊥
+no_put_got (Some p) key value version is = cc
+no_put_got None key value version is = cc
+
+no_sourced_got : (number : ℕ) (o : Option KeptPut) (key : ℕ) (value : List ℕ) (version : ℕ) → source_shown number o ≡ Got key value version → ⊥
+no_sourced_got number (Some p) key value version is = cc
+no_sourced_got number None key value version is = cc
+
+module _ (puts : List KeptPut) (gets : List KeptGot) where
+  -- what stands for such a get is its slot
+  got_slot_of : (o : Option Slot) (key version : ℕ) (value : List ℕ) → option_map (shown puts gets) o ≡ Some (Got key value version) → (n : ℕ) × (o ≡ Some (GotSlot n))
+  got_slot_of None key version value is = cc
+  got_slot_of (Some (PutSlot n)) key version value is = let e : put_shown (slice_get puts n) ≡ Got key value version = cc in absurd (no_put_got (slice_get puts n) key value version e)
+  got_slot_of (Some (SourcedSlot n)) key version value is = let e : source_shown n (slice_get puts n) ≡ Got key value version = cc in absurd (no_sourced_got n (slice_get puts n) key value version e)
+  got_slot_of (Some (GotSlot n)) key version value is = (n, refl)
+  got_slot_of (Some (MissedSlot k)) key version value is = cc
+
+  -- each of them has a number
+  pub kept_gets : (slots : List (List Slot)) (name : OpName) (key version : ℕ) (value : List ℕ) → item_at (shown_by puts gets slots) name ≡ Some (Got key value version)
+      → (n : ℕ) × (slice_get (entries_of gets) n ≡ Some (Got key value version))
+  kept_gets slots name key version value at =
+      let shown_there = sym (item_at-shown puts gets slots name) ∙ at in
+      let slot = got_slot_of (item_at slots name) key version value shown_there in
+      let both : Some (got_shown (slice_get gets slot.0)) ≡ Some (Got key value version) = sym (ap (option_map (shown puts gets)) slot.1) ∙ shown_there in
+      let e : got_shown (slice_get gets slot.0) ≡ Got key value version = cc in
+      (slot.0, slice_get-map (λ (g : KeptGot). got_shown (Some g)) gets slot.0 ∙ got_entry (slice_get gets slot.0) key version value e)
+
+  module _ (slots : List (List Slot)) (kept : AreKept puts gets slots) (name : OpName) where
+    -- the number that a name's slot tells
+    pub numbers_get : (number : Option ℕ) → ((n : ℕ) → (number ≡ Some n) ↔ (item_at slots name ≡ Some (GotSlot n)))
+        → IfSome number (λ n. (key version : ℕ) × (value : List ℕ) × (item_at (shown_by puts gets slots) name ≡ Some (Got key value version))
+        × (slice_get (entries_of gets) n ≡ Some (Got key value version)))
+    numbers_get (Some n) tells =
+        let at = (tells n).0 refl in
+        let g = found gets n (kept.there name (GotSlot n) at) in (
+          g.0.key,
+          g.0.version,
+          g.0.value,
+          item_at-shown puts gets slots name ∙ ap (option_map (shown puts gets)) at ∙ ap (λ (o : Option KeptGot). Some (got_shown o)) g.1,
+          slice_get-map (λ (g : KeptGot). got_shown (Some g)) gets n ∙ ap (option_map (λ (g : KeptGot). got_shown (Some g))) g.1,
+        )
+    numbers_get None tells = tt
+
+    -- where it tells none, no such get is there
+    pub no_number_no_get : (number : Option ℕ) → ((n : ℕ) → (number ≡ Some n) ↔ (item_at slots name ≡ Some (GotSlot n)))
+        → IfNone number ((key version : ℕ) (value : List ℕ) → item_at (shown_by puts gets slots) name ≢ Some (Got key value version))
+    no_number_no_get (Some n) tells = tt
+    no_number_no_get None tells = λ key version value at.
+        let slot = got_slot_of (item_at slots name) key version value (sym (item_at-shown puts gets slots name) ∙ at) in
+        let gone : None ≡ Some slot.0 = (tells slot.0).1 slot.1 in
+        cc
 
 -- ---- one more operation
 

@@ -1,8 +1,8 @@
 -- What is told of an entry by its name, and when the one entry is the source of the other.
-use Rattle.std.proofs.Common.{◌≡◌, ◌<◌, ℕ, List, [], length, get_or, slice_get, Bor, Option, Some, None, refl, sym, ap, ◌∙◌, inl, inr}
+use Rattle.std.proofs.Common.{◌≡◌, ◌<◌, ℕ, List, [], length, map, get_or, slice_get, Bor, Option, Some, None, refl, sym, ap, ◌∙◌, inl, inr}
 use Rattle.std.specs.Prelude.{◌⊎◌, ◌≢◌, IfSome, IfNone}
 use Rattle.std.specs.Option.{option_map}
-use Rattle.std.proofs.lemmas.Option.{slice_get-get_or}
+use Rattle.std.proofs.lemmas.Option.{slice_get-get_or, slice_get-map}
 use Rattle.cops_types.specs.declared.op.Op.{Op}
 use Rattle.cops_types.specs.declared.op.Op.TheVariants.{Put as PutOp, Got as GotOp, Missed as MissedOp}
 use Rattle.cops_types.specs.declared.op.OpName.{OpName}
@@ -177,3 +177,61 @@ module _ (keys : List (List ℕ)) (all : EntryLists) (name : OpName) where
   pub no_puts_of : (number : Option ℕ) → IfNone number ((key version : ℕ) (value : List ℕ) → item_at all name ≢ Some (Put key value version)) → IfNone number (¬ Puts (told_by keys all) name)
   no_puts_of (Some n) none = tt
   no_puts_of None none = λ puts. let e = entry_of_put keys all (item_at all name) puts.1.0 puts.1.1 puts.0 (sym (op_at-told keys all name) ∙ puts.1.2) in none e.0 puts.0 e.1 e.2
+
+-- ---- gets that are kept with what they returned
+
+module _ (keys : List (List ℕ)) (all : EntryLists) (sound : AreSound keys all) (got : OpName) where
+  -- a get that returned something has its source, or is kept with it
+  got_or_sourced : (version : ℕ) → GetsVersion (told_by keys all) got version → ((key own : ℕ) × (value : List ℕ) × (item_at all got ≡ Some (Got key value own))) ⊎ ((put : OpName) × SourceStep (told_by keys all) put got)
+  got_or_sourced version gets_version = by_entry (item_at all got) refl
+    where
+      by_entry : (o : Option Entry) → item_at all got ≡ o → ((key own : ℕ) × (value : List ℕ) × (item_at all got ≡ Some (Got key value own))) ⊎ ((put : OpName) × SourceStep (told_by keys all) put got)
+      by_entry None at = let none = none_told keys all got (sym at) in let there = gets_version.2 in absurd cc
+      by_entry (Some (Put key value own)) at = let both = told_as keys all got (Put key value own) _ (sym at) refl ∙ gets_version.2 in absurd cc
+      by_entry (Some (Got key value own)) at = inl (key, own, value, at)
+      by_entry (Some (Sourced key put own)) at =
+          let source = (sound got (Sourced key put own) at).source in
+          inr (put.name, source_there keys all put.name got key (value_put all put.name) own (told_as keys all got (Sourced key put own) _ (sym at) refl) source)
+      by_entry (Some (Missed key)) at = let both = told_as keys all got (Missed key) _ (sym at) refl ∙ gets_version.2 in absurd cc
+
+  pub sourced_unless_open : (number : Option ℕ) → IfNone number ((key version : ℕ) (value : List ℕ) → item_at all got ≢ Some (Got key value version))
+      → IfNone number ((version : ℕ) → GetsVersion (told_by keys all) got version → (put : OpName) × SourceStep (told_by keys all) put got)
+  sourced_unless_open (Some n) none = tt
+  sourced_unless_open None none = λ version gets_version. elim (got_or_sourced version gets_version) [
+    | inl kept ↦ absurd (none kept.0 kept.1 kept.2 kept.3)
+    | inr sourced ↦ sourced
+  ]
+
+module _ (keys : List (List ℕ)) (all : EntryLists) (gets : List Entry) where
+  abbrev pub IsOpen : OpName → ℕ → Type 0
+  IsOpen got n = (op : Op) × (slice_get (map (told keys all) gets) n ≡ Some op) × (op_at (told_by keys all) got ≡ Some op)
+
+  -- the one of a number is an entry's
+  pub numbers_open : (got : OpName) (number : Option ℕ)
+      → IfSome number (λ n. (key version : ℕ) × (value : List ℕ) × (item_at all got ≡ Some (Got key value version)) × (slice_get gets n ≡ Some (Got key value version)))
+      → IfSome number (IsOpen got)
+  numbers_open got (Some n) at = (
+    told keys all (Got at.0 at.2 at.1),
+    slice_get-map (told keys all) gets n ∙ ap (option_map (told keys all)) at.4,
+    op_at-told keys all got ∙ ap (option_map (told keys all)) at.3,
+  )
+  numbers_open got None at = tt
+
+  -- each get that returned something is one of them, or has its source
+  pub open_or_sourced : AreSound keys all
+      → ((name : OpName) (key version : ℕ) (value : List ℕ) → item_at all name ≡ Some (Got key value version) → (n : ℕ) × (slice_get gets n ≡ Some (Got key value version)))
+      → (got : OpName) (version : ℕ) → GetsVersion (told_by keys all) got version
+      → ((n : ℕ) × IsOpen got n) ⊎ ((put : OpName) × SourceStep (told_by keys all) put got)
+  open_or_sourced sound kept got version gets_version = elim (got_or_sourced keys all sound got version gets_version) [
+    | inl k ↦
+        let n = kept got k.0 k.1 k.2 k.3 in
+        inl (
+          n.0,
+          (
+            told keys all (Got k.0 k.2 k.1),
+            slice_get-map (told keys all) gets n.0 ∙ ap (option_map (told keys all)) n.1,
+            op_at-told keys all got ∙ ap (option_map (told keys all)) k.3,
+          ),
+        )
+    | inr sourced ↦ inr sourced
+  ]

@@ -1,5 +1,5 @@
 -- Entries: operations as a history keeps them, which name their keys by number, and some gets' values by the put that wrote them.
-use Rattle.std.specs.Prelude.{◌≡◌, ◌≢◌, ◌↔◌, ◌<◌, ◌≤◌, ◌+◌, ℕ, List, [], length, map, Option, Some, slice_get, slice_index_or, Bool, true, false, Contains, AllPairs}
+use Rattle.std.specs.Prelude.{◌≡◌, ◌≢◌, ◌↔◌, ◌<◌, ◌≤◌, ◌+◌, ◌⊎◌, ◌++◌, ◌∷◌, ℕ, List, [], length, map, Option, Some, slice_get, slice_index_or, Bool, true, false, Contains, AllPairs}
 use Rattle.cops_types.specs.declared.entry.Entry.{Entry}
 use Rattle.cops_types.specs.declared.entry.Entry.TheVariants.{Put, Got, Sourced, Missed}
 use Rattle.cops_types.specs.declared.entry.EntryRef.{EntryRef}
@@ -15,13 +15,13 @@ use Rattle.cops_types.specs.Histories.{Sessions}
 abbrev pub EntryLists : Type 0
 EntryLists = List (List Entry)
 
--- the entries, of each client whether its next one takes no memory, the names of the puts in the order in which they came, how many gets are kept with what they
--- returned, and for how many more puts and such gets there is room
+-- the entries, of each client whether its next one takes no memory, the names of the puts in the order in which they came, the entries of the gets that are kept
+-- with what they returned, each at its number, and for how many more puts and such gets there is room
 pub record KeptEntries : Type 0 where
   pub all : EntryLists
   pub room : List Bool
   pub names : List OpName
-  pub gets : ℕ
+  pub gets : List Entry
   pub more_puts : ℕ
   pub more_gets : ℕ
 
@@ -98,10 +98,10 @@ puts_in (Got key value version) = 0
 puts_in (Sourced key put version) = 0
 puts_in (Missed key) = 0
 
--- the entry came, with a name where it is a put; it took at most one place of the room for each
+-- the entry came, with a name where it is a put, and among the gets where it is kept with what it returned; it took at most one place of the room for each
 pub record GainsEntry (entry : Entry) (old new : KeptEntries) : Type 0 where
   pub names : length new.names ≡ length old.names + puts_in entry
-  pub gets : new.gets ≤ old.gets + 1
+  pub gets : (new.gets ≡ old.gets) ⊎ (new.gets ≡ old.gets ++ entry ∷ [])
   pub more_puts : old.more_puts ≤ new.more_puts + 1
   pub more_gets : old.more_gets ≤ new.more_gets + 1
 

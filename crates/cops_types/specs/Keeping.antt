@@ -1,7 +1,10 @@
 -- What a history keeps.
-use Rattle.std.specs.Prelude.{◌≡◌, ◌≤◌, ℕ, List, length, slice_index_or, Bool, true, false, sum_by}
+use Rattle.std.specs.Prelude.{◌≡◌, ◌<◌, ◌≤◌, ℕ, List, length, slice_get, slice_index_or, Some, Bool, true, false, sum_by}
 use Rattle.cops_types.specs.Counts.{count_of, put_count}
-use Rattle.cops_types.specs.Entries.{KeptEntries, told_by, AreSound}
+use Rattle.cops_types.specs.declared.entry.Entry.{Entry}
+use Rattle.cops_types.specs.declared.heights.Heights.{Heights}
+use Rattle.cops_types.specs.Entries.{KeptEntries, told_by, AreSound, key_number_of}
+use Rattle.cops_types.specs.Heights.{AreSessionHeights}
 use Rattle.cops_types.specs.KeySets.{KeptKeys, AreDistinct}
 use Rattle.cops_types.specs.Recorded.{IsWithinLimits}
 
@@ -10,8 +13,9 @@ abbrev pub flag_count : Bool → ℕ
 flag_count true = 1
 flag_count false = 0
 
--- so many operations, whose keys and sources are there, and a name for each put; and for each client that has reserved a place among its entries and among the keys
-pub record IsKept (keys : KeptKeys) (entries : KeptEntries) (reserved : List Bool) (reservations len : ℕ) : Type 0 where
+-- so many operations, whose keys and sources are there, a name for each put, and the heights of their sessions; and for each client that has reserved a place among
+-- its entries and among the keys
+pub record IsKept (keys : KeptKeys) (entries : KeptEntries) (heights : Heights) (reserved : List Bool) (reservations len : ℕ) : Type 0 where
   pub limits : IsWithinLimits (told_by keys.keys entries.all)
   pub count : len ≡ count_of (told_by keys.keys entries.all)
   pub counted : length entries.names ≡ put_count (told_by keys.keys entries.all)
@@ -25,4 +29,6 @@ pub record IsKept (keys : KeptKeys) (entries : KeptEntries) (reserved : List Boo
   pub put_places : reservations ≤ entries.more_puts
   pub get_places : reservations ≤ entries.more_gets
   pub few_names : length entries.names ≤ len
-  pub few_gets : entries.gets ≤ len
+  pub few_gets : length entries.gets ≤ len
+  pub get_keys : (number : ℕ) (entry : Entry) → slice_get entries.gets number ≡ Some entry → key_number_of entry < length keys.keys
+  pub session_heights : AreSessionHeights (told_by keys.keys entries.all) heights

@@ -1,17 +1,19 @@
 -- What a history holds.
-use Rattle.std.specs.Prelude.{◌≡◌, ℕ, ◌<◌, ◌≤◌, List, [], length, slice_index_or, Bool, true, false}
+use Rattle.std.specs.Prelude.{◌≡◌, ℕ, ◌<◌, ◌≤◌, List, [], length, slice_index_or, slice_get, Some, Bool, true, false}
 use Rattle.cops_types.specs.declared.limits.TheConstants.{MAX_CLIENT_OPS, MAX_CLIENTS, MAX_OPS}
+use Rattle.cops_types.specs.declared.op.Op.{Op}
 use Rattle.cops_types.specs.declared.op.OpName.{OpName}
-use Rattle.cops_types.specs.Histories.{Sessions}
+use Rattle.cops_types.specs.Histories.{Sessions, op_at}
 use Rattle.cops_types.specs.Counts.{count_of}
 
--- the sessions, of each client whether its next operation takes no memory, the keys, each once, in the order of their first use, and the names of the puts, each at
--- its number
+-- the sessions, of each client whether its next operation takes no memory, the keys, each once, in the order of their first use, the names of the puts, each at its
+-- number, and the open gets, each at its number
 pub record Recorded : Type 0 where
   pub sessions : Sessions
   pub room : List Bool
   pub keys : List (List ℕ)
   pub puts : List OpName
+  pub gets : List Op
 
 -- the client has no room by the limits: 1,000,000 operations of a client, 16,000,000 of all
 abbrev pub IsFull : Sessions → ℕ → Type 0
@@ -26,3 +28,7 @@ pub record IsWithinLimits (h : Sessions) : Type 0 where
 -- the client's next operation takes no memory
 abbrev pub HasRoom : Recorded → ℕ → Type 0
 HasRoom r client = slice_index_or r.room client false ≡ true
+
+-- the get of that name is the open one of that number
+abbrev pub IsOpenAt : Recorded → ℕ → OpName → Type 0
+IsOpenAt r number got = (op : Op) × (slice_get r.gets number ≡ Some op) × (op_at r.sessions got ≡ Some op)

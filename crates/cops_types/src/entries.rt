@@ -1,8 +1,8 @@
 ghost use Rattle.std.specs.Prelude.{◌≡◌, ◌≢◌, ◌<◌, ◌≤◌, ◌↔◌, ℕ, [], Some, true, false, length, map, option_copied, replicate, slice_index_or, vec_capacity, IfOk, IfSome};
 ghost use Rattle.cops_types.specs.Lists.{item_at, with_item};
 ghost use Rattle.cops_types.specs.Entries.{referred};
-ghost use Rattle.cops_types.specs.Slots.{IsFrom, IsThere, shown, versioned};
-ghost use Rattle.cops_types.specs.declared.slot.Slot.TheVariants.{Put as PutSlot, Sourced as SourcedSlot};
+ghost use Rattle.cops_types.specs.Slots.{IsFrom, IsThere, got_shown, shown, versioned};
+ghost use Rattle.cops_types.specs.declared.slot.Slot.TheVariants.{Put as PutSlot, Got as GotSlot, Sourced as SourcedSlot};
 ghost use Rattle.cops_types.specs.declared.limits.TheConstants.{MAX_CLIENT_OPS};
 
 use crate::blocks::Blocks;
@@ -27,9 +27,9 @@ pub(crate) struct Entries {
 }
 
 impl Model for Entries {
-    ghost use Rattle.std.specs.Prelude.{◌-◌, map, length, vec_len, vec_capacity};
+    ghost use Rattle.std.specs.Prelude.{◌-◌, Some, map, vec_len, vec_capacity};
     ghost use Rattle.cops_types.specs.Entries.{KeptEntries};
-    ghost use Rattle.cops_types.specs.Slots.{AreKept, shown_by};
+    ghost use Rattle.cops_types.specs.Slots.{AreKept, got_shown, shown_by};
 
     ghost Value = { KeptEntries };
 
@@ -37,7 +37,7 @@ impl Model for Entries {
       all = shown_by a.puts.items a.gets.items (map (λ s. s.items) a.sessions.items);
       room = map (λ s. s.room) a.sessions.items;
       names = map (λ p. p.name) a.puts.items;
-      gets = length a.gets.items;
+      gets = map (λ g. got_shown (Some g)) a.gets.items;
       more_puts = vec_capacity a.puts - vec_len a.puts;
       more_gets = vec_capacity a.gets - vec_len a.gets;
     } };
@@ -58,7 +58,7 @@ impl Entries {
     pub(crate) fn new(alloc: Global, clients: u16) -> Result<Self, Memory>
         ensures entries { IfOk result (λ entries. entries.all ≡ replicate clients []) }
         ensures names { IfOk result (λ entries. entries.names ≡ []) }
-        ensures gets { IfOk result (λ entries. entries.gets ≡ 0) }
+        ensures gets { IfOk result (λ entries. entries.gets ≡ []) }
     {
         let sessions = no_slots(alloc, clients)?;
         Ok(Entries {
@@ -87,6 +87,32 @@ impl Entries {
         ensures { result ≡ length self.now.names }
     {
         self.puts.len()
+    }
+
+    /// How many gets are kept with what they returned: the number of the next one.
+    pub(crate) fn gets(&self) -> usize
+        ensures count { result ≡ length self.now.gets }
+        ensures kept { (name : OpName) (key version : ℕ) (value : List ℕ) → item_at self.now.all name ≡ Some (Got key value version)
+            → (n : ℕ) × (slice_get self.now.gets n ≡ Some (Got key value version)) }
+    {
+        self.gets.len()
+    }
+
+    /// The get of that number, of which it is kept what it returned, if there is one.
+    pub(crate) fn kept_get(&self, number: u32) -> Option<&KeptGot>
+        ensures { option_map (λ g. got_shown (Some g.now)) result ≡ slice_get self.now.gets number }
+    {
+        self.gets.get(number as usize)
+    }
+
+    /// The number of the get of that name, if it is kept with what it returned.
+    #[inline(always)]
+    pub(crate) fn get_number(&self, name: OpName) -> Option<u32>
+        ensures number { IfSome result (λ n. (key version : ℕ) × (value : List ℕ) × (item_at self.now.all name ≡ Some (Got key value version))
+            × (slice_get self.now.gets n ≡ Some (Got key value version))) }
+        ensures none { IfNone result ((key version : ℕ) (value : List ℕ) → item_at self.now.all name ≢ Some (Got key value version)) }
+    {
+        got_number_at(&self.sessions, name)
     }
 
     /// The entry of that name, if there is one.
@@ -256,7 +282,7 @@ impl Entries {
         requires more_puts { 0 < self.old.more_puts }
         requires more_gets { 0 < self.old.more_gets }
         requires few_names { length self.old.names < MAX_OPS }
-        requires few_gets { self.old.gets < MAX_OPS }
+        requires few_gets { length self.old.gets < MAX_OPS }
         requires numbered { IsNumbered self.old.names entry }
         requires source { HasSource self.old.all entry }
         ensures all { self.new.all ≡ with_item self.old.all client entry }
@@ -312,7 +338,7 @@ impl Entries {
         requires room { slice_index_or self.old.room client false ≡ true }
         requires few { length (slice_index_or self.old.all client []) < MAX_CLIENT_OPS }
         requires more_gets { 0 < self.old.more_gets }
-        requires few_gets { self.old.gets < MAX_OPS }
+        requires few_gets { length self.old.gets < MAX_OPS }
         ensures all { self.new.all ≡ with_item self.old.all client (Got key value version) }
         ensures gains { GainsEntry (Got key value version) self.old self.new }
         ensures others { (c : ℕ) → c ≢ client → slice_index_or self.old.room c false ≡ true → slice_index_or self.new.room c false ≡ true }
@@ -417,6 +443,17 @@ fn source_number_at(sessions: &[Blocks], name: OpName) -> Option<u32>
 {
     match slot_at(sessions, name)? {
         Slot::Sourced(number) => Some(*number),
+        _ => None,
+    }
+}
+
+/// The number of the get of that name, if it is kept with what it returned.
+#[inline(always)]
+fn got_number_at(sessions: &[Blocks], name: OpName) -> Option<u32>
+    ensures { (n : ℕ) → (result ≡ Some n) ↔ (item_at (map (λ s. s.items) sessions.now) name ≡ Some (GotSlot n)) }
+{
+    match slot_at(sessions, name)? {
+        Slot::Got(number) => Some(*number),
         _ => None,
     }
 }

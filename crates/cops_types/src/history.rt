@@ -12,6 +12,7 @@ use crate::entries::Entries;
 use crate::entry::{Entry, EntryRef, NumberedPut};
 use crate::fault::{Memory, TypeFault};
 use crate::foresight::{Foresight, Guess};
+use crate::heights::Heights;
 use crate::key::Key;
 use crate::key_set::KeySet;
 use crate::limits::{MAX_CLIENT_OPS, MAX_OPS};
@@ -34,12 +35,14 @@ pub struct History {
     reserved: Vec<bool>,
     reservations: usize,
     len: usize,
+    heights: Heights,
     foresight: Foresight,
 }
 
 impl Model for History {
     ghost use Rattle.cops_types.specs.Recorded.{Recorded};
-    ghost use Rattle.cops_types.specs.Entries.{told_by};
+    ghost use Rattle.std.specs.Prelude.{map};
+    ghost use Rattle.cops_types.specs.Entries.{told, told_by};
     ghost use Rattle.cops_types.specs.Keeping.{IsKept};
 
     ghost Value = { Recorded };
@@ -49,13 +52,14 @@ impl Model for History {
       room = a.reserved.items;
       keys = a.keys.keys;
       puts = a.entries.names;
+      gets = map (told a.keys.keys a.entries.all) a.entries.gets;
     } };
 
-    ghost invariant = { λ a. IsKept a.keys a.entries a.reserved.items a.reservations a.len };
+    ghost invariant = { λ a. IsKept a.keys a.entries a.heights a.reserved.items a.reservations a.len };
 }
 
 impl History {
-    ghost use Rattle.std.specs.Prelude.{◌≡◌, ◌≢◌, ◌≤◌, ◌<◌, ◌↔◌, ℕ, length, map, slice_index_or, slice_get, [], Some, OnOk, OnErr, OnSome, IfOk, IfErr, IfSome, IfNone, IsOk, IsErrOf, IsTrue, replicate, false, vec_capacity, ◌==◌};
+    ghost use Rattle.std.specs.Prelude.{◌≡◌, ◌≢◌, ◌≤◌, ◌<◌, ◌↔◌, ◌⊎◌, ℕ, length, map, slice_index_or, slice_get, [], Some, OnOk, OnErr, OnSome, IfOk, IfErr, IfSome, IfNone, IsOk, IsErrOf, IsTrue, replicate, false, vec_capacity, ◌==◌};
     ghost use Rattle.std.specs.Option.{option_map, option_and_then};
     ghost use Rattle.cops_types.specs.Histories.{Puts, PutsVersion, SourceStep, op_at, with_op};
     ghost use Rattle.cops_types.specs.declared.op.OpName.{OpName};
@@ -64,14 +68,17 @@ impl History {
     ghost use Rattle.cops_types.specs.OpViews.{viewed};
     ghost use Rattle.cops_types.specs.Counts.{count_of, put_count};
     ghost use Rattle.cops_types.specs.PutLists.{AreAllPuts};
-    ghost use Rattle.cops_types.specs.Recorded.{IsFull, IsWithinLimits, HasRoom};
+    ghost use Rattle.cops_types.specs.Recorded.{IsFull, IsOpenAt, IsWithinLimits, HasRoom};
     ghost use Rattle.cops_types.specs.TypeFaults.{IsHistoryFault};
+    ghost use Rattle.cops_types.specs.Faults.{IsNotAbove};
+    ghost use Rattle.cops_types.specs.Verdicts.{AllAbove};
 
     /// A history of so many clients, each with an empty session.
     pub fn new(alloc: Global, clients: u16) -> Result<Self, Memory>
         ensures { IfOk result (λ history. history.sessions ≡ replicate clients []) }
     {
         let entries = Entries::new(alloc, clients)?;
+        let heights = Heights::new(alloc, clients)?;
         let reserved = vec![in alloc; false; clients as usize]?;
         Ok(History {
             keys: KeySet::new(alloc),
@@ -79,6 +86,7 @@ impl History {
             reserved,
             reservations: 0,
             len: 0,
+            heights,
             foresight: Foresight::new(alloc),
         })
     }
@@ -202,6 +210,7 @@ impl History {
         ensures others { (c : ℕ) → c ≢ client → HasRoom self.old c → HasRoom self.new c }
     {
         let entry = entry_of(&mut self.keys, &mut self.foresight, &self.entries, op);
+        self.heights.take_in(client, &entry);
         self.entries.push(client, entry);
         self.reserved[client as usize] = false;
         self.reservations -= 1;
@@ -229,6 +238,7 @@ impl History {
             &self.entries,
             op,
         )?;
+        self.heights.take_in(client, &entry);
         self.entries.push(client, entry);
         self.reserved[place] = false;
         self.reservations -= 1;
@@ -272,6 +282,48 @@ impl History {
     {
         self.entries.list_puts(to)?;
         Ok(())
+    }
+
+    /// How many gets are open: their puts the history had not found as they came. They are numbered from 0 in the order
+    /// in which they came. Each other get that returned something has its source in the history.
+    pub fn open_gets(&self) -> usize
+        ensures count { result ≡ length self.now.gets }
+        ensures few { result ≤ count_of self.now.sessions }
+        ensures limits { IsWithinLimits self.now.sessions }
+        ensures others { (got : OpName) (version : ℕ) → GetsVersion self.now.sessions got version
+            → ((number : ℕ) × IsOpenAt self.now number got) ⊎ ((put : OpName) × SourceStep self.now.sessions put got) }
+    {
+        self.entries.gets()
+    }
+
+    /// The open get of that number, if there is one.
+    pub fn open_get(&self, number: u32) -> Option<OpRef<'_>>
+        ensures { option_map seen result ≡ slice_get self.now.gets number }
+    {
+        let got = self.entries.kept_get(number)?;
+        Some(OpRef::Got {
+            key: self.keys.key(got.key),
+            value: &got.value,
+            version: &got.version,
+        })
+    }
+
+    /// The number of the open get of that name, if it is one: where there is none, a get that returned something has
+    /// its source.
+    #[inline(always)]
+    pub fn open_number(&self, got: OpName) -> Option<u32>
+        ensures open { IfSome result (λ number. IsOpenAt self.now number got) }
+        ensures none { IfNone result ((version : ℕ) → GetsVersion self.now.sessions got version → (put : OpName) × SourceStep self.now.sessions put got) }
+    {
+        self.entries.get_number(got)
+    }
+
+    /// Whether the version of each put is above those of all that its session put or got before it.
+    pub fn are_puts_above(&self) -> bool
+        ensures above { IsTrue result → AllAbove self.now.sessions }
+        ensures not_above { ¬ IsTrue result → (name : OpName) × (earlier : OpName) × IsNotAbove self.now.sessions name earlier }
+    {
+        self.heights.are_above()
     }
 
     /// Whether there is no operation.

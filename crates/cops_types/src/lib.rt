@@ -16,6 +16,7 @@ mod foresight;
 mod format;
 mod gate;
 mod guesses;
+mod heights;
 mod history;
 mod key;
 mod key_set;

@@ -1,19 +1,28 @@
-use Rattle.std.proofs.Common.{◌+◌, ◌-◌, subst, arith}
+use Rattle.std.proofs.Common.{◌+◌, ◌-◌, IfOk, arith, subst, sym}
 use Rattle.std.proofs.lemmas.List.{take_all}
-use Rattle.cops_types.specs.Faults.{IsStale}
+use Rattle.cops_types.specs.declared.op.OpName.{OpName}
+use Rattle.cops_types.specs.Faults.{HasNoSource, IsNotAbove}
+use Rattle.cops_types.specs.Verdicts.{AllAbove, AllHaveSources}
 use Rattle.cops_audit.specs.Names.{ListsAmong}
-use Rattle.cops_audit.specs.Notes.{SeesNotAbove}
+use Rattle.cops_audit.specs.Verdicts.{IsVerdict}
 use Rattle.cops_audit.specs.declared.verdict.NotAbove.{NotAbove}
-use Rattle.cops_audit.specs.declared.verdict.Stale.{Stale}
 use Rattle.cops_audit.proofs.judging.classify_gets.Goals as goal
 
-pub verdict_before_stale-requires-clause-not_above :
-    goal.verdict_before_stale-requires-clause-not_above
-verdict_before_stale-requires-clause-not_above c =
-    let t = c.args.tables.now in
-    subst (λ ns. ListsAmong {A = NotAbove} (λ f. f.op) (λ f. SeesNotAbove t.notes f.op f.earlier) ns c.in_ok-not_above.not_above.items) (take_all (0 + c.count-count.result - 0) t.names (omega (arith, c.count-count.ensures.count))) c.in_ok-not_above.ensures
+pub verdict_before_stale-requires-clause-sourceless : goal.verdict_before_stale-requires-clause-sourceless
+verdict_before_stale-requires-clause-sourceless c =
+    let p = c.args.puts in
+    subst (λ ns. ListsAmong {A = OpName} (λ n. n) (HasNoSource p.sessions) ns c.in_ok-sourceless.sourceless.items) (take_all (0 + c.count-count.result - 0) p.names (omega (arith, c.count-count.ensures.count))) c.in_ok-sourceless.ensures
 
-pub verdict-requires-clause-stale : goal.verdict-requires-clause-stale
-verdict-requires-clause-stale c =
-    let t = c.args.tables.now in
-    subst (λ ns. ListsAmong {A = Stale} (λ f. f.op) (λ f. IsStale t.sessions f.op f.newer) ns c.in_ok-stale.stale.items) (take_all (0 + c.count-count.result - 0) t.names (omega (arith, c.count-count.ensures.count))) c.in_ok-stale.ensures
+pub verdict_before_stale-requires-clause-not_above : goal.verdict_before_stale-requires-clause-not_above
+verdict_before_stale-requires-clause-not_above c =
+    let p = c.args.puts in
+    subst (λ ns. ListsAmong {A = NotAbove} (λ f. f.op) (λ f. IsNotAbove p.sessions f.op f.earlier) ns c.in_ok-not_above.not_above.items) (take_all (0 + c.count-count.result - 0) p.names (omega (arith, c.count-count.ensures.count))) c.in_ok-not_above.ensures
+
+pub classify_stale-requires-clause-sources : goal.classify_stale-requires-clause-sources
+classify_stale-requires-clause-sources c = subst AllHaveSources (sym c.in_ok-tables.ensures.sessions) c.in_default.ensures.sources
+
+pub classify_stale-requires-clause-above : goal.classify_stale-requires-clause-above
+classify_stale-requires-clause-above c = subst AllAbove (sym c.in_ok-tables.ensures.sessions) c.in_default.ensures.above
+
+pub returns : goal.returns
+returns c = subst (λ h. IfOk c.classify_stale.result (IsVerdict h)) c.in_ok-tables.ensures.sessions c.classify_stale.ensures

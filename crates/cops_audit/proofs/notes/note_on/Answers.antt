@@ -4,11 +4,11 @@ use Rattle.cops_audit.proofs.Listing.{slice_get_there}
 use Rattle.cops_audit.proofs.Noting.{few_places, front_noted, raised_note}
 use Rattle.cops_audit.proofs.notes.note_on.Goals as goal
 
-pub see_hinted-seen-requires-clause-named : goal.see_hinted-seen-requires-clause-named
-see_hinted-seen-requires-clause-named c = slice_get_there (slice_index_or c.args.history.now.sessions c.args.client []) c.loop-index.index (omega (arith, c.session_len-index-end.ensures.count, c.loop-index-test.true))
+pub see_placed-seen-requires-clause-named : goal.see_placed-seen-requires-clause-named
+see_placed-seen-requires-clause-named c = slice_get_there (slice_index_or c.args.history.now.sessions c.args.client []) c.loop-index.index (omega (arith, c.session_len-index-end.ensures.count, c.loop-index-test.true))
 
 pub above-requires : goal.above-requires
-above-requires c = omega (arith, few_places c.args.history.now.sessions c.args.table.now c.requires.table _ c.see_hinted-seen.result c.see_hinted-seen.ensures, c.requires.table.table.few)
+above-requires c = omega (arith, few_places c.args.history.now.sessions c.args.table.now c.requires.table _ c.see_placed-seen.result c.see_placed-seen.ensures, c.requires.table.table.few)
 
 pub loop-index-init : goal.loop-index-init
 loop-index-init c =
@@ -25,7 +25,7 @@ loop-index-preserved c =
     let old = c.loop-index.notes.items in
     record {
       noted = rw c.in_ok-push.ensures.items
-          (raised_note h c.args.table.now c.args.client old c.loop-index.index c.loop-index.mark c.see_hinted-seen.result c.loop-index.invariant.noted c.see_hinted-seen.ensures _ (c.max-mark.ensures ∙ ap (λ (k : ℕ). max c.loop-index.mark k) c.above.ensures));
+          (raised_note h c.args.table.now c.args.client old c.loop-index.index c.loop-index.mark c.see_placed-seen.result c.loop-index.invariant.noted c.see_placed-seen.ensures _ (c.max-mark.ensures ∙ ap (λ (k : ℕ). max c.loop-index.mark k) c.above.ensures));
       within = omega (arith, c.session_len-index-end.ensures.count, c.loop-index-test.true);
     }
 

@@ -1,6 +1,7 @@
-use Rattle.std.proofs.Common.{◌≡◌, ◌∙◌, ℕ, refl, subst, Some}
+use Rattle.std.proofs.Common.{◌≡◌, ◌∙◌, ℕ, refl, sym, subst, Some}
 use Rattle.cops_audit.specs.Notes.{StandsAt}
 use Rattle.cops_audit.proofs.Places.{stands_put}
+use Rattle.cops_audit.proofs.Sourcing.{source_seen}
 use Rattle.cops_audit.proofs.notes.see_named.Goals as goal
 
 pub returns-in-Some : goal.returns-in-Some
@@ -13,12 +14,18 @@ returns-in-Some c =
     let same : at.0 ≡ c.in_ok-place.place = cc in
     (put, source.version, subst (λ (k : ℕ). StandsAt table k put source.version) same at.1, (source.key, source.value, source.got), source)
 
-pub returns : goal.returns
-returns c =
+pub returns-in-Some-put_number : goal.returns-in-Some-put_number
+returns-in-Some-put_number c =
     let table = c.args.table.now in
-    let puts = c.in_ok-number.ensures.put in
+    let number = c.in-Some-put_number.number in
+    let puts = c.in-Some-put_number.ensures.put in
     let at = stands_put c.args.history.now.sessions table c.requires.table.table c.args.name puts.0 puts.1 in
-    let named = (c.in_ok-number.ensures.number c.in_ok-number.number).0 refl in
-    let found : Some c.in_ok-place-2.place ≡ Some at.0 = c.in_ok-place-2.ensures ∙ c.requires.places.tell at.0 c.in_ok-number.number c.args.name puts.0 at.1 named in
+    let named = (c.in-Some-put_number.ensures.number number).0 refl in
+    let found : Some c.in_ok-place-2.place ≡ Some at.0 = c.in_ok-place-2.ensures ∙ c.requires.places.tell at.0 number c.args.name puts.0 at.1 named in
     let same : at.0 ≡ c.in_ok-place-2.place = cc in
     (puts.0, puts.1, subst (λ (k : ℕ). StandsAt table k c.args.name puts.0) same at.1)
+
+pub returns : goal.returns
+returns c =
+    let at = c.in_ok-number.ensures.open in
+    source_seen c.args.history.now.sessions c.args.table.now c.args.name at.0 c.in_ok-place-3.place (c.requires.sources c.in_ok-number.number c.in_ok-place-3.place at.0 at.1 (sym c.in_ok-place-3.ensures)) at.2

@@ -13,10 +13,10 @@ judge_stale-requires-clause-cut g c κs within =
 
 pub last_round-requires-clause-cut : goal.last_round-requires-clause-cut
 last_round-requires-clause-cut g c κs within =
-    subst (IsCut 0 0 c.round_before_stale.new.pieces) (sym c.count.ensures.count)
+    subst (IsCut 0 0 c.round_before_stale.new.pieces) (sym c.count-count.ensures.count)
     (cut_same 0 0 _ c.args.pieces.now c.round_before_stale.new.pieces c.round_before_stale.ensures.len c.round_before_stale.ensures.places c.requires.cut)
 
 pub last_round-requires-in-Err-clause-cut : goal.last_round-requires-in-Err-clause-cut
 last_round-requires-in-Err-clause-cut g c κs within =
-    subst (IsCut 0 0 c.round_before_stale.new.pieces) (sym c.count-in-Err.ensures.count)
+    subst (IsCut 0 0 c.round_before_stale.new.pieces) (sym c.count-count.ensures.count)
     (cut_same 0 0 _ c.args.pieces.now c.round_before_stale.new.pieces c.round_before_stale.ensures.len c.round_before_stale.ensures.places c.requires.cut)

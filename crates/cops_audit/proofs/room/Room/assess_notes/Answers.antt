@@ -1,27 +1,11 @@
-use Rattle.std.proofs.Common.{◌∙◌, Vec, Global, AllPairs, ap, inl, inr, sym, subst, arith}
+use Rattle.std.proofs.Common.{◌∙◌, Vec, Global, AllPairs, ap, sym, subst, arith}
 use Rattle.cops_types.specs.declared.op.OpName.{OpName}
 use Rattle.cops_types.specs.Faults.{IsBefore}
-use Rattle.cops_audit.proofs.Lasting.{all_above, all_wait, not_true, seen_names, seen_notes, seen_table, waits}
-use Rattle.cops_audit.proofs.Reading.{above_same}
+use Rattle.cops_audit.proofs.Lasting.{all_wait, not_true, seen_names, seen_notes, seen_table, waits}
 use Rattle.cops_audit.proofs.room.Room.assess_notes.Goals as goal
-
-pub returns-then-has_not_above-clause-so_far : goal.returns-then-has_not_above-clause-so_far
-returns-then-has_not_above-clause-so_far c =
-    let sources = all_wait (seen_names c.args.history.now.sessions c.as_slice-names.ensures.value c.requires.filled.names) (c.has_mismatched.ensures.waiting (not_true c.if-has_mismatched.false)) in
-    let some = c.has_not_above.ensures.some c.if-has_not_above.true in
-    let same = above_same c.args.history.now.sessions c.as_slice-table.result.now (seen_table c.as_slice-table.ensures.value c.requires.filled.table)
-    c.args.notes.now (seen_notes c.as_slice-table.ensures.value c.requires.noted.notes) sources some.0 some.1 in
-    inr (inl (some.0, some.1, same.0 some.2))
 
 pub has_stale-requires-clause-sources : goal.has_stale-requires-clause-sources
 has_stale-requires-clause-sources c = all_wait (seen_names c.args.history.now.sessions c.as_slice-names.ensures.value c.requires.filled.names) (c.has_mismatched.ensures.waiting (not_true c.if-has_mismatched.false))
-
-pub has_stale-requires-clause-above : goal.has_stale-requires-clause-above
-has_stale-requires-clause-above c =
-    let sources = all_wait (seen_names c.args.history.now.sessions c.as_slice-names.ensures.value c.requires.filled.names) (c.has_mismatched.ensures.waiting (not_true c.if-has_mismatched.false)) in
-    all_above (seen_names c.args.history.now.sessions c.as_slice-names.ensures.value c.requires.filled.names)
-    (seen_table c.as_slice-table.ensures.value c.requires.filled.table) (seen_notes c.as_slice-table.ensures.value c.requires.noted.notes)
-    sources (c.has_not_above.ensures.none (not_true c.if-has_not_above.false))
 
 pub returns-then-waiting-eq0-clause-so_far : goal.returns-then-waiting-eq0-clause-so_far
 returns-then-waiting-eq0-clause-so_far c =
@@ -29,7 +13,7 @@ returns-then-waiting-eq0-clause-so_far c =
     let names = seen_names c.args.history.now.sessions (c.as_slice.ensures.value ∙ ap (λ (v : Vec OpName Global). v.items) c.in_ok-stale.ensures.names) c.requires.filled.names in
     let w = waits (seen_names c.args.history.now.sessions c.as_slice-names.ensures.value c.requires.filled.names)
     (seen_table c.as_slice-table.ensures.value c.requires.filled.table) (seen_notes c.as_slice-table.ensures.value c.requires.noted.notes)
-    (c.has_mismatched.ensures.waiting (not_true c.if-has_mismatched.false)) (c.has_not_above.ensures.none (not_true c.if-has_not_above.false)) (c.in_ok-stale.ensures.none (not_true c.if-stale.false)) names listed.1 in
+    (c.has_mismatched.ensures.waiting (not_true c.if-has_mismatched.false)) c.requires.above (c.in_ok-stale.ensures.none (not_true c.if-stale.false)) names listed.1 in
     (w.lasting, λ n waiting. let at = (w.waiting.members n).1 waiting in omega (arith, at.1, listed.2, c.if-waiting-eq0.true))
 
 pub returns-clause-so_far : goal.returns-clause-so_far
@@ -38,7 +22,7 @@ returns-clause-so_far c =
     let names = seen_names c.args.history.now.sessions (c.as_slice.ensures.value ∙ ap (λ (v : Vec OpName Global). v.items) c.in_ok-stale.ensures.names) c.requires.filled.names in
     let w = waits (seen_names c.args.history.now.sessions c.as_slice-names.ensures.value c.requires.filled.names)
     (seen_table c.as_slice-table.ensures.value c.requires.filled.table) (seen_notes c.as_slice-table.ensures.value c.requires.noted.notes)
-    (c.has_mismatched.ensures.waiting (not_true c.if-has_mismatched.false)) (c.has_not_above.ensures.none (not_true c.if-has_not_above.false)) (c.in_ok-stale.ensures.none (not_true c.if-stale.false)) names listed.1 in
+    (c.has_mismatched.ensures.waiting (not_true c.if-has_mismatched.false)) c.requires.above (c.in_ok-stale.ensures.none (not_true c.if-stale.false)) names listed.1 in
     (w.lasting, omega (arith, c.if-waiting-eq0.false), listed.0, w.waiting, listed.2)
 
 pub count_sourceless-waiting-requires : goal.count_sourceless-waiting-requires

@@ -10,8 +10,8 @@ invariant_of-result g c =
     let h = c.puts.inside.history.now.sessions in
     let seen = c.as_slice.ensures.value in (
       record {
-        names = c.puts.invariant.names;
-        puts = record { table = c.puts.invariant.table; rising = subst (λ (s : Sorted). Rises s.table) (sym c.puts.view_is) c.requires };
+        names = c.puts.invariant.0.names;
+        puts = record { table = c.puts.invariant.0.table; rising = subst (λ (s : Sorted). Rises s.table) (sym c.puts.view_is) c.requires };
         notes = subst (λ table. IsNoted h table c.in_ok-notes.notes) seen c.in_ok-notes.ensures.notes;
       },
       subst (λ table. AreLinks c.puts.inside.history.now table c.in_ok-notes.links) seen c.in_ok-notes.ensures.links,

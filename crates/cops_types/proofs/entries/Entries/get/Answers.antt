@@ -1,4 +1,4 @@
-use Rattle.std.proofs.Common.{◌≡◌, List, map, Some, None, length, ap, sym, ◌∙◌, subst}
+use Rattle.std.proofs.Common.{List, map, Some, ap, sym, ◌∙◌, subst}
 use Rattle.std.specs.Option.{option_map}
 use Rattle.cops_types.specs.Blocks.{KeptBlocks}
 use Rattle.cops_types.specs.declared.slot.KeptPut.{KeptPut}

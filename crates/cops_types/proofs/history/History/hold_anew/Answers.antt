@@ -6,7 +6,7 @@ use Rattle.cops_types.proofs.history.History.hold_anew.Goals as goal
 
 pub invariant_of-self : goal.invariant_of-self
 invariant_of-self c =
-    room_kept c.self.inside.keys c.self.inside.keys c.self.inside.entries c.reserve.new.self c.self.inside.reserved.items c.self.inside.reservations c.self.inside.len
+    room_kept c.self.inside.keys c.self.inside.keys c.self.inside.entries c.reserve.new.self c.self.inside.heights c.self.inside.reserved.items c.self.inside.reservations c.self.inside.len
     refl (omega arith) c.in_err-reserve.ensures.keeps c.self.invariant
 
 pub overflow_add-more : goal.overflow_add-more
@@ -16,7 +16,7 @@ overflow_add-more c =
 
 pub invariant_of-self-in_err-reserve-2 : goal.invariant_of-self-in_err-reserve-2
 invariant_of-self-in_err-reserve-2 c =
-    room_kept c.self.inside.keys c.reserve-2.new.self c.self.inside.entries c.reserve.new.self c.self.inside.reserved.items c.self.inside.reservations c.self.inside.len
+    room_kept c.self.inside.keys c.reserve-2.new.self c.self.inside.entries c.reserve.new.self c.self.inside.heights c.self.inside.reserved.items c.self.inside.reservations c.self.inside.len
     c.in_err-reserve-2.ensures.same c.in_err-reserve-2.ensures.kept c.in_ok-reserve.ensures.keeps c.self.invariant
 
 pub invariant_of-self-2 : goal.invariant_of-self-2
@@ -24,6 +24,6 @@ invariant_of-self-2 c =
     let all = c.self.inside.entries.all in
     let inside : c.args.client < length all = omega (arith, rw (← c.self.view_is) at c.requires.inside, length-map all (map (told c.self.inside.keys.keys all))) in
     let was = rw (← c.self.view_is) at c.requires.none in
-    flag_kept c.self.inside.keys c.reserve-2.new.self c.self.inside.entries c.reserve.new.self c.self.inside.reserved.items c.self.inside.reservations c.self.inside.len
+    flag_kept c.self.inside.keys c.reserve-2.new.self c.self.inside.entries c.reserve.new.self c.self.inside.heights c.self.inside.reserved.items c.self.inside.reservations c.self.inside.len
     c.in_ok-reserve-2.ensures.same c.in_ok-reserve-2.ensures.kept c.in_ok-reserve.ensures.keeps c.self.invariant
     c.args.client inside was c.in_ok-reserve.ensures.room c.in_ok-reserve-2.ensures.ok c.in_ok-reserve.ensures.more_puts c.in_ok-reserve.ensures.more_gets

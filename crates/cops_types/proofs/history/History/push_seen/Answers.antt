@@ -1,6 +1,6 @@
 use Rattle.std.proofs.Common.{◌<◌, length, map, arith}
 use Rattle.std.proofs.lemmas.List.{length-map}
-use Rattle.cops_types.specs.Entries.{told}
+use Rattle.cops_types.specs.Entries.{told, told_by}
 use Rattle.cops_types.specs.OpViews.{viewed}
 use Rattle.cops_types.proofs.Holding.{put_told, put_kept}
 use Rattle.cops_types.proofs.history.History.push_seen.Goals as goal
@@ -10,8 +10,9 @@ invariant_of-self-2 c =
     let all = c.self.inside.entries.all in
     let inside : c.args.client < length all = omega (arith, rw (← c.self.view_is) at c.requires.inside, length-map all (map (told c.self.inside.keys.keys all))) in
     let made = c.in_ok-entry.ensures in
-    put_kept c.self.inside.keys c.entry_of_seen.new.keys c.self.inside.entries c.push.new.self c.self.inside.reserved.items c.self.inside.reservations c.self.inside.len c.args.client c.in_ok-entry.entry (viewed c.args.op.now)
-    inside c.self.invariant made.gains made.sound made.told c.push.ensures.all c.push.ensures.gains (rw (← c.self.view_is) at c.requires.room) c.push.ensures.others
+    put_kept c.self.inside.keys c.entry_of_seen.new.keys c.self.inside.entries c.push.new.self c.self.inside.heights c.self.inside.reserved.items c.self.inside.reservations c.self.inside.len c.args.client c.in_ok-entry.entry (viewed c.args.op.now)
+    inside c.self.invariant made.gains made.sound made.told c.push.ensures.all c.push.ensures.gains
+    c.take_in.new.self (c.take_in.ensures c.entry_of_seen.new.keys.keys all (told_by c.self.inside.keys.keys all) (viewed c.args.op.now) made.told) (rw (← c.self.view_is) at c.requires.room) c.push.ensures.others
     (rw (← c.self.view_is) at c.requires.session) (rw (← c.self.view_is) at c.requires.all)
 
 pub returns-clause-ok : goal.returns-clause-ok
@@ -19,5 +20,5 @@ returns-clause-ok c =
     let all = c.self.inside.entries.all in
     let inside : c.args.client < length all = omega (arith, rw (← c.self.view_is) at c.requires.inside, length-map all (map (told c.self.inside.keys.keys all))) in
     let made = c.in_ok-entry.ensures in
-    rw (← c.self.view_is) (put_told c.self.inside.keys c.entry_of_seen.new.keys c.self.inside.entries c.push.new.self c.self.inside.reserved.items c.self.inside.reservations c.self.inside.len c.args.client c.in_ok-entry.entry (viewed c.args.op.now)
+    rw (← c.self.view_is) (put_told c.self.inside.keys c.entry_of_seen.new.keys c.self.inside.entries c.push.new.self c.self.inside.heights c.self.inside.reserved.items c.self.inside.reservations c.self.inside.len c.args.client c.in_ok-entry.entry (viewed c.args.op.now)
     inside c.self.invariant made.gains made.sound made.told c.push.ensures.all c.push.ensures.gains)

@@ -1,0 +1,57 @@
+use Rattle.std.proofs.Common.{◌≡◌, ◌∙◌, List, [], ℕ, ap, arith, refl, sym, subst, slice_index_or}
+use Rattle.cops_types.specs.Histories.{Sessions}
+use Rattle.cops_types.specs.declared.op.OpName.{OpName}
+use Rattle.cops_types.specs.Faults.{IsNotAbove, IsNotBelow}
+use Rattle.cops_audit.specs.Climbs.{AreHeights}
+use Rattle.cops_audit.specs.declared.verdict.NotAbove.{NotAbove}
+use Rattle.cops_audit.proofs.Acyclic.{same_name}
+use Rattle.cops_audit.proofs.Collect.{skip_next, push_next, among_here}
+use Rattle.cops_audit.proofs.climbing.not_above.Goals as goal
+use Rattle.cops_audit.proofs.climbing.not_above.Goals.{then-name-client, else-name-client, in-Some+in_ok-push, in_default}
+
+same_fault : (a b : NotAbove) → a.op ≡ b.op → a.earlier ≡ b.earlier → a ≡ b
+same_fault a b e f = ap (λ (p : OpName × OpName). let n : NotAbove = record { op = p.0; earlier = p.1 } in n) (let q : (a.op, a.earlier) ≡ (b.op, b.earlier) = cc in q)
+
+-- there is one first such operation
+one_first : (h : Sessions) (n a b : OpName) → IsNotAbove h n a → IsNotAbove h n b → a ≡ b
+one_first h n a b f g = same_name a b (f.is_not_below.same_client ∙ sym g.is_not_below.same_client)
+    (omega (arith, f.first b g.is_not_below, g.first a f.is_not_below))
+
+one_fault : (h : Sessions) (a b : NotAbove) → IsNotAbove h a.op a.earlier → IsNotAbove h b.op b.earlier → a.op ≡ b.op → a ≡ b
+one_fault h a b f g e = same_fault a b e (one_first h b.op a.earlier b.earlier (subst (λ n. IsNotAbove h n a.earlier) e f) g)
+
+-- a session whose heights are not known yet
+none_yet : (h : Sessions) (client : ℕ) (heights : List ℕ) → heights ≡ [] → AreHeights h client heights
+none_yet h client heights e = subst (AreHeights h client) (sym e) (λ i height at. absurd cc)
+
+pub climb-requires : goal.climb-requires
+climb-requires c =
+    let h = c.args.history.now.sessions in
+    elim c.if-name-client.branch [
+      | then-name-client w ↦ rw w.heights-is (none_yet h _ _ w.clear.ensures.items)
+      | else-name-client w ↦ rw w.heights-is
+          (let e : c.loop-name.client ≡ (slice_index_or c.args.names.now c.loop-name.name-index (record { client = 0; index = 0 })).client = omega (arith, w.if-name-client.false) in
+          subst (λ (k : ℕ). AreHeights h k c.loop-name.heights.items) e c.loop-name.invariant.heights)
+    ]
+
+pub first_not_below-requires-clause-heights : goal.first_not_below-requires-clause-heights
+first_not_below-requires-clause-heights c = subst (AreHeights c.args.history.now.sessions _) (sym c.as_slice.ensures.value) c.in_ok-climb.ensures.heights
+
+pub loop-name-preserved : goal.loop-name-preserved
+loop-name-preserved c =
+    let i = c.loop-name.name-index in
+    let h = c.args.history.now.sessions in
+    record {
+      lists = elim c.match-first_not_below.branch [
+        | in-Some+in_ok-push w ↦ rw (w.faults-is, w.in_ok-push.ensures.items)
+            (push_next (λ f. f.op) (λ f. IsNotAbove h f.op f.earlier) c.args.names.now c.requires i c.loop-name-test.true c.loop-name.faults.items _ _ refl c.loop-name.invariant.lists
+            w.in-Some.ensures.first (λ x f e. one_fault h x _ f w.in-Some.ensures.first e))
+        | in_default w ↦ rw w.faults-is
+            (skip_next (λ f. f.op) (λ f. IsNotAbove h f.op f.earlier) c.args.names.now c.requires i c.loop-name-test.true c.loop-name.faults.items _ c.loop-name.invariant.lists
+            (λ x f e. w.in_default.ensures.none x.earlier (subst (λ m. IsNotBelow h x.earlier m) e f.is_not_below)))
+      ];
+      heights = c.in_ok-climb.ensures.heights;
+    }
+
+pub returns : goal.returns
+returns c = among_here (λ f. f.op) (λ f. IsNotAbove c.args.history.now.sessions f.op f.earlier) c.args.names.now c.loop-name.name-index _ (omega arith) c.loop-name.invariant.lists

@@ -1,0 +1,28 @@
+use Rattle.std.proofs.Common.{◌≡◌, ℕ, List, [], length, length-append, ◌∷◌, None, Some, ap, sym, ◌∙◌, arith, slice_get}
+use Rattle.cops_audit.proofs.Sourcing.{all_sourced, places_push}
+use Rattle.cops_audit.proofs.sources.find_sources.Goals as goal
+
+pub loop-number-init : goal.loop-number-init
+loop-number-init c = record {
+  places = λ number place op get at. let gone : None ≡ Some place = ap (λ (s : List ℕ). slice_get s number) (sym c.in_ok-places.ensures.items) ∙ at in cc;
+  count = ap length c.in_ok-places.ensures.items;
+}
+
+pub loop-number-preserved : goal.loop-number-preserved
+loop-number-preserved c =
+    let h = c.args.history.now in
+    let old = c.loop-number.places.items in
+    record {
+      places = rw c.in_ok-push.ensures.items
+          (places_push h c.args.table.now old c.in-Some.place c.loop-number.invariant.places (λ op get. c.in-Some.ensures op (ap (slice_get h.gets) (sym c.loop-number.invariant.count) ∙ get)));
+      count = rw c.in_ok-push.ensures.items (omega (arith, length-append old (c.in-Some.place ∷ []), c.loop-number.invariant.count));
+    }
+
+pub returns : goal.returns
+returns c =
+    let places = c.loop-number.places.items in
+    let whole : length places ≡ length c.args.history.now.gets = omega (arith, c.loop-number.invariant.count, c.loop-number.auto.number-end, c.loop-number-test.false, c.open_gets-count.ensures.count) in
+    record {
+      places = c.loop-number.invariant.places;
+      all = λ are. all_sourced c.args.history.now c.args.table.now places c.loop-number.invariant.places whole c.open_gets-count.ensures.others;
+    }

@@ -1,0 +1,145 @@
+ghost use Rattle.std.specs.Prelude.{◌≡◌, ◌↔◌, ℕ, List, [], false, Some, IfOk, IfSome, IsTrue, AllPairs, slice_get};
+ghost use Rattle.cops_types.specs.declared.op.Op.{Op as AnOp};
+ghost use Rattle.cops_types.specs.declared.op.Op.TheVariants.{Put as PutOp, Got as GotOp};
+ghost use Rattle.cops_types.specs.declared.op.OpName.{OpName};
+ghost use Rattle.cops_types.specs.Faults.{HasNoSource, IsBefore};
+ghost use Rattle.cops_types.specs.OpRefs.{seen};
+ghost use Rattle.cops_audit.specs.Names.{ListsAmong};
+ghost use Rattle.cops_audit.specs.Placing.{AreSources, IsSourcePlace};
+ghost use Rattle.cops_audit.specs.Tables.{IsVersionTable};
+
+use crate::did::Did;
+use crate::hints::{Stretches, hinted_place};
+use crate::notes::{Seen, see};
+use crate::put_places::NO_PLACE;
+use cops_types::{History, OpName, OpRef, VersionedPut};
+use std::alloc::{AllocError, Global};
+
+/// The places of the sources of open gets in a table of puts, each at the get's number, and whether each get of the
+/// history has its source.
+#[derive(Drop)]
+pub struct Sources {
+    pub places: Vec<u32>,
+    pub are_all: bool,
+}
+
+impl Sources {
+    /// None: of no get it is known whether it has a source.
+    pub fn none(alloc: Global) -> Self
+        ensures unknown { result.are_all ≡ false }
+        ensures empty { result.places.items ≡ [] }
+    {
+        Sources {
+            places: Vec::new(alloc),
+            are_all: false,
+        }
+    }
+}
+
+/// Whether the one is a put, and the other a get that returned it: its key, its value and its version.
+fn is_returned(put: &OpRef, got: &OpRef) -> bool
+    ensures { IsTrue result → (key value : List ℕ) × (version : ℕ) × (seen put.now ≡ PutOp key value version) × (seen got.now ≡ GotOp key value version) }
+{
+    match (put, got) {
+        (
+            OpRef::Put {
+                key,
+                value,
+                version,
+            },
+            OpRef::Got {
+                key: got_key,
+                value: got_value,
+                version: got_version,
+            },
+        ) if **version == **got_version => key.is(got_key) && value.is(got_value),
+        _ => false,
+    }
+}
+
+/// The place of the source of the open get of that number, if it has one.
+fn source_place(
+    history: &History,
+    table: &[VersionedPut],
+    stretches: &Stretches,
+    number: u32,
+) -> Option<u32>
+    requires { IsVersionTable history.now.sessions table.now }
+    ensures { IfSome result (λ place. (op : AnOp) → slice_get history.now.gets number ≡ Some op → IsSourcePlace history.now.sessions table.now op place) }
+{
+    let got = history.open_get(number)?;
+    let OpRef::Got { version, .. } = got else {
+        return None;
+    };
+    let hint = stretches.hint(table, *version);
+    let place = hinted_place(table, hint, *version)?;
+    let put = history.op(table[place].name)?;
+    if is_returned(&put, &got) {
+        return Some(place as u32);
+    }
+    None
+}
+
+/// The places of the sources of the open gets, up to the first that has none.
+pub fn find_sources(
+    alloc: Global,
+    history: &History,
+    table: &[VersionedPut],
+) -> Result<Sources, AllocError>
+    requires { IsVersionTable history.now.sessions table.now }
+    ensures { IfOk result (AreSources history.now table.now) }
+{
+    let count = history.open_gets();
+    let mut places = Vec::with_capacity(alloc, count)?;
+    let stretches = Stretches::new(alloc, table, count);
+    for number in 0..count {
+        let Some(place) = source_place(history, table, &stretches, number as u32) else {
+            return Ok(Sources {
+                places,
+                are_all: false,
+            });
+        };
+        places.push(place)?;
+    }
+    Ok(Sources {
+        places,
+        are_all: true,
+    })
+}
+
+/// Whether it is a get without a source.
+fn is_sourceless(history: &History, table: &[VersionedPut], name: OpName) -> bool
+    requires { IsVersionTable history.now.sessions table.now }
+    ensures { IsTrue result ↔ HasNoSource history.now.sessions name }
+{
+    let Some(_open) = history.open_number(name) else {
+        return false;
+    };
+    let Some(version) = history.got_version(name) else {
+        return false;
+    };
+    match see(history, table, NO_PLACE, name, &Did::Got(version)) {
+        Seen::Sourceless(_) => true,
+        _ => false,
+    }
+}
+
+/// The gets among these names that have no source.
+pub fn without_source(
+    alloc: Global,
+    history: &History,
+    table: &[VersionedPut],
+    names: &[OpName],
+) -> Result<Vec<OpName>, AllocError>
+    requires table { IsVersionTable history.now.sessions table.now }
+    requires in_order { AllPairs IsBefore names.now }
+    ensures { IfOk result (λ v. ListsAmong (λ n. n) (HasNoSource history.now.sessions) names.now v.items) }
+{
+    let mut faults = Vec::new(alloc);
+    for name in names {
+        if is_sourceless(history, table, *name) {
+            faults.push(*name)?;
+        }
+    }
+    Ok(faults)
+}

@@ -1,0 +1,365 @@
+-- The heights of sessions, as one more operation comes.
+use Rattle.std.proofs.Common.{◌≡◌, ◌≢◌, ◌<◌, ◌≤◌, ◌+◌, ◌⊎◌, ℕ, zero, suc, List, [], ◌∷◌, ◌++◌, length, length-append, max, replicate, Bool, true, false, Option, Some, None, refl, sym, ◌∙◌, ap, subst, inl, inr, arith, slice_get, slice_index_or, slice_set, get_or-set_same, get_or-set_other}
+use Rattle.std.proofs.Math.ListN.{length-set}
+use Rattle.std.proofs.Math.Nat.{eq-or-lt_of_le}
+use Rattle.std.proofs.lemmas.Bool.{cases_eq, cases_lt}
+use Rattle.std.proofs.lemmas.List.{length-replicate}
+use Rattle.std.proofs.lemmas.Option.{slice_get_within}
+use Rattle.cops_types.specs.declared.op.Op.{Op}
+use Rattle.cops_types.specs.declared.op.Op.TheVariants.{Put, Got, Missed}
+use Rattle.cops_types.specs.declared.op.OpName.{OpName}
+use Rattle.cops_types.specs.declared.heights.Heights.{Heights}
+use Rattle.cops_types.specs.Histories.{Sessions, op_at, with_op, PutsVersion}
+use Rattle.cops_types.specs.Faults.{HasVersion, IsNotAbove, IsNotBelow}
+use Rattle.cops_types.specs.Heights.{AreSessionHeights, IsHeight}
+use Rattle.cops_types.specs.Verdicts.{AllAbove}
+use Rattle.cops_types.proofs.Showing.{slice_get-end, stays_left, end_of}
+
+same_name : (a b : OpName) → a.client ≡ b.client → a.index ≡ b.index → a ≡ b
+same_name a b c i = λ j. record { client = c j; index = i j }
+
+one_version : (h : Sessions) (p : OpName) (v w : ℕ) → PutsVersion h p v → PutsVersion h p w → v ≡ w
+one_version h p v w first second = let at : Some (Put first.0 first.1 v) ≡ Some (Put second.0 second.1 w) = sym first.2 ∙ second.2 in cc
+
+-- an operation has one version
+pub one_has : (h : Sessions) (n : OpName) (v w : ℕ) → HasVersion h n v → HasVersion h n w → v ≡ w
+one_has h n v w (inl a) (inl b) = let e : Some (Put a.0 a.1 v) ≡ Some (Put b.0 b.1 w) = sym a.2 ∙ b.2 in cc
+one_has h n v w (inl a) (inr b) = let e : Some (Put a.0 a.1 v) ≡ Some (Got b.0 b.1 w) = sym a.2 ∙ b.2 in cc
+one_has h n v w (inr a) (inl b) = let e : Some (Got a.0 a.1 v) ≡ Some (Put b.0 b.1 w) = sym a.2 ∙ b.2 in cc
+one_has h n v w (inr a) (inr b) = let e : Some (Got a.0 a.1 v) ≡ Some (Got b.0 b.1 w) = sym a.2 ∙ b.2 in cc
+
+missed_has : (h : Sessions) (n : OpName) (k : List ℕ) (v : ℕ) → op_at h n ≡ Some (Missed k) → ¬ HasVersion h n v
+missed_has h n k v missed (inl a) = let e : Some (Missed k) ≡ Some (Put a.0 a.1 v) = sym missed ∙ a.2 in cc
+missed_has h n k v missed (inr a) = let e : Some (Missed k) ≡ Some (Got a.0 a.1 v) = sym missed ∙ a.2 in cc
+
+none_has : (h : Sessions) (n : OpName) (v : ℕ) → op_at h n ≡ None → ¬ HasVersion h n v
+none_has h n v none (inl a) = let e : None ≡ Some (Put a.0 a.1 v) = sym none ∙ a.2 in cc
+none_has h n v none (inr a) = let e : None ≡ Some (Got a.0 a.1 v) = sym none ∙ a.2 in cc
+
+-- what an operation has, if anything
+has_cases : (h : Sessions) (n : OpName) → ((v : ℕ) × HasVersion h n v) ⊎ ((v : ℕ) → ¬ HasVersion h n v)
+has_cases h n = by_op (op_at h n) refl
+  where
+    by_op : (o : Option Op) → op_at h n ≡ o → ((v : ℕ) × HasVersion h n v) ⊎ ((v : ℕ) → ¬ HasVersion h n v)
+    by_op None at = inr (λ v. none_has h n v at)
+    by_op (Some (Put k x v)) at = inl (v, inl (k, x, at))
+    by_op (Some (Got k x v)) at = inl (v, inr (k, x, at))
+    by_op (Some (Missed k)) at = inr (λ v. missed_has h n k v at)
+
+-- where an operation of its session makes a put faulty, the first one is found
+module _ (h : Sessions) (name : OpName) (own : ℕ) (put : PutsVersion h name own) where
+  before : ℕ → OpName
+  before i = record { client = name.client; index = i }
+
+  own_before : (e : OpName) → IsNotBelow h e name → e ≡ before e.index
+  unfolding before
+  own_before e f = same_name e (record { client = name.client; index = e.index }) f.same_client refl
+
+  below_cases : (i : ℕ) → IsNotBelow h (before i) name ⊎ ¬ IsNotBelow h (before i) name
+  unfolding before
+  below_cases i = elim (has_cases h (record { client = name.client; index = i })) [
+    | inr none ↦ inr (λ f. none f.version f.has)
+    | inl has ↦ elim (cases_lt i name.index) [
+      | inr late ↦ inr (λ f. omega (arith, late, f.before))
+      | inl early ↦ elim (cases_lt has.0 own) [
+        | inl less ↦ inr (λ f. omega (arith, less, f.not_below, one_has h (record { client = name.client; index = i }) f.version has.0 f.has has.1, one_version h name f.own own f.put put))
+        | inr le ↦ inl (record { version = has.0; own = own; put = put; has = has.1; same_client = refl; before = early; not_below = le })
+      ]
+    ]
+  ]
+
+  search_below : (count : ℕ) → ((e : OpName) × IsNotAbove h name e) ⊎ ((e : OpName) → e.index < count → ¬ IsNotBelow h e name)
+  unfolding before
+  search_below zero = inr (λ e less. absurd (omega (arith, less)))
+  search_below (suc count) = elim (search_below count) [
+    | inl found ↦ inl found
+    | inr none ↦ elim (below_cases count) [
+      | inl here ↦ inl (
+        before count,
+        record {
+          is_not_below = here;
+          first = λ e f. let not : ¬ (e.index < count) = λ less. none e less f in omega (arith, not);
+        },
+      )
+      | inr not ↦ inr (λ e less f. elim (eq-or-lt_of_le (let le : e.index ≤ count = omega (arith, less) in le)) [
+        | inl same ↦ not (subst (λ n. IsNotBelow h n name) (own_before e f ∙ ap before same) f)
+        | inr lower ↦ none e lower f
+      ])
+    ]
+  ]
+
+pub first_below : (h : Sessions) (earlier name : OpName) → IsNotBelow h earlier name → (e : OpName) × IsNotAbove h name e
+first_below h earlier name f = elim (search_below h name f.own f.put (suc earlier.index)) [
+  | inl found ↦ found
+  | inr none ↦ absurd (none earlier (omega arith) f)
+]
+
+-- a session without operations has no height
+pub height_none : (h : Sessions) (client : ℕ) → IsHeight h client 0 0
+height_none h client = record { bounds = λ i v less has. absurd (omega (arith, less)); reached = inl refl }
+
+-- the height after one more operation, by a number that is its version, or 0
+pub height_next : (h : Sessions) (client i height number : ℕ) → IsHeight h client i height
+    → ((v : ℕ) → HasVersion h (record { client = client; index = i }) v → number ≡ v) → (number ≡ 0) ⊎ HasVersion h (record { client = client; index = i }) number
+    → IsHeight h client (i + 1) (max height number)
+height_next h client i height number was is has = record {
+  bounds = λ k v less there. elim (eq-or-lt_of_le (let le : k ≤ i = omega (arith, less) in le)) [
+    | inl same ↦ let e = is v (subst (λ (j : ℕ). HasVersion h (record { client = client; index = j }) v) same there) in omega (arith, e)
+    | inr lower ↦ omega (arith, was.bounds k v lower there)
+  ];
+  reached = elim (cases_lt height number) [
+    | inl higher ↦
+        let e : max height number ≡ number = omega (arith, higher) in
+        elim has [
+          | inl none ↦ inl (omega (arith, none, higher))
+          | inr there ↦ inr (i, omega arith, subst (HasVersion h (record { client = client; index = i })) (sym e) there)
+        ]
+    | inr le ↦
+        let e : max height number ≡ height = omega (arith, le) in
+        elim was.reached [
+          | inl none ↦ inl (e ∙ none)
+          | inr there ↦ inr (there.0, omega (arith, there.1), subst (HasVersion h (record { client = client; index = there.0 })) (sym e) there.2)
+        ]
+  ];
+}
+
+-- one more operation of a client
+module _ (h : Sessions) (client : ℕ) (op : Op) (inside : client < length h) where
+  abbrev own : List Op
+  own = slice_index_or h client []
+
+  abbrev longer : Sessions
+  longer = with_op h client op
+
+  own_longer : slice_index_or longer client [] ≡ own ++ op ∷ []
+  own_longer = get_or-set_same h client (own ++ op ∷ []) [] inside
+
+  others_same : (c : ℕ) → c ≢ client → slice_index_or longer c [] ≡ slice_index_or h c []
+  others_same c differs = get_or-set_other h client c (own ++ op ∷ []) [] differs
+
+  pub op_kept : (n : OpName) (x : Op) → op_at h n ≡ Some x → op_at longer n ≡ Some x
+  op_kept n x at = elim (cases_eq n.client client) [
+    | inl same ↦
+        let e : slice_index_or longer n.client [] ≡ slice_index_or h n.client [] ++ op ∷ [] = ap (λ (c : ℕ). slice_index_or longer c []) same ∙ own_longer ∙ ap (λ (c : ℕ). slice_index_or h c [] ++ op ∷ []) (sym same) in
+        ap (λ (s : List Op). slice_get s n.index) e ∙ stays_left (slice_index_or h n.client []) (op ∷ []) n.index x at
+    | inr differs ↦ ap (λ (s : List Op). slice_get s n.index) (others_same n.client differs) ∙ at
+  ]
+
+  op_was : (n : OpName) (x : Op) → op_at longer n ≡ Some x → (op_at h n ≡ Some x) ⊎ ((n.client ≡ client) × (n.index ≡ length own) × (op ≡ x))
+  op_was n x at = elim (cases_eq n.client client) [
+    | inl same ↦
+        let e : slice_index_or longer n.client [] ≡ own ++ op ∷ [] = ap (λ (c : ℕ). slice_index_or longer c []) same ∙ own_longer in
+        elim (slice_get-end own op n.index x (ap (λ (s : List Op). slice_get s n.index) (sym e) ∙ at)) [
+          | inl old ↦ inl (ap (λ (c : ℕ). slice_get (slice_index_or h c []) n.index) same ∙ old)
+          | inr new ↦ inr (same, new.0, new.1)
+        ]
+    | inr differs ↦ inl (ap (λ (s : List Op). slice_get s n.index) (sym (others_same n.client differs)) ∙ at)
+  ]
+
+  abbrev last : OpName
+  last = record { client = client; index = length own }
+
+  last_there : op_at longer last ≡ Some op
+  last_there = ap (λ (s : List Op). slice_get s (length own)) own_longer ∙ end_of own op
+
+  has_kept : (n : OpName) (v : ℕ) → HasVersion h n v → HasVersion longer n v
+  has_kept n v (inl a) = inl (a.0, a.1, op_kept n (Put a.0 a.1 v) a.2)
+  has_kept n v (inr a) = inr (a.0, a.1, op_kept n (Got a.0 a.1 v) a.2)
+
+  has_was : (n : OpName) (v : ℕ) → HasVersion longer n v → HasVersion h n v ⊎ ((n.client ≡ client) × (n.index ≡ length own))
+  has_was n v (inl a) = elim (op_was n (Put a.0 a.1 v) a.2) [ inl old ↦ inl (inl (a.0, a.1, old)) | inr new ↦ inr (new.0, new.1) ]
+  has_was n v (inr a) = elim (op_was n (Got a.0 a.1 v) a.2) [ inl old ↦ inl (inr (a.0, a.1, old)) | inr new ↦ inr (new.0, new.1) ]
+
+  -- the heights that the sessions had
+  height_kept : (c count height : ℕ) → count ≤ length (slice_index_or h c []) → IsHeight h c count height → IsHeight longer c count height
+  height_kept c count height within was = record {
+    bounds = λ i v less has. elim (has_was (record { client = c; index = i }) v has) [
+      | inl old ↦ was.bounds i v less old
+      | inr new ↦ let e : length (slice_index_or h c []) ≡ length own = ap (λ (k : ℕ). length (slice_index_or h k [])) new.0 in absurd (omega (arith, less, within, e, new.1))
+    ];
+    reached = elim was.reached [ inl none ↦ inl none | inr r ↦ inr (r.0, r.1, has_kept (record { client = c; index = r.0 }) height r.2) ];
+  }
+
+  others_length : (c : ℕ) → c ≢ client → length (slice_index_or longer c []) ≡ length (slice_index_or h c [])
+  others_length c differs = ap length (others_same c differs)
+
+  own_length : length (slice_index_or longer client []) ≡ length own + 1
+  own_length = omega (arith, ap length own_longer, length-append own (op ∷ []))
+
+  -- a put that has no earlier one above it, or that is the last operation
+  below_was : (e n : OpName) → IsNotBelow longer e n → IsNotBelow h e n ⊎ ((n.client ≡ client) × (n.index ≡ length own))
+  below_was e n f =
+      let put = f.put in
+      elim (op_was n (Put put.0 put.1 f.own) put.2) [
+        | inr new ↦ inr (new.0, new.1)
+        | inl old ↦ elim (has_was e f.version f.has) [
+          | inl had ↦ inl (record { version = f.version; own = f.own; put = (put.0, put.1, old); has = had; same_client = f.same_client; before = f.before; not_below = f.not_below })
+          | inr last ↦
+              let within : n.index < length (slice_index_or h n.client []) = slice_get_within (slice_index_or h n.client []) n.index (Put put.0 put.1 f.own) old in
+              let e' : length (slice_index_or h n.client []) ≡ length own = ap (λ (k : ℕ). length (slice_index_or h k [])) (sym f.same_client ∙ last.0) in
+              absurd (omega (arith, within, e', f.before, last.1))
+        ]
+      ]
+
+  below_kept : (e n : OpName) → IsNotBelow h e n → IsNotBelow longer e n
+  below_kept e n f =
+      let put = f.put in
+      record { version = f.version; own = f.own; put = (put.0, put.1, op_kept n (Put put.0 put.1 f.own) put.2); has = has_kept e f.version f.has; same_client = f.same_client; before = f.before; not_below = f.not_below }
+
+  module _ (old : Heights) (was : AreSessionHeights h old) where
+    abbrev before_last : ℕ
+    before_last = slice_index_or old.sessions.items client 0
+
+    -- the last operation, where it is a put that is above what its session saw, or no put
+    pub still_above : AllAbove h → ((v : ℕ) → PutsVersion longer last v → before_last < v) → AllAbove longer
+    still_above above rises name earlier f = elim (below_was earlier name f.is_not_below) [
+      | inl old ↦ let found = first_below h earlier name old in above name found.0 found.1
+      | inr new ↦
+          let b = f.is_not_below in
+          let same : name ≡ last = same_name name (record { client = client; index = length own }) new.0 new.1 in
+          let higher = rises b.own (subst (λ (n : OpName). PutsVersion longer n b.own) same b.put) in
+          elim (has_was earlier b.version b.has) [
+            | inl had ↦
+                let e : earlier ≡ record { client = client; index = earlier.index } = same_name earlier (record { client = client; index = earlier.index }) (b.same_client ∙ new.0) refl in
+                let le = (was.each client inside).bounds earlier.index b.version (omega (arith, b.before, new.1)) (subst (λ (n : OpName). HasVersion h n b.version) e had) in
+                absurd (omega (arith, le, higher, b.not_below))
+            | inr late ↦ absurd (omega (arith, b.before, new.1, late.1))
+          ]
+    ]
+
+    -- a put that is not above its session's height
+    pub falls : (own_version : ℕ) → PutsVersion longer last own_version → 0 < own_version → own_version ≤ before_last → (name : OpName) × (earlier : OpName) × IsNotAbove longer name earlier
+    falls own_version put some low = elim (was.each client inside).reached [
+      | inl none ↦ absurd (omega (arith, none, some, low))
+      | inr r ↦
+          let found = first_below longer (record { client = client; index = r.0 }) last
+          (record { version = before_last; own = own_version; put = put; has = has_kept (record { client = client; index = r.0 }) before_last r.2; same_client = refl; before = r.1; not_below = low }) in
+          (last, found.0, found.1)
+    ]
+
+    -- the heights with the last operation's version, or with 0 where it has none
+    module _ (number : ℕ) (is : (v : ℕ) → HasVersion longer last v → number ≡ v) (has : (number ≡ 0) ⊎ HasVersion longer last number) where
+      -- heights of which the client's own takes in the number, and the others stay
+      pub heights_more : (heights : List ℕ) → length heights ≡ length old.sessions.items → slice_index_or heights client 0 ≡ max before_last number
+          → ((c : ℕ) → c ≢ client → slice_index_or heights c 0 ≡ slice_index_or old.sessions.items c 0)
+          → (c : ℕ) → c < length longer → IsHeight longer c (length (slice_index_or longer c [])) (slice_index_or heights c 0)
+      heights_more heights len own_height others c small =
+          let small' : c < length h = omega (arith, small, length-set h client (own ++ op ∷ [])) in
+          elim (cases_eq c client) [
+            | inl same ↦
+                let next = height_next longer client (length own) before_last number (height_kept client (length own) before_last (omega arith) (was.each client inside)) is has in
+                let at : IsHeight longer client (length (slice_index_or longer client [])) (slice_index_or heights client 0) =
+                subst (λ (k : ℕ). IsHeight longer client k (slice_index_or heights client 0)) (sym own_length) (subst (IsHeight longer client (length own + 1)) (sym own_height) next) in
+                subst (λ (k : ℕ). IsHeight longer k (length (slice_index_or longer k [])) (slice_index_or heights k 0)) (sym same) at
+            | inr differs ↦
+                let kept = height_kept c (length (slice_index_or h c [])) (slice_index_or old.sessions.items c 0) (omega arith) (was.each c small') in
+                subst (λ (k : ℕ). IsHeight longer c k (slice_index_or heights c 0)) (sym (others_length c differs)) (subst (IsHeight longer c (length (slice_index_or h c []))) (sym (others c differs)) kept)
+          ]
+
+  pub still_not_above : (name earlier : OpName) → IsNotAbove h name earlier → (n : OpName) × (e : OpName) × IsNotAbove longer n e
+  still_not_above name earlier f = let found = first_below longer earlier name (below_kept earlier name f.is_not_below) in (name, found.0, found.1)
+
+module _ (h : Sessions) (client : ℕ) (op : Op) (inside : client < length h) (old new : Heights) (was : AreSessionHeights h old) where
+  abbrev grown : Sessions
+  grown = with_op h client op
+
+  abbrev newest : OpName
+  newest = record { client = client; index = length (slice_index_or h client []) }
+
+  abbrev own_height : ℕ
+  own_height = slice_index_or old.sessions.items client 0
+
+  same_set : (number : ℕ) → new.sessions.items ≡ slice_set old.sessions.items client number → length new.sessions.items ≡ length old.sessions.items
+  same_set number e = ap length e ∙ length-set old.sessions.items client number
+
+  own_set : (number : ℕ) → new.sessions.items ≡ slice_set old.sessions.items client number → slice_index_or new.sessions.items client 0 ≡ number
+  own_set number e = ap (λ (l : List ℕ). slice_index_or l client 0) e ∙ get_or-set_same old.sessions.items client number 0 (omega (arith, inside, was.clients))
+
+  others_set : (number : ℕ) → new.sessions.items ≡ slice_set old.sessions.items client number → (c : ℕ) → c ≢ client → slice_index_or new.sessions.items c 0 ≡ slice_index_or old.sessions.items c 0
+  others_set number e c differs = ap (λ (l : List ℕ). slice_index_or l c 0) e ∙ get_or-set_other old.sessions.items client c number 0 differs
+
+  clients_longer : length new.sessions.items ≡ length old.sessions.items → length new.sessions.items ≡ length (with_op h client op)
+  clients_longer e = omega (arith, e, was.clients, length-set h client (slice_index_or h client [] ++ op ∷ []))
+
+  pub took_low : (v : ℕ) (key value : List ℕ) → op ≡ Put key value v → 0 < v → v ≤ own_height → new.sessions.items ≡ old.sessions.items → new.are_above ≡ false → AreSessionHeights (with_op h client op) new
+  took_low v key value e some low same not =
+      let put : PutsVersion grown newest v = (key, value, last_there h client op inside ∙ ap (λ (x : Op). Some x) e) in
+      record {
+        clients = clients_longer (ap length same);
+        each = heights_more h client op inside old was v (λ w has. one_has grown newest v w (inl put) has) (inr (inl put)) new.sessions.items (ap length same)
+            (ap (λ (l : List ℕ). slice_index_or l client 0) same ∙ (let m : own_height ≡ max own_height v = omega (arith, low) in m)) (λ c differs. ap (λ (l : List ℕ). slice_index_or l c 0) same);
+        above = λ t. let bad : true ≡ false = sym t ∙ not in absurd cc;
+        not_above = λ _. falls h client op inside old was v put some low;
+      }
+
+  pub took_high : (v : ℕ) (key value : List ℕ) → op ≡ Put key value v → own_height < v → new.sessions.items ≡ slice_set old.sessions.items client v → new.are_above ≡ old.are_above → AreSessionHeights (with_op h client op) new
+  took_high v key value e high same kept =
+      let put : PutsVersion grown newest v = (key, value, last_there h client op inside ∙ ap (λ (x : Op). Some x) e) in
+      record {
+        clients = clients_longer (same_set v same);
+        each = heights_more h client op inside old was v (λ w has. one_has grown newest v w (inl put) has) (inr (inl put)) new.sessions.items (same_set v same)
+            (own_set v same ∙ (let m : v ≡ max own_height v = omega (arith, high) in m)) (others_set v same);
+        above = λ t. still_above h client op inside old was (was.above (sym kept ∙ t)) (λ w other. let s = one_version grown newest v w put other in omega (arith, s, high));
+        not_above = λ f. let last = was.not_above (sym kept ∙ f) in still_not_above h client op inside last.0 last.1 last.2;
+      }
+
+  pub took_got : (v : ℕ) (key value : List ℕ) → op ≡ Got key value v → new.sessions.items ≡ slice_set old.sessions.items client (max own_height v) → new.are_above ≡ old.are_above → AreSessionHeights (with_op h client op) new
+  took_got v key value e same kept =
+      let at : op_at grown newest ≡ Some (Got key value v) = last_there h client op inside ∙ ap (λ (x : Op). Some x) e in
+      record {
+        clients = clients_longer (same_set (max own_height v) same);
+        each = heights_more h client op inside old was v (λ w has. one_has grown newest v w (inr (key, value, at)) has) (inr (inr (key, value, at))) new.sessions.items (same_set (max own_height v) same)
+            (own_set (max own_height v) same) (others_set (max own_height v) same);
+        above = λ t. still_above h client op inside old was (was.above (sym kept ∙ t)) (λ w other. let bad : Some (Put other.0 other.1 w) ≡ Some (Got key value v) = sym other.2 ∙ at in absurd cc);
+        not_above = λ f. let last = was.not_above (sym kept ∙ f) in still_not_above h client op inside last.0 last.1 last.2;
+      }
+
+  pub took_missed : (key : List ℕ) → op ≡ Missed key → new.sessions.items ≡ old.sessions.items → new.are_above ≡ old.are_above → AreSessionHeights (with_op h client op) new
+  took_missed key e same kept =
+      let at : op_at grown newest ≡ Some (Missed key) = last_there h client op inside ∙ ap (λ (x : Op). Some x) e in
+      record {
+        clients = clients_longer (ap length same);
+        each = heights_more h client op inside old was 0 (λ w has. absurd (missed_has grown newest key w at has)) (inl refl) new.sessions.items (ap length same)
+            (ap (λ (l : List ℕ). slice_index_or l client 0) same ∙ (let m : own_height ≡ max own_height 0 = omega arith in m)) (λ c differs. ap (λ (l : List ℕ). slice_index_or l c 0) same);
+        above = λ t. still_above h client op inside old was (was.above (sym kept ∙ t)) (λ w other. let bad : Some (Put other.0 other.1 w) ≡ Some (Missed key) = sym other.2 ∙ at in absurd cc);
+        not_above = λ f. let last = was.not_above (sym kept ∙ f) in still_not_above h client op inside last.0 last.1 last.2;
+      }
+
+-- sessions without operations
+empty_session : (clients client : ℕ) → slice_index_or (replicate clients (let none : List Op = [] in none)) client [] ≡ []
+empty_session zero client = refl
+empty_session (suc clients) zero = refl
+empty_session (suc clients) (suc client) = empty_session clients client
+
+zero_height : (clients client : ℕ) → slice_index_or (replicate clients zero) client 0 ≡ 0
+zero_height zero client = refl
+zero_height (suc clients) zero = refl
+zero_height (suc clients) (suc client) = zero_height clients client
+
+nothing_there : (clients : ℕ) (n : OpName) (x : Op) → ¬ (op_at (replicate clients []) n ≡ Some x)
+nothing_there clients n x at = let e : None ≡ Some x = sym (ap (λ (s : List Op). slice_get s n.index) (empty_session clients n.client)) ∙ at in cc
+
+pub no_heights : (clients : ℕ) (heights : Heights) → heights.sessions.items ≡ replicate clients 0 → heights.are_above ≡ true → AreSessionHeights (replicate clients []) heights
+no_heights clients heights are above = record {
+  clients = ap length are ∙ length-replicate clients 0 ∙ sym (length-replicate {A = List Op} clients []);
+  each = λ client small.
+      let len : length (slice_index_or (replicate clients (let none : List Op = [] in none)) client []) ≡ 0 = ap length (empty_session clients client) in
+      let low : slice_index_or heights.sessions.items client 0 ≡ 0 = ap (λ (l : List ℕ). slice_index_or l client 0) are ∙ zero_height clients client in
+      subst (λ (k : ℕ). IsHeight (replicate clients []) client k (slice_index_or heights.sessions.items client 0)) (sym len)
+      (subst (IsHeight (replicate clients []) client 0) (sym low) (height_none (replicate clients []) client));
+  above = λ t name earlier f. let put = f.is_not_below.put in nothing_there clients name (Put put.0 put.1 f.is_not_below.own) put.2;
+  not_above = λ f. let e : true ≡ false = sym above ∙ f in cc;
+}
+
+-- a height that was read at its place
+pub read_at : (heights : List ℕ) (k x : ℕ) → k < length heights → x ≡ slice_index_or heights k x → x ≡ slice_index_or heights k 0
+read_at heights k x inside at = at ∙ inside_default heights k inside
+  where
+    inside_default : (xs : List ℕ) (i : ℕ) → i < length xs → slice_index_or xs i x ≡ slice_index_or xs i 0
+    inside_default [] i less = absurd (omega (arith, less))
+    inside_default (y ∷ ys) zero less = refl
+    inside_default (y ∷ ys) (suc i) less = inside_default ys i (omega (arith, less))
+
+pub is_false : (b : Bool) → ¬ (b ≡ true) → b ≡ false
+is_false true differs = absurd (differs refl)
+is_false false differs = refl

@@ -1,0 +1,19 @@
+-- How high the versions of sessions have come.
+use Rattle.std.specs.Prelude.{◌≡◌, ◌<◌, ◌≤◌, ◌⊎◌, ℕ, [], length, slice_index_or, true, false}
+use Rattle.cops_types.specs.declared.op.OpName.{OpName}
+use Rattle.cops_types.specs.declared.heights.Heights.{Heights}
+use Rattle.cops_types.specs.Histories.{Sessions}
+use Rattle.cops_types.specs.Faults.{HasVersion, IsNotAbove}
+use Rattle.cops_types.specs.Verdicts.{AllAbove}
+
+-- the height of a session after so many operations: the least number that is not below the versions that these put or got
+pub record IsHeight (h : Sessions) (client count height : ℕ) : Type 0 where
+  pub bounds : (i version : ℕ) → i < count → HasVersion h (record { client = client; index = i }) version → version ≤ height
+  pub reached : (height ≡ 0) ⊎ ((i : ℕ) × (i < count) × HasVersion h (record { client = client; index = i }) height)
+
+-- the height of each session, and whether each put is above what its session saw before it
+pub record AreSessionHeights (h : Sessions) (heights : Heights) : Type 0 where
+  pub clients : length heights.sessions.items ≡ length h
+  pub each : (client : ℕ) → client < length h → IsHeight h client (length (slice_index_or h client [])) (slice_index_or heights.sessions.items client 0)
+  pub above : heights.are_above ≡ true → AllAbove h
+  pub not_above : heights.are_above ≡ false → (name : OpName) × (earlier : OpName) × IsNotAbove h name earlier
