@@ -87,6 +87,25 @@ fn first_not_below(history: &History, heights: &[u64], name: OpName) -> Option<O
     })
 }
 
+/// The first earlier operation of a put's session that the put is not above. The session's heights are known up to some
+/// operation, and are made up to the put where the session has a put that is not above what it saw.
+fn earlier_not_below(
+    heights: &mut Vec<u64>,
+    history: &History,
+    name: OpName,
+) -> Result<Option<OpName>, AllocError>
+    requires { AreHeights history.now.sessions name.client heights.old.items }
+    ensures heights { OnOk result (AreHeights history.now.sessions name.client heights.new.items) }
+    ensures first { IfOk result (λ found. IfSome found (λ e. IsNotAbove history.now.sessions name e)) }
+    ensures none { IfOk result (λ found. IfNone found ((e : OpName) → ¬ IsNotBelow history.now.sessions e name)) }
+{
+    if history.is_session_above(name.client) {
+        return Ok(None);
+    }
+    climb(heights, history, name.client, name.index)?;
+    Ok(first_not_below(history, heights.as_slice(), name))
+}
+
 /// The puts among these names that are not above what their sessions saw, each with the first such operation.
 pub fn not_above(
     alloc: Global,
@@ -104,8 +123,8 @@ pub fn not_above(
             heights.clear();
         }
         client = name.client;
-        climb(&mut heights, history, client, name.index)?;
-        if let Some(earlier) = first_not_below(history, heights.as_slice(), *name) {
+        let found = earlier_not_below(&mut heights, history, *name)?;
+        if let Some(earlier) = found {
             faults.push(NotAbove { op: *name, earlier })?;
         }
     }

@@ -11,7 +11,7 @@ use Rattle.cops_types.specs.declared.op.OpName.{OpName}
 use Rattle.cops_types.specs.declared.heights.Heights.{Heights}
 use Rattle.cops_types.specs.Histories.{Sessions, op_at, with_op, PutsVersion}
 use Rattle.cops_types.specs.Faults.{HasVersion, IsNotAbove, IsNotBelow}
-use Rattle.cops_types.specs.Heights.{AreSessionHeights, IsHeight}
+use Rattle.cops_types.specs.Heights.{AreSessionHeights, HasNotAbove, IsHeight, IsSessionAbove}
 use Rattle.cops_types.specs.Verdicts.{AllAbove}
 use Rattle.cops_types.proofs.Showing.{slice_get-end, stays_left, end_of}
 
@@ -211,30 +211,39 @@ module _ (h : Sessions) (client : ℕ) (op : Op) (inside : client < length h) wh
     before_last = slice_index_or old.sessions.items client 0
 
     -- the last operation, where it is a put that is above what its session saw, or no put
-    pub still_above : AllAbove h → ((v : ℕ) → PutsVersion longer last v → before_last < v) → AllAbove longer
-    still_above above rises name earlier f = elim (below_was earlier name f.is_not_below) [
-      | inl old ↦ let found = first_below h earlier name old in above name found.0 found.1
-      | inr new ↦
-          let b = f.is_not_below in
-          let same : name ≡ last = same_name name (record { client = client; index = length own }) new.0 new.1 in
+    module _ (rises : (v : ℕ) → PutsVersion longer last v → before_last < v) where
+      last_is_right : (earlier name : OpName) → IsNotBelow longer earlier name → name.client ≡ client → name.index ≡ length own → ⊥
+      last_is_right earlier name b of at =
+          let same : name ≡ last = same_name name (record { client = client; index = length own }) of at in
           let higher = rises b.own (subst (λ (n : OpName). PutsVersion longer n b.own) same b.put) in
           elim (has_was earlier b.version b.has) [
             | inl had ↦
-                let e : earlier ≡ record { client = client; index = earlier.index } = same_name earlier (record { client = client; index = earlier.index }) (b.same_client ∙ new.0) refl in
-                let le = (was.each client inside).bounds earlier.index b.version (omega (arith, b.before, new.1)) (subst (λ (n : OpName). HasVersion h n b.version) e had) in
-                absurd (omega (arith, le, higher, b.not_below))
-            | inr late ↦ absurd (omega (arith, b.before, new.1, late.1))
+                let e : earlier ≡ record { client = client; index = earlier.index } = same_name earlier (record { client = client; index = earlier.index }) (b.same_client ∙ of) refl in
+                let le = (was.each client inside).bounds earlier.index b.version (omega (arith, b.before, at)) (subst (λ (n : OpName). HasVersion h n b.version) e had) in
+                omega (arith, le, higher, b.not_below)
+            | inr late ↦ omega (arith, b.before, at, late.1)
           ]
-    ]
+
+      pub still_above : AllAbove h → AllAbove longer
+      still_above above name earlier f = elim (below_was earlier name f.is_not_below) [
+        | inl old ↦ let found = first_below h earlier name old in above name found.0 found.1
+        | inr new ↦ last_is_right earlier name f.is_not_below new.0 new.1
+      ]
+
+      pub session_still_above : (c : ℕ) → IsSessionAbove h c → IsSessionAbove longer c
+      session_still_above c above name earlier of f = elim (below_was earlier name f.is_not_below) [
+        | inl old ↦ let found = first_below h earlier name old in above name found.0 of found.1
+        | inr new ↦ last_is_right earlier name f.is_not_below new.0 new.1
+      ]
 
     -- a put that is not above its session's height
-    pub falls : (own_version : ℕ) → PutsVersion longer last own_version → 0 < own_version → own_version ≤ before_last → (name : OpName) × (earlier : OpName) × IsNotAbove longer name earlier
+    pub falls : (own_version : ℕ) → PutsVersion longer last own_version → 0 < own_version → own_version ≤ before_last → HasNotAbove longer client
     falls own_version put some low = elim (was.each client inside).reached [
       | inl none ↦ absurd (omega (arith, none, some, low))
       | inr r ↦
           let found = first_below longer (record { client = client; index = r.0 }) last
           (record { version = before_last; own = own_version; put = put; has = has_kept (record { client = client; index = r.0 }) before_last r.2; same_client = refl; before = r.1; not_below = low }) in
-          (last, found.0, found.1)
+          (last, found.0, refl, found.1)
     ]
 
     -- the heights with the last operation's version, or with 0 where it has none
@@ -255,6 +264,16 @@ module _ (h : Sessions) (client : ℕ) (op : Op) (inside : client < length h) wh
                 let kept = height_kept c (length (slice_index_or h c [])) (slice_index_or old.sessions.items c 0) (omega arith) (was.each c small') in
                 subst (λ (k : ℕ). IsHeight longer c k (slice_index_or heights c 0)) (sym (others_length c differs)) (subst (IsHeight longer c (length (slice_index_or h c []))) (sym (others c differs)) kept)
           ]
+
+  -- the other sessions
+  pub other_still_above : (c : ℕ) → c ≢ client → IsSessionAbove h c → IsSessionAbove longer c
+  other_still_above c differs above name earlier of f = elim (below_was earlier name f.is_not_below) [
+    | inl old ↦ let found = first_below h earlier name old in above name found.0 of found.1
+    | inr new ↦ differs (sym of ∙ new.0)
+  ]
+
+  pub session_still_not_above : (c : ℕ) → HasNotAbove h c → HasNotAbove longer c
+  session_still_not_above c not = let found = first_below longer not.1 not.0 (below_kept not.1 not.0 not.3.is_not_below) in (not.0, found.0, not.2, found.1)
 
   pub still_not_above : (name earlier : OpName) → IsNotAbove h name earlier → (n : OpName) × (e : OpName) × IsNotAbove longer n e
   still_not_above name earlier f = let found = first_below longer earlier name (below_kept earlier name f.is_not_below) in (name, found.0, found.1)
@@ -281,47 +300,84 @@ module _ (h : Sessions) (client : ℕ) (op : Op) (inside : client < length h) (o
   clients_longer : length new.sessions.items ≡ length old.sessions.items → length new.sessions.items ≡ length (with_op h client op)
   clients_longer e = omega (arith, e, was.clients, length-set h client (slice_index_or h client [] ++ op ∷ []))
 
-  pub took_low : (v : ℕ) (key value : List ℕ) → op ≡ Put key value v → 0 < v → v ≤ own_height → new.sessions.items ≡ old.sessions.items → new.are_above ≡ false → AreSessionHeights (with_op h client op) new
-  took_low v key value e some low same not =
+  flags_longer : length new.rise.items ≡ length old.rise.items → length new.rise.items ≡ length (with_op h client op)
+  flags_longer e = omega (arith, e, was.flags, length-set h client (slice_index_or h client [] ++ op ∷ []))
+
+  was_there : (c : ℕ) → c < length (with_op h client op) → c < length h
+  was_there c small = omega (arith, small, length-set h client (slice_index_or h client [] ++ op ∷ []))
+
+  flag_same : new.rise.items ≡ old.rise.items → (c : ℕ) → slice_index_or old.rise.items c false ≡ slice_index_or new.rise.items c false
+  flag_same e c = ap (λ (l : List Bool). slice_index_or l c false) (sym e)
+
+  flag_other : new.rise.items ≡ slice_set old.rise.items client false → (c : ℕ) → c ≢ client → slice_index_or old.rise.items c false ≡ slice_index_or new.rise.items c false
+  flag_other e c differs = sym (ap (λ (l : List Bool). slice_index_or l c false) e ∙ get_or-set_other old.rise.items client c false false differs)
+
+  flag_own : new.rise.items ≡ slice_set old.rise.items client false → slice_index_or new.rise.items client false ≡ false
+  flag_own e = ap (λ (l : List Bool). slice_index_or l client false) e ∙ get_or-set_same old.rise.items client false false (omega (arith, inside, was.flags))
+
+  pub took_low : (v : ℕ) (key value : List ℕ) → op ≡ Put key value v → 0 < v → v ≤ own_height → new.sessions.items ≡ old.sessions.items → new.rise.items ≡ slice_set old.rise.items client false → new.are_above ≡ false
+      → AreSessionHeights (with_op h client op) new
+  took_low v key value e some low same flag not =
       let put : PutsVersion grown newest v = (key, value, last_there h client op inside ∙ ap (λ (x : Op). Some x) e) in
       record {
         clients = clients_longer (ap length same);
         each = heights_more h client op inside old was v (λ w has. one_has grown newest v w (inl put) has) (inr (inl put)) new.sessions.items (ap length same)
             (ap (λ (l : List ℕ). slice_index_or l client 0) same ∙ (let m : own_height ≡ max own_height v = omega (arith, low) in m)) (λ c differs. ap (λ (l : List ℕ). slice_index_or l c 0) same);
+        flags = flags_longer (ap length flag ∙ length-set old.rise.items client false);
+        session_above = λ c t. elim (cases_eq c client) [
+          | inl equal ↦ let bad : true ≡ false = sym t ∙ ap (λ (k : ℕ). slice_index_or new.rise.items k false) equal ∙ flag_own flag in absurd cc
+          | inr differs ↦ other_still_above h client op inside c differs (was.session_above c (flag_other flag c differs ∙ t))
+        ];
+        session_not_above = λ c small f. elim (cases_eq c client) [
+          | inl equal ↦ subst (HasNotAbove grown) (sym equal) (falls h client op inside old was v put some low)
+          | inr differs ↦ session_still_not_above h client op inside c (was.session_not_above c (was_there c small) (flag_other flag c differs ∙ f))
+        ];
         above = λ t. let bad : true ≡ false = sym t ∙ not in absurd cc;
-        not_above = λ _. falls h client op inside old was v put some low;
+        not_above = λ _. let found = falls h client op inside old was v put some low in (found.0, found.1, found.3);
       }
 
-  pub took_high : (v : ℕ) (key value : List ℕ) → op ≡ Put key value v → own_height < v → new.sessions.items ≡ slice_set old.sessions.items client v → new.are_above ≡ old.are_above → AreSessionHeights (with_op h client op) new
-  took_high v key value e high same kept =
+  pub took_high : (v : ℕ) (key value : List ℕ) → op ≡ Put key value v → own_height < v → new.sessions.items ≡ slice_set old.sessions.items client v → new.rise.items ≡ old.rise.items → new.are_above ≡ old.are_above
+      → AreSessionHeights (with_op h client op) new
+  took_high v key value e high same flag kept =
       let put : PutsVersion grown newest v = (key, value, last_there h client op inside ∙ ap (λ (x : Op). Some x) e) in
       record {
         clients = clients_longer (same_set v same);
         each = heights_more h client op inside old was v (λ w has. one_has grown newest v w (inl put) has) (inr (inl put)) new.sessions.items (same_set v same)
             (own_set v same ∙ (let m : v ≡ max own_height v = omega (arith, high) in m)) (others_set v same);
-        above = λ t. still_above h client op inside old was (was.above (sym kept ∙ t)) (λ w other. let s = one_version grown newest v w put other in omega (arith, s, high));
+        flags = flags_longer (ap length flag);
+        session_above = λ c t. session_still_above h client op inside old was (λ w other. let s = one_version grown newest v w put other in omega (arith, s, high)) c (was.session_above c (flag_same flag c ∙ t));
+        session_not_above = λ c small f. session_still_not_above h client op inside c (was.session_not_above c (was_there c small) (flag_same flag c ∙ f));
+        above = λ t. still_above h client op inside old was (λ w other. let s = one_version grown newest v w put other in omega (arith, s, high)) (was.above (sym kept ∙ t));
         not_above = λ f. let last = was.not_above (sym kept ∙ f) in still_not_above h client op inside last.0 last.1 last.2;
       }
 
-  pub took_got : (v : ℕ) (key value : List ℕ) → op ≡ Got key value v → new.sessions.items ≡ slice_set old.sessions.items client (max own_height v) → new.are_above ≡ old.are_above → AreSessionHeights (with_op h client op) new
-  took_got v key value e same kept =
+  pub took_got : (v : ℕ) (key value : List ℕ) → op ≡ Got key value v → new.sessions.items ≡ slice_set old.sessions.items client (max own_height v) → new.rise.items ≡ old.rise.items → new.are_above ≡ old.are_above
+      → AreSessionHeights (with_op h client op) new
+  took_got v key value e same flag kept =
       let at : op_at grown newest ≡ Some (Got key value v) = last_there h client op inside ∙ ap (λ (x : Op). Some x) e in
       record {
         clients = clients_longer (same_set (max own_height v) same);
         each = heights_more h client op inside old was v (λ w has. one_has grown newest v w (inr (key, value, at)) has) (inr (inr (key, value, at))) new.sessions.items (same_set (max own_height v) same)
             (own_set (max own_height v) same) (others_set (max own_height v) same);
-        above = λ t. still_above h client op inside old was (was.above (sym kept ∙ t)) (λ w other. let bad : Some (Put other.0 other.1 w) ≡ Some (Got key value v) = sym other.2 ∙ at in absurd cc);
+        flags = flags_longer (ap length flag);
+        session_above = λ c t. session_still_above h client op inside old was (λ w other. let bad : Some (Put other.0 other.1 w) ≡ Some (Got key value v) = sym other.2 ∙ at in absurd cc) c (was.session_above c (flag_same flag c ∙ t));
+        session_not_above = λ c small f. session_still_not_above h client op inside c (was.session_not_above c (was_there c small) (flag_same flag c ∙ f));
+        above = λ t. still_above h client op inside old was (λ w other. let bad : Some (Put other.0 other.1 w) ≡ Some (Got key value v) = sym other.2 ∙ at in absurd cc) (was.above (sym kept ∙ t));
         not_above = λ f. let last = was.not_above (sym kept ∙ f) in still_not_above h client op inside last.0 last.1 last.2;
       }
 
-  pub took_missed : (key : List ℕ) → op ≡ Missed key → new.sessions.items ≡ old.sessions.items → new.are_above ≡ old.are_above → AreSessionHeights (with_op h client op) new
-  took_missed key e same kept =
+  pub took_missed : (key : List ℕ) → op ≡ Missed key → new.sessions.items ≡ old.sessions.items → new.rise.items ≡ old.rise.items → new.are_above ≡ old.are_above
+      → AreSessionHeights (with_op h client op) new
+  took_missed key e same flag kept =
       let at : op_at grown newest ≡ Some (Missed key) = last_there h client op inside ∙ ap (λ (x : Op). Some x) e in
       record {
         clients = clients_longer (ap length same);
         each = heights_more h client op inside old was 0 (λ w has. absurd (missed_has grown newest key w at has)) (inl refl) new.sessions.items (ap length same)
             (ap (λ (l : List ℕ). slice_index_or l client 0) same ∙ (let m : own_height ≡ max own_height 0 = omega arith in m)) (λ c differs. ap (λ (l : List ℕ). slice_index_or l c 0) same);
-        above = λ t. still_above h client op inside old was (was.above (sym kept ∙ t)) (λ w other. let bad : Some (Put other.0 other.1 w) ≡ Some (Missed key) = sym other.2 ∙ at in absurd cc);
+        flags = flags_longer (ap length flag);
+        session_above = λ c t. session_still_above h client op inside old was (λ w other. let bad : Some (Put other.0 other.1 w) ≡ Some (Missed key) = sym other.2 ∙ at in absurd cc) c (was.session_above c (flag_same flag c ∙ t));
+        session_not_above = λ c small f. session_still_not_above h client op inside c (was.session_not_above c (was_there c small) (flag_same flag c ∙ f));
+        above = λ t. still_above h client op inside old was (λ w other. let bad : Some (Put other.0 other.1 w) ≡ Some (Missed key) = sym other.2 ∙ at in absurd cc) (was.above (sym kept ∙ t));
         not_above = λ f. let last = was.not_above (sym kept ∙ f) in still_not_above h client op inside last.0 last.1 last.2;
       }
 
@@ -339,14 +395,26 @@ zero_height (suc clients) (suc client) = zero_height clients client
 nothing_there : (clients : ℕ) (n : OpName) (x : Op) → ¬ (op_at (replicate clients []) n ≡ Some x)
 nothing_there clients n x at = let e : None ≡ Some x = sym (ap (λ (s : List Op). slice_get s n.index) (empty_session clients n.client)) ∙ at in cc
 
-pub no_heights : (clients : ℕ) (heights : Heights) → heights.sessions.items ≡ replicate clients 0 → heights.are_above ≡ true → AreSessionHeights (replicate clients []) heights
-no_heights clients heights are above = record {
+all_rise : (clients client : ℕ) → client < clients → slice_index_or (replicate clients true) client false ≡ true
+all_rise zero client small = absurd (omega (arith, small))
+all_rise (suc clients) zero small = refl
+all_rise (suc clients) (suc client) small = all_rise clients client (omega (arith, small))
+
+pub no_heights : (clients : ℕ) (heights : Heights) → heights.sessions.items ≡ replicate clients 0 → heights.rise.items ≡ replicate clients true → heights.are_above ≡ true
+    → AreSessionHeights (replicate clients []) heights
+no_heights clients heights are rise above = record {
   clients = ap length are ∙ length-replicate clients 0 ∙ sym (length-replicate {A = List Op} clients []);
   each = λ client small.
       let len : length (slice_index_or (replicate clients (let none : List Op = [] in none)) client []) ≡ 0 = ap length (empty_session clients client) in
       let low : slice_index_or heights.sessions.items client 0 ≡ 0 = ap (λ (l : List ℕ). slice_index_or l client 0) are ∙ zero_height clients client in
       subst (λ (k : ℕ). IsHeight (replicate clients []) client k (slice_index_or heights.sessions.items client 0)) (sym len)
       (subst (IsHeight (replicate clients []) client 0) (sym low) (height_none (replicate clients []) client));
+  flags = ap length rise ∙ length-replicate clients true ∙ sym (length-replicate {A = List Op} clients []);
+  session_above = λ client t name earlier of f. let put = f.is_not_below.put in nothing_there clients name (Put put.0 put.1 f.is_not_below.own) put.2;
+  session_not_above = λ client small f.
+      let up : slice_index_or heights.rise.items client false ≡ true =
+      ap (λ (l : List Bool). slice_index_or l client false) rise ∙ all_rise clients client (omega (arith, small, length-replicate {A = List Op} clients [])) in
+      let bad : true ≡ false = sym up ∙ f in absurd cc;
   above = λ t name earlier f. let put = f.is_not_below.put in nothing_there clients name (Put put.0 put.1 f.is_not_below.own) put.2;
   not_above = λ f. let e : true ≡ false = sym above ∙ f in cc;
 }
@@ -363,3 +431,9 @@ read_at heights k x inside at = at ∙ inside_default heights k inside
 pub is_false : (b : Bool) → ¬ (b ≡ true) → b ≡ false
 is_false true differs = absurd (differs refl)
 is_false false differs = refl
+
+-- a flag that is set has its place
+pub flag_inside : (flags : List Bool) (i : ℕ) → slice_index_or flags i false ≡ true → i < length flags
+flag_inside [] i is = let bad : false ≡ true = is in absurd cc
+flag_inside (f ∷ flags) zero is = omega arith
+flag_inside (f ∷ flags) (suc i) is = omega (arith, flag_inside flags i is)

@@ -11,9 +11,20 @@ pub record IsHeight (h : Sessions) (client count height : ℕ) : Type 0 where
   pub bounds : (i version : ℕ) → i < count → HasVersion h (record { client = client; index = i }) version → version ≤ height
   pub reached : (height ≡ 0) ⊎ ((i : ℕ) × (i < count) × HasVersion h (record { client = client; index = i }) height)
 
--- the height of each session, and whether each put is above what its session saw before it
+-- each put of a client's session is above what that saw before it
+abbrev pub IsSessionAbove : Sessions → ℕ → Type 0
+IsSessionAbove h client = (name earlier : OpName) → name.client ≡ client → ¬ IsNotAbove h name earlier
+
+-- one is not
+abbrev pub HasNotAbove : Sessions → ℕ → Type 0
+HasNotAbove h client = (name : OpName) × (earlier : OpName) × (name.client ≡ client) × IsNotAbove h name earlier
+
+-- the height of each session, whether each of its puts is above what it saw before, and whether each put of all sessions is
 pub record AreSessionHeights (h : Sessions) (heights : Heights) : Type 0 where
   pub clients : length heights.sessions.items ≡ length h
   pub each : (client : ℕ) → client < length h → IsHeight h client (length (slice_index_or h client [])) (slice_index_or heights.sessions.items client 0)
+  pub flags : length heights.rise.items ≡ length h
+  pub session_above : (client : ℕ) → slice_index_or heights.rise.items client false ≡ true → IsSessionAbove h client
+  pub session_not_above : (client : ℕ) → client < length h → slice_index_or heights.rise.items client false ≡ false → HasNotAbove h client
   pub above : heights.are_above ≡ true → AllAbove h
   pub not_above : heights.are_above ≡ false → (name : OpName) × (earlier : OpName) × IsNotAbove h name earlier

@@ -1,4 +1,4 @@
-ghost use Rattle.std.specs.Prelude.{◌≡◌, ◌<◌, ℕ, List, [], IfOk, length, replicate};
+ghost use Rattle.std.specs.Prelude.{◌≡◌, ◌<◌, ℕ, List, [], false, IfOk, length, replicate, slice_index_or};
 ghost use Rattle.cops_types.specs.declared.op.Op.{Op as AnOp};
 ghost use Rattle.cops_types.specs.Entries.{EntryLists, told};
 ghost use Rattle.cops_types.specs.Heights.{AreSessionHeights};
@@ -7,11 +7,12 @@ ghost use Rattle.cops_types.specs.Histories.{Sessions, with_op};
 use crate::entry::Entry;
 use std::alloc::{AllocError, Global};
 
-/// Of each session how high the versions of what it put or got have come, and whether each put is above all that its
-/// session put or got before it.
+/// Of each session how high the versions of what it put or got have come, and whether each of its puts is above all
+/// that it put or got before; and whether each put of all sessions is.
 #[derive(Debug, Drop)]
 pub(crate) struct Heights {
     sessions: Vec<u64>,
+    rise: Vec<bool>,
     are_above: bool,
 }
 
@@ -21,8 +22,10 @@ impl Heights {
         ensures { IfOk result (AreSessionHeights (replicate clients [])) }
     {
         let sessions = vec![in alloc; 0u64; clients as usize]?;
+        let rise = vec![in alloc; true; clients as usize]?;
         Ok(Heights {
             sessions,
+            rise,
             are_above: true,
         })
     }
@@ -34,16 +37,28 @@ impl Heights {
         self.are_above
     }
 
+    /// Whether each put of a client is above all that its session put or got before it: false where there is no such
+    /// client.
+    pub(crate) fn is_above(&self, client: u16) -> bool
+        ensures { result ≡ slice_index_or self.now.rise.items client false }
+    {
+        self.rise.get(client as usize).copied().unwrap_or(false)
+    }
+
     /// Takes in a client's next operation.
     #[inline(always)]
     pub(crate) fn take_in(&mut self, client: u16, entry: &Entry)
-        requires { client < length self.old.sessions.items }
+        requires height { client < length self.old.sessions.items }
+        requires flag { client < length self.old.rise.items }
         ensures { (keys : List (List ℕ)) (all : EntryLists) (h : Sessions) (op : AnOp) → told keys all entry.now ≡ op
             → AreSessionHeights h self.old → AreSessionHeights (with_op h client op) self.new }
     {
         let height = self.sessions[client as usize];
         match entry {
-            Entry::Put { version, .. } if version.as_u64() <= height => self.are_above = false,
+            Entry::Put { version, .. } if version.as_u64() <= height => {
+                self.rise[client as usize] = false;
+                self.are_above = false;
+            }
             Entry::Put { version, .. } => self.sessions[client as usize] = version.as_u64(),
             Entry::Got { version, .. } | Entry::Sourced { version, .. } => {
                 self.sessions[client as usize] = height.max(version.as_u64());

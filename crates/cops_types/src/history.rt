@@ -71,6 +71,7 @@ impl History {
     ghost use Rattle.cops_types.specs.Recorded.{IsFull, IsOpenAt, IsWithinLimits, HasRoom};
     ghost use Rattle.cops_types.specs.TypeFaults.{IsHistoryFault};
     ghost use Rattle.cops_types.specs.Faults.{IsNotAbove};
+    ghost use Rattle.cops_types.specs.Heights.{HasNotAbove, IsSessionAbove};
     ghost use Rattle.cops_types.specs.Verdicts.{AllAbove};
 
     /// A history of so many clients, each with an empty session.
@@ -324,6 +325,15 @@ impl History {
         ensures not_above { ¬ IsTrue result → (name : OpName) × (earlier : OpName) × IsNotAbove self.now.sessions name earlier }
     {
         self.heights.are_above()
+    }
+
+    /// The same of the puts of a client: false where there is no such client.
+    pub fn is_session_above(&self, client: u16) -> bool
+        ensures there { IsTrue result → client < length self.now.sessions }
+        ensures above { IsTrue result → IsSessionAbove self.now.sessions client }
+        ensures not_above { ¬ IsTrue result → client < length self.now.sessions → HasNotAbove self.now.sessions client }
+    {
+        self.heights.is_above(client)
     }
 
     /// Whether there is no operation.

@@ -76,6 +76,16 @@ fn open_gets(alloc: Global, history: &History, words: &[&str]) -> Result<String,
     }
 }
 
+/// Whether each put is above its session, or each of a client.
+fn above(alloc: Global, history: &History, words: &[&str]) -> Result<String, Error> {
+    let is_above = match words {
+        [] => history.are_puts_above(),
+        [client] => history.is_session_above(u16_of(client)?),
+        _ => return Err(no_row()),
+    };
+    yes_or_no(alloc, is_above)
+}
+
 /// The answer to a call of one word, behind which none may stand.
 fn ask(alloc: Global, history: &History, what: &str, rest: &[&str]) -> Result<String, Error> {
     if !rest.is_empty() {
@@ -84,7 +94,6 @@ fn ask(alloc: Global, history: &History, what: &str, rest: &[&str]) -> Result<St
     match what {
         "counts" => counts(alloc, history),
         "empty" => yes_or_no(alloc, history.is_empty()),
-        "above" => yes_or_no(alloc, history.are_puts_above()),
         _ => Err(no_row()),
     }
 }
@@ -100,6 +109,7 @@ fn ask_any(alloc: Global, history: &mut History, words: &[&str]) -> Result<Strin
         "session" => session_text(alloc, history, rest),
         "op" => op_at(alloc, history, rest),
         "open" => open_gets(alloc, history, rest),
+        "above" => above(alloc, history, rest),
         what => ask(alloc, history, what, rest),
     }
 }

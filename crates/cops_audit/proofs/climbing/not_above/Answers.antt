@@ -1,4 +1,5 @@
-use Rattle.std.proofs.Common.{◌≡◌, ◌∙◌, List, [], ℕ, ap, arith, refl, sym, subst, slice_index_or}
+use Rattle.std.proofs.Common.{◌≡◌, ◌∙◌, List, [], ℕ, Option, ap, arith, refl, sym, subst, slice_index_or}
+use Rattle.std.specs.Prelude.{IfSome, IfNone}
 use Rattle.cops_types.specs.Histories.{Sessions}
 use Rattle.cops_types.specs.declared.op.OpName.{OpName}
 use Rattle.cops_types.specs.Faults.{IsNotAbove, IsNotBelow}
@@ -24,8 +25,8 @@ one_fault h a b f g e = same_fault a b e (one_first h b.op a.earlier b.earlier (
 none_yet : (h : Sessions) (client : ℕ) (heights : List ℕ) → heights ≡ [] → AreHeights h client heights
 none_yet h client heights e = subst (AreHeights h client) (sym e) (λ i height at. absurd cc)
 
-pub climb-requires : goal.climb-requires
-climb-requires c =
+pub earlier_not_below-requires : goal.earlier_not_below-requires
+earlier_not_below-requires c =
     let h = c.args.history.now.sessions in
     elim c.if-name-client.branch [
       | then-name-client w ↦ rw w.heights-is (none_yet h _ _ w.clear.ensures.items)
@@ -34,23 +35,22 @@ climb-requires c =
           subst (λ (k : ℕ). AreHeights h k c.loop-name.heights.items) e c.loop-name.invariant.heights)
     ]
 
-pub first_not_below-requires-clause-heights : goal.first_not_below-requires-clause-heights
-first_not_below-requires-clause-heights c = subst (AreHeights c.args.history.now.sessions _) (sym c.as_slice.ensures.value) c.in_ok-climb.ensures.heights
-
 pub loop-name-preserved : goal.loop-name-preserved
 loop-name-preserved c =
     let i = c.loop-name.name-index in
     let h = c.args.history.now.sessions in
+    let name : OpName = slice_index_or c.args.names.now i (record { client = 0; index = 0 }) in
     record {
-      lists = elim c.match-first_not_below.branch [
+      lists = elim c.match-found.branch [
         | in-Some+in_ok-push w ↦ rw (w.faults-is, w.in_ok-push.ensures.items)
             (push_next (λ f. f.op) (λ f. IsNotAbove h f.op f.earlier) c.args.names.now c.requires i c.loop-name-test.true c.loop-name.faults.items _ _ refl c.loop-name.invariant.lists
-            w.in-Some.ensures.first (λ x f e. one_fault h x _ f w.in-Some.ensures.first e))
+            (subst (λ (o : Option OpName). IfSome o (λ e. IsNotAbove h name e)) w.in-Some.is c.in_ok-found.ensures.first)
+            (λ x f e. one_fault h x _ f (subst (λ (o : Option OpName). IfSome o (λ e. IsNotAbove h name e)) w.in-Some.is c.in_ok-found.ensures.first) e))
         | in_default w ↦ rw w.faults-is
             (skip_next (λ f. f.op) (λ f. IsNotAbove h f.op f.earlier) c.args.names.now c.requires i c.loop-name-test.true c.loop-name.faults.items _ c.loop-name.invariant.lists
-            (λ x f e. w.in_default.ensures.none x.earlier (subst (λ m. IsNotBelow h x.earlier m) e f.is_not_below)))
+            (λ x f e. subst (λ (o : Option OpName). IfNone o ((e : OpName) → ¬ IsNotBelow h e name)) w.in_default.is c.in_ok-found.ensures.none x.earlier (subst (λ m. IsNotBelow h x.earlier m) e f.is_not_below)))
       ];
-      heights = c.in_ok-climb.ensures.heights;
+      heights = c.in_ok-found.ensures.heights;
     }
 
 pub returns : goal.returns
