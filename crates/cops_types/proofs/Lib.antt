@@ -4,6 +4,7 @@ pub mod Keys
 pub mod Telling
 pub mod Sources
 pub mod Showing
+pub mod Sessioning
 mod Joining
 pub mod Climbing
 pub mod Holding

@@ -1,7 +1,7 @@
 -- The entries that slots stand for, as one more comes.
-use Rattle.std.proofs.Common.{◌≡◌, ℕ, zero, suc, ◌<◌, ◌≤◌, List, [], ◌∷◌, ◌++◌, map, length, length-append, get_or, replicate, slice_get, Option, Some, None, refl, sym, ap, ◌∙◌, subst, arith, get_or-set_same, get_or-set_other, inl, inr}
+use Rattle.std.proofs.Common.{◌≡◌, ℕ, zero, suc, ◌+◌, ◌<◌, ◌≤◌, List, [], ◌∷◌, ◌++◌, map, length, length-append, get_or, replicate, slice_get, Option, Some, None, refl, sym, ap, ◌∙◌, subst, arith, get_or-set_same, get_or-set_other, inl, inr}
 use Rattle.std.specs.Prelude.{◌⊎◌, ◌≢◌, ◌↔◌, IfSome, IfNone}
-use Rattle.std.specs.Option.{option_map}
+use Rattle.std.specs.Option.{option_and_then, option_map}
 use Rattle.std.proofs.Math.ListN.{set, get_or-map}
 use Rattle.std.proofs.lemmas.List.{map-set, map-append, length-map, get_or-map as get_or-map-inside}
 use Rattle.std.proofs.lemmas.Option.{slice_get-map, get_or_from_slice_get, slice_get_within}
@@ -17,8 +17,9 @@ use Rattle.cops_types.specs.declared.slot.Slot.{Slot}
 use Rattle.cops_types.specs.declared.slot.Slot.TheVariants.{Put as PutSlot, Got as GotSlot, Sourced as SourcedSlot, Missed as MissedSlot}
 use Rattle.cops_types.specs.declared.versioned_put.VersionedPut.{VersionedPut}
 use Rattle.cops_types.specs.Entries.{EntryLists, HasValue, ListsEntries, value_in, value_put}
-use Rattle.cops_types.specs.Lists.{item_at, with_item}
-use Rattle.cops_types.specs.Slots.{AreKept, IsFrom, IsThere, put_shown, source_shown, got_shown, shown, shown_by, versioned}
+use Rattle.cops_types.specs.Lists.{item_at, number_at, with_item}
+use Rattle.cops_types.specs.Recorded.{AreNumbered}
+use Rattle.cops_types.specs.Slots.{AreKept, IsFrom, IsThere, get_number_in, get_numbers_in, put_shown, source_shown, got_shown, shown, shown_by, versioned}
 use Rattle.cops_types.specs.Blocks.{KeptBlocks}
 use Rattle.cops_types.proofs.Sessions.{at_or_other, more_items, none_of}
 use Rattle.cops_types.proofs.Telling.{item_came, item_stays, map-same}
@@ -94,10 +95,16 @@ shown-none puts gets slots n none = ap (shown_by puts gets) none ∙ no_items pu
 -- nothing is kept of nothing
 pub none_kept : (slots : List (List Slot)) (n : ℕ) → slots ≡ replicate n [] → AreKept [] [] slots
 none_kept slots n none = record {
-  there = λ name s at. let gone : None ≡ Some s = ap (λ (l : List Slot). slice_get l name.index) (sym (none_of n name.client)) ∙ ap (λ (l : List (List Slot)). item_at l name) (sym none) ∙ at in cc;
+  there = λ name s at. let gone : None ≡ Some s = nothing name s at in cc;
   named = λ m p at. let gone : None ≡ Some p = at in cc;
-  back = λ name m at. let gone : None ≡ Some (PutSlot m) = ap (λ (l : List Slot). slice_get l name.index) (sym (none_of n name.client)) ∙ ap (λ (l : List (List Slot)). item_at l name) (sym none) ∙ at in cc;
+  back = λ name m at. let gone : None ≡ Some (PutSlot m) = nothing name (PutSlot m) at in cc;
+  each = λ m within. absurd (omega (arith, within));
+  once = λ a b m at also. let gone : None ≡ Some (GotSlot m) = nothing a (GotSlot m) at in cc;
+  rising = λ a b k m same before at also. let gone : None ≡ Some (GotSlot k) = nothing a (GotSlot k) at in cc;
 }
+  where
+    nothing : (name : OpName) (s : Slot) → item_at slots name ≡ Some s → None ≡ Some s
+    nothing name s at = ap (λ (l : List Slot). slice_get l name.index) (sym (none_of n name.client)) ∙ ap (λ (l : List (List Slot)). item_at l name) (sym none) ∙ at
 
 pub item_at-shown : (puts : List KeptPut) (gets : List KeptGot) (slots : List (List Slot)) (name : OpName) → item_at (shown_by puts gets slots) name ≡ option_map (shown puts gets) (item_at slots name)
 item_at-shown puts gets slots name = item_at-map (shown puts gets) slots name
@@ -140,8 +147,9 @@ module _ (puts puts' : List KeptPut) (gets gets' : List KeptGot) (more_puts : Is
     pub kept_more : length puts ≤ length puts' → length gets ≤ length gets' → IsThere (length puts') (length gets') slot
         → ((n : ℕ) (p : KeptPut) → slice_get puts' n ≡ Some p → (slice_get puts n ≡ Some p) ⊎ (item_at (with_item slots client slot) p.name ≡ Some (PutSlot n)))
         → ((name : OpName) (n : ℕ) → slot ≡ PutSlot n → name.client ≡ client → name.index ≡ length (get_or slots client []) → (p : KeptPut) × (slice_get puts' n ≡ Some p) × (p.name ≡ name))
+        → ((n : ℕ) → n < length gets' → (n < length gets) ⊎ (slot ≡ GotSlot n)) → ((n : ℕ) → slot ≡ GotSlot n → length gets ≤ n)
         → AreKept puts' gets' (with_item slots client slot)
-    kept_more longer_puts longer_gets fits named last = record {
+    kept_more longer_puts longer_gets fits named last newer next = record {
       there = λ name s at. elim (item_came slots client slot inside name s at) [
         | inl p ↦ still s (kept.there name s p)
         | inr p ↦ subst (IsThere (length puts') (length gets')) p fits
@@ -154,8 +162,41 @@ module _ (puts puts' : List KeptPut) (gets gets' : List KeptGot) (more_puts : Is
         | inl was ↦ let p = kept.back name n was in (p.0, more_puts n p.0 p.1, p.2)
         | inr is ↦ last name n is.0 is.1 is.2
       ];
+      each = λ n within. elim (newer n within) [
+        | inl was ↦ let name = kept.each n was in (name.0, item_stays slots client slot inside name.0 (GotSlot n) name.1)
+        | inr is ↦
+            let name : OpName = record { client = client; index = length (get_or slots client []) } in
+            (name, item_last slots client slot name inside refl refl ∙ ap (λ (s : Slot). Some s) is)
+      ];
+      once = λ a b n at also. elim (came a n at) [
+        | inl p ↦ elim (came b n also) [
+          | inl q ↦ kept.once a b n p q
+          | inr q ↦ absurd (omega (arith, kept.there a (GotSlot n) p, next n q.0))
+        ]
+        | inr p ↦ elim (came b n also) [
+          | inl q ↦ absurd (omega (arith, kept.there b (GotSlot n) q, next n p.0))
+          | inr q ↦ λ j. record { client = (p.1 ∙ sym q.1) j; index = (p.2 ∙ sym q.2) j }
+        ]
+      ];
+      rising = λ a b m n same before at also. elim (came a m at) [
+        | inl p ↦ elim (came b n also) [
+          | inl q ↦ kept.rising a b m n same before p q
+          | inr q ↦ omega (arith, kept.there a (GotSlot m) p, next n q.0)
+        ]
+        | inr p ↦ elim (came b n also) [
+          | inl q ↦
+              let short : b.index < length (get_or slots b.client []) = slice_get_within (get_or slots b.client []) b.index (GotSlot n) q in
+              let own : length (get_or slots b.client []) ≡ length (get_or slots client []) = ap (λ (c : ℕ). length (get_or slots c [])) (sym same ∙ p.1) in
+              absurd (omega (arith, short, own, before, p.2))
+          | inr q ↦ absurd (omega (arith, before, p.2, q.2))
+        ]
+      ];
     }
       where
+        came : (name : OpName) (n : ℕ) → item_at (with_item slots client slot) name ≡ Some (GotSlot n)
+            → (item_at slots name ≡ Some (GotSlot n)) ⊎ ((slot ≡ GotSlot n) × (name.client ≡ client) × (name.index ≡ length (get_or slots client [])))
+        came name n at = item_came_last slots client slot inside name (GotSlot n) at
+
         still : (s : Slot) → IsThere (length puts) (length gets) s → IsThere (length puts') (length gets') s
         still (PutSlot n) there = omega (arith, there, longer_puts)
         still (SourcedSlot n) there = omega (arith, there, longer_puts)
@@ -335,6 +376,41 @@ no_sourced_got : (number : ℕ) (o : Option KeptPut) (key : ℕ) (value : List �
 no_sourced_got number (Some p) key value version is = cc
 no_sourced_got number None key value version is = cc
 
+-- the slot of which a number is told
+numbered_slot : (o : Option Slot) (n : ℕ) → option_and_then get_number_in o ≡ Some n → o ≡ Some (GotSlot n)
+numbered_slot None n is = cc
+numbered_slot (Some (PutSlot k)) n is = cc
+numbered_slot (Some (SourcedSlot k)) n is = cc
+numbered_slot (Some (GotSlot k)) n is = cc
+numbered_slot (Some (MissedSlot k)) n is = cc
+
+told_number : (number : Option ℕ) (o : Option Slot) → ((n : ℕ) → (number ≡ Some n) ↔ (o ≡ Some (GotSlot n))) → number ≡ option_and_then get_number_in o
+told_number (Some n) o tells = sym (ap (option_and_then get_number_in) ((tells n).0 refl))
+told_number None None tells = refl
+told_number None (Some (PutSlot k)) tells = refl
+told_number None (Some (SourcedSlot k)) tells = refl
+told_number None (Some (GotSlot k)) tells = (tells k).1 refl
+told_number None (Some (MissedSlot k)) tells = refl
+
+-- the number under a name is that of its slot
+flat_number : (o : Option Slot) → option_and_then (λ (n : Option ℕ). n) (option_map get_number_in o) ≡ option_and_then get_number_in o
+flat_number None = refl
+flat_number (Some s) = refl
+
+number_of_slot : (slots : List (List Slot)) (name : OpName) → number_at (get_numbers_in slots) name ≡ option_and_then get_number_in (item_at slots name)
+number_of_slot slots name = ap (option_and_then (λ (n : Option ℕ). n)) (item_at-map get_number_in slots name) ∙ flat_number (item_at slots name)
+
+slot_there : (puts : List KeptPut) (gets : List KeptGot) (o : Option Slot) (entry : Entry) → option_map (shown puts gets) o ≡ Some entry → (s : Slot) × (o ≡ Some s)
+slot_there puts gets None entry is = cc
+slot_there puts gets (Some s) entry is = (s, refl)
+
+-- a number that is not above another is below it or the same
+under_or_at : (n m : ℕ) → n < m + 1 → (n < m) ⊎ (n ≡ m)
+under_or_at zero zero lt = inr refl
+under_or_at zero (suc m) lt = inl (omega arith)
+under_or_at (suc n) zero lt = absurd (omega (arith, lt))
+under_or_at (suc n) (suc m) lt = elim (under_or_at n m (omega (arith, lt))) [ inl p ↦ inl (omega (arith, p)) | inr p ↦ inr (ap suc p) ]
+
 module _ (puts : List KeptPut) (gets : List KeptGot) where
   -- what stands for such a get is its slot
   got_slot_of : (o : Option Slot) (key version : ℕ) (value : List ℕ) → option_map (shown puts gets) o ≡ Some (Got key value version) → (n : ℕ) × (o ≡ Some (GotSlot n))
@@ -379,6 +455,32 @@ module _ (puts : List KeptPut) (gets : List KeptGot) where
         let gone : None ≡ Some slot.0 = (tells slot.0).1 slot.1 in
         cc
 
+    -- and it tells no other
+    pub tells_number : (number : Option ℕ) → ((n : ℕ) → (number ≡ Some n) ↔ (item_at slots name ≡ Some (GotSlot n))) → number ≡ number_at (get_numbers_in slots) name
+    tells_number number tells = told_number number (item_at slots name) tells ∙ sym (number_of_slot slots name)
+
+  -- the numbers of these gets
+  module _ (slots : List (List Slot)) (kept : AreKept puts gets slots) where
+    slot_of : (name : OpName) (n : ℕ) → number_at (get_numbers_in slots) name ≡ Some n → item_at slots name ≡ Some (GotSlot n)
+    slot_of name n is = numbered_slot (item_at slots name) n (sym (number_of_slot slots name) ∙ is)
+
+    pub are_numbered : AreNumbered (get_numbers_in slots) (length (entries_of gets))
+    are_numbered =
+        let count : length (entries_of gets) ≡ length gets = length-map gets (λ (g : KeptGot). got_shown (Some g)) in
+        record {
+          within = λ name n is. omega (arith, kept.there name (GotSlot n) (slot_of name n is), count);
+          each = λ n within. let name = kept.each n (omega (arith, within, count)) in (name.0, number_of_slot slots name.0 ∙ ap (option_and_then get_number_in) name.1);
+          once = λ a b n is also. kept.once a b n (slot_of a n is) (slot_of b n also);
+          rising = λ a b m n same before is also. kept.rising a b m n same before (slot_of a m is) (slot_of b n also);
+        }
+
+-- what is there keeps its number as one more slot comes
+pub numbers_stay : (puts : List KeptPut) (gets : List KeptGot) (slots : List (List Slot)) (client : ℕ) (slot : Slot) → client < length slots → (name : OpName) (entry : Entry)
+    → item_at (shown_by puts gets slots) name ≡ Some entry → number_at (get_numbers_in (with_item slots client slot)) name ≡ number_at (get_numbers_in slots) name
+numbers_stay puts gets slots client slot inside name entry at =
+    let own = slot_there puts gets (item_at slots name) entry (sym (item_at-shown puts gets slots name) ∙ at) in
+    number_of_slot (with_item slots client slot) name ∙ ap (option_and_then get_number_in) (item_stays slots client slot inside name own.0 own.1 ∙ sym own.1) ∙ sym (number_of_slot slots name)
+
 -- ---- one more operation
 
 module _ (puts : List KeptPut) (gets : List KeptGot) (slots : List (List Slot)) (kept : AreKept puts gets slots) (client : ℕ) (inside : client < length slots) where
@@ -405,6 +507,7 @@ module _ (puts : List KeptPut) (gets : List KeptGot) (slots : List (List Slot)) 
         let number : length puts ≡ n = cc in
         let same : put.name ≡ name = (λ j. record { client = (of ∙ sym own_client) j; index = (at ∙ sym own_index) j }) in
         (put, subst (λ (k : ℕ). slice_get (puts ++ put ∷ []) k ≡ Some put) number (end_of puts put), same))
+        (λ n within. inl within) (λ n is. cc)
 
   -- a get that is kept with what it returned
   module _ (got : KeptGot) where
@@ -419,14 +522,17 @@ module _ (puts : List KeptPut) (gets : List KeptGot) (slots : List (List Slot)) 
     kept_with_got =
         kept_more puts puts gets (gets ++ got ∷ []) (front_same puts) (front_more gets got) slots kept client slot_got inside
         (omega arith) (omega (arith, length-append gets (got ∷ []))) (omega (arith, length-append gets (got ∷ []))) (λ n p there. inl there) (λ name n is own_client own_index. cc)
+        (λ n within. elim (under_or_at n (length gets) (omega (arith, within, length-append gets (got ∷ [])))) [ inl p ↦ inl p | inr p ↦ inr (ap (λ (k : ℕ). GotSlot k) (sym p)) ])
+        (λ n is. let e : length gets ≡ n = cc in omega (arith, e))
 
   -- another get
-  module _ (slot : Slot) (fits : IsThere (length puts) (length gets) slot) (no_put : (n : ℕ) → slot ≡ PutSlot n → ⊥) where
+  module _ (slot : Slot) (fits : IsThere (length puts) (length gets) slot) (no_put : (n : ℕ) → slot ≡ PutSlot n → ⊥) (no_got : (n : ℕ) → slot ≡ GotSlot n → ⊥) where
     pub all_with_slot : (entry : Entry) → shown puts gets slot ≡ entry → shown_by puts gets (with_item slots client slot) ≡ with_item (shown_by puts gets slots) client entry
     all_with_slot entry is = shown_by-more puts puts gets gets (front_same puts) (front_same gets) slots kept client slot inside entry is
 
     pub kept_with_slot : AreKept puts gets (with_item slots client slot)
     kept_with_slot = kept_more puts puts gets gets (front_same puts) (front_same gets) slots kept client slot inside (omega arith) (omega arith) fits (λ n p there. inl there) (λ name n is own_client own_index. absurd (no_put n is))
+        (λ n within. inl within) (λ n is. absurd (no_got n is))
 
 -- ---- sessions as they are kept
 

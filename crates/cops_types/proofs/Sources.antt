@@ -13,8 +13,8 @@ use Rattle.cops_types.specs.declared.entry.NumberedPut.{NumberedPut}
 use Rattle.cops_types.specs.declared.value.Value.{Value}
 use Rattle.cops_types.specs.declared.version.Version.{Version}
 use Rattle.cops_types.specs.declared.entry.Entry.TheVariants.{Put, Got, Sourced, Missed}
-use Rattle.cops_types.specs.Lists.{item_at}
-use Rattle.cops_types.specs.Histories.{Puts, PutsVersion, SourceStep, op_at}
+use Rattle.cops_types.specs.Lists.{item_at, number_at}
+use Rattle.cops_types.specs.Histories.{IsNamed, Puts, PutsVersion, SourceStep, op_at}
 use Rattle.cops_types.specs.Operations.{GetsVersion, key_of}
 use Rattle.cops_types.specs.Entries.{EntryLists, AreSound, IsSound, ListsEntries, referred, value_in, value_put, told, told_by, key_number_of}
 use Rattle.cops_types.specs.declared.versioned_put.VersionedPut.{VersionedPut}
@@ -235,3 +235,15 @@ module _ (keys : List (List ℕ)) (all : EntryLists) (gets : List Entry) where
         )
     | inr sourced ↦ inr sourced
   ]
+
+-- an entry is there where an operation is
+named_entry : (keys : List (List ℕ)) (all : EntryLists) (o : Option Entry) (op : Op) → option_map (told keys all) o ≡ Some op → (entry : Entry) × (o ≡ Some entry)
+named_entry keys all None op is = cc
+named_entry keys all (Some entry) op is = (entry, refl)
+
+-- operations keep their numbers where entries do
+pub operations_keep : (keys : List (List ℕ)) (all : EntryLists) (old new : List (List (Option ℕ))) → ((name : OpName) (entry : Entry) → item_at all name ≡ Some entry → number_at new name ≡ number_at old name)
+    → (name : OpName) → IsNamed (told_by keys all) name → number_at new name ≡ number_at old name
+operations_keep keys all old new keeps name named =
+    let entry = named_entry keys all (item_at all name) named.0 (sym (op_at-told keys all name) ∙ named.1) in
+    keeps name entry.0 entry.1

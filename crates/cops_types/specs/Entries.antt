@@ -8,7 +8,7 @@ use Rattle.cops_types.specs.declared.op.Op.{Op}
 use Rattle.cops_types.specs.declared.op.Op.TheVariants.{Put as PutOp, Got as GotOp, Missed as MissedOp}
 use Rattle.cops_types.specs.declared.op.OpName.{OpName}
 use Rattle.cops_types.specs.declared.versioned_put.VersionedPut.{VersionedPut}
-use Rattle.cops_types.specs.Lists.{item_at}
+use Rattle.cops_types.specs.Lists.{item_at, number_at}
 use Rattle.cops_types.specs.Histories.{Sessions}
 
 -- the entries of each client, in their order
@@ -16,12 +16,13 @@ abbrev pub EntryLists : Type 0
 EntryLists = List (List Entry)
 
 -- the entries, of each client whether its next one takes no memory, the names of the puts in the order in which they came, the entries of the gets that are kept
--- with what they returned, each at its number, and for how many more puts and such gets there is room
+-- with what they returned, each at its number, of each entry its number among these, if it has one, and for how many more puts and such gets there is room
 pub record KeptEntries : Type 0 where
   pub all : EntryLists
   pub room : List Bool
   pub names : List OpName
   pub gets : List Entry
+  pub get_numbers : List (List (Option ℕ))
   pub more_puts : ℕ
   pub more_gets : ℕ
 
@@ -87,6 +88,7 @@ pub record KeepsEntries (old new : KeptEntries) : Type 0 where
   pub all : new.all ≡ old.all
   pub names : new.names ≡ old.names
   pub gets : new.gets ≡ old.gets
+  pub get_numbers : new.get_numbers ≡ old.get_numbers
   pub more_puts : old.more_puts ≤ new.more_puts
   pub more_gets : old.more_gets ≤ new.more_gets
   pub others : (client : ℕ) → slice_index_or old.room client false ≡ true → slice_index_or new.room client false ≡ true
@@ -104,6 +106,10 @@ pub record GainsEntry (entry : Entry) (old new : KeptEntries) : Type 0 where
   pub gets : (new.gets ≡ old.gets) ⊎ (new.gets ≡ old.gets ++ entry ∷ [])
   pub more_puts : old.more_puts ≤ new.more_puts + 1
   pub more_gets : old.more_gets ≤ new.more_gets + 1
+
+-- what was there keeps its number, if it has one
+abbrev pub KeepsNumbers : KeptEntries → KeptEntries → Type 0
+KeepsNumbers old new = (name : OpName) (entry : Entry) → item_at old.all name ≡ Some entry → number_at new.get_numbers name ≡ number_at old.get_numbers name
 
 -- all entries of puts by their names and versions, each once
 pub record ListsEntries (all : EntryLists) (puts : List VersionedPut) : Type 0 where

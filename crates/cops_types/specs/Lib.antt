@@ -13,6 +13,7 @@ pub mod Histories
 pub mod Operations
 pub mod OpRefs
 pub mod OpViews
+pub mod SessionRefs
 pub mod Past
 pub mod Convergence
 pub mod VersionOrder

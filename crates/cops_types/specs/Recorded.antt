@@ -1,19 +1,21 @@
 -- What a history holds.
-use Rattle.std.specs.Prelude.{◌≡◌, ℕ, ◌<◌, ◌≤◌, List, [], length, slice_index_or, slice_get, Some, Bool, true, false}
+use Rattle.std.specs.Prelude.{◌≡◌, ℕ, ◌<◌, ◌≤◌, List, [], length, slice_index_or, slice_get, Option, Some, Bool, true, false}
 use Rattle.cops_types.specs.declared.limits.TheConstants.{MAX_CLIENT_OPS, MAX_CLIENTS, MAX_OPS}
 use Rattle.cops_types.specs.declared.op.Op.{Op}
 use Rattle.cops_types.specs.declared.op.OpName.{OpName}
-use Rattle.cops_types.specs.Histories.{Sessions, op_at}
+use Rattle.cops_types.specs.Histories.{Sessions, IsNamed, op_at}
 use Rattle.cops_types.specs.Counts.{count_of}
+use Rattle.cops_types.specs.Lists.{number_at}
 
 -- the sessions, of each client whether its next operation takes no memory, the keys, each once, in the order of their first use, the names of the puts, each at its
--- number, and the open gets, each at its number
+-- number, the open gets, each at its number, and of each operation its number among these, if it has one
 pub record Recorded : Type 0 where
   pub sessions : Sessions
   pub room : List Bool
   pub keys : List (List ℕ)
   pub puts : List OpName
   pub gets : List Op
+  pub get_numbers : List (List (Option ℕ))
 
 -- the client has no room by the limits: 1,000,000 operations of a client, 16,000,000 of all
 abbrev pub IsFull : Sessions → ℕ → Type 0
@@ -28,6 +30,17 @@ pub record IsWithinLimits (h : Sessions) : Type 0 where
 -- the client's next operation takes no memory
 abbrev pub HasRoom : Recorded → ℕ → Type 0
 HasRoom r client = slice_index_or r.room client false ≡ true
+
+-- the numbers are those below the count, each number is that of one name, and in each session they rise
+pub record AreNumbered (numbers : List (List (Option ℕ))) (count : ℕ) : Type 0 where
+  pub within : (name : OpName) (number : ℕ) → number_at numbers name ≡ Some number → number < count
+  pub each : (number : ℕ) → number < count → (name : OpName) × (number_at numbers name ≡ Some number)
+  pub once : (a b : OpName) (number : ℕ) → number_at numbers a ≡ Some number → number_at numbers b ≡ Some number → a ≡ b
+  pub rising : (a b : OpName) (m n : ℕ) → a.client ≡ b.client → a.index < b.index → number_at numbers a ≡ Some m → number_at numbers b ≡ Some n → m < n
+
+-- what was there keeps the number that it has as an open get, if it has one
+abbrev pub KeepsOpen : Recorded → Recorded → Type 0
+KeepsOpen old new = (name : OpName) → IsNamed old.sessions name → number_at new.get_numbers name ≡ number_at old.get_numbers name
 
 -- the get of that name is the open one of that number
 abbrev pub IsOpenAt : Recorded → ℕ → OpName → Type 0

@@ -47,11 +47,23 @@ IsThere puts gets (SourcedSlot number) = number < puts
 IsThere puts gets (GotSlot number) = number < gets
 IsThere puts gets (MissedSlot key) = Unit {0}
 
--- what each slot names is there; each put stands where its name says, and nowhere else
+-- the number of the get that a slot names, where the slot is that of a get that is kept with what it returned
+abbrev pub get_number_in : Slot → Option ℕ
+get_number_in (GotSlot number) = Some number
+get_number_in _ = None
+
+-- of each slot that number
+abbrev pub get_numbers_in : List (List Slot) → List (List (Option ℕ))
+get_numbers_in slots = map (map get_number_in) slots
+
+-- what each slot names is there; each put stands where its name says, and nowhere else; each get that is kept has one slot, and in a session their numbers rise
 pub record AreKept (puts : List KeptPut) (gets : List KeptGot) (slots : List (List Slot)) : Type 0 where
   pub there : (name : OpName) (slot : Slot) → item_at slots name ≡ Some slot → IsThere (length puts) (length gets) slot
   pub named : (number : ℕ) (put : KeptPut) → slice_get puts number ≡ Some put → item_at slots put.name ≡ Some (PutSlot number)
   pub back : (name : OpName) (number : ℕ) → item_at slots name ≡ Some (PutSlot number) → (put : KeptPut) × (slice_get puts number ≡ Some put) × (put.name ≡ name)
+  pub each : (number : ℕ) → number < length gets → (name : OpName) × (item_at slots name ≡ Some (GotSlot number))
+  pub once : (a b : OpName) (number : ℕ) → item_at slots a ≡ Some (GotSlot number) → item_at slots b ≡ Some (GotSlot number) → a ≡ b
+  pub rising : (a b : OpName) (m n : ℕ) → a.client ≡ b.client → a.index < b.index → item_at slots a ≡ Some (GotSlot m) → item_at slots b ≡ Some (GotSlot n) → m < n
 
 -- the put that it names is the one of that number, with the value that stands with it
 abbrev pub IsFrom : List KeptPut → EntryRef → Type 0

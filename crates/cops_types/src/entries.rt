@@ -29,7 +29,7 @@ pub(crate) struct Entries {
 impl Model for Entries {
     ghost use Rattle.std.specs.Prelude.{◌-◌, Some, map, vec_len, vec_capacity};
     ghost use Rattle.cops_types.specs.Entries.{KeptEntries};
-    ghost use Rattle.cops_types.specs.Slots.{AreKept, got_shown, shown_by};
+    ghost use Rattle.cops_types.specs.Slots.{AreKept, get_numbers_in, got_shown, shown_by};
 
     ghost Value = { KeptEntries };
 
@@ -38,6 +38,7 @@ impl Model for Entries {
       room = map (λ s. s.room) a.sessions.items;
       names = map (λ p. p.name) a.puts.items;
       gets = map (λ g. got_shown (Some g)) a.gets.items;
+      get_numbers = get_numbers_in (map (λ s. s.items) a.sessions.items);
       more_puts = vec_capacity a.puts - vec_len a.puts;
       more_gets = vec_capacity a.gets - vec_len a.gets;
     } };
@@ -49,8 +50,9 @@ impl Entries {
     ghost use Rattle.cops_types.specs.declared.op.OpName.{OpName};
     ghost use Rattle.std.specs.Prelude.{◌≡◌, ◌≢◌, ◌<◌, ◌≤◌, ◌↔◌, ℕ, List, length, map, slice_get, slice_index_or, [], Some, OnOk, IfOk, IfSome, IfNone, IsOk, IsTrue, replicate, true, false, vec_capacity};
     ghost use Rattle.std.specs.Option.{option_map};
-    ghost use Rattle.cops_types.specs.Lists.{item_at, with_item};
-    ghost use Rattle.cops_types.specs.Entries.{GainsEntry, HasSource, HasValue, IsNumbered, KeepsEntries, ListsEntries, referred, value_put};
+    ghost use Rattle.cops_types.specs.Lists.{item_at, number_at, with_item};
+    ghost use Rattle.cops_types.specs.Entries.{GainsEntry, HasSource, HasValue, IsNumbered, KeepsEntries, KeepsNumbers, ListsEntries, referred, value_put};
+    ghost use Rattle.cops_types.specs.Recorded.{AreNumbered};
     ghost use Rattle.cops_types.specs.declared.entry.Entry.TheVariants.{Put, Got, Sourced, Missed};
     ghost use Rattle.cops_types.specs.declared.limits.TheConstants.{MAX_CLIENT_OPS, MAX_OPS};
 
@@ -94,6 +96,7 @@ impl Entries {
         ensures count { result ≡ length self.now.gets }
         ensures kept { (name : OpName) (key version : ℕ) (value : List ℕ) → item_at self.now.all name ≡ Some (Got key value version)
             → (n : ℕ) × (slice_get self.now.gets n ≡ Some (Got key value version)) }
+        ensures numbered { AreNumbered self.now.get_numbers (length self.now.gets) }
     {
         self.gets.len()
     }
@@ -111,6 +114,7 @@ impl Entries {
         ensures number { IfSome result (λ n. (key version : ℕ) × (value : List ℕ) × (item_at self.now.all name ≡ Some (Got key value version))
             × (slice_get self.now.gets n ≡ Some (Got key value version))) }
         ensures none { IfNone result ((key version : ℕ) (value : List ℕ) → item_at self.now.all name ≢ Some (Got key value version)) }
+        ensures numbered { result ≡ number_at self.now.get_numbers name }
     {
         got_number_at(&self.sessions, name)
     }
@@ -287,6 +291,7 @@ impl Entries {
         requires source { HasSource self.old.all entry }
         ensures all { self.new.all ≡ with_item self.old.all client entry }
         ensures gains { GainsEntry entry self.old self.new }
+        ensures numbers { KeepsNumbers self.old self.new }
         ensures others { (c : ℕ) → c ≢ client → slice_index_or self.old.room c false ≡ true → slice_index_or self.new.room c false ≡ true }
     {
         match entry {
@@ -315,6 +320,7 @@ impl Entries {
         requires few_names { length self.old.names < MAX_OPS }
         ensures all { self.new.all ≡ with_item self.old.all client (Put key value version) }
         ensures gains { GainsEntry (Put key value version) self.old self.new }
+        ensures numbers { KeepsNumbers self.old self.new }
         ensures others { (c : ℕ) → c ≢ client → slice_index_or self.old.room c false ≡ true → slice_index_or self.new.room c false ≡ true }
     {
         let number = self.puts.len() as u32;
@@ -341,6 +347,7 @@ impl Entries {
         requires few_gets { length self.old.gets < MAX_OPS }
         ensures all { self.new.all ≡ with_item self.old.all client (Got key value version) }
         ensures gains { GainsEntry (Got key value version) self.old self.new }
+        ensures numbers { KeepsNumbers self.old self.new }
         ensures others { (c : ℕ) → c ≢ client → slice_index_or self.old.room c false ≡ true → slice_index_or self.new.room c false ≡ true }
     {
         let number = self.gets.len() as u32;
@@ -362,6 +369,7 @@ impl Entries {
         requires source { item_at self.old.all put.name ≡ Some (Put key (value_put self.old.all put.name) version) }
         ensures all { self.new.all ≡ with_item self.old.all client (Sourced key put version) }
         ensures gains { GainsEntry (Sourced key put version) self.old self.new }
+        ensures numbers { KeepsNumbers self.old self.new }
         ensures others { (c : ℕ) → c ≢ client → slice_index_or self.old.room c false ≡ true → slice_index_or self.new.room c false ≡ true }
     {
         push_slot(&mut self.sessions, client, Slot::Sourced(put.number));
@@ -375,6 +383,7 @@ impl Entries {
         requires few { length (slice_index_or self.old.all client []) < MAX_CLIENT_OPS }
         ensures all { self.new.all ≡ with_item self.old.all client (Missed key) }
         ensures gains { GainsEntry (Missed key) self.old self.new }
+        ensures numbers { KeepsNumbers self.old self.new }
         ensures others { (c : ℕ) → c ≢ client → slice_index_or self.old.room c false ≡ true → slice_index_or self.new.room c false ≡ true }
     {
         push_slot(&mut self.sessions, client, Slot::Missed(key));

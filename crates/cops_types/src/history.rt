@@ -19,6 +19,7 @@ use crate::limits::{MAX_CLIENT_OPS, MAX_OPS};
 use crate::op::{Op, OpName};
 use crate::op_ref::OpRef;
 use crate::op_view::{KeyView, OpView, ValueView};
+use crate::session_ref::SessionRef;
 use crate::value::Value;
 use crate::version::Version;
 use crate::versioned_put::VersionedPut;
@@ -53,6 +54,7 @@ impl Model for History {
       keys = a.keys.keys;
       puts = a.entries.names;
       gets = map (told a.keys.keys a.entries.all) a.entries.gets;
+      get_numbers = a.entries.get_numbers;
     } };
 
     ghost invariant = { λ a. IsKept a.keys a.entries a.heights a.reserved.items a.reservations a.len };
@@ -68,9 +70,10 @@ impl History {
     ghost use Rattle.cops_types.specs.OpViews.{viewed};
     ghost use Rattle.cops_types.specs.Counts.{count_of, put_count};
     ghost use Rattle.cops_types.specs.PutLists.{AreAllPuts};
-    ghost use Rattle.cops_types.specs.Recorded.{IsFull, IsOpenAt, IsWithinLimits, HasRoom};
+    ghost use Rattle.cops_types.specs.Recorded.{AreNumbered, IsFull, IsOpenAt, IsWithinLimits, HasRoom, KeepsOpen};
     ghost use Rattle.cops_types.specs.TypeFaults.{IsHistoryFault};
     ghost use Rattle.cops_types.specs.Faults.{IsNotAbove};
+    ghost use Rattle.cops_types.specs.Lists.{number_at};
     ghost use Rattle.cops_types.specs.Heights.{HasNotAbove, IsSessionAbove};
     ghost use Rattle.cops_types.specs.Verdicts.{AllAbove};
 
@@ -97,6 +100,7 @@ impl History {
     #[inline(always)]
     pub fn reserve(&mut self, client: u16) -> Result<(), TypeFault>
         ensures same { self.new.sessions ≡ self.old.sessions }
+        ensures open { KeepsOpen self.old self.new }
         ensures room { OnOk result (HasRoom self.new client) }
         ensures admitted { OnOk result (client < length self.old.sessions
             × length (slice_index_or self.old.sessions client []) < MAX_CLIENT_OPS × count_of self.old.sessions < MAX_OPS) }
@@ -120,6 +124,7 @@ impl History {
         ensures unknown { IsErrOf result TypeFault.UnknownClient ↔ (length self.old.sessions ≤ client) }
         ensures too_many { IsErrOf result TypeFault.TooManyOps ↔ (client < length self.old.sessions × IsFull self.old.sessions client) }
         ensures reserved { HasRoom self.old client → ¬ IsErrOf result TypeFault.Memory }
+        ensures open { KeepsOpen self.old self.new }
         ensures only { IfErr result IsHistoryFault }
     {
         self.admit(client)?;
@@ -175,6 +180,7 @@ impl History {
         ensures room { OnOk result (HasRoom self.new client) }
         ensures others { (c : ℕ) → HasRoom self.old c → HasRoom self.new c }
         ensures held { HasRoom self.old client → IsOk result }
+        ensures open { KeepsOpen self.old self.new }
     {
         if self.reserved[client as usize] {
             return Ok(());
@@ -188,6 +194,7 @@ impl History {
         requires inside { client < length self.old.sessions }
         requires none { slice_index_or self.old.room client false ≡ false }
         ensures same { self.new.sessions ≡ self.old.sessions }
+        ensures open { KeepsOpen self.old self.new }
         ensures room { OnOk result (HasRoom self.new client) }
         ensures others { (c : ℕ) → HasRoom self.old c → HasRoom self.new c }
     {
@@ -208,6 +215,7 @@ impl History {
         requires all { count_of self.old.sessions < MAX_OPS }
         requires room { HasRoom self.old client }
         ensures ok { self.new.sessions ≡ with_op self.old.sessions client op }
+        ensures open { KeepsOpen self.old self.new }
         ensures others { (c : ℕ) → c ≢ client → HasRoom self.old c → HasRoom self.new c }
     {
         let entry = entry_of(&mut self.keys, &mut self.foresight, &self.entries, op);
@@ -228,6 +236,7 @@ impl History {
         requires room { HasRoom self.old client }
         ensures ok { OnOk result (self.new.sessions ≡ with_op self.old.sessions client (viewed op.now)) }
         ensures err { OnErr result (self.new.sessions ≡ self.old.sessions) }
+        ensures open { KeepsOpen self.old self.new }
         ensures others { (c : ℕ) → c ≢ client → HasRoom self.old c → HasRoom self.new c }
     {
         let alloc = *self.reserved.allocator();
@@ -286,13 +295,15 @@ impl History {
     }
 
     /// How many gets are open: their puts the history had not found as they came. They are numbered from 0 in the order
-    /// in which they came. Each other get that returned something has its source in the history.
+    /// in which they came, each with a number of its own, which it keeps. Each other get that returned something has its
+    /// source in the history.
     pub fn open_gets(&self) -> usize
         ensures count { result ≡ length self.now.gets }
         ensures few { result ≤ count_of self.now.sessions }
         ensures limits { IsWithinLimits self.now.sessions }
         ensures others { (got : OpName) (version : ℕ) → GetsVersion self.now.sessions got version
             → ((number : ℕ) × IsOpenAt self.now number got) ⊎ ((put : OpName) × SourceStep self.now.sessions put got) }
+        ensures numbered { AreNumbered self.now.get_numbers result }
     {
         self.entries.gets()
     }
@@ -315,6 +326,7 @@ impl History {
     pub fn open_number(&self, got: OpName) -> Option<u32>
         ensures open { IfSome result (λ number. IsOpenAt self.now number got) }
         ensures none { IfNone result ((version : ℕ) → GetsVersion self.now.sessions got version → (put : OpName) × SourceStep self.now.sessions put got) }
+        ensures numbered { result ≡ number_at self.now.get_numbers got }
     {
         self.entries.get_number(got)
     }
@@ -349,6 +361,13 @@ impl History {
         ensures limit { result ≤ MAX_CLIENT_OPS }
     {
         self.entries.session_len(client)
+    }
+
+    /// A client's session: no operation where the client is not there.
+    pub fn session(&self, client: u16) -> SessionRef<'_>
+        ensures { result ≡ slice_index_or self.now.sessions client [] }
+    {
+        SessionRef::new(self, client)
     }
 
     /// How many keys the operations are on, each counted once: no more than there are operations.

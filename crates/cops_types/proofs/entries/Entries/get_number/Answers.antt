@@ -3,7 +3,7 @@ use Rattle.std.specs.Prelude.{◌↔◌}
 use Rattle.cops_types.specs.Blocks.{KeptBlocks}
 use Rattle.cops_types.specs.declared.slot.Slot.TheVariants.{Got as GotSlot}
 use Rattle.cops_types.specs.Lists.{item_at}
-use Rattle.cops_types.proofs.Showing.{numbers_get, no_number_no_get}
+use Rattle.cops_types.proofs.Showing.{numbers_get, no_number_no_get, tells_number}
 use Rattle.cops_types.proofs.entries.Entries.get_number.Goals as goal
 
 pub returns-clause-number : goal.returns-clause-number
@@ -17,3 +17,9 @@ returns-clause-none c =
     let slots = λ (l : List KeptBlocks). map (λ (b : KeptBlocks). b.items) l in
     let tells = subst (λ (l : List KeptBlocks). (n : ℕ) → (c.got_number_at.result ≡ Some n) ↔ (item_at (slots l) c.args.name ≡ Some (GotSlot n))) c.deref.ensures.value c.got_number_at.ensures in
     rw (← c.self.view_is) (no_number_no_get c.self.inside.puts.items c.self.inside.gets.items (slots c.self.inside.sessions.items) c.self.invariant c.args.name c.got_number_at.result tells)
+
+pub returns-clause-numbered : goal.returns-clause-numbered
+returns-clause-numbered c =
+    let slots = λ (l : List KeptBlocks). map (λ (b : KeptBlocks). b.items) l in
+    let tells = subst (λ (l : List KeptBlocks). (n : ℕ) → (c.got_number_at.result ≡ Some n) ↔ (item_at (slots l) c.args.name ≡ Some (GotSlot n))) c.deref.ensures.value c.got_number_at.ensures in
+    rw (← c.self.view_is) (tells_number c.self.inside.puts.items c.self.inside.gets.items (slots c.self.inside.sessions.items) c.self.invariant c.args.name c.got_number_at.result tells)

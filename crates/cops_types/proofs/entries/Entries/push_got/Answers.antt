@@ -3,9 +3,10 @@ use Rattle.cops_types.specs.Blocks.{KeptBlocks}
 use Rattle.cops_types.specs.declared.entry.Entry.TheVariants.{Got}
 use Rattle.cops_types.specs.declared.slot.Slot.TheVariants.{Got as GotSlot}
 use Rattle.cops_types.specs.declared.slot.KeptGot.{KeptGot}
-use Rattle.cops_types.specs.Lists.{with_item}
-use Rattle.cops_types.specs.Slots.{AreKept, shown_by}
-use Rattle.cops_types.proofs.Showing.{has_slots, is_there, length-shown, all_with_got, kept_with_got}
+use Rattle.cops_types.specs.declared.slot.Slot.{Slot}
+use Rattle.cops_types.specs.Lists.{number_at, with_item}
+use Rattle.cops_types.specs.Slots.{AreKept, get_numbers_in, shown_by}
+use Rattle.cops_types.proofs.Showing.{has_slots, is_there, length-shown, all_with_got, kept_with_got, numbers_stay}
 use Rattle.cops_types.proofs.entries.Entries.push_got.Goals as goal
 
 pub push_slot-requires-clause-inside : goal.push_slot-requires-clause-inside
@@ -42,3 +43,12 @@ returns-clause-all c =
     let got : KeptGot = record { key = c.args.key; version = c.args.version; value = c.args.value } in
     let now = c.push_slot.ensures.slots ∙ ap (λ n. with_item slots c.args.client (GotSlot n)) number in
     rw (← c.self.view_is) ((λ j. shown_by puts (c.push_reserved.ensures.items j) (now j)) ∙ all_with_got puts gets slots c.self.invariant c.args.client there got (Got c.args.key c.args.value c.args.version) refl)
+
+pub returns-clause-numbers : goal.returns-clause-numbers
+returns-clause-numbers c =
+    let puts = c.self.inside.puts.items in
+    let gets = c.self.inside.gets.items in
+    let sessions = c.self.inside.sessions.items in
+    let slots = map (λ (b : KeptBlocks). b.items) sessions in
+    let there = has_slots puts gets sessions c.args.client (rw (← c.self.view_is) at c.requires.inside) in
+    rw (← c.self.view_is) (λ name entry at. ap (λ (l : List (List Slot)). number_at (get_numbers_in l) name) c.push_slot.ensures.slots ∙ numbers_stay puts gets slots c.args.client (GotSlot c.len-number.result) there name entry at)

@@ -3,9 +3,10 @@ use Rattle.cops_types.specs.Blocks.{KeptBlocks}
 use Rattle.cops_types.specs.declared.entry.Entry.TheVariants.{Put}
 use Rattle.cops_types.specs.declared.slot.Slot.TheVariants.{Put as PutSlot}
 use Rattle.cops_types.specs.declared.slot.KeptPut.{KeptPut}
-use Rattle.cops_types.specs.Lists.{with_item}
-use Rattle.cops_types.specs.Slots.{AreKept, shown_by}
-use Rattle.cops_types.proofs.Showing.{has_slots, is_there, length-shown, all_with_put, kept_with_put}
+use Rattle.cops_types.specs.declared.slot.Slot.{Slot}
+use Rattle.cops_types.specs.Lists.{number_at, with_item}
+use Rattle.cops_types.specs.Slots.{AreKept, get_numbers_in, shown_by}
+use Rattle.cops_types.proofs.Showing.{has_slots, is_there, length-shown, all_with_put, kept_with_put, numbers_stay}
 use Rattle.cops_types.proofs.entries.Entries.push_put.Goals as goal
 
 pub push_slot-requires-clause-inside : goal.push_slot-requires-clause-inside
@@ -52,3 +53,12 @@ returns-clause-all c =
     let index = c.slot_count.ensures ∙ ap (λ (l : List KeptBlocks). length (get_or (map (λ b. b.items) l) c.args.client [])) c.deref.ensures.value in
     let now = c.push_slot.ensures.slots ∙ ap (λ n. with_item slots c.args.client (PutSlot n)) number in
     rw (← c.self.view_is) ((λ j. shown_by (c.push_reserved.ensures.items j) gets (now j)) ∙ all_with_put puts gets slots c.self.invariant c.args.client there put refl index (Put c.args.key c.args.value c.args.version) refl)
+
+pub returns-clause-numbers : goal.returns-clause-numbers
+returns-clause-numbers c =
+    let puts = c.self.inside.puts.items in
+    let gets = c.self.inside.gets.items in
+    let sessions = c.self.inside.sessions.items in
+    let slots = map (λ (b : KeptBlocks). b.items) sessions in
+    let there = has_slots puts gets sessions c.args.client (rw (← c.self.view_is) at c.requires.inside) in
+    rw (← c.self.view_is) (λ name entry at. ap (λ (l : List (List Slot)). number_at (get_numbers_in l) name) c.push_slot.ensures.slots ∙ numbers_stay puts gets slots c.args.client (PutSlot c.len-number.result) there name entry at)

@@ -1,9 +1,11 @@
-use Rattle.std.proofs.Common.{map, arith, ap, ◌∙◌, subst, sym}
+use Rattle.std.proofs.Common.{List, map, arith, ap, ◌∙◌, subst, sym}
 use Rattle.cops_types.specs.Blocks.{KeptBlocks}
 use Rattle.cops_types.specs.declared.entry.Entry.TheVariants.{Sourced}
 use Rattle.cops_types.specs.declared.slot.Slot.TheVariants.{Sourced as SourcedSlot}
-use Rattle.cops_types.specs.Slots.{AreKept, shown_by}
-use Rattle.cops_types.proofs.Showing.{has_slots, is_there, length-shown, all_with_slot, kept_with_slot, sourced}
+use Rattle.cops_types.specs.declared.slot.Slot.{Slot}
+use Rattle.cops_types.specs.Lists.{number_at}
+use Rattle.cops_types.specs.Slots.{AreKept, get_numbers_in, shown_by}
+use Rattle.cops_types.proofs.Showing.{has_slots, is_there, length-shown, all_with_slot, kept_with_slot, sourced, numbers_stay}
 use Rattle.cops_types.proofs.entries.Entries.push_sourced.Goals as goal
 
 pub push_slot-requires-clause-inside : goal.push_slot-requires-clause-inside
@@ -24,7 +26,7 @@ invariant_of-self c =
     let slots = map (λ (b : KeptBlocks). b.items) sessions in
     let there = has_slots puts gets sessions c.args.client (rw (← c.self.view_is) at c.requires.inside) in
     let found = sourced puts gets slots c.self.invariant c.args.put c.args.key c.args.version (rw (← c.self.view_is) at c.requires.numbered) (rw (← c.self.view_is) at c.requires.source) in
-    subst (AreKept puts gets) (sym c.push_slot.ensures.slots) (kept_with_slot puts gets slots c.self.invariant c.args.client there (SourcedSlot c.args.put.number) found.0 (λ n e. cc))
+    subst (AreKept puts gets) (sym c.push_slot.ensures.slots) (kept_with_slot puts gets slots c.self.invariant c.args.client there (SourcedSlot c.args.put.number) found.0 (λ n e. cc) (λ n e. cc))
 
 pub returns-clause-all : goal.returns-clause-all
 returns-clause-all c =
@@ -36,4 +38,13 @@ returns-clause-all c =
     let found = sourced puts gets slots c.self.invariant c.args.put c.args.key c.args.version (rw (← c.self.view_is) at c.requires.numbered) (rw (← c.self.view_is) at c.requires.source) in
     rw (← c.self.view_is)
     (ap (shown_by puts gets) c.push_slot.ensures.slots
-    ∙ all_with_slot puts gets slots c.self.invariant c.args.client there (SourcedSlot c.args.put.number) found.0 (λ n e. cc) (Sourced c.args.key c.args.put c.args.version) found.1)
+    ∙ all_with_slot puts gets slots c.self.invariant c.args.client there (SourcedSlot c.args.put.number) found.0 (λ n e. cc) (λ n e. cc) (Sourced c.args.key c.args.put c.args.version) found.1)
+
+pub returns-clause-numbers : goal.returns-clause-numbers
+returns-clause-numbers c =
+    let puts = c.self.inside.puts.items in
+    let gets = c.self.inside.gets.items in
+    let sessions = c.self.inside.sessions.items in
+    let slots = map (λ (b : KeptBlocks). b.items) sessions in
+    let there = has_slots puts gets sessions c.args.client (rw (← c.self.view_is) at c.requires.inside) in
+    rw (← c.self.view_is) (λ name entry at. ap (λ (l : List (List Slot)). number_at (get_numbers_in l) name) c.push_slot.ensures.slots ∙ numbers_stay puts gets slots c.args.client (SourcedSlot c.args.put.number) there name entry at)

@@ -1,5 +1,5 @@
 use Rattle.std.proofs.Common.{◌≡◌, ◌<◌, length, arith, subst, sym, get_or, ap, refl}
-use Rattle.cops_types.specs.Slots.{AreKept, shown_by}
+use Rattle.cops_types.specs.Slots.{AreKept, get_numbers_in, shown_by}
 use Rattle.cops_types.proofs.Sessions.{same_items, kept_room, own_room}
 use Rattle.cops_types.proofs.Showing.{is_there}
 use Rattle.cops_types.proofs.entries.Entries.reserve_slot.Goals as goal
@@ -22,6 +22,7 @@ returns-in_err-reserve-clause-keeps c =
       all = ap (shown_by puts gets) (same_items (λ b. b.items) (λ b. b.room) sessions c.args.client session c.reserve.new.self at c.in_err-reserve.ensures.same);
       names = refl;
       gets = refl;
+      get_numbers = ap get_numbers_in (same_items (λ b. b.items) (λ b. b.room) sessions c.args.client session c.reserve.new.self at c.in_err-reserve.ensures.same);
       more_puts = omega arith;
       more_gets = omega arith;
       others = λ k room. kept_room (λ b. b.items) (λ b. b.room) sessions c.args.client k session c.reserve.new.self inside at c.in_err-reserve.ensures.kept room;
@@ -45,6 +46,7 @@ returns-clause-keeps c =
       all = ap (shown_by puts gets) (same_items (λ b. b.items) (λ b. b.room) sessions c.args.client session c.reserve.new.self at c.in_ok-reserve.ensures.same);
       names = refl;
       gets = refl;
+      get_numbers = ap get_numbers_in (same_items (λ b. b.items) (λ b. b.room) sessions c.args.client session c.reserve.new.self at c.in_ok-reserve.ensures.same);
       more_puts = omega arith;
       more_gets = omega arith;
       others = λ k room. kept_room (λ b. b.items) (λ b. b.room) sessions c.args.client k session c.reserve.new.self inside at c.in_ok-reserve.ensures.kept room;

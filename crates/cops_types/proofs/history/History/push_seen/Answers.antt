@@ -3,6 +3,7 @@ use Rattle.std.proofs.lemmas.List.{length-map}
 use Rattle.cops_types.specs.Entries.{told, told_by}
 use Rattle.cops_types.specs.OpViews.{viewed}
 use Rattle.cops_types.proofs.Holding.{put_told, put_kept}
+use Rattle.cops_types.proofs.Sources.{operations_keep}
 use Rattle.cops_types.proofs.history.History.push_seen.Goals as goal
 
 pub invariant_of-self-2 : goal.invariant_of-self-2
@@ -22,3 +23,7 @@ returns-clause-ok c =
     let made = c.in_ok-entry.ensures in
     rw (← c.self.view_is) (put_told c.self.inside.keys c.entry_of_seen.new.keys c.self.inside.entries c.push.new.self c.self.inside.heights c.self.inside.reserved.items c.self.inside.reservations c.self.inside.len c.args.client c.in_ok-entry.entry (viewed c.args.op.now)
     inside c.self.invariant made.gains made.sound made.told c.push.ensures.all c.push.ensures.gains)
+
+pub returns-clause-open : goal.returns-clause-open
+returns-clause-open c =
+    rw (← c.self.view_is) (operations_keep c.self.inside.keys.keys c.self.inside.entries.all c.self.inside.entries.get_numbers c.push.new.self.get_numbers c.push.ensures.numbers)

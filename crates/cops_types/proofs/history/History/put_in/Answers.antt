@@ -2,6 +2,7 @@ use Rattle.std.proofs.Common.{◌<◌, length, map, arith}
 use Rattle.std.proofs.lemmas.List.{length-map}
 use Rattle.cops_types.specs.Entries.{told, told_by}
 use Rattle.cops_types.proofs.Holding.{put_told, put_kept}
+use Rattle.cops_types.proofs.Sources.{operations_keep}
 use Rattle.cops_types.proofs.history.History.put_in.Goals as goal
 
 pub invariant_of-self : goal.invariant_of-self
@@ -21,3 +22,7 @@ returns-clause-ok c =
     let made = c.entry_of-entry.ensures in
     rw (← c.self.view_is) (put_told c.self.inside.keys c.entry_of-entry.new.keys c.self.inside.entries c.push.new.self c.self.inside.heights c.self.inside.reserved.items c.self.inside.reservations c.self.inside.len c.args.client c.entry_of-entry.result c.args.op
     inside c.self.invariant made.gains made.sound made.told c.push.ensures.all c.push.ensures.gains)
+
+pub returns-clause-open : goal.returns-clause-open
+returns-clause-open c =
+    rw (← c.self.view_is) (operations_keep c.self.inside.keys.keys c.self.inside.entries.all c.self.inside.entries.get_numbers c.push.new.self.get_numbers c.push.ensures.numbers)
