@@ -1,6 +1,9 @@
 -- What a reader of a trace's text keeps while the text comes in pieces, and what it gives next.
 use Rattle.std.specs.Prelude.{◌≡◌, ◌≢◌, ℕ, ◌+◌, ◌*◌, ◌≤◌, ◌⊎◌, Bool, true, false, List, [], ◌∷◌, drop, Option, Some, None, Result, Ok, Err, option_map}
 use Rattle.cops_types.specs.declared.limits.TheConstants.{MAX_BODY, MAX_OPS}
+use Rattle.cops_types.specs.declared.format.Format.TheVariants.{One}
+use Rattle.cops_wire.specs.Answer.{BeginsWithTaking}
+use Rattle.cops_wire.specs.Grammar.{grammar}
 use Rattle.cops_trace.specs.declared.fault.TraceFault.{TraceFault}
 use Rattle.cops_trace.specs.declared.fault.TraceFault.TheVariants.{Memory, Cut, BytesAfterEnd}
 use Rattle.cops_trace.specs.declared.found.Item.{Item}
@@ -55,12 +58,17 @@ abbrev pub FailsIn : Bool → Reading → TraceFault → Type 0
 FailsIn false r e = Stands (progress_so_far r) r.rest (Fails e)
 FailsIn true r e = (r.rest ≢ []) × (e ≡ BytesAfterEnd r.at)
 
+-- what comes next takes memory: a key, a value or dependencies in the frame at the front of the rest, or a head, whose clients are counted
+abbrev pub TakesMemory : Reading → Type 0
+TakesMemory r = (r.fault ≡ None) × (r.ended ≡ false)
+    × (BeginsWithTaking (grammar One) r.rest ⊎ ((clients used : ℕ) × Stands (progress_so_far r) r.rest (Gives (Head clients) used)))
+
 -- What is given next: the item that may stand at the front of the rest; nothing, which changes nothing; or the fault that
--- stands there, which is kept. Want of memory changes nothing.
+-- stands there, which is kept. An allocation fails only where what comes next takes memory, and then nothing changes.
 abbrev pub GivesNext : Reading → Result (Option Item) TraceFault → Reading → Type 0
 GivesNext old (Ok (Some item)) new = (old.fault ≡ None) × (old.ended ≡ false) × ((used : ℕ) × Stands (progress_so_far old) old.rest (Gives item used) × (new ≡ past item used old))
 GivesNext old (Ok None) new = (old.fault ≡ None) × WaitsIn old.ended old × (new ≡ old)
-GivesNext old (Err e) new = ((e ≡ Memory) × (new ≡ old)) ⊎ (FailsIn old.ended old e × (new ≡ record old { fault = Some e }))
+GivesNext old (Err e) new = ((e ≡ Memory) × TakesMemory old × (new ≡ old)) ⊎ (FailsIn old.ended old e × (new ≡ record old { fault = Some e }))
 
 -- where nothing more comes: the fault that was answered; else the text is cut where its end was not given out; else there may
 -- be nothing after it

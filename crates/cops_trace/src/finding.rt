@@ -1,21 +1,24 @@
 //! What stands next in a trace's text.
-ghost use Rattle.std.specs.Prelude.{◌≡◌, ◌≢◌, ◌<◌, ◌≤◌, ◌^◌, ◌+◌, ℕ, length, None, Some, IfOk, IfNone, IfSome};
+ghost use Rattle.std.specs.Prelude.{◌≡◌, ◌≢◌, ◌<◌, ◌≤◌, ◌^◌, ◌+◌, ℕ, length, None, Some, IfOk, IfNone, IfSome, OnErr};
 ghost use Rattle.cops_types.specs.declared.op.Op.{Op as AnOp};
 ghost use Rattle.cops_trace.specs.Next.{Stands, unread, first_message, later_message, record_found, end_found};
 ghost use Rattle.cops_trace.specs.Counts.{progress_from};
 ghost use Rattle.cops_types.specs.OpViews.{viewed};
+ghost use Rattle.cops_wire.specs.Answer.{BeginsWithTaking};
+ghost use Rattle.cops_wire.specs.Grammar.{grammar};
 
 use crate::counts::Counts;
 use crate::fault::TraceFault;
 use crate::found::{Found, Item};
-use cops_types::{MAX_CLIENT_OPS, MAX_OPS, Memory, Op};
+use cops_types::{Format, MAX_CLIENT_OPS, MAX_OPS, Memory, Op};
 use cops_wire::{Message, WireFault, decode};
 use std::alloc::Global;
 
 /// A frame at this place that is no message: it is waited for, or a fault stands there.
 fn unread(at: u64, fault: WireFault) -> Result<Found, Memory>
     requires { at < 2 ^ 63 }
-    ensures { IfOk result (λ found. (fault ≢ WireFault.Memory) × (found ≡ unread at fault)) }
+    ensures found { IfOk result (λ found. (fault ≢ WireFault.Memory) × (found ≡ unread at fault)) }
+    ensures memory { OnErr result (fault ≡ WireFault.Memory) }
 {
     match fault {
         WireFault::Memory => Err(Memory),
@@ -45,7 +48,8 @@ fn first_message(message: &Message, used: usize) -> Found
 
 /// What stands at the front of a text.
 pub(crate) fn first_found(alloc: Global, bytes: &[u8]) -> Result<Found, Memory>
-    ensures { IfOk result (Stands None bytes.now) }
+    ensures found { IfOk result (Stands None bytes.now) }
+    ensures memory { OnErr result (BeginsWithTaking (grammar Format.One) bytes.now) }
 {
     match decode(alloc, bytes) {
         Ok(decoded) => {
@@ -158,7 +162,8 @@ pub(crate) fn later_found(
     rest: &[u8],
 ) -> Result<Found, Memory>
     requires { at < 2 ^ 63 }
-    ensures { IfOk result (Stands (Some (progress_from at counts.now)) rest.now) }
+    ensures found { IfOk result (Stands (Some (progress_from at counts.now)) rest.now) }
+    ensures memory { OnErr result (BeginsWithTaking (grammar Format.One) rest.now) }
 {
     match decode(alloc, rest) {
         Ok(decoded) => Ok(later_message(counts, at, decoded.message, decoded.used)),

@@ -1,5 +1,5 @@
 //! The items of a trace's text that comes in pieces.
-ghost use Rattle.std.specs.Prelude.{◌≡◌, OnErr, OnOk};
+ghost use Rattle.std.specs.Prelude.{◌≡◌, ℕ, OnErr, OnOk};
 ghost use Rattle.cops_trace.specs.Reading.{ItemHasTurn, counts_with, is_end};
 
 use crate::ahead::{see_ahead, take_ahead};
@@ -9,7 +9,7 @@ use crate::finding::{first_found, later_found};
 use crate::found::{Found, Item};
 use crate::parser::foresee;
 use crate::sink::Sink;
-use cops_types::Memory;
+use cops_types::{Format, Memory};
 use cops_wire::Buffer;
 use std::alloc::Global;
 use std::marker::Model;
@@ -44,6 +44,8 @@ impl TraceReader {
     ghost use Rattle.cops_trace.specs.Next.{Stands};
     ghost use Rattle.cops_trace.specs.Reading.{GivesNext, closing, progress_so_far};
     ghost use Rattle.cops_trace.specs.Parsing.{IsUnderway};
+    ghost use Rattle.cops_wire.specs.Answer.{BeginsWithTaking};
+    ghost use Rattle.cops_wire.specs.Grammar.{grammar};
 
     /// A reader that was given nothing.
     pub fn new(alloc: Global) -> Self
@@ -69,7 +71,8 @@ impl TraceReader {
     }
 
     /// The item at the front of the rest, which is taken off, or nothing while no whole one is there. A fault that
-    /// stands there is answered again by every later call. For want of memory nothing changes.
+    /// stands there is answered again by every later call. `Memory` is answered only where what comes next takes memory:
+    /// a key or a value of a record, or a head, whose clients are counted. It changes nothing.
     pub fn next(&mut self) -> Result<Option<Item>, TraceFault>
         ensures next { GivesNext self.old result self.new }
         ensures again { IfSome self.old.fault (λ fault. result ≡ Err fault) }
@@ -80,13 +83,14 @@ impl TraceReader {
         if self.ended {
             return self.after_end();
         }
-        match self.found().or(Err(TraceFault::Memory))? {
-            Found::Waits => Ok(None),
-            Found::Fails(fault) => {
+        match self.found() {
+            Ok(Found::Waits) => Ok(None),
+            Ok(Found::Fails(fault)) => {
                 self.fault = Some(fault);
                 Err(fault)
             }
-            Found::Gives { item, used } => self.give(item, used),
+            Ok(Found::Gives { item, used }) => self.give(item, used),
+            Err(Memory) => Err(TraceFault::Memory),
         }
     }
 
@@ -111,7 +115,8 @@ impl TraceReader {
 
     /// What stands at the front of the rest, before the end.
     fn found(&self) -> Result<Found, Memory>
-        ensures { IfOk result (Stands (progress_so_far self.now) self.now.rest) }
+        ensures found { IfOk result (Stands (progress_so_far self.now) self.now.rest) }
+        ensures memory { OnErr result (BeginsWithTaking (grammar Format.One) self.now.rest) }
     {
         let rest = self.buffer.rest();
         match &self.counts {
@@ -206,6 +211,7 @@ fn count(alloc: Global, counts: &mut Option<Counts>, item: &Item) -> Result<(), 
     requires { ItemHasTurn item.now counts.old }
     ensures ok { OnOk result (counts.new ≡ counts_with item.now counts.old) }
     ensures err { OnErr result (counts.new ≡ counts.old) }
+    ensures head { OnErr result ((clients : ℕ) × (item.now ≡ Item.Head clients)) }
 {
     match item {
         Item::Head { clients } => {

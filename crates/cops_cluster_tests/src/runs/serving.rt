@@ -3,6 +3,7 @@ use cops_net::{Call, NetFault, Reply, Served, Session, serve_session};
 use cops_scenario::Scenario;
 use cops_serve::{FrontEnd, ServeFault};
 use cops_types::{Counted, FailingReader, FailingWriter};
+use cops_wire::WireFault;
 use std::alloc::Global;
 use std::sync::Wait;
 use std::test::Fail;
@@ -13,12 +14,22 @@ const ONE: &[u8] = b"{\"data_centres\":1,\"clients\":[{\"at\":0}]}";
 /// Two data centres, each with a client.
 const TWO: &[u8] = b"{\"data_centres\":2,\"clients\":[{\"at\":0},{\"at\":1}]}";
 
-/// A greeting of client 0, its put of 1 at x, and its goodbye; the replies have 29 bytes.
+/// A greeting of client 0, its put of 1 at x, and its goodbye.
 const MESSAGES: [u8; 28] = [
     0, 0, 0, 5, 1, 0, 1, 0, 0, //
     0, 0, 0, 10, 3, 0, 0, 0, 1, 1, 120, 0, 1, 49, //
     0, 0, 0, 1, 15,
 ];
+
+/// The replies: data centre 0 has 1 node, the put was done with the version 1.0, and goodbye.
+const REPLIES: [u8; 29] = [
+    0, 0, 0, 3, 2, 0, 1, //
+    0, 0, 0, 13, 5, 0, 0, 0, 1, 0, 0, 0, 0, 0, 1, 0, 0, //
+    0, 0, 0, 1, 16,
+];
+
+/// Where the messages and their replies end.
+const ENDS: [(usize, usize); 3] = [(9, 7), (23, 24), (28, 29)];
 
 fn front_end(alloc: Global) -> Result<FrontEnd, Fail> {
     let scenario = Scenario::from_json(alloc, ONE)?;
@@ -93,6 +104,55 @@ fn calls_are_listed(rt: HostRuntime) -> Result<(), Fail> {
     assert!(rt; before == 0);
     assert!(rt; ended == Ok(Served { answered: 3 }));
     assert!(rt; are_listed);
+    Ok(())
+}
+
+/// How a session of the first bytes of the messages ends, and how many bytes were replied, where those are the first
+/// of the replies.
+fn cut<R: Wait>(
+    rt: &R,
+    alloc: Global,
+    len: usize,
+) -> Result<(Result<Served, NetFault>, Option<usize>), Fail> {
+    let mut front_end = front_end(alloc)?;
+    let mut reader = Counted::new(&MESSAGES[..len]);
+    let mut writer = Counted::new(Vec::new(alloc));
+    let ended = serve_session(rt, alloc, &mut reader, &mut writer, &mut front_end);
+    drop(front_end);
+    let replied = writer.into_inner();
+    let written = replied.len();
+    let are_first = REPLIES.starts_with(&replied);
+    drop(replied);
+    Ok((ended, are_first.then_some(written)))
+}
+
+/// How many messages end within so many bytes, and how long their replies are.
+fn whole(len: usize) -> (u32, usize) {
+    let mut whole = (0, 0);
+    for (end, replied) in ENDS {
+        if end <= len {
+            whole = (whole.0 + 1, replied);
+        }
+    }
+    whole
+}
+
+/// A session may end between two messages, and inside one it is cut.
+#[test]
+fn messages_are_cut_at_each_byte(rt: HostRuntime) -> Result<(), Fail> {
+    for len in 0..=MESSAGES.len() {
+        let (answered, replied) = whole(len);
+        let is_between = len == 0 || ENDS.iter().any(|ends| ends.0 == len);
+        let wanted = if is_between {
+            Ok(Served { answered })
+        } else {
+            Err(NetFault::Wire(WireFault::Short))
+        };
+        assert!(rt;
+            cut(&rt, rt.alloc(), len)? == (wanted, Some(replied)),
+            "{len}"
+        );
+    }
     Ok(())
 }
 

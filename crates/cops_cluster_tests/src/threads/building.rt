@@ -9,16 +9,9 @@ pub fn key(alloc: Global, byte: u8) -> Result<Key, TypeFault> {
     Key::new(alloc, &[byte])
 }
 
-/// A key and the value 1.
+/// A key of one byte and the value 1.
 pub fn pair(alloc: Global, byte: u8) -> Result<(Key, Value), TypeFault> {
-    let key = key(alloc, byte)?;
-    match Value::new(alloc, b"1") {
-        Ok(value) => Ok((key, value)),
-        Err(fault) => {
-            drop(key);
-            Err(fault)
-        }
-    }
+    cops_testing::pair(alloc, &[byte], b"1")
 }
 
 /// A place of so many data centres, each with one node or with two whose ranges meet at `m`.

@@ -1,7 +1,7 @@
-use crate::building::pair;
 use cops_core::*;
 use cops_node::Outcome;
 use cops_place::Place;
+use cops_testing::pair;
 use cops_types::{Key, Refusal, TypeFault, Version};
 use std::alloc::Global;
 use std::test::Fail;
@@ -92,14 +92,64 @@ fn surely_open(alloc: Global) -> Option<World> {
     }
 }
 
-/// Whether an event is answered as wanted; where a growth is refused nothing changes, and the event may happen again.
+/// What a world shows of itself: how many operations and puts there are and how long the contexts of both clients are,
+/// and which of the two puts are settled in which of the two data centres.
+#[derive(Clone, Copy, PartialEq, Eq)]
+struct Shown {
+    operations: usize,
+    puts: usize,
+    contexts: [usize; 2],
+    settled: [bool; 4],
+}
+
+/// How many pairs the context of a client has.
+fn context_len(world: &World, client: u16) -> Option<usize> {
+    let deps = world.deps(client).ok()?;
+    let len = deps.as_slice().len();
+    drop(deps);
+    Some(len)
+}
+
+/// Which of the two puts are settled in which of the two data centres.
+fn settled(alloc: Global, world: &World) -> Option<[bool; 4]> {
+    let (first, second) = (Version::new(1, 0).ok()?, Version::new(2, 0).ok()?);
+    let key = Key::new(alloc, b"k").ok()?;
+    let settled = [
+        world.has_settled(0, &key, first),
+        world.has_settled(0, &key, second),
+        world.has_settled(1, &key, first),
+        world.has_settled(1, &key, second),
+    ];
+    drop(key);
+    Some(settled)
+}
+
+/// What the world shows, or none where an allocation fails.
+fn shown(alloc: Global, world: &World) -> Option<Shown> {
+    Some(Shown {
+        operations: world.history().len(),
+        puts: world.puts(),
+        contexts: [context_len(world, 0)?, context_len(world, 1)?],
+        settled: settled(alloc, world)?,
+    })
+}
+
+/// What the world shows, also where one allocation fails.
+fn surely_shown(alloc: Global, world: &World) -> Option<Shown> {
+    match shown(alloc, world) {
+        None => shown(alloc, world),
+        shown => shown,
+    }
+}
+
+/// Whether an event is answered as wanted; where an allocation fails nothing changes, and the event may happen again.
 fn happens(alloc: Global, world: &mut World, i: u32) -> Result<bool, TypeFault> {
-    let before = world.history().len();
+    let before = surely_shown(alloc, world);
     let event = surely(alloc, i)?;
     if let Some(is_wanted) = told(i, world.apply(event)) {
         return Ok(is_wanted);
     }
-    let is_same = world.history().len() == before;
+    let is_same = before.is_some() && surely_shown(alloc, world) == before;
     let event = surely(alloc, i)?;
     Ok(is_same && told(i, world.apply(event)) == Some(true))
 }

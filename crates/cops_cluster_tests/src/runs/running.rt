@@ -1,8 +1,8 @@
-use crate::gates::{HoldsAt, Meeting, TURNS, waits_for};
 use crate::runs::building::{DONE, TWO, fault_of, operations_of, ran, scenario};
 use cops_clients::*;
 use cops_core::{Event, World};
 use cops_node::Outcome;
+use cops_testing::{HoldsAt, Meeting, TURNS, waits_for};
 use cops_types::{Gate, GateHeld, OpenGate, Point, Refusal};
 use std::alloc::Global;
 use std::fmt::Write;
@@ -167,9 +167,9 @@ fn a_client_with_a_full_context_stops(rt: HostRuntime) -> Result<(), Fail> {
     Ok(())
 }
 
-/// A world in the setting of the scenario whose messages come three times.
-fn late_world(alloc: Global) -> Result<World, Fail> {
-    let scenario = scenario(alloc, LATE)?;
+/// A world in the setting of a scenario's text.
+fn world_of(alloc: Global, text: &str) -> Result<World, Fail> {
+    let scenario = scenario(alloc, text)?;
     let setting = scenario.setting(alloc);
     drop(scenario);
     Ok(World::of(alloc, setting?)?)
@@ -181,8 +181,8 @@ fn count(outcomes: &[Outcome], like: &Outcome) -> usize {
 }
 
 /// How many puts such a world holds by these events, how many it has again, and how many it settles.
-fn counts(alloc: Global, events: &[Event]) -> Result<[usize; 3], Fail> {
-    let mut world = late_world(alloc)?;
+fn counts(alloc: Global, text: &str, events: &[Event]) -> Result<[usize; 3], Fail> {
+    let mut world = world_of(alloc, text)?;
     let outcomes = world.run(events);
     drop(world);
     let outcomes = outcomes?;
@@ -196,8 +196,18 @@ fn counts(alloc: Global, events: &[Event]) -> Result<[usize; 3], Fail> {
 #[test]
 fn each_message_comes_three_times(rt: HostRuntime) -> Result<(), Fail> {
     let run = ran(&rt, rt.alloc(), LATE, &OpenGate)??;
-    let counts = counts(rt.alloc(), &run.events);
+    let counts = counts(rt.alloc(), LATE, &run.events);
     drop(run);
     assert_eq!(rt; counts?, [2, 4, 2]);
+    Ok(())
+}
+
+/// Each of the two puts comes once to the other data centre and is settled there.
+#[test]
+fn each_put_is_settled_in_the_other_data_centre(rt: HostRuntime) -> Result<(), Fail> {
+    let run = ran(&rt, rt.alloc(), TWO, &OpenGate)??;
+    let counts = counts(rt.alloc(), TWO, &run.events);
+    drop(run);
+    assert_eq!(rt; counts?, [2, 0, 2]);
     Ok(())
 }

@@ -1,5 +1,5 @@
-use crate::runs::building::pair;
 use cops_record::*;
+use cops_testing::pair;
 use cops_trace::Trace;
 use cops_types::{Key, Memory, Op, OpName, TypeFault, Version};
 use std::alloc::Global;
@@ -10,7 +10,7 @@ use std::thread::Threads;
 
 fn put(alloc: Global, clock: u64) -> Result<Op, TypeFault> {
     let version = Version::new(clock, 0)?;
-    let (key, value) = pair(alloc)?;
+    let (key, value) = pair(alloc, b"x", b"1")?;
     Ok(Op::Put {
         key,
         value,
@@ -214,15 +214,23 @@ fn fill_session<R: Wait>(rt: &R, alloc: Global, recorder: &Recorder) -> Result<(
     Ok(())
 }
 
-/// Why a client that is not there gets no slot, and clients 0 and 1 once the session of client 0 is full.
+/// Why a client that is not there gets no slot, client 0 while there is room, and clients 0 and 1 once the session of
+/// client 0 is full. A slot that is given here is cancelled, so that a reservation that stayed would leave no room for
+/// the last operation of the session.
 fn refusals<R: Wait>(
     rt: &R,
     alloc: Global,
     recorder: &Recorder,
-) -> Result<[Option<RecordFault>; 3], Fail> {
+) -> Result<[Option<RecordFault>; 4], Fail> {
     let unknown = refusal(rt, recorder, 2);
+    let cancelled = refusal(rt, recorder, 0);
     fill_session(rt, alloc, recorder)?;
-    Ok([unknown, refusal(rt, recorder, 0), refusal(rt, recorder, 1)])
+    Ok([
+        unknown,
+        cancelled,
+        refusal(rt, recorder, 0),
+        refusal(rt, recorder, 1),
+    ])
 }
 
 #[test]
@@ -232,6 +240,7 @@ fn refusals_of_a_slot(rt: HostRuntime) -> Result<(), Fail> {
     drop(recorder);
     let wanted = [
         Some(RecordFault::UnknownClient),
+        None,
         Some(RecordFault::SessionFull),
         None,
     ];

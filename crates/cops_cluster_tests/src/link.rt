@@ -1,7 +1,7 @@
 ghost use Rattle.cops_link.specs.Link.{IsFinishedOf, SameIn, SameOut};
 
-use crate::building::pair;
 use cops_link::*;
+use cops_testing::pair;
 use cops_types::{Dep, Deps, Key, Memory, PutRecord, TypeFault, Version};
 use cops_wire::Message;
 use std::alloc::Global;

@@ -1,7 +1,7 @@
-use crate::gates::{HoldsSteps, Meeting};
 use crate::threads::building::*;
 use cops_cluster::*;
 use cops_node::Outcome;
+use cops_testing::{HoldsSteps, Meeting};
 use cops_types::{
     Dep, Deps, Gate, GateHeld, OpenGate, Point, PutRecord, Refusal, TypeFault, Version,
 };

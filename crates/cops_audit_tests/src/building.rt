@@ -1,4 +1,5 @@
 use cops_audit::{Verdict, judge};
+use cops_testing::pair;
 use cops_types::{History, Key, Op, OpName, TypeFault, Value, Version};
 use std::alloc::Global;
 use std::test::Fail;
@@ -27,18 +28,6 @@ pub const TWO: [u8; 66] = [
     0, 0, 0, 20, 19, 0, 1, 0, 0, 0, 0, 1, 120, 0, 1, 49, 0, 0, 0, 0, 0, 1, 0, 0, //
     0, 0, 0, 5, 21, 0, 0, 0, 2,
 ];
-
-/// A key and a value of these bytes.
-pub fn pair(alloc: Global, key: &[u8], value: &[u8]) -> Result<(Key, Value), TypeFault> {
-    let key = Key::new(alloc, key)?;
-    match Value::new(alloc, value) {
-        Ok(value) => Ok((key, value)),
-        Err(fault) => {
-            drop(key);
-            Err(fault)
-        }
-    }
-}
 
 /// A key and a value of one byte each, and a version.
 fn versioned(

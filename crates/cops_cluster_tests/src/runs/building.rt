@@ -1,7 +1,7 @@
 //! What the tests of runs share.
 use cops_clients::{ClientOutcome, Run, RunFault, run};
 use cops_scenario::{Scenario, ScenarioFault};
-use cops_types::{Gate, Key, TypeFault, Value};
+use cops_types::Gate;
 use std::alloc::Global;
 use std::sync::Wait;
 use std::test::Fail;
@@ -18,18 +18,6 @@ pub const DONE: ClientOutcome = ClientOutcome::Done;
 
 pub fn scenario(alloc: Global, text: &str) -> Result<Scenario, ScenarioFault> {
     Scenario::from_json(alloc, text.as_bytes())
-}
-
-/// A key and a value of one byte each.
-pub fn pair(alloc: Global) -> Result<(Key, Value), TypeFault> {
-    let key = Key::new(alloc, b"x")?;
-    match Value::new(alloc, b"1") {
-        Ok(value) => Ok((key, value)),
-        Err(fault) => {
-            drop(key);
-            Err(fault)
-        }
-    }
 }
 
 /// How a run of a scenario's text ends.

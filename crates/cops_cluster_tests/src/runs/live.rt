@@ -1,7 +1,7 @@
-use crate::gates::waits_for;
 use crate::runs::building::{DONE, HEAD, TWO, fault_of, operations_of, scenario};
 use cops_clients::*;
 use cops_stream::{Answer, StreamFault, audit_stream};
+use cops_testing::waits_for;
 use cops_types::{Counted, FailingWriter, Gate, GateHeld, OpenGate, Point};
 use std::alloc::{AllocGlobal, Global};
 use std::io;

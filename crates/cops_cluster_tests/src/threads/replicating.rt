@@ -1,9 +1,9 @@
-use crate::gates::{HoldsAnswers, HoldsSteps};
 use crate::threads::building::{key, opened, pair};
 use cops_cluster::*;
 use cops_link::*;
 use cops_node::{NodeEvent, Outcome};
 use cops_replication::*;
+use cops_testing::{HoldsAnswers, HoldsSteps};
 use cops_types::{Gate, GateHeld, Memory, OpenGate, PutRecord, TypeFault};
 use std::alloc::Global;
 use std::sync::Wait;

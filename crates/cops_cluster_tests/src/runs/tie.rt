@@ -1,5 +1,5 @@
-use crate::runs::building::pair;
 use cops_node::{NodeEvent, Outcome};
+use cops_testing::pair;
 use cops_tie::Book;
 use cops_types::{Deps, Refusal, TypeFault};
 use std::alloc::Global;
@@ -7,7 +7,7 @@ use std::test::Fail;
 
 fn put(alloc: Global) -> Result<NodeEvent, TypeFault> {
     let deps = Deps::new(Vec::new(alloc))?;
-    let (key, value) = pair(alloc)?;
+    let (key, value) = pair(alloc, b"x", b"1")?;
     Ok(NodeEvent::Put {
         client: 0,
         key,

@@ -1,7 +1,7 @@
 use crate::building::*;
-use crate::gates::{HoldsAt, Meeting};
 use cops_audit::{Verdict, judge};
 use cops_batch::*;
+use cops_testing::{HoldsAt, Meeting};
 use cops_types::{Gate, History, Memory, OpenGate, Point};
 use std::sync::Wait;
 use std::test::Fail;

@@ -1,6 +1,6 @@
 use crate::building::TWO;
-use crate::gates::HoldsAt;
 use cops_stream::*;
+use cops_testing::HoldsAt;
 use cops_types::{Counted, FailingReader, FailingWriter, OpenGate, Point};
 use std::test::Fail;
 

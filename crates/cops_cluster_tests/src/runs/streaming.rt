@@ -1,6 +1,6 @@
-use crate::gates::HoldsSteps;
 use crate::runs::building::{HEAD, TWO};
 use cops_run_stream::{Streamed, run_stream};
+use cops_testing::HoldsSteps;
 use cops_types::Counted;
 use std::test::Fail;
 
