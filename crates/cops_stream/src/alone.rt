@@ -21,7 +21,8 @@ pub(crate) fn whole(alloc: Global, fed: Fed) -> Result<(Answer, Vec<u8>), Memory
     Ok((answer_of(judged.verdict()), text))
 }
 
-/// The same, by a worker whose one piece is all that was fed.
+/// The answer of a worker whose one piece is all that was fed, and which passes the gate before and after its work,
+/// also where that ran out of memory: `Held` where the gate held it.
 pub(crate) fn judged_alone<T: Wait, G: Gate>(
     rt: &T,
     alloc: Global,
@@ -35,12 +36,13 @@ pub(crate) fn judged_alone<T: Wait, G: Gate>(
     if gate.pass(rt, Point::PieceStart(0)).is_err() {
         return Err(StreamFault::Held);
     }
-    let told = match whole(alloc, fed) {
-        Ok(told) => told,
-        Err(Memory) => return Err(StreamFault::Memory),
-    };
+    let told = whole(alloc, fed);
     if gate.pass(rt, Point::PieceDone(0)).is_err() {
+        drop(told);
         return Err(StreamFault::Held);
     }
-    Ok(told)
+    match told {
+        Ok(told) => Ok(told),
+        Err(Memory) => Err(StreamFault::Memory),
+    }
 }
