@@ -1,9 +1,11 @@
 //! Rows of histories.
 
 use crate::words::Part::{Count, Word};
-use crate::words::{no_row, op, op_text, session_text, text, u16_of, u32_of, word, yes_or_no};
+use crate::words::{
+    add_behind, no_row, op, op_text, session_text, text, u16_of, u32_of, word, yes_or_no,
+};
 use anyhow::{Error, bail};
-use cops_types::{History, OpName};
+use cops_types::{History, OpName, SessionRef};
 use std::alloc::Global;
 
 /// How many clients there are, and how many operations.
@@ -59,6 +61,34 @@ pub fn op_at(alloc: Global, history: &History, words: &[&str]) -> Result<String,
     }
 }
 
+/// The operations of a session, one after the other.
+fn listed(alloc: Global, session: &SessionRef<'_>) -> Result<String, Error> {
+    let mut listed = String::new(alloc);
+    for op in session.iter() {
+        let one = op_text(alloc, &op)?;
+        add_behind(&mut listed, " / ", &one)?;
+    }
+    Ok(listed)
+}
+
+/// The operations of a client's session, or the one at an index.
+fn operations(alloc: Global, history: &History, words: &[&str]) -> Result<String, Error> {
+    let [client, rest @ ..] = words else {
+        return Err(no_row());
+    };
+    let session = history.session(u16_of(client)?);
+    if session.is_empty() {
+        return word(alloc, "none");
+    }
+    let [index] = rest else {
+        return listed(alloc, &session);
+    };
+    match session.get(u32_of(index)?) {
+        Some(op) => op_text(alloc, &op),
+        None => text(alloc, &[Word("none of "), Count(session.len())]),
+    }
+}
+
 /// How many gets are open; the one of a number; or the number of the one of a name.
 fn open_gets(alloc: Global, history: &History, words: &[&str]) -> Result<String, Error> {
     if words.is_empty() {
@@ -108,6 +138,7 @@ fn ask_any(alloc: Global, history: &mut History, words: &[&str]) -> Result<Strin
         "push" => push(alloc, history, rest),
         "session" => session_text(alloc, history, rest),
         "op" => op_at(alloc, history, rest),
+        "operations" => operations(alloc, history, rest),
         "open" => open_gets(alloc, history, rest),
         "above" => above(alloc, history, rest),
         what => ask(alloc, history, what, rest),
