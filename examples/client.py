@@ -10,8 +10,14 @@ Each line is one of
     check KEY VERSION
     status PLACE
     bye
-where VERSION is CLOCK.NODE. The end of the lines ends the session, as `bye` does. docs/FORMATS.md describes the bytes.
+where VERSION is CLOCK.NODE. A key has no spaces; a value is the rest of its line, and may have some. In a value that comes back a byte
+that is no UTF-8 stands as \\xHH. A line that is none of these is answered on standard error, and the next one is read. The end of the
+lines ends the session, as `bye` does. docs/FORMATS.md describes the bytes.
+
+The exit status is 0 where each line was a message with a reply, 1 where one was not, and 2 for a wrong usage.
 """
+import os
+import re
 import socket
 import struct
 import sys
@@ -20,25 +26,82 @@ from write_trace import frame, key, value, version
 
 HELLO, HELLO_OK, PUT, GET, PUT_DONE, GOT, MISSED, REFUSED = 1, 2, 3, 4, 5, 6, 7, 8
 DEP_CHECK, DEP_YES, DEP_WAIT, STATUS, STATUS_IS, BYE, BYE_OK = 10, 11, 12, 13, 14, 15, 16
+MAX_BODY = 32_768
+
+ENDED = "the session has ended"
+NO_FRONT_DOOR = "what answers there is no front door of cops serve"
+REPLIES = {MISSED: "missed", DEP_YES: "yes", DEP_WAIT: "wait", BYE_OK: "bye"}
+
+USAGES = {
+    "hello": "hello CLIENT",
+    "put": "put KEY VALUE",
+    "get": "get KEY",
+    "check": "check KEY VERSION",
+    "status": "status PLACE",
+    "bye": "bye",
+}
+
+
+class NotAMessage(ValueError):
+    """What is wrong with a line that is no message."""
+
+
+def words_of(line):
+    """The words of a line. The value of a put is the rest of the line behind one space."""
+    words = line.split()
+    if words[:1] == ["put"] and len(words) > 2:
+        return re.match(r"\s*(\S+)\s+(\S+)\s(.*?)\r?\n?\Z", line, re.DOTALL).groups()
+    return words
+
+
+def whole(text, most, what):
+    """The number that a word is."""
+    if not re.fullmatch(r"[0-9]{1,20}", text, re.ASCII) or int(text) > most:
+        raise NotAMessage(f"{what} is a whole number of at most {most}")
+    return int(text)
+
+
+def sized(text, least, most, what):
+    """A text whose UTF-8 has so many bytes."""
+    try:
+        length = len(text.encode())
+    except UnicodeEncodeError:
+        raise NotAMessage(f"{what} is UTF-8") from None
+    if not least <= length <= most:
+        raise NotAMessage(f"{what} has {least} to {most} bytes")
+    return text
+
+
+def checked(text):
+    """A version, CLOCK.NODE."""
+    clock, dot, node = text.partition(".")
+    if not dot:
+        raise NotAMessage("a version is CLOCK.NODE")
+    if whole(clock, 2**48 - 1, "a version's clock") < 1:
+        raise NotAMessage("a version's clock is above 0")
+    whole(node, 1023, "a version's node")
+    return text
 
 
 def message(words, number):
     """The frame of one line's message, with this number of the asker's."""
     kind, *rest = words
+    if kind not in USAGES:
+        raise NotAMessage(f"there is no message {kind!a}: the messages are {', '.join(USAGES.values())}")
+    if len(rest) != len(USAGES[kind].split()) - 1:
+        raise NotAMessage(f"the message is written {USAGES[kind]}")
     seq = struct.pack(">I", number)
     if kind == "hello":
-        return frame(HELLO, struct.pack(">HH", 1, int(rest[0])))
+        return frame(HELLO, struct.pack(">HH", 1, whole(rest[0], 65535, "a client")))
     if kind == "put":
-        return frame(PUT, seq + key(rest[0]) + value(rest[1]))
+        return frame(PUT, seq + key(sized(rest[0], 1, 64, "a key")) + value(sized(rest[1], 0, 4096, "a value")))
     if kind == "get":
-        return frame(GET, seq + key(rest[0]))
+        return frame(GET, seq + key(sized(rest[0], 1, 64, "a key")))
     if kind == "check":
-        return frame(DEP_CHECK, seq + key(rest[0]) + version(rest[1]))
+        return frame(DEP_CHECK, seq + key(sized(rest[0], 1, 64, "a key")) + version(checked(rest[1])))
     if kind == "status":
-        return frame(STATUS, seq + struct.pack(">B", int(rest[0])))
-    if kind == "bye":
-        return frame(BYE, b"")
-    raise ValueError(f"no message: {kind}")
+        return frame(STATUS, seq + struct.pack(">B", whole(rest[0], 63, "a place")))
+    return frame(BYE, b"")
 
 
 def version_text(raw):
@@ -55,13 +118,13 @@ def reply_text(body):
         return f"done {version_text(fields)}"
     if kind == GOT:
         length = struct.unpack(">H", fields[:2])[0]
-        return f"got {fields[2:2 + length].decode()} {version_text(fields[2 + length:])}"
+        return f"got {fields[2:2 + length].decode(errors='backslashreplace')} {version_text(fields[2 + length:])}"
     if kind == REFUSED:
         return f"refused {fields[0]}"
     if kind == STATUS_IS:
         clock, keys, settled, held = struct.unpack(">QIII", fields)
         return f"clock {clock}, keys {keys}, settled {settled}, held {held}"
-    return {MISSED: "missed", DEP_YES: "yes", DEP_WAIT: "wait", BYE_OK: "bye"}[kind]
+    return REPLIES[kind]
 
 
 def read_all(stream, count):
@@ -70,22 +133,80 @@ def read_all(stream, count):
     return data if len(data) == count else None
 
 
-def talk(port, lines, connect=None):
-    """Sends each line's message over one connection, and yields its reply as a line."""
+def read_reply(replies):
+    """The next reply as a line, or that the session has ended."""
+    head = read_all(replies, 4)
+    length = struct.unpack(">I", head)[0] if head else 0
+    if head and not 1 <= length <= MAX_BODY:
+        raise ConnectionError(NO_FRONT_DOOR)
+    body = read_all(replies, length) if head else None
+    if body is None:
+        return ENDED
+    try:
+        return reply_text(body)
+    except (KeyError, IndexError, struct.error):
+        raise ConnectionError(NO_FRONT_DOOR) from None
+
+
+def fail(line, fault):
+    """Raises what is wrong with a line."""
+    raise fault
+
+
+def talk(port, lines, connect=None, wrong=fail):
+    """Sends each line's message over one connection, and yields its reply as a line. `wrong` is told of a line that is no message."""
     connected = connect() if connect else socket.create_connection(("127.0.0.1", port))
     with connected as connection, connection.makefile("rb") as replies:
         for number, line in enumerate(lines, 1):
             if not line.strip():
                 continue
-            connection.sendall(message(line.split(), number))
-            head = read_all(replies, 4)
-            body = read_all(replies, struct.unpack(">I", head)[0]) if head else None
-            if body is None:
-                yield "the session has ended"
+            try:
+                sent = message(words_of(line), number)
+            except NotAMessage as fault:
+                wrong(number, fault)
+                continue
+            connection.sendall(sent)
+            reply = read_reply(replies)
+            yield reply
+            if reply == ENDED:
                 return
-            yield reply_text(body)
+
+
+def lines_of(stream):
+    """The lines of a stream of text, also of bytes that are no UTF-8; none where it is closed."""
+    if stream is None:
+        return []
+    stream.reconfigure(errors="surrogateescape")
+    return stream
+
+
+def main(words):
+    unanswered = []
+
+    def wrong(number, fault):
+        unanswered.append(number)
+        print(f"client: line {number}: {fault}", file=sys.stderr, flush=True)
+
+    def shown(text):
+        if text == ENDED:
+            unanswered.append(text)
+        print(text, flush=True)
+
+    if len(words) != 1 or not re.fullmatch(r"[0-9]{1,5}", words[0], re.ASCII) or not 1 <= int(words[0]) <= 65535:
+        print("client: usage: client.py PORT < MESSAGES, with a port of 1 to 65535", file=sys.stderr)
+        return 2
+    try:
+        for text in talk(int(words[0]), lines_of(sys.stdin), wrong=wrong):
+            shown(text)
+    except KeyboardInterrupt:
+        return 1
+    except OSError as fault:
+        print(f"client: port {words[0]}: {fault.strerror or fault}", file=sys.stderr)
+        # (where nobody reads the replies, what is left of them is not written at the end either)
+        os.dup2(os.open(os.devnull, os.O_WRONLY), 1)
+        return 1
+    return 1 if unanswered else 0
 
 
 if __name__ == "__main__":
-    for text in talk(int(sys.argv[1]), sys.stdin):
-        print(text)
+    sys.exit(main(sys.argv[1:]))

@@ -93,10 +93,8 @@ class Client:
     def get(self, key, at_replica=False):
         server = self.replica if at_replica else self.primary
         value, version = server.call("HMGET", f"key:{key}", "value", "version")
-        line = {"client": self.name, "get": key}
-        if version is not None:
-            line |= {"value": value, "version": int(version)}
-        self.recorder.add(line)
+        found = version is not None
+        self.recorder.add({"client": self.name, "get": key, "value": value if found else None, "version": int(version) if found else None})
 
     def close(self):
         self.primary.close()

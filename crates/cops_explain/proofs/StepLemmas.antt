@@ -1,11 +1,9 @@
 -- Steps, one after another.
-use Rattle.std.proofs.Common.{◌≡◌, ◌≢◌, ◌∙◌, ◌+◌, ◌<◌, ◌≤◌, ℕ, List, ◌∷◌, ◌++◌, length, drop, get_or, Option, Some, None, refl, sym, ap, append_assoc, add-one, drop-cons, eq-eqb, eqb}
+use Rattle.std.proofs.Common.{◌≡◌, ◌∙◌, ◌+◌, ◌<◌, ◌≤◌, ℕ, List, ◌∷◌, ◌++◌, length, drop, get_or, sym, ap, append_assoc, add-one, drop-cons}
 use Rattle.std.proofs.lemmas.List.{append-nil, drop_all}
-use Rattle.std.proofs.lemmas.Bool.{eqb-true, false_from_ne_true}
-use Rattle.std.specs.Prelude.{false, true}
 use Rattle.cops_types.specs.declared.op.OpName.{OpName}
 use Rattle.cops_types.specs.Histories.{Sessions}
-use Rattle.cops_explain.specs.Steps.{crossing, step_line, step_lines}
+use Rattle.cops_explain.specs.Steps.{step_line, step_lines}
 
 next : (names : List OpName) (i : ℕ) (d : OpName) → i < length names → drop i names ≡ get_or names i d ∷ drop (i + 1) names
 next names i d inside = rw add-one (drop-cons names i d inside)
@@ -21,23 +19,6 @@ step_more h names i d from whole old new inside line all =
     ∙ sym (append_assoc old (step_line h from to) rest)
     ∙ ap (λ (t : List ℕ). t ++ rest) (sym line)
 
--- a step of one client, behind which the search goes on
-pub crossing_more : (names : List OpName) (i : ℕ) (d from : OpName) (whole : Option OpName) → i < length names → (get_or names i d).client ≡ from.client
-    → whole ≡ crossing from (drop i names) → whole ≡ crossing (get_or names i d) (drop (i + 1) names)
-crossing_more names i d from whole inside same all =
-    let yes : eqb from.client (get_or names i d).client ≡ true = eq-eqb _ _ (sym same) in
-    all ∙ ap (crossing from) (next names i d inside) ∙ rw yes refl
-
--- a step between two clients
-pub crossing_here : (names : List OpName) (i : ℕ) (d from : OpName) (whole : Option OpName) → i < length names → (get_or names i d).client ≢ from.client
-    → whole ≡ crossing from (drop i names) → whole ≡ Some (get_or names i d)
-crossing_here names i d from whole inside other all =
-    let no : eqb from.client (get_or names i d).client ≡ false = false_from_ne_true _ (λ e. other (sym (eqb-true _ _ e))) in
-    all ∙ ap (crossing from) (next names i d inside) ∙ rw no refl
-
 -- no step more
 pub steps_end : (h : Sessions) (names : List OpName) (i : ℕ) (from : OpName) (whole old : List ℕ) → length names ≤ i → whole ≡ old ++ step_lines h from (drop i names) → old ≡ whole
 steps_end h names i from whole old past all = sym (all ∙ ap (λ (ns : List OpName). old ++ step_lines h from ns) (drop_all i names past) ∙ append-nil old)
-
-pub crossing_none : (names : List OpName) (i : ℕ) (from : OpName) (whole : Option OpName) → length names ≤ i → whole ≡ crossing from (drop i names) → None ≡ whole
-crossing_none names i from whole past all = sym (all ∙ ap (crossing from) (drop_all i names past))

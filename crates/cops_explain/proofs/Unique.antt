@@ -1,5 +1,5 @@
 -- A history has one text for what is asked.
-use Rattle.std.proofs.Common.{◌≡◌, ◌∙◌, ◌+◌, ◌-◌, ℕ, List, [], ◌∷◌, ◌++◌, length, map, take, Option, Some, None, sym, ap, ap₂, subst}
+use Rattle.std.proofs.Common.{◌≡◌, ◌∙◌, ◌+◌, ◌-◌, ℕ, List, [], ◌∷◌, ◌++◌, length, map, take, Option, Some, None, refl, sym, ap, ap₂, subst}
 use Rattle.cops_types.specs.declared.op.OpName.{OpName}
 use Rattle.cops_types.specs.Histories.{Sessions}
 use Rattle.cops_audit.specs.declared.verdict.Faults.{Faults}
@@ -8,7 +8,8 @@ use Rattle.cops_audit.specs.declared.verdict.Verdict.{Verdict}
 use Rattle.cops_audit.specs.declared.verdict.Verdict.TheVariants.{Accepted, Refused}
 use Rattle.cops_audit.specs.Verdicts.{IsVerdict, SameFaults, SameVerdict}
 use Rattle.cops_audit.proofs.Unique.{one_listing, same_verdict}
-use Rattle.cops_report.specs.Reports.{refusal}
+use Rattle.cops_types.specs.Counts.{count_of, put_count}
+use Rattle.cops_types.specs.Texts.{◌⧺◌}
 use Rattle.cops_report.proofs.ChainLaws.{one_first}
 use Rattle.cops_types.specs.declared.selection.Selection.{Selection}
 use Rattle.cops_types.specs.declared.selection.Selection.TheVariants.{First, All, One}
@@ -18,7 +19,7 @@ use Rattle.cops_audit.specs.declared.fault.Fault.TheVariants.{Doubled, NoSource,
 use Rattle.cops_audit.specs.Faults.{fault_of_number, faults_of}
 use Rattle.cops_explain.specs.Others.{AreOthers, IsOther}
 use Rattle.cops_explain.specs.Paragraphs.{IsParagraph, doubled_text, no_source_text, stale_text}
-use Rattle.cops_explain.specs.Explained.{AreParagraphs, IsExplained, TellsAsked, TellsOne, more_text}
+use Rattle.cops_explain.specs.Explained.{AreParagraphs, IsExplained, TellsAsked, TellsOne, first_line, later_text, more_text}
 
 same_others : (h : Sessions) (name : OpName) (a b : List OpName) → AreOthers h name a → AreOthers h name b → a ≡ b
 same_others h name a b p q = one_listing (λ n. n) (IsOther h name) a b p q
@@ -62,13 +63,33 @@ same_faults (class.Stale a) (class.Doubled b) s = absurd s
 same_faults (class.Stale a) (class.NoSource b) s = absurd s
 same_faults (class.Stale a) (class.NotAbove b) s = absurd s
 
+same_later : (a b : Faults) → SameFaults a b → later_text a ≡ later_text b
+same_later (class.Doubled a) (class.Doubled b) s = refl
+same_later (class.Doubled a) (class.NoSource b) s = absurd s
+same_later (class.Doubled a) (class.NotAbove b) s = absurd s
+same_later (class.Doubled a) (class.Stale b) s = absurd s
+same_later (class.NoSource a) (class.Doubled b) s = absurd s
+same_later (class.NoSource a) (class.NoSource b) s = refl
+same_later (class.NoSource a) (class.NotAbove b) s = absurd s
+same_later (class.NoSource a) (class.Stale b) s = absurd s
+same_later (class.NotAbove a) (class.Doubled b) s = absurd s
+same_later (class.NotAbove a) (class.NoSource b) s = absurd s
+same_later (class.NotAbove a) (class.NotAbove b) s = refl
+same_later (class.NotAbove a) (class.Stale b) s = absurd s
+same_later (class.Stale a) (class.Doubled b) s = absurd s
+same_later (class.Stale a) (class.NoSource b) s = absurd s
+same_later (class.Stale a) (class.NotAbove b) s = absurd s
+same_later (class.Stale a) (class.Stale b) s = refl
+
 -- verdicts that say the same are explained by one text
 same_explanation : (h : Sessions) (v w : Verdict) (asked : Selection) (x y : List ℕ) → SameVerdict v w → IsExplained h v asked x → IsExplained h w asked y → x ≡ y
 same_explanation h (Accepted a) (Accepted b) asked x y s e f = e ∙ sym f
 same_explanation h (Refused a) (Refused b) asked x y s (t, p, e) (u, q, f) =
     let same : faults_of a ≡ faults_of b = same_faults a b s in
     let told : t ≡ u = same_asked h (faults_of b) asked t u (subst (λ (fs : List Fault). TellsAsked h fs asked t) same p) q in
-    e ∙ ap₂ (λ (fs : List Fault) (r : List ℕ). refusal h (length fs) r) same told ∙ sym f
+    e
+    ∙ ap₂ (λ (fs : List Fault) (r : List ℕ). first_line (count_of h) (put_count h) (length fs) ⧺ r) same (ap₂ (λ (r l : List ℕ). r ⧺ l) told (same_later a b s))
+    ∙ sym f
 same_explanation h (Accepted a) (Refused b) asked x y s e f = absurd s
 same_explanation h (Refused a) (Accepted b) asked x y s e f = absurd s
 

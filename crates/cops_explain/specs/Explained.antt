@@ -1,11 +1,13 @@
 -- What is explained of a verdict.
-use Rattle.std.specs.Prelude.{◌≡◌, ◌+◌, ◌-◌, ℕ, zero, suc, List, [], ◌∷◌, ◌++◌, length, take, codes, decimal, Option, Some, None}
+use Rattle.std.specs.Prelude.{◌≡◌, ◌==◌, ◌+◌, ◌-◌, if◌then◌else◌, ℕ, zero, suc, List, [], ◌∷◌, ◌++◌, length, take, codes, decimal, Option, Some, None}
 use Rattle.cops_types.specs.Counts.{count_of, put_count}
 use Rattle.cops_types.specs.Histories.{Sessions}
 use Rattle.cops_types.specs.Texts.{◌⧺◌}
 use Rattle.cops_audit.specs.declared.verdict.Verdict.{Verdict}
 use Rattle.cops_audit.specs.declared.verdict.Verdict.TheVariants.{Accepted, Refused}
-use Rattle.cops_report.specs.Reports.{accepted_line, refusal}
+use Rattle.cops_audit.specs.declared.verdict.Faults.{Faults}
+use Rattle.cops_audit.specs.declared.verdict.Faults.TheVariants as class
+use Rattle.cops_report.specs.Reports.{accepted_line}
 use Rattle.cops_types.specs.declared.selection.Selection.{Selection}
 use Rattle.cops_types.specs.declared.selection.Selection.TheVariants.{First, All, One}
 use Rattle.cops_explain.specs.declared.limits.TheConstants.{FIRST_FAULTS}
@@ -23,10 +25,29 @@ AreParagraphs h number (fault ∷ faults) text = (told : List ℕ) × (rest : Li
 abbrev pub AddsParagraphs : Sessions → ℕ → List Fault → List ℕ → List ℕ → Type 0
 AddsParagraphs h number faults old new = (told : List ℕ) × AreParagraphs h number faults told × (new ≡ old ++ told)
 
+-- how many there are of what a word names, behind other words: the word has an s where there is not one
+abbrev pub counted : List ℕ → ℕ → List ℕ → List ℕ
+counted before count word =
+    if count == 1 then before ⧺ codes "1 " ⧺ word else before ⧺ decimal count ⧺ codes " " ⧺ word ⧺ codes "s"
+
+-- the first line of a refusal: refused: 5 operations, 3 puts, 1 fault
+abbrev pub first_line : ℕ → ℕ → ℕ → List ℕ
+first_line operations puts faults =
+    counted (codes "refused: ") operations (codes "operation") ⧺ counted (codes ", ") puts (codes "put")
+    ⧺ counted (codes ", ") faults (codes "fault") ⧺ codes "\n"
+
+-- the classes that come after that of these faults, for which no audit looks while there are any of these
+abbrev pub later_text : Faults → List ℕ
+later_text (class.Doubled names) =
+    codes "\nnot looked for while duplicate versions remain: reads without a source, puts out of order, stale reads\n"
+later_text (class.NoSource names) = codes "\nnot looked for while reads without a source remain: puts out of order, stale reads\n"
+later_text (class.NotAbove faults) = codes "\nnot looked for while puts out of order remain: stale reads\n"
+later_text (class.Stale faults) = []
+
 -- how many faults are left out, where some are
 abbrev pub more_text : ℕ → List ℕ
 more_text zero = []
-more_text (suc more) = codes "\nand " ⧺ decimal (suc more) ⧺ codes " more: --all tells them all, --fault N the one of a number\n"
+more_text (suc more) = codes "\nand " ⧺ decimal (suc more) ⧺ codes " more: --all explains every fault, --fault N the fault of that number\n"
 
 abbrev pub none_text : ℕ → List ℕ
 none_text number = codes "\nthere is no fault " ⧺ decimal number ⧺ codes "\n"
@@ -47,8 +68,10 @@ TellsAsked h faults (One number) text = TellsOne h number (fault_of_number fault
 abbrev pub AddsAsked : Sessions → List Fault → Selection → List ℕ → List ℕ → Type 0
 AddsAsked h faults asked old new = (told : List ℕ) × TellsAsked h faults asked told × (new ≡ old ++ told)
 
--- of a history that is accepted the line of the report; else the first line of the report, and what is told of the faults that are asked for
+-- of a history that is accepted the line of the report; else how many operations, puts and faults there are, what is told of the faults that are
+-- asked for, and the classes that were not looked for
 abbrev pub IsExplained : Sessions → Verdict → Selection → List ℕ → Type 0
 IsExplained h (Accepted puts) asked text = text ≡ accepted_line (count_of h) (put_count h)
 IsExplained h (Refused faults) asked text = (told : List ℕ)
-    × TellsAsked h (faults_of faults) asked told × (text ≡ refusal h (length (faults_of faults)) told)
+    × TellsAsked h (faults_of faults) asked told
+    × (text ≡ first_line (count_of h) (put_count h) (length (faults_of faults)) ⧺ told ⧺ later_text faults)

@@ -1,7 +1,9 @@
 -- The paragraph of a fault.
-use Rattle.std.specs.Prelude.{◌≡◌, ◌-◌, ℕ, zero, suc, List, [], ◌∷◌, ◌++◌, length, take, codes, decimal, Option, Some, None}
+use Rattle.std.specs.Prelude.{◌≡◌, ◌-◌, ℕ, zero, suc, List, [], ◌∷◌, ◌++◌, ◌==◌, if◌then◌else◌, length, take, codes, decimal, Option, Some, None}
 use Rattle.cops_types.specs.declared.op.OpName.{OpName}
-use Rattle.cops_types.specs.Histories.{Sessions}
+use Rattle.cops_types.specs.declared.op.Op.{Op}
+use Rattle.cops_types.specs.declared.op.Op.TheVariants.{Put, Got, Missed}
+use Rattle.cops_types.specs.Histories.{Sessions, op_at}
 use Rattle.cops_types.specs.Texts.{◌⧺◌, name_text}
 use Rattle.cops_audit.specs.declared.verdict.NotAbove.{NotAbove as ANotAbove}
 use Rattle.cops_audit.specs.declared.verdict.Stale.{Stale as AStale}
@@ -12,7 +14,7 @@ use Rattle.cops_audit.specs.declared.fault.Fault.{Fault}
 use Rattle.cops_audit.specs.declared.fault.Fault.TheVariants.{Doubled, NoSource, NotAbove, Stale}
 use Rattle.cops_explain.specs.Operations.{act_text, told_line, told_lines, told_text}
 use Rattle.cops_explain.specs.Others.{AreOthers}
-use Rattle.cops_explain.specs.Steps.{chain_text, first_crossing}
+use Rattle.cops_explain.specs.Steps.{chain_text, known_by}
 
 -- behind an empty line: fault 1: stale (1,1)
 abbrev pub title : ℕ → List ℕ → OpName → List ℕ
@@ -34,7 +36,7 @@ others_text h others = told_lines h (take MOST_OTHERS others) ⧺ more_others (l
 -- a put, and the others of its version
 abbrev pub doubled_text : Sessions → ℕ → OpName → List OpName → List ℕ
 doubled_text h number name others =
-    fault_head h number (codes "doubled") name (codes "no other put may bear that version, and these do:\n") ⧺ others_text h others ⧺ DOUBLED.now
+    fault_head h number (codes "doubled") name (codes "no other put may have that version, and these do:\n") ⧺ others_text h others ⧺ DOUBLED.now
 
 -- the puts of a version that a get without a source returned
 abbrev pub bearers_text : Sessions → List OpName → List ℕ
@@ -58,10 +60,26 @@ stale_head h number fault =
     title number (codes "stale") fault.op ⧺ act_text h fault.op
     ⧺ codes ", though it had to know of the newer put " ⧺ name_text fault.newer ⧺ codes "\n"
 
--- where the chain goes from one client to another, or the put of which the client itself had to know
-abbrev pub place_text : OpName → Option OpName → List ℕ
-place_text newer (Some name) = codes "look at: " ⧺ name_text name ⧺ codes ", the first step between two clients\n"
-place_text newer None = codes "look at: " ⧺ name_text newer ⧺ codes ", the same client's own put\n"
+-- what a stale get returned
+abbrev pub stale_return : Option Op → List ℕ
+stale_return (Some (Put key value version)) = codes "an older put"
+stale_return (Some (Got key value version)) = codes "an older put"
+stale_return (Some (Missed key)) = codes "nothing"
+stale_return None = codes "an older put"
+
+-- how the client of a stale get knew of the newer put: the put is its own, or it came to know of it by this operation
+abbrev pub known_text : AStale → OpName → List ℕ
+known_text fault by =
+    if fault.newer.client == fault.op.client then codes "the newer put " ⧺ name_text fault.newer ⧺ codes " is its client's own\n"
+    else codes "its client knew of the newer put by " ⧺ name_text by ⧺ codes "\n"
+
+-- the operation to look at, and what it returned
+abbrev pub returned_text : Sessions → OpName → List ℕ
+returned_text h name = codes "look at: " ⧺ name_text name ⧺ codes ", which returned " ⧺ stale_return (op_at h name) ⧺ codes "; "
+
+-- where to look: the stale get, what it returned, and how its client knew of the newer put
+abbrev pub place_text : Sessions → AStale → OpName → List ℕ
+place_text h fault by = returned_text h fault.op ⧺ known_text fault by
 
 -- what it should have returned
 abbrev pub right_text : Sessions → OpName → List ℕ
@@ -69,7 +87,7 @@ right_text h newer = codes "should have returned: " ⧺ told_text h newer ⧺ co
 
 -- that, where to look, and what usually causes it
 abbrev pub stale_end : Sessions → AStale → List OpName → List ℕ
-stale_end h fault chain = right_text h fault.newer ⧺ place_text fault.newer (first_crossing chain) ⧺ STALE.now
+stale_end h fault chain = right_text h fault.newer ⧺ place_text h fault (known_by fault.newer chain) ⧺ STALE.now
 
 -- all of it, with the chain by which the put came to be known
 abbrev pub stale_text : Sessions → ℕ → AStale → List OpName → List ℕ

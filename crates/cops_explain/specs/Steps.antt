@@ -1,5 +1,5 @@
 -- The chain of a stale get, step by step.
-use Rattle.std.specs.Prelude.{ℕ, List, [], ◌∷◌, ◌==◌, if◌then◌else◌, codes, Option, Some, None}
+use Rattle.std.specs.Prelude.{ℕ, List, [], ◌∷◌, ◌==◌, if◌then◌else◌, codes}
 use Rattle.cops_types.specs.declared.op.OpName.{OpName}
 use Rattle.cops_types.specs.Histories.{Sessions}
 use Rattle.cops_types.specs.Texts.{◌⧺◌}
@@ -23,12 +23,8 @@ abbrev pub chain_text : Sessions → List OpName → List ℕ
 chain_text h [] = []
 chain_text h (first ∷ rest) = told_line h first ⧺ step_lines h first rest
 
--- the first of the names whose client is not that of the name before it
-abbrev pub crossing : OpName → List OpName → Option OpName
-crossing from [] = None
-crossing from (to ∷ rest) = if from.client == to.client then crossing to rest else Some to
-
--- the first operation of a chain to which a step between two clients leads
-abbrev pub first_crossing : List OpName → Option OpName
-first_crossing [] = None
-first_crossing (first ∷ rest) = crossing first rest
+-- the operation by which the last client of a chain came to know of its first operation: the one to which the last step between two clients
+-- leads, and where there is no such step the first operation itself
+abbrev pub known_by : OpName → List OpName → OpName
+known_by at [] = at
+known_by at (to ∷ rest) = known_by (if at.client == to.client then at else to) rest

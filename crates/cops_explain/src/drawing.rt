@@ -45,10 +45,10 @@ pub fn push_page(out: &mut String, width: u32, height: u32) -> Result<(), AllocE
 }
 
 /// The fault, and what it means.
-pub fn push_head(out: &mut String, fault: Fault) -> Result<(), AllocError>
+pub fn push_head(out: &mut String, history: &History, fault: Fault) -> Result<(), AllocError>
     ensures { OnOk result (Extends (string_bytes out.old) (string_bytes out.new)) }
 {
-    let sentence = sentence(fault);
+    let sentence = sentence(history, fault);
     write!(
         out,
         "<text class=\"head\" x=\"{MARGIN}\" y=\"{HEAD_BASE}\">{fault}</text>\n"

@@ -1,15 +1,17 @@
-ghost use Rattle.std.specs.Prelude.{◌≡◌, ◌++◌, take, IfOk, OnOk};
+ghost use Rattle.std.specs.Prelude.{◌≡◌, ◌++◌, take, string_bytes, IfOk, OnOk};
+ghost use Rattle.cops_types.specs.Counts.{count_of, put_count};
 ghost use Rattle.cops_audit.specs.Verdicts.{IsVerdict};
 ghost use Rattle.cops_report.specs.Puts.{HasAllPuts};
 ghost use Rattle.cops_audit.specs.Faults.{faults_of};
-ghost use Rattle.cops_explain.specs.Explained.{AddsAsked, AddsParagraphs, IsExplained, more_text, none_text};
+ghost use Rattle.cops_explain.specs.Explained.{AddsAsked, AddsParagraphs, IsExplained, counted, first_line, later_text, more_text, none_text};
 
 use crate::limits::FIRST_FAULTS;
 use crate::paragraphs::push_paragraph;
 use cops_audit::{Faults, Verdict};
-use cops_report::{put_table, refused, report};
+use cops_report::{put_table, report};
 use cops_types::{History, Memory, Selection, VersionedPut};
 use std::alloc::{AllocError, Global};
+use std::fmt::Write;
 
 /// Adds the paragraphs of the first faults, so many or as many as there are.
 fn push_paragraphs(
@@ -38,7 +40,7 @@ fn push_more(alloc: Global, out: &mut Vec<u8>, more: usize) -> Result<(), AllocE
 {
     if more > 0 {
         let line = format!(in alloc;
-            "\nand {more} more: --all tells them all, --fault N the one of a number\n"
+            "\nand {more} more: --all explains every fault, --fault N the fault of that number\n"
         )?;
         out.extend_from_slice(line.as_bytes())?;
     }
@@ -98,7 +100,49 @@ fn push_asked(
     }
 }
 
-/// The first line of a refusal, and what is told of the faults that are asked for.
+/// Adds how many there are of what a word names, behind other words: the word has an `s` where there is not one.
+fn push_counted(out: &mut String, before: &str, count: usize, word: &str) -> Result<(), AllocError>
+    ensures { OnOk result (string_bytes out.new ≡ string_bytes out.old ++ counted before.now count word.now) }
+{
+    if count == 1 {
+        write!(out, "{before}1 {word}")
+    } else {
+        write!(out, "{before}{count} {word}s")
+    }
+}
+
+/// The first line of a refusal: how many operations, puts and faults there are.
+fn first_line(
+    alloc: Global,
+    operations: usize,
+    puts: usize,
+    faults: usize,
+) -> Result<String, AllocError>
+    ensures { IfOk result (λ line. string_bytes line ≡ first_line operations puts faults) }
+{
+    let mut line = String::new(alloc);
+    push_counted(&mut line, "refused: ", operations, "operation")?;
+    push_counted(&mut line, ", ", puts, "put")?;
+    push_counted(&mut line, ", ", faults, "fault")?;
+    line.push_str("\n")?;
+    Ok(line)
+}
+
+/// The classes that were not looked for, in a line behind an empty one.
+fn later(faults: &Faults) -> &'static str
+    ensures { result.now ≡ later_text faults.now }
+{
+    match faults {
+        Faults::Doubled(_) =>
+            "\nnot looked for while duplicate versions remain: reads without a source, puts out of order, stale reads\n",
+        Faults::NoSource(_) =>
+            "\nnot looked for while reads without a source remain: puts out of order, stale reads\n",
+        Faults::NotAbove(_) => "\nnot looked for while puts out of order remain: stale reads\n",
+        Faults::Stale(_) => "",
+    }
+}
+
+/// The first line of a refusal, what is told of the faults that are asked for, and which classes were not looked for.
 fn refusal(
     alloc: Global,
     history: &History,
@@ -108,19 +152,24 @@ fn refusal(
     requires { IsVerdict history.now.sessions (Verdict.Refused faults.now) }
     ensures { IfOk result (λ text. IsExplained history.now.sessions (Verdict.Refused faults.now) asked text.items) }
 {
-    let mut text = refused(alloc, history, faults.len())?;
+    let line = first_line(alloc, history.len(), history.puts(), faults.len())?;
+    let mut text = Vec::new(alloc);
+    text.extend_from_slice(line.as_bytes())?;
     let puts = put_table(alloc, history)?;
     push_asked(alloc, &mut text, history, &puts, faults, asked)?;
+    text.extend_from_slice(later(faults).as_bytes())?;
     Ok(text)
 }
 
 /// The text that explains a verdict on a history, each line ended by a line feed. Of a history that is accepted it is
-/// the report's line, whatever is asked for. Else it is the report's first line, and behind an empty line each a
-/// paragraph for each fault that is asked for, in order of names: its number, counted from 1, its class and its name;
-/// what happened, with keys, values and versions; the operations that show it, of a stale get the chain of `chain` from
-/// the newer put; and in two lines what usually causes it. Keys and values are escaped as `show` does. Where the first
-/// 20 are asked for and there are more, it ends with how many are left out, and where there is no fault of the number
-/// that is asked for, it says so. `Memory` where a growth was refused.
+/// the report's line, whatever is asked for. Else it is a line with how many operations, puts and faults there are,
+/// and behind an empty line each a paragraph for each fault that is asked for, in order of names: its number, counted
+/// from 1, its class and its name; what happened, with keys, values and versions; the operations that show it, of a
+/// stale get the chain of `chain` from the newer put, and by which operation its client knew of that put; and in two
+/// lines what usually causes it. Keys and values are escaped as `show` does. Where the first 20 are asked for and there
+/// are more, it says how many are left out, and where there is no fault of the number that is asked for, it says so. The
+/// last line names the classes of faults that were not looked for, where there are any. `Memory` where an allocation
+/// failed.
 pub fn explain(
     alloc: Global,
     history: &History,

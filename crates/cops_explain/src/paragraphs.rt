@@ -1,18 +1,19 @@
 //! The paragraphs of faults, by their classes.
 ghost use Rattle.std.specs.Prelude.{◌≡◌, ◌++◌, OnOk, string_bytes};
+ghost use Rattle.cops_types.specs.Histories.{op_at};
 ghost use Rattle.cops_report.specs.Puts.{HasAllPuts};
 ghost use Rattle.cops_audit.specs.Faults.{IsFault};
 ghost use Rattle.cops_explain.specs.Paragraphs.{AddsParagraph, bearers_text, doubled_text, fault_head, more_others, no_source_text, not_above_text, others_text};
-ghost use Rattle.cops_explain.specs.Paragraphs.{place_text, right_text, stale_end, stale_head, stale_text, title};
+ghost use Rattle.cops_explain.specs.Paragraphs.{known_text, place_text, returned_text, right_text, stale_end, stale_head, stale_return, stale_text, title};
 
 use crate::causes;
 use crate::limits::MOST_OTHERS;
 use crate::operation::{push_act, push_line, push_lines, push_told};
 use crate::others::others;
-use crate::steps::{first_crossing, push_chain};
+use crate::steps::{known_by, push_chain};
 use cops_audit::{Fault, NotAbove, Stale};
 use cops_report::chain_by;
-use cops_types::{History, Memory, OpName, VersionedPut};
+use cops_types::{History, Memory, OpName, OpRef, VersionedPut};
 use std::alloc::{AllocError, Global};
 use std::fmt::Write;
 
@@ -75,7 +76,7 @@ fn push_doubled(
     ensures { OnOk result (string_bytes out.new
         ≡ string_bytes out.old ++ doubled_text history.now.sessions number name others.now) }
 {
-    let words = "no other put may bear that version, and these do:\n";
+    let words = "no other put may have that version, and these do:\n";
     push_head(out, history, number, "doubled", name, words)?;
     push_others(out, history, others)?;
     out.push_str(causes::DOUBLED)
@@ -141,14 +142,49 @@ fn push_stale_head(
     write!(out, ", though it had to know of the newer put {newer}\n")
 }
 
-/// Where to look.
-fn push_place(out: &mut String, newer: OpName, crossing: Option<OpName>) -> Result<(), AllocError>
-    ensures { OnOk result (string_bytes out.new ≡ string_bytes out.old ++ place_text newer crossing) }
+/// What a stale get returned.
+fn stale_return(history: &History, name: OpName) -> &'static str
+    ensures { result.now ≡ stale_return (op_at history.now.sessions name) }
 {
-    match crossing {
-        Some(name) => write!(out, "look at: {name}, the first step between two clients\n"),
-        None => write!(out, "look at: {newer}, the same client's own put\n"),
+    match history.op(name) {
+        Some(OpRef::Missed { .. }) => "nothing",
+        Some(OpRef::Got { .. }) => "an older put",
+        Some(OpRef::Put { .. }) => "an older put",
+        None => "an older put",
     }
+}
+
+/// How the client of a stale get knew of the newer put.
+fn push_known(out: &mut String, fault: Stale, by: OpName) -> Result<(), AllocError>
+    ensures { OnOk result (string_bytes out.new ≡ string_bytes out.old ++ known_text fault by) }
+{
+    let newer = fault.newer;
+    if newer.client == fault.op.client {
+        write!(out, "the newer put {newer} is its client's own\n")
+    } else {
+        write!(out, "its client knew of the newer put by {by}\n")
+    }
+}
+
+/// The operation to look at, and what it returned.
+fn push_returned(out: &mut String, history: &History, name: OpName) -> Result<(), AllocError>
+    ensures { OnOk result (string_bytes out.new ≡ string_bytes out.old ++ returned_text history.now.sessions name) }
+{
+    let returned = stale_return(history, name);
+    write!(out, "look at: {name}, which returned {returned}; ")
+}
+
+/// Where to look: the stale get, what it returned, and how its client knew of the newer put.
+fn push_place(
+    out: &mut String,
+    history: &History,
+    fault: Stale,
+    by: OpName,
+) -> Result<(), AllocError>
+    ensures { OnOk result (string_bytes out.new ≡ string_bytes out.old ++ place_text history.now.sessions fault by) }
+{
+    push_returned(out, history, fault.op)?;
+    push_known(out, fault, by)
 }
 
 /// What a stale get should have returned.
@@ -171,7 +207,7 @@ fn push_stale_end(
         ≡ string_bytes out.old ++ stale_end history.now.sessions fault chain.now) }
 {
     push_right(out, history, fault.newer)?;
-    push_place(out, fault.newer, first_crossing(chain))?;
+    push_place(out, history, fault, known_by(fault.newer, chain))?;
     out.push_str(causes::STALE)
 }
 

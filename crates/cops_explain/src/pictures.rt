@@ -61,7 +61,7 @@ fn rest_of(
     let lowest = lane_top(clients.len().saturating_sub(1)) + CARD_HEIGHT;
     let mut out = String::new(alloc);
     push_page(&mut out, right + 2 * MARGIN, lowest + 2 * FOOT + MARGIN)?;
-    push_head(&mut out, fault)?;
+    push_head(&mut out, history, fault)?;
     push_lanes(&mut out, &clients, right + MARGIN)?;
     push_arrows(&mut out, fault, &places, lowest)?;
     push_cards(alloc, &mut out, history, &places)?;

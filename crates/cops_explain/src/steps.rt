@@ -1,6 +1,6 @@
 //! The chain of a stale get, step by step.
-ghost use Rattle.std.specs.Prelude.{◌≡◌, ◌++◌, OnOk, string_bytes};
-ghost use Rattle.cops_explain.specs.Steps.{chain_text, crossing, first_crossing, step_line, step_lines};
+ghost use Rattle.std.specs.Prelude.{◌≡◌, ◌==◌, ◌++◌, if◌then◌else◌, OnOk, string_bytes};
+ghost use Rattle.cops_explain.specs.Steps.{chain_text, known_by, step_line, step_lines};
 
 use crate::operation::{push_line, push_told};
 use cops_types::{History, OpName};
@@ -54,26 +54,20 @@ pub fn push_chain(out: &mut String, history: &History, chain: &[OpName]) -> Resu
     }
 }
 
-/// The first of the names whose client is not that of the name before it.
-fn crossing(from: OpName, names: &[OpName]) -> Option<OpName>
-    ensures { result ≡ crossing from names.now }
+/// The operation by which the last client of a chain came to know of its first operation.
+pub fn known_by(first: OpName, chain: &[OpName]) -> OpName
+    ensures { result ≡ known_by first chain.now }
 {
-    let mut from = from;
-    for name in names {
-        if name.client != from.client {
-            return Some(*name);
-        }
-        from = *name;
+    let mut at = first;
+    for name in chain {
+        at = entry(at, *name);
     }
-    None
+    at
 }
 
-/// The first operation of a chain to which a step between two clients leads.
-pub fn first_crossing(chain: &[OpName]) -> Option<OpName>
-    ensures { result ≡ first_crossing chain.now }
+/// Of two operations the first one, where both are of one client, and else the second.
+fn entry(at: OpName, next: OpName) -> OpName
+    ensures { result ≡ (if at.client == next.client then at else next) }
 {
-    match chain {
-        [first, rest @ ..] => crossing(*first, rest),
-        [] => None,
-    }
+    if at.client == next.client { at } else { next }
 }

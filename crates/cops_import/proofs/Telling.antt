@@ -14,7 +14,7 @@ use Rattle.cops_types.specs.Version.{IsVersion, clock_of, node_of}
 use Rattle.cops_types.specs.declared.op.Op.{Op}
 use Rattle.cops_types.specs.declared.op.Op.TheVariants as op
 use Rattle.cops_fields.specs.Json.{text_json}
-use Rattle.cops_import.specs.Line.{AsksKey, FoundNothing, IsAsked, IsFaulty, IsJson, IsNameJson, IsNothing, IsVersionJson, IsWrong, IsWrongIn, LacksValue, LacksVersion, LineTells, Tells, TellsName, TellsOp, TellsValue, TellsVersion, TextTells}
+use Rattle.cops_import.specs.Line.{AsksKey, FoundNothing, IsAsked, IsFaulty, IsJson, IsNameJson, IsVersionJson, IsWrong, IsWrongIn, LacksValue, LacksVersion, LineTells, Tells, TellsName, TellsOp, TellsValue, TellsVersion, TextTells}
 use Rattle.cops_import.specs.Lines.{TellAfter, with_told}
 use Rattle.cops_import.specs.declared.fault.LineFault.{LineFault}
 use Rattle.cops_import.specs.declared.fault.LineFault.TheVariants.{NoJson, NoClient, NoOperation, BothOperations, BadKey, BadValue, BadVersion, TooManyClients, TooManyOperations}
@@ -80,11 +80,7 @@ value_one : (d : Data) (a b : List ℕ) → TellsValue d a → TellsValue d b �
 value_one d a b p q = let e = p.0 in let f = q.0 in cc
 
 something : (d : Data) (value : List ℕ) → TellsValue d value → FoundNothing d → ⊥
-something d value told found = go (found.0)
-  where
-    go : IsNothing (get (codes "value") d) → ⊥
-    go (inl p) = let e = told.0 in cc
-    go (inr p) = let e = told.0 in cc
+something d value told found = let e = told.0 in let f = found.0 in cc
 
 -- ---- one operation
 

@@ -66,9 +66,9 @@ TellsVersion d v = (at : Data) × (get (codes "version") d ≡ Some at) × IsVer
 abbrev pub IsNothing : Option Data → Type 0
 IsNothing at = (at ≡ None) ⊎ (at ≡ Some null)
 
--- neither a value nor a version
+-- the value is said to be none, and there is no version
 abbrev pub FoundNothing : Data → Type 0
-FoundNothing d = IsNothing (get (codes "value") d) × IsNothing (get (codes "version") d)
+FoundNothing d = (get (codes "value") d ≡ Some null) × IsNothing (get (codes "version") d)
 
 -- ---- what it tells
 

@@ -1,5 +1,6 @@
 //! What one line tells.
-ghost use Rattle.std.specs.Prelude.{◌≡◌, ◌↔◌, Err, IfOk, IsTrue, option_map};
+ghost use Rattle.std.specs.Prelude.{◌≡◌, ◌↔◌, Err, IfOk, IsTrue, Some, option_map};
+ghost use Rattle.serde_json.specs.Data.{null};
 ghost use Rattle.serde_json.specs.View.{view};
 ghost use Rattle.cops_import.specs.declared.fault.LineFault.{LineFault as AFault};
 ghost use Rattle.cops_import.specs.Line.{FoundNothing, IsAsked, IsBlank, IsFaulty, IsNothing, IsWrong, IsWrongIn, LineTells, Tells, TellsName, TextTells};
@@ -138,11 +139,21 @@ fn op(alloc: Global, kind: Kind, at: &Json, object: &Json) -> Result<Op, Untold>
     })
 }
 
-/// Whether an object has neither a value nor a version.
+/// Whether an object says that there is no value, by a null, and has no version.
 fn found_nothing(object: &Json) -> bool
     ensures { IsTrue result ↔ FoundNothing (view object.now) }
 {
-    is_nothing(object.get("value")) && is_nothing(object.get("version"))
+    is_null(object.get("value")) && is_nothing(object.get("version"))
+}
+
+/// Whether there is a member, and it is null.
+fn is_null(at: Option<&Json>) -> bool
+    ensures { IsTrue result ↔ (option_map (λ v. view v.now) at.entry ≡ Some null) }
+{
+    match at {
+        Some(json) => json.is_null(),
+        None => false,
+    }
 }
 
 /// Whether there is no member, or null.

@@ -38,9 +38,10 @@ pub const EXPLAIN_ABOUT: &str = "Explains the faults of a recorded history";
 pub const EXPLAIN_LONG_ABOUT: &str = "\
 Explains the faults of a recorded history: of each, which operations show it.
 
-Without --all and --fault the first 20 faults are explained. With --picture the operations that
-show them are drawn as well, and the file of the picture is written anew. A file that is no trace
-is answered with one line, `faulty: ..`, that says what is wrong and at which byte.";
+Without --all and --fault the first 20 faults are explained. The last line names the classes of
+faults that were not looked for, where there are any. With --picture one fault is drawn as well,
+the one of --fault or else the first, and the file of the picture is written anew. A file that is
+no trace is answered with one line, `faulty: ..`, that says what is wrong and at which byte.";
 
 pub const SHOW_ABOUT: &str = "Prints a trace as text, a line for each frame";
 
@@ -58,15 +59,15 @@ Makes a trace of JSON Lines that tell what the clients of another store saw.
 A line is one operation, a JSON object, and each client's lines stand in the order in which it
 did them. Its members are client, a text or a whole number; put or get, the key; value, a text;
 and version, a text `clock.node`, a whole number, which is a clock at node 0, or a list of both.
-A get that found nothing has neither value nor version. Other members, and lines of blanks, are
-passed over.
+A get that found nothing has the value null, and a version that is null or missing. Other
+members, and lines of blanks, are passed over.
 
 Prints a line `client N NAME` for each client with its number in the trace, and then
 `imported: N operations, M clients`. The first line that is wrong is answered with one line,
-`faulty: line N: ..`, and leaves a trace that is cut. The trace file is written anew. The lines
-are read twice: those of standard input are kept in a file meanwhile, in the folder that TMPDIR
-names, or else in /tmp. Where the trace goes to standard output, all that is printed goes to
-standard error.";
+`faulty: line N: ..`, and an older trace file stays as it was. Else the trace file is written
+anew. The lines are read twice: those of standard input or of a pipe are kept in a file
+meanwhile, in the folder that TMPDIR names, or else in /tmp, and so is the trace until it is
+whole. Where the trace goes to standard output, all that is printed goes to standard error.";
 
 pub const RUN_ABOUT: &str = "Runs a scenario, and records what its clients saw";
 
@@ -82,20 +83,21 @@ standard output, all that is printed goes to standard error.";
 pub const SERVE_ABOUT: &str = "Serves clients of a scenario's cluster on a port of this machine";
 
 pub const SERVE_LONG_ABOUT: &str = "\
-Serves clients of the cluster that a scenario describes, on a port of 127.0.0.1.
+Serves the clients of the cluster that a scenario describes, on a port of 127.0.0.1.
 
-Takes one connection after the other. A client greets with its number in the scenario, and then
-puts and gets in its data centre. What was put is replicated to the other data centres once a
-session has ended. A client that sends nothing, or takes nothing, for longer than it may be idle
-ends its session. After the last session the report of what all clients saw is printed.";
+One client is connected at a time. It first says which client of the scenario it is, and then
+puts and gets in that client's data centre. When it has gone, its puts are sent to the other data
+centres, and the next client is served. With --idle a client that sends nothing, or reads nothing,
+for that many seconds is disconnected. After the last session cops prints the report on what all
+clients saw, and ends.";
 
 pub const PORT_HELP: &str = "The port to listen on, 1 to 65535";
 
 pub const SESSIONS_HELP: &str =
-    "How many sessions are served, 1 to 65535, and 1 where it is not given";
+    "How many sessions to serve before it ends, 1 to 65535; without it 1";
 
 pub const IDLE_HELP: &str =
-    "How many seconds a client may be idle, 1 to 65535, and any number where it is not given";
+    "After how many idle seconds a client is disconnected, 1 to 65535; without it never";
 
 pub const TRACE_HELP: &str = "The trace file, or `-` for standard input";
 
@@ -103,7 +105,7 @@ pub const WORKERS_HELP: &str =
     "How many workers judge the trace, 1 to 64, and 1 where it is not given";
 
 pub const SO_FAR_HELP: &str =
-    "Judge the records before the cut of a trace that is cut, without --workers";
+    "If the trace is cut off, judge the part before the cut; not with --workers";
 
 pub const NEW_TRACE_HELP: &str = "The trace file to write, or `-` for standard output";
 
@@ -111,11 +113,11 @@ pub const SCENARIO_HELP: &str = "The scenario file, or `-` for standard input";
 
 pub const LINES_HELP: &str = "The file of lines, or `-` for standard input";
 
-pub const ALL_HELP: &str = "Explain all faults, without --fault";
+pub const ALL_HELP: &str = "Explain every fault, not only the first 20; not with --fault";
 
-pub const FAULT_HELP: &str = "Explain the fault of this number alone, 1 to 16000000";
+pub const FAULT_HELP: &str = "Explain only the fault of this number, 1 to 16000000";
 
-pub const PICTURE_HELP: &str = "The file to draw the explained faults to";
+pub const PICTURE_HELP: &str = "The file to draw one fault to: that of --fault, or else the first";
 
 /// What is told where `--so-far` stands beside `--workers`.
 pub const SO_FAR_CONFLICT: &str = "\

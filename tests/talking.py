@@ -1,0 +1,155 @@
+#!/usr/bin/env python3
+"""The tests of examples/client.py: whatever is typed is answered by a reply or by one plain line on standard error, and values may have spaces.
+
+Prints a line for each test that fails, and at the end `N passed, M failed`.
+"""
+import os
+import socket
+import subprocess
+import sys
+import threading
+import time
+
+sys.dont_write_bytecode = True
+from traces import ROOT, check, ended  # noqa: E402
+
+CLIENT = os.path.join(ROOT, "examples", "client.py")
+SCENARIO = b'{"data_centres":1,"clients":[{"at":0}]}'
+USAGE = b"client: usage: client.py PORT < MESSAGES, with a port of 1 to 65535\n"
+
+# For how many seconds a test waits.
+PATIENCE = 60
+
+# Lines that are no messages, and what is said of each.
+WRONG = [
+    (b"foo", b"there is no message 'foo': the messages are hello CLIENT, put KEY VALUE, get KEY, check KEY VERSION, status PLACE, bye"),
+    (b"\xff", b"there is no message '\\udcff': the messages are hello CLIENT, put KEY VALUE, get KEY, check KEY VERSION, status PLACE, bye"),
+    (b"PUT x 1", b"there is no message 'PUT': the messages are hello CLIENT, put KEY VALUE, get KEY, check KEY VERSION, status PLACE, bye"),
+    (b"hello", b"the message is written hello CLIENT"),
+    (b"hello 0 1", b"the message is written hello CLIENT"),
+    (b"hello x", b"a client is a whole number of at most 65535"),
+    (b"hello -1", b"a client is a whole number of at most 65535"),
+    (b"hello 65536", b"a client is a whole number of at most 65535"),
+    (b"hello " + b"9" * 5000, b"a client is a whole number of at most 65535"),
+    ("hello ١".encode(), b"a client is a whole number of at most 65535"),
+    (b"put", b"the message is written put KEY VALUE"),
+    (b"put x", b"the message is written put KEY VALUE"),
+    (b"put x ", b"the message is written put KEY VALUE"),
+    (b"put " + b"k" * 65 + b" 1", b"a key has 1 to 64 bytes"),
+    (b"put x " + b"v" * 4097, b"a value has 0 to 4096 bytes"),
+    (b"put x \xff", b"a value is UTF-8"),
+    (b"put \xff 1", b"a key is UTF-8"),
+    (b"get", b"the message is written get KEY"),
+    (b"get a b", b"the message is written get KEY"),
+    (b"get " + "ü".encode() * 33, b"a key has 1 to 64 bytes"),
+    (b"check x", b"the message is written check KEY VERSION"),
+    (b"check x 1", b"a version is CLOCK.NODE"),
+    (b"check x 1.", b"a version's node is a whole number of at most 1023"),
+    (b"check x .1", b"a version's clock is a whole number of at most 281474976710655"),
+    (b"check x 0.1", b"a version's clock is above 0"),
+    (b"check x 281474976710656.0", b"a version's clock is a whole number of at most 281474976710655"),
+    (b"check x 1.1024", b"a version's node is a whole number of at most 1023"),
+    (b"check x 1.0.0", b"a version's node is a whole number of at most 1023"),
+    (b"status", b"the message is written status PLACE"),
+    (b"status 64", b"a place is a whole number of at most 63"),
+    (b"status one", b"a place is a whole number of at most 63"),
+    (b"bye now", b"the message is written bye"),
+]
+
+
+def free_port():
+    with socket.socket() as listener:
+        listener.bind(("127.0.0.1", 0))
+        return listener.getsockname()[1]
+
+
+def client(*words, typed=b"", stdin=None, stdout=subprocess.PIPE):
+    """Status, output and errors of the client for what is typed."""
+    given = {"input": typed} if stdin is None else {"stdin": stdin}
+    ran = subprocess.run([sys.executable, CLIENT, *words], stdout=stdout, stderr=subprocess.PIPE, timeout=PATIENCE, **given)
+    return ran.returncode, ran.stdout, ran.stderr
+
+
+class Server:
+    """A `cops serve` of so many sessions."""
+
+    def __init__(self, sessions):
+        self.port = str(free_port())
+        command = [os.path.join(ROOT, "cops"), "serve", self.port, "-", "--sessions", str(sessions)]
+        self.process = subprocess.Popen(command, stdin=subprocess.PIPE, stdout=subprocess.PIPE, stderr=subprocess.PIPE)
+        self.process.stdin.write(SCENARIO)
+        self.process.stdin.close()
+
+    def client(self, typed, **more):
+        """What the client answers, once the port is there."""
+        end = time.monotonic() + PATIENCE
+        while time.monotonic() < end:
+            answer = client(self.port, typed=typed, **more)
+            if b"Connection refused" not in answer[2] or self.process.poll() is not None:
+                return answer
+            time.sleep(0.01)
+        return "the port is not there"
+
+    def ended(self):
+        out = self.process.stdout.read()
+        self.process.stdout.close()
+        return self.process.wait(), out, self.process.stderr.read()
+
+
+def sessions():
+    """Lines that are no messages stand between others; values have spaces; the session goes on behind each."""
+    server = Server(5)
+    typed = b"".join(line + b"\n" for line, _ in WRONG)
+    told = b"".join(b"client: line %d: %s\n" % (number, why) for number, (_, why) in enumerate(WRONG, 2))
+    answer = server.client(b"hello 0\n" + typed + b"\n  \nput x 1\nbye\n")
+    check("lines that are no messages", answer, (1, b"hello from data centre 0, 1 nodes\ndone 1.0\nbye\n", told))
+    values = [(b"put x a b  c\n", b"a b  c"), (b"put x  a\r\n", b" a"), (b"put x a \n", b"a "), ("  put x ü \"q\"\n".encode(), 'ü "q"'.encode())]
+    typed = b"hello 0\n" + b"".join(line + b"get x\n" for line, _ in values) + b"check x 2.0\nstatus 0\nstatus 63\nget y\nbye"
+    got = b"".join(b"done %d.0\ngot %s %d.0\n" % (clock, value, clock) for clock, (_, value) in enumerate(values, 2))
+    wanted = b"hello from data centre 0, 1 nodes\n" + got + b"yes\nclock 5, keys 1, settled 5, held 0\nrefused 19\nmissed\nbye\n"
+    check("values with spaces", server.client(typed), (0, wanted, b""))
+    check("a message behind the end", server.client(b"bye\nget x\n")[1:], (b"bye\nthe session has ended\n", b""))
+    check("nothing is typed", server.client(b""), (0, b"", b""))
+    with open("/dev/full", "wb") as full:
+        check("nobody takes the replies", server.client(b"hello 0\n", stdout=full), (1, None, b"client: port %s: No space left on device\n" % server.port.encode()))
+    check("the report", server.ended(), (0, b"accepted: 10 operations, 5 puts\n", b""))
+
+
+def words():
+    for given in ([], ["x"], ["0"], ["65536"], ["-1"], ["7070", "x"], [""], ["7" * 5000], ["\u0661"]):
+        check(f"usage of {str(given)[:20]}", client(*given), (2, b"", USAGE))
+    port = str(free_port())
+    check("nobody listens", client(port, typed=b"bye\n"), (1, b"", b"client: port %s: Connection refused\n" % port.encode()))
+
+
+def other_servers():
+    """What answers is no front door, or goes at once."""
+    no_front_door = "client: port {}: what answers there is no front door of cops serve\n"
+    replies = [
+        (b"SSH-2.0-OpenSSH\r\n", b"", no_front_door),
+        (b"\0\0\0\0", b"", no_front_door),
+        (b"\0\0\0\1\x63", b"", no_front_door),
+        (b"\0\0\0\2\6\0", b"", no_front_door),
+        (b"\0\0\0\x05\1", b"the session has ended\n", ""),
+        (b"", b"the session has ended\n", ""),
+    ]
+    for sent, out, errors in replies:
+        with socket.create_server(("127.0.0.1", 0)) as listener:
+            port = listener.getsockname()[1]
+
+            def answer(listener=listener, sent=sent):
+                with listener.accept()[0] as connection:
+                    connection.recv(4096)
+                    connection.sendall(sent)
+
+            answering = threading.Thread(target=answer)
+            answering.start()
+            got = client(str(port), typed=b"hello 0\n")
+            answering.join()
+        check(f"a server that sends {sent}", got, (1, out, errors.format(port).encode()))
+
+
+sessions()
+words()
+other_servers()
+sys.exit(ended())
