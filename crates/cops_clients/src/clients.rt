@@ -2,12 +2,13 @@
 ghost use Rattle.std.specs.Prelude.{◌≡◌, ◌+◌, IfOk, OnErr, length};
 ghost use Rattle.cops_cluster.specs.Cluster.{IsSameClient};
 ghost use Rattle.cops_clients.specs.Gates.{MayHoldIn};
+ghost use Rattle.cops_clients.specs.Trying.{AreAllTries};
 
 use crate::ends::{End, Returned};
 use crate::stage::Stage;
+use crate::tries::Tries;
 use cops_cluster::Client;
 use cops_core::ScriptOp;
-use cops_node::Outcome;
 use cops_tie::ClientOutcome;
 use cops_types::{Gate, GateHeld, Refusal};
 use std::sync::Wait;
@@ -59,70 +60,34 @@ fn follow<R: Wait, G: Gate>(
         if stage.is_broken() {
             return Ok(End::Broken);
         }
-        if let Some(refusal) = perform(rt, stage, gate, client, op)? {
+        let tries = perform(rt, stage, gate, client, op)?;
+        if let Some(refusal) = tries.last() {
             return Ok(End::Client(ClientOutcome::Stopped(refusal)));
         }
     }
     Ok(End::Client(ClientOutcome::Done))
 }
 
-/// One operation of a script: why it is refused, where it is. It is tried again while memory is refused to it, so often
-/// as the scenario says.
+/// One operation of a script: its tries, the last of which tells why it is refused, where it is. It is tried again
+/// while memory is refused to it, so often as the scenario says.
 fn perform<R: Wait, G: Gate>(
     rt: &R,
     stage: &Stage,
     gate: &G,
     client: &mut Client,
     op: &ScriptOp,
-) -> Result<Option<Refusal>, GateHeld>
+) -> Result<Tries, GateHeld>
     ensures same { IsSameClient client.old client.new }
     ensures held { OnErr result (MayHoldIn (G.may_hold gate.now) (length stage.now.cluster.place.splits + 1) client.old.dc client.old.number) }
+    ensures tried { IfOk result (AreAllTries stage.now.retries) }
 {
+    let mut tries = Tries::none();
     for _ in 0..stage.retries() {
-        let outcome = outcome_of(rt, stage, gate, client, op)?;
-        let refused = refusal(&outcome);
+        let refused = tries.attempt(rt, stage, gate, client, op)?;
         if refused != Some(Refusal::Memory) {
-            return Ok(refused);
+            return Ok(tries);
         }
     }
-    let outcome = outcome_of(rt, stage, gate, client, op)?;
-    Ok(refusal(&outcome))
-}
-
-/// The outcome of one operation of a script.
-fn outcome_of<R: Wait, G: Gate>(
-    rt: &R,
-    stage: &Stage,
-    gate: &G,
-    client: &mut Client,
-    op: &ScriptOp,
-) -> Result<Outcome, GateHeld>
-    ensures same { IsSameClient client.old client.new }
-    ensures held { OnErr result (MayHoldIn (G.may_hold gate.now) (length stage.now.cluster.place.splits + 1) client.old.dc client.old.number) }
-{
-    match op {
-        ScriptOp::Put { key, value } => {
-            let Ok(key) = key.clone() else {
-                return Ok(Outcome::Refused(Refusal::Memory));
-            };
-            let Ok(value) = value.clone() else {
-                return Ok(Outcome::Refused(Refusal::Memory));
-            };
-            stage.cluster().put(rt, client, gate, key, value)
-        }
-        ScriptOp::Get { key } => {
-            let Ok(key) = key.clone() else {
-                return Ok(Outcome::Refused(Refusal::Memory));
-            };
-            stage.cluster().get(rt, client, gate, key)
-        }
-    }
-}
-
-/// Why it is refused, where it is.
-fn refusal(outcome: &Outcome) -> Option<Refusal> {
-    match outcome {
-        Outcome::Refused(refusal) => Some(*refusal),
-        _ => None,
-    }
+    tries.attempt(rt, stage, gate, client, op)?;
+    Ok(tries)
 }

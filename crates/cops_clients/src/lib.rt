@@ -18,6 +18,7 @@ mod ran;
 mod replicas;
 mod running;
 mod stage;
+mod tries;
 
 pub use cops_cluster::{
     Asked, Client, CloseFault, Closed, Cluster, Holder, Made, OpenFault, Opened, RECEIVER, Share,

@@ -1,6 +1,6 @@
 //! The threads of a data centre that send its puts to the others, and bring theirs into it.
-ghost use Rattle.std.specs.Prelude.{◌≡◌, IsTrue, Some};
-ghost use Rattle.cops_replication.specs.Receiving.{KeepsNothing};
+ghost use Rattle.std.specs.Prelude.{◌≡◌, ◌<◌, ◌-◌, IsTrue, Some};
+ghost use Rattle.cops_replication.specs.Receiving.{EachTakesUpTo, KeepsNothing, ends};
 ghost use Rattle.cops_clients.specs.Gates.{MayHoldReceiving};
 
 use crate::ends::{End, Returned};
@@ -62,9 +62,10 @@ pub(crate) fn receive<R: Wait, G: Gate>(
     }
 }
 
-/// Turns of a receiver until the clients are joined. It says whether the gate held a step.
+/// Turns of a receiver until the clients are joined, where none of its turns is to come late. It says whether the gate held a step.
 fn take_in<R: Wait, G: Gate>(rt: &R, stage: &Stage, gate: &G, receiver: &mut Receiver) -> bool
     ensures share { receiver.new.share.holder ≡ receiver.old.share.holder }
+    ensures late { 0 < stage.now.hold → receiver.new ≡ receiver.old }
     ensures held { IsTrue result → MayHoldReceiving stage.now.cluster (G.may_hold gate.now) }
 {
     for _ in rt.forever() {
@@ -80,14 +81,19 @@ fn take_in<R: Wait, G: Gate>(rt: &R, stage: &Stage, gate: &G, receiver: &mut Rec
     false
 }
 
-/// The counted turns of a receiver, until the senders are joined and nothing is kept back.
+/// The counted turns of a receiver, until the senders are joined and nothing is kept back. Those that are to come late
+/// take no frame.
 fn settle<R: Wait, G: Gate>(rt: &R, stage: &Stage, gate: &G, receiver: &mut Receiver) -> End
     ensures share { receiver.new.share.holder ≡ receiver.old.share.holder }
+    ensures late { EachTakesUpTo (stage.now.turns - stage.now.hold) (ends receiver.old) (ends receiver.new) }
     ensures drained { result ≡ End.Drained → KeepsNothing receiver.new }
     ensures held { result ≡ End.Held → MayHoldReceiving stage.now.cluster (G.may_hold gate.now) }
 {
     for n in 0..stage.turns() {
-        if n < u32::from(stage.hold()) && !stage.is_broken() {
+        if stage.is_broken() {
+            return End::Broken;
+        }
+        if n < u32::from(stage.hold()) {
             stage.rest(rt);
         } else if let Some(end) = counted(rt, stage, gate, receiver) {
             return end;
@@ -105,12 +111,10 @@ fn counted<R: Wait, G: Gate>(
     receiver: &mut Receiver,
 ) -> Option<End>
     ensures share { receiver.new.share.holder ≡ receiver.old.share.holder }
+    ensures links { EachTakesUpTo 1 (ends receiver.old) (ends receiver.new) }
     ensures drained { result ≡ Some End.Drained → KeepsNothing receiver.new }
     ensures held { result ≡ Some End.Held → MayHoldReceiving stage.now.cluster (G.may_hold gate.now) }
 {
-    if stage.is_broken() {
-        return Some(End::Broken);
-    }
     if !stage.are_senders_joined() {
         if turn(rt, stage, gate, receiver) {
             return Some(End::Held);
@@ -131,6 +135,7 @@ fn counted<R: Wait, G: Gate>(
 /// the gate held a step.
 fn turn<R: Wait, G: Gate>(rt: &R, stage: &Stage, gate: &G, receiver: &mut Receiver) -> bool
     ensures share { receiver.new.share.holder ≡ receiver.old.share.holder }
+    ensures links { EachTakesUpTo 1 (ends receiver.old) (ends receiver.new) }
     ensures held { IsTrue result → MayHoldReceiving stage.now.cluster (G.may_hold gate.now) }
 {
     match receiver.turn(rt, stage.cluster(), gate) {

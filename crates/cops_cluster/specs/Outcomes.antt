@@ -1,10 +1,13 @@
 -- What a cluster's calls may answer.
-use Rattle.std.specs.Prelude.{◌≡◌, ◌⊎◌}
-use Rattle.cops_types.specs.declared.refusal.Refusal.TheVariants.{ClockExhausted, ContextFull, UnknownClient, Memory, SessionFull}
+use Rattle.std.specs.Prelude.{◌≡◌, ◌⊎◌, ◌≤◌, ℕ}
+use Rattle.cops_types.specs.declared.limits.TheConstants.{MAX_DEPS}
+use Rattle.cops_types.specs.declared.refusal.Refusal.TheVariants.{ClockExhausted, ContextFull, UnknownClient, NotHeld, NoSuchDep, NoYes, DepsOpen, Memory, SessionFull}
 use Rattle.cops_node.specs.declared.event.NodeEvent.{NodeEvent}
 use Rattle.cops_node.specs.declared.outcome.Outcome.{Outcome}
-use Rattle.cops_node.specs.declared.outcome.Outcome.TheVariants.{PutDone, Got, Missed, Yes, Wait, Refused as RefusedWith}
+use Rattle.cops_node.specs.declared.outcome.Outcome.TheVariants.{PutDone, Got, Missed, Held, Repeat, Yes, Wait, Marked, Settled, Refused as RefusedWith}
 use Rattle.cops_node.specs.Node.{Node, node_step}
+use Rattle.cops_cluster.specs.declared.client.Client.{Client}
+use Rattle.cops_cluster.specs.declared.cluster.Cluster.{Cluster}
 use Rattle.cops_cluster.specs.declared.fault.Stop.{Stop}
 use Rattle.cops_cluster.specs.declared.fault.Stop.TheVariants.{Refused, GateHeld}
 
@@ -31,6 +34,33 @@ IsAskOutcome Yes = Unit {0}
 IsAskOutcome Wait = Unit {0}
 IsAskOutcome (RefusedWith refused) = refused ≡ Memory
 IsAskOutcome _ = ⊥
+
+-- a delivery in a data centre that is there: the put waits from now on, or was there before, or want of memory
+abbrev pub IsDeliverOutcome : Outcome → Type 0
+IsDeliverOutcome Held = Unit {0}
+IsDeliverOutcome Repeat = Unit {0}
+IsDeliverOutcome (RefusedWith refused) = refused ≡ Memory
+IsDeliverOutcome _ = ⊥
+
+-- a mark at a node that is there: done, or how it may be refused
+abbrev pub IsMarkOutcome : Outcome → Type 0
+IsMarkOutcome Marked = Unit {0}
+IsMarkOutcome (RefusedWith refused) = (refused ≡ NotHeld) ⊎ (refused ≡ NoSuchDep) ⊎ (refused ≡ NoYes) ⊎ (refused ≡ Memory)
+IsMarkOutcome _ = ⊥
+
+-- a settlement at a node that is there: done, or how it may be refused
+abbrev pub IsSettleOutcome : Outcome → Type 0
+IsSettleOutcome Settled = Unit {0}
+IsSettleOutcome (RefusedWith refused) = (refused ≡ NotHeld) ⊎ (refused ≡ DepsOpen) ⊎ (refused ≡ Memory)
+IsSettleOutcome _ = ⊥
+
+-- the cluster has no client of this number, or no data centre of this client's
+abbrev pub IsUnknown : Cluster → Client → Type 0
+IsUnknown c client = (c.clients ≤ client.number) ⊎ (c.place.dcs ≤ client.dc)
+
+-- a get that no node was asked for: the client's context, with so many pairs, is full, or memory was wanting
+abbrev pub IsUnaskedGet : ℕ → Outcome → Type 0
+IsUnaskedGet pairs outcome = ((outcome ≡ RefusedWith ContextFull) × (pairs ≡ MAX_DEPS)) ⊎ (outcome ≡ RefusedWith Memory)
 
 -- want of memory
 abbrev pub IsWant : Outcome → Type 0

@@ -28,6 +28,7 @@ pub struct Cluster {
     pub(crate) recorder: Recorder,
     pub(crate) alloc: Global,
     ghost sized: { vec_len nodes ≡ place.dcs * (length place.splits + 1) },
+    ghost counted: { recorder.clients ≡ clients },
 }
 
 /// A cluster in which nothing has happened, its clients in order of their numbers, and a share for the receiver of each

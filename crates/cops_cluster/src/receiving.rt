@@ -9,7 +9,7 @@ use crate::share::Share;
 use crate::spot::Spot;
 use crate::stepping::{Reply, Seen, gained, passed};
 use cops_book::{Book, Told};
-use cops_node::{NodeEvent, Outcome};
+use cops_node::{Node, NodeEvent, Outcome};
 use cops_types::{Dep, Gate, GateHeld, Key, PutRecord, Refusal, Version};
 use std::sync::Wait;
 
@@ -35,7 +35,22 @@ pub enum Asked {
 
 impl Yes {
     ghost use Rattle.std.specs.Prelude.{◌↔◌, IsTrue};
-    ghost use Rattle.cops_cluster.specs.Receiving.{IsFor};
+    ghost use Rattle.cops_held.specs.Held.{waiting};
+    ghost use Rattle.cops_node.specs.Node.{dep_at};
+    ghost use Rattle.cops_cluster.specs.Receiving.{Allows, Forbids, IsFor};
+
+    /// Whether the answer allows a mark at a node of this data centre: it does unless a put waits there at this version,
+    /// has a dependency of this index, and that is not the pair that the answer is for, or it is of another data centre.
+    /// Where there is no such dependency the node itself refuses the mark.
+    pub fn allows(&self, dc: u8, node: &Node, version: Version, dep: u16) -> bool
+        ensures yes { IsTrue result → Allows self.now dc (dep_at (waiting node.now.held version) dep) }
+        ensures no { ¬ IsTrue result → Forbids self.now dc (dep_at (waiting node.now.held version) dep) }
+    {
+        match node.dep_of(version, dep) {
+            Some(pair) => self.is_for(dc, pair),
+            None => true,
+        }
+    }
 
     /// Whether the answer is one for this pair, in this data centre.
     fn is_for(&self, dc: u8, pair: &Dep) -> bool
@@ -56,7 +71,7 @@ impl Cluster {
     ghost use Rattle.cops_types.specs.declared.refusal.Refusal.TheVariants.{NotHeld, NoYes, UnknownDc};
     ghost use Rattle.cops_types.specs.NodeNumber.{place_of, node_number};
     ghost use Rattle.cops_cluster.specs.declared.receiving.TheConstants.{RECEIVER};
-    ghost use Rattle.cops_node.specs.declared.outcome.Outcome.TheVariants.{Refused as RefusedWith};
+    ghost use Rattle.cops_node.specs.declared.outcome.Outcome.TheVariants.{Marked as OnceMarked, Refused as RefusedWith};
     ghost use Rattle.cops_held.specs.Held.{waiting};
     ghost use Rattle.cops_node.specs.declared.event.NodeEvent.TheVariants.{Ask, Deliver, Mark, Settle};
     ghost use Rattle.cops_node.specs.Node.{dep_at, node_step};
@@ -64,7 +79,7 @@ impl Cluster {
     ghost use Rattle.cops_book.specs.Book.{entry};
     ghost use Rattle.cops_cluster.specs.Shares.{Adds, AddsAtMostOne, AddsEntry, is_of_node};
     ghost use Rattle.cops_cluster.specs.Cluster.{IsNode, IsStop, MayHoldStep, node_of};
-    ghost use Rattle.cops_cluster.specs.Outcomes.{IsAskOutcome, IsNodeAnswer, IsWant, StopsWith};
+    ghost use Rattle.cops_cluster.specs.Outcomes.{IsAskOutcome, IsDeliverOutcome, IsMarkOutcome, IsNodeAnswer, IsSettleOutcome, IsWant, StopsWith};
     ghost use Rattle.cops_cluster.specs.Receiving.{Allows, Forbids, IsAllowedMark, IsAskedOf, IsMarkedAs, IsUnaskedMark, outcome_of};
     ghost use Rattle.cops_cluster.specs.declared.fault.Stop.TheVariants.{Refused};
 
@@ -81,6 +96,8 @@ impl Cluster {
         ensures who { share.new.holder ≡ share.old.holder }
         ensures told { IfOk result (λ out. Adds share.old.entries.items share.new.entries.items (node_of self.now dc put.key) (Deliver put) out) }
         ensures most { AddsAtMostOne share.old.entries.items share.new.entries.items (node_of self.now dc put.key) (Deliver put) }
+        ensures answer { dc < self.now.place.dcs → IfOk result (λ out. IsNodeAnswer (Deliver put) out ⊎ IsWant out) }
+        ensures outcome { dc < self.now.place.dcs → IfOk result IsDeliverOutcome }
         ensures unknown { self.now.place.dcs ≤ dc → result ≡ Ok (RefusedWith UnknownDc) }
         ensures node { OnErr result (IsNode self.now dc (primary self.now.place.splits put.key)) }
         ensures held { OnErr result (MayHoldStep (G.may_hold gate.now) (node_of self.now dc put.key) RECEIVER) }
@@ -153,6 +170,8 @@ impl Cluster {
         ensures told { IsNode self.now dc (place_of version) → IfOk result (λ out. Adds share.old.entries.items share.new.entries.items (node_number dc (place_of version)) (Mark version dep) out) }
         ensures most { AddsAtMostOne share.old.entries.items share.new.entries.items (node_number dc (place_of version)) (Mark version dep) }
         ensures marked { IsNode self.now dc (place_of version) → IfOk result (IsMarkedAs yes.now dc version dep) }
+        ensures outcome { IsNode self.now dc (place_of version) → IfOk result IsMarkOutcome }
+        ensures here { result ≡ Ok OnceMarked → yes.now.dc ≡ dc }
         ensures no_node { (IsNode self.now dc (place_of version) → ⊥) → share.new.entries.items ≡ share.old.entries.items }
         ensures unknown { self.now.place.dcs ≤ dc → result ≡ Ok (RefusedWith UnknownDc) }
         ensures not_held { dc < self.now.place.dcs → length self.now.place.splits < place_of version → result ≡ Ok (RefusedWith NotHeld) }
@@ -179,6 +198,8 @@ impl Cluster {
         ensures who { share.new.holder ≡ share.old.holder }
         ensures told { IsNode self.now dc (place_of version) → IfOk result (λ out. Adds share.old.entries.items share.new.entries.items (node_number dc (place_of version)) (Settle version) out) }
         ensures most { AddsAtMostOne share.old.entries.items share.new.entries.items (node_number dc (place_of version)) (Settle version) }
+        ensures answer { IsNode self.now dc (place_of version) → IfOk result (λ out. IsNodeAnswer (Settle version) out ⊎ IsWant out) }
+        ensures outcome { IsNode self.now dc (place_of version) → IfOk result IsSettleOutcome }
         ensures no_node { (IsNode self.now dc (place_of version) → ⊥) → share.new.entries.items ≡ share.old.entries.items }
         ensures unknown { self.now.place.dcs ≤ dc → result ≡ Ok (RefusedWith UnknownDc) }
         ensures not_held { dc < self.now.place.dcs → length self.now.place.splits < place_of version → result ≡ Ok (RefusedWith NotHeld) }
@@ -274,10 +295,8 @@ impl Cluster {
         ensures none { OnErr result (book.new ≡ book.old) }
         ensures stop { IfErr result (IsStop (G.may_hold gate.now) (node_number spot.dc spot.place) RECEIVER) }
     {
-        if let Some(pair) = book.node().dep_of(version, dep) {
-            if !yes.is_for(spot.dc, pair) {
-                return Err(Stop::Refused(Refusal::NoYes));
-            }
+        if !yes.allows(spot.dc, book.node(), version, dep) {
+            return Err(Stop::Refused(Refusal::NoYes));
         }
         let event = NodeEvent::Mark { version, dep };
         self.asked(rt, gate, RECEIVER, spot, book, event)

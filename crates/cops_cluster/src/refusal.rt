@@ -9,6 +9,7 @@ use cops_types::Refusal;
 /// Why a call is refused where the recorder refuses it, which is none of a node's reasons.
 pub(crate) fn refusal(fault: RecordFault) -> Refusal
     ensures not_of_node { is_refusal_of_node result ≡ false }
+    ensures unknown { result ≡ UnknownClient → fault ≡ RecordFault.UnknownClient }
     ensures refused { (result ≡ UnknownClient) ⊎ (result ≡ Memory) ⊎ (result ≡ SessionFull) }
 {
     match fault {

@@ -147,7 +147,10 @@ fn get_told(client: u16, key: Key) -> Result<GetTold, Memory>
 }
 
 impl Cluster {
-    ghost use Rattle.std.specs.Prelude.{◌≡◌, ◌<◌, ◌++◌, [], ◌∷◌, ℕ, true, false, length, IfOk, IfErr, OnOk, OnErr};
+    ghost use Rattle.std.specs.Prelude.{◌≡◌, ◌<◌, ◌↔◌, ◌++◌, ◌⊎◌, [], ◌∷◌, ℕ, true, false, length, IfOk, IfErr, IsTrue, Ok, Err, OnOk, OnErr};
+    ghost use Rattle.cops_types.specs.declared.refusal.Refusal.{Refusal};
+    ghost use Rattle.cops_types.specs.declared.refusal.Refusal.TheVariants.{ContextFull, UnknownClient, Memory as OutOfMemory};
+    ghost use Rattle.cops_cluster.specs.declared.fault.Stop.TheVariants.{Refused};
     ghost use Rattle.cops_types.specs.declared.limits.TheConstants.{MAX_DEPS};
     ghost use Rattle.cops_node.specs.declared.event.NodeEvent.TheVariants.{Put, Get};
     ghost use Rattle.cops_node.specs.declared.outcome.Outcome.TheVariants.{Refused as RefusedWith};
@@ -157,11 +160,12 @@ impl Cluster {
     ghost use Rattle.cops_book.specs.Book.{entry};
     ghost use Rattle.cops_cluster.specs.Shares.{Adds, AddsAtMostOne, AddsEntry, is_refusal_of_node, is_of_node};
     ghost use Rattle.cops_cluster.specs.Cluster.{IsNode, IsSameClient, IsStop, MayHoldStep, after_get, after_put, get_seen, node_of, put_seen};
-    ghost use Rattle.cops_cluster.specs.Outcomes.{IsGetOutcome, IsNodeAnswer, IsPutOutcome, IsWant, StopsWith};
+    ghost use Rattle.cops_cluster.specs.Outcomes.{IsGetOutcome, IsNodeAnswer, IsPutOutcome, IsUnaskedGet, IsUnknown, IsWant, StopsWith};
     ghost use Rattle.cops_cluster.specs.Replies.{IsSpent};
 
-    /// A client puts a value. Refused where the client is of another cluster, where its session is full, where the
-    /// clock of the key's node can rise no further, and for want of memory.
+    /// A client puts a value. Refused where the client is of another cluster, which has no client of its number here or
+    /// no data centre of its, and then where its session is full, where the clock of the key's node can rise no
+    /// further, and for want of memory.
     pub fn put<R: Wait, G: Gate>(
         &self,
         rt: &R,
@@ -175,8 +179,14 @@ impl Cluster {
         ensures most { AddsAtMostOne client.old.share.entries.items client.new.share.entries.items (node_of self.now client.old.dc key) (Put client.old.number key value client.old.context.pairs) }
         ensures context { IfOk result (λ out. client.new.context.pairs ≡ after_put client.old.context.pairs key out) }
         ensures outcome { IfOk result IsPutOutcome }
+        ensures unknown { result ≡ Ok (RefusedWith UnknownClient) ↔ IsUnknown self.now client.old }
         ensures held { OnErr result (MayHoldStep (G.may_hold gate.now) (node_of self.now client.old.dc key) client.old.number) }
     {
+        if !self.knows(client) {
+            drop(key);
+            drop(value);
+            return Ok(Outcome::Refused(Refusal::UnknownClient));
+        }
         let number = client.number;
         let slot = match self.recorder.reserve(rt, number) {
             Ok(slot) => slot,
@@ -191,8 +201,9 @@ impl Cluster {
         passed(rt, gate, number, reply)
     }
 
-    /// A client gets the value of a key. Refused where the client is of another cluster, where its session is full,
-    /// where its context holds 256 pairs, and for want of memory.
+    /// A client gets the value of a key. Refused where the client is of another cluster, which has no client of its
+    /// number here or no data centre of its, and then where its session is full, where its context holds 256 pairs, and
+    /// for want of memory.
     pub fn get<R: Wait, G: Gate>(
         &self,
         rt: &R,
@@ -206,8 +217,15 @@ impl Cluster {
         ensures context { IfOk result (λ out. client.new.context.pairs ≡ after_get client.old.context.pairs key out) }
         ensures full { length client.old.context.pairs ≡ MAX_DEPS → client.new.share.entries.items ≡ client.old.share.entries.items }
         ensures outcome { IfOk result IsGetOutcome }
+        ensures unknown { result ≡ Ok (RefusedWith UnknownClient) ↔ IsUnknown self.now client.old }
+        ensures only_full { result ≡ Ok (RefusedWith ContextFull) → length client.old.context.pairs ≡ MAX_DEPS }
+        ensures refused { length client.old.context.pairs ≡ MAX_DEPS → (refused : Refusal) × (result ≡ Ok (RefusedWith refused)) }
         ensures held { OnErr result (MayHoldStep (G.may_hold gate.now) (node_of self.now client.old.dc key) client.old.number) }
     {
+        if !self.knows(client) {
+            drop(key);
+            return Ok(Outcome::Refused(Refusal::UnknownClient));
+        }
         let number = client.number;
         let slot = match self.recorder.reserve(rt, number) {
             Ok(slot) => slot,
@@ -221,6 +239,14 @@ impl Cluster {
         passed(rt, gate, number, reply)
     }
 
+    /// Whether there is a client of this number, and the client's data centre.
+    fn knows(&self, client: &Client) -> bool
+        ensures yes { IsTrue result → client.now.dc < self.now.place.dcs × client.now.number < self.now.clients }
+        ensures no { ¬ IsTrue result → IsUnknown self.now client.now }
+    {
+        client.number < self.clients && client.dc < self.place.dcs()
+    }
+
     /// A put while a slot is reserved for it.
     fn put_step<R: Wait, G: Gate>(
         &self,
@@ -230,21 +256,20 @@ impl Cluster {
         key: Key,
         value: Value,
     ) -> Result<Answer, Stop>
+        requires { client.old.dc < self.now.place.dcs }
         ensures who { IsSameClient client.old client.new }
         ensures told { IfOk result (λ a. AddsEntry client.old.share.entries.items client.new.share.entries.items (node_of self.now client.old.dc key) (Put client.old.number key value client.old.context.pairs) a.outcome) }
         ensures answers { IfOk result (λ a. (is_of_node a.outcome ≡ true) × (a.node ≡ node_of self.now client.old.dc key)) }
         ensures context { IfOk result (λ a. client.new.context.pairs ≡ after_put client.old.context.pairs key a.outcome) }
         ensures seen { IfOk result (λ a. a.op ≡ put_seen key value a.outcome) }
         ensures outcome { IfOk result (λ a. IsPutOutcome a.outcome) }
-        ensures stops { IfErr result (StopsWith IsPutOutcome) }
+        ensures stops { IfErr result (StopsWith IsWant) }
         ensures none { OnErr result (client.new.share.entries.items ≡ client.old.share.entries.items) }
         ensures kept { OnErr result (client.new.context.pairs ≡ client.old.context.pairs) }
         ensures stop { IfErr result (IsStop (G.may_hold gate.now) (node_of self.now client.old.dc key) client.old.number) }
     {
         let Some(spot) = self.spot_of(client.dc, &key) else {
-            drop(key);
-            drop(value);
-            return Err(Stop::Refused(Refusal::UnknownClient));
+            unreachable!()
         };
         let number = client.number;
         let PutTold { event, notes } = put_told(client, key, value)?;
@@ -270,14 +295,15 @@ impl Cluster {
         gate: &G,
         key: Key,
     ) -> Result<Answer, Stop>
+        requires { client.old.dc < self.now.place.dcs }
         ensures who { IsSameClient client.old client.new }
         ensures told { IfOk result (λ a. AddsEntry client.old.share.entries.items client.new.share.entries.items (node_of self.now client.old.dc key) (Get client.old.number key) a.outcome) }
         ensures answers { IfOk result (λ a. (is_of_node a.outcome ≡ true) × (a.node ≡ node_of self.now client.old.dc key)) }
         ensures context { IfOk result (λ a. client.new.context.pairs ≡ after_get client.old.context.pairs key a.outcome) }
         ensures seen { IfOk result (λ a. a.op ≡ get_seen key a.outcome) }
         ensures outcome { IfOk result (λ a. IsGetOutcome a.outcome) }
-        ensures stops { IfErr result (StopsWith IsGetOutcome) }
-        ensures full { OnOk result (length client.old.context.pairs ≡ MAX_DEPS → ⊥) }
+        ensures stops { IfErr result (StopsWith (IsUnaskedGet (length client.old.context.pairs))) }
+        ensures full { length client.old.context.pairs ≡ MAX_DEPS → result ≡ Err (Refused ContextFull) }
         ensures none { OnErr result (client.new.share.entries.items ≡ client.old.share.entries.items) }
         ensures kept { OnErr result (client.new.context.pairs ≡ client.old.context.pairs) }
         ensures stop { IfErr result (IsStop (G.may_hold gate.now) (node_of self.now client.old.dc key) client.old.number) }
@@ -307,14 +333,16 @@ impl Cluster {
     /// The key's node in the client's data centre, where the client's context has room for one more pair: else why the
     /// get is refused.
     fn spot_with_room(&self, client: &mut Client, key: &Key) -> Result<Spot, Refusal>
+        requires { client.old.dc < self.now.place.dcs }
         ensures spot { IfOk result (λ spot. (spot.dc ≡ client.old.dc) × (spot.place ≡ primary self.now.place.splits key.now) × IsNode self.now spot.dc spot.place) }
         ensures room { OnOk result ((length client.old.context.pairs < MAX_DEPS) × (client.new.context.room ≡ true)) }
         ensures same { (client.new.number ≡ client.old.number) × (client.new.dc ≡ client.old.dc) × (client.new.share ≡ client.old.share) }
         ensures pairs { client.new.context.pairs ≡ client.old.context.pairs }
-        ensures refused { IfErr result (λ refused. (is_refusal_of_node refused ≡ false) × IsGetOutcome (RefusedWith refused)) }
+        ensures full { length client.old.context.pairs ≡ MAX_DEPS → result ≡ Err ContextFull }
+        ensures refused { IfErr result (λ refused. (is_refusal_of_node refused ≡ false) × IsUnaskedGet (length client.old.context.pairs) (RefusedWith refused)) }
     {
         let Some(spot) = self.spot_of(client.dc, key) else {
-            return Err(Refusal::UnknownClient);
+            unreachable!()
         };
         if !client.context.has_room() {
             return Err(Refusal::ContextFull);

@@ -9,9 +9,11 @@ use std::alloc::Global;
 use std::fmt;
 use std::sync::{Mutex, Wait};
 
-/// What clients saw, under one lock: records in order of arrival, each with its client, within a trace's limits.
+/// What clients saw, under one lock: records in order of arrival, each with its client, within a trace's limits. How
+/// many clients there are stands beside the lock, for it never changes.
 #[derive(Drop)]
 pub struct Recorder {
+    clients: u16,
     records: Mutex<Records>,
     alloc: Global,
 }
@@ -29,19 +31,38 @@ pub struct Slot {
 }
 
 impl Recorder {
+    ghost use Rattle.std.specs.Prelude.{◌≡◌, ◌≤◌, ◌↔◌, IfErr, IfOk, IsErrOf};
+    ghost use Rattle.cops_record.specs.Back.{IsBack};
+
     /// A recorder of so many clients, with no records.
-    pub fn new(alloc: Global, clients: u16) -> Result<Recorder, Memory> {
+    pub fn new(alloc: Global, clients: u16) -> Result<Recorder, Memory>
+        ensures { IfOk result (λ r. r.clients ≡ clients) }
+    {
         let records = Mutex::new(Records::new(alloc, clients)?);
-        Ok(Recorder { records, alloc })
+        Ok(Recorder {
+            clients,
+            records,
+            alloc,
+        })
     }
 
     /// Reserves a slot, which counts against the limits: `UnknownClient` where there is no such client, then
     /// `SessionFull` where the client's records and slots are 1,000,000, or those of all are 16,000,000.
     pub fn reserve<R: Wait>(&self, rt: &R, client: u16) -> Result<Slot, RecordFault>
-        ensures { IfOk result (λ slot. slot.client ≡ client) }
+        ensures slot { IfOk result (λ slot. slot.client ≡ client) }
+        ensures unknown { IsErrOf result RecordFault.UnknownClient ↔ (self.now.clients ≤ client) }
     {
-        self.records.lock(rt).reserve(client)?;
-        Ok(Slot { client })
+        if client >= self.clients {
+            return Err(RecordFault::UnknownClient);
+        }
+        match self.records.lock(rt).reserve(client) {
+            Ok(()) => Ok(Slot { client }),
+            Err(RecordFault::Memory) => Err(RecordFault::Memory),
+            // (what stands under the lock has a seat for each client, and else none would be free)
+            Err(RecordFault::UnknownClient | RecordFault::SessionFull) => {
+                Err(RecordFault::SessionFull)
+            }
+        }
     }
 
     /// Fills the slot: its operation takes the next place. It never fails. Where nothing is reserved here for the
@@ -63,12 +84,19 @@ impl Recorder {
     }
 
     /// The trace of the records, once no other thread records. Where memory runs out the recorder comes back.
-    pub fn into_trace(self) -> Result<Trace, IntoTraceFault> {
-        let Recorder { records, alloc } = self;
+    pub fn into_trace(self) -> Result<Trace, IntoTraceFault>
+        ensures { IfErr result (IsBack self) }
+    {
+        let Recorder {
+            clients,
+            records,
+            alloc,
+        } = self;
         let records = records.into_inner();
         match records.trace(alloc) {
             Ok(trace) => Ok(trace),
             Err(Memory) => Err(IntoTraceFault::Memory(Recorder {
+                clients,
                 records: Mutex::new(records),
                 alloc,
             })),

@@ -1,11 +1,11 @@
 -- Lanes that are kept by how many of the puts they were sent.
-use Rattle.std.proofs.Common.{◌≡◌, ◌↔◌, Bool, IsTrue, ℕ, ◌+◌, ◌-◌, ◌≤◌, List, [], ◌∷◌, ◌++◌, All, length, map, drop, refl, sym, ap, subst, ◌∙◌, arith}
-use Rattle.std.proofs.lemmas.List.{drop-append-le, drop-drop, drop_all, length-drop, length-map, map-append}
+use Rattle.std.proofs.Common.{◌≡◌, ◌↔◌, Bool, IsTrue, ℕ, ◌+◌, ◌-◌, ◌<◌, ◌≤◌, below_more, get_or, set, List, [], ◌∷◌, ◌++◌, All, length, map, drop, refl, sym, ap, subst, ◌∙◌, arith}
+use Rattle.std.proofs.lemmas.List.{drop-append-le, drop-drop, drop_all, get_or-set_other, get_or-set_same, length-drop, length-map, map-append, map-set}
 use Rattle.std.proofs.lemmas.List.Elements.{All-cons, All-head, All-tail}
 use Rattle.cops_types.specs.declared.put_record.PutRecord.{PutRecord}
 use Rattle.cops_link.specs.Frame.{spelled}
 use Rattle.cops_replication.specs.declared.outbox.Lane.{Lane}
-use Rattle.cops_replication.specs.Lanes.{ALane, IsWithin, shown, and_due, counted_from, HasSentAll}
+use Rattle.cops_replication.specs.Lanes.{ALane, IsClearOrFull, IsWithin, shown, and_due, counted_from, HasSentAll}
 
 abbrev lane_of : Lane → List (List ℕ) → ALane
 lane_of l due = record { link = l.link; due = due }
@@ -57,3 +57,15 @@ pub clear_is : (puts : List PutRecord) (ls same : List Lane) (n : ℕ) (all : Li
 clear_is puts ls same n all b is count view told =
     let each : IsTrue b ↔ All (λ (l : Lane). length puts ≤ l.next) ls = subst (λ m. IsTrue b ↔ All (λ (l : Lane). m ≤ l.next) ls) count (subst (λ xs. IsTrue b ↔ All (λ (l : Lane). n ≤ l.next) xs) is told) in
     (λ h. subst HasSentAll view (due_none puts ls (each.0 h)), λ h. each.1 (none_due puts ls (subst HasSentAll (sym view) h)))
+
+-- one more lane was sent all, or is full
+pub filled_more : (puts : List PutRecord) (ls : List Lane) (k : ℕ) (l : Lane) → k < length ls → ((i : ℕ) (d : ALane) → i < k → IsClearOrFull (get_or (map (shown puts) ls) i d)) → IsClearOrFull (shown puts l)
+    → (i : ℕ) (d : ALane) → i < k + 1 → IsClearOrFull (get_or (map (shown puts) (set ls k l)) i d)
+filled_more puts ls k l inside before here = λ i d less.
+    let rows = map (shown puts) ls in
+    let is : map (shown puts) (set ls k l) ≡ set rows k (shown puts l) = map-set (shown puts) ls k l in
+    let all : (j : ℕ) → j < k + 1 → (e : ALane) → IsClearOrFull (get_or (set rows k (shown puts l)) j e) =
+    below_more (λ j. (e : ALane) → IsClearOrFull (get_or (set rows k (shown puts l)) j e)) k
+    (λ j below e. subst IsClearOrFull (sym (get_or-set_other rows k j (shown puts l) e (λ same. omega (arith, below, same)))) (before j e below))
+    (λ e. subst IsClearOrFull (sym (get_or-set_same rows k (shown puts l) e (omega (arith, inside, length-map ls (shown puts))))) here) in
+    subst (λ (r : List ALane). IsClearOrFull (get_or r i d)) (sym is) (all i less d)

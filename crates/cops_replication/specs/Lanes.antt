@@ -1,8 +1,8 @@
 -- Links, each with the frames that it is still to be sent.
-use Rattle.std.specs.Prelude.{◌≡◌, ℕ, ◌+◌, ◌-◌, ◌≤◌, List, [], ◌∷◌, ◌++◌, drop, length, map, replicate, sum_by}
+use Rattle.std.specs.Prelude.{◌≡◌, ℕ, ◌+◌, ◌-◌, ◌≤◌, ◌⊎◌, List, [], ◌∷◌, ◌++◌, drop, length, map, replicate, sum_by}
 use Rattle.std.specs.List.{All, flat_map}
 use Rattle.cops_link.specs.Frame.{spelled}
-use Rattle.cops_link.specs.Link.{sent, SameIn}
+use Rattle.cops_link.specs.Link.{known_room, sent, SameIn}
 use Rattle.cops_link.specs.declared.ends.LinkIn.{LinkIn}
 use Rattle.cops_types.specs.declared.put_record.PutRecord.{PutRecord}
 use Rattle.cops_replication.specs.declared.outbox.Lane.{Lane}
@@ -58,6 +58,14 @@ Carried puts before after = EachSends (map (and_due puts) before) after
 -- nothing is due
 abbrev pub HasSentAll : List ALane → Type 0
 HasSentAll lanes = All (λ (l : ALane). l.due ≡ []) lanes
+
+-- nothing is due on the link, or it is known to have no room
+abbrev pub IsClearOrFull : ALane → Type 0
+IsClearOrFull l = (l.due ≡ []) ⊎ (known_room l.link ≡ 0)
+
+-- and so of each link
+abbrev pub AreClearOrFull : List ALane → Type 0
+AreClearOrFull lanes = All IsClearOrFull lanes
 
 -- how many frames were ever sent on the links
 abbrev pub frames : List ALane → ℕ

@@ -1,6 +1,6 @@
 //! Puts that are to go out on links.
 ghost use Rattle.std.specs.Prelude.{◌≡◌, ◌≤◌, ◌↔◌, ◌-◌, ◌++◌, All, IfOk, OnOk, IsTrue, drop, map, replicate, vec_len};
-ghost use Rattle.cops_replication.specs.Lanes.{EachSends, counted_from, frames, repeated, shown, IsWithin};
+ghost use Rattle.cops_replication.specs.Lanes.{AreClearOrFull, EachSends, counted_from, frames, repeated, shown, IsWithin};
 ghost use Rattle.cops_replication.specs.Turns.{IsCountOf};
 
 use cops_link::{Frame, LinkIn};
@@ -36,22 +36,24 @@ impl Model for Outbox {
 }
 
 impl Lane {
-    ghost use Rattle.std.specs.Prelude.{◌≡◌, ◌≤◌, ◌+◌, IfOk, length};
+    ghost use Rattle.std.specs.Prelude.{◌≡◌, ◌≤◌, ◌+◌, IfOk, OnOk, length};
     ghost use Rattle.cops_link.specs.Link.{sent};
-    ghost use Rattle.cops_replication.specs.Lanes.{Sends, shown, IsWithin};
+    ghost use Rattle.cops_replication.specs.Lanes.{IsClearOrFull, Sends, shown, IsWithin};
 
-    /// Sends the puts that were not sent yet, until the link is full, and says how many.
+    /// Sends the puts that were not sent yet, until the link is full, and says how many. Without want of
+    /// memory it leaves none where there is room.
     fn send(&mut self, alloc: Global, puts: &[PutRecord]) -> Result<usize, Memory>
         requires { IsWithin puts.now self.old }
         ensures within { IsWithin puts.now self.new }
         ensures sends { Sends (shown puts.now self.old) (shown puts.now self.new) }
         ensures count { IfOk result (λ n. length (sent self.new.link) ≡ length (sent self.old.link) + n) }
+        ensures filled { OnOk result (IsClearOrFull (shown puts.now self.new)) }
     {
         let before = self.next;
         while self.next < puts.len() {
             let frame = Frame::of(alloc, &puts[self.next])?;
             if self.link.send(frame).is_err() {
-                break;
+                return Ok(self.next - before);
             }
             self.next += 1;
         }
@@ -61,7 +63,7 @@ impl Lane {
 
 impl Outbox {
     ghost use Rattle.std.specs.Prelude.{◌≡◌, ◌↔◌, ◌-◌, IfOk, OnOk, OnErr, IsTrue, map};
-    ghost use Rattle.cops_replication.specs.Lanes.{EachSends, HasSentAll, and_due, frames, idle, repeated};
+    ghost use Rattle.cops_replication.specs.Lanes.{AreClearOrFull, EachSends, HasSentAll, and_due, frames, idle, repeated};
     ghost use Rattle.cops_replication.specs.Turns.{IsCountOf};
 
     /// These links, with nothing to send. Where memory runs out the links are gone.
@@ -93,6 +95,7 @@ impl Outbox {
     pub(crate) fn send(&mut self) -> Result<usize, Memory>
         ensures sends { EachSends self.old self.new }
         ensures count { IfOk result (IsCountOf (frames self.new - frames self.old)) }
+        ensures filled { OnOk result (AreClearOrFull self.new) }
     {
         send_on(&mut self.lanes, self.alloc, &self.puts)
     }
@@ -160,6 +163,7 @@ fn send_on(lanes: &mut [Lane], alloc: Global, puts: &[PutRecord]) -> Result<usiz
     ensures within { All (IsWithin puts.now) lanes.new }
     ensures sends { EachSends (map (shown puts.now) lanes.old) (map (shown puts.now) lanes.new) }
     ensures count { IfOk result (IsCountOf (frames (map (shown puts.now) lanes.new) - frames (map (shown puts.now) lanes.old))) }
+    ensures filled { OnOk result (AreClearOrFull (map (shown puts.now) lanes.new)) }
 {
     let mut sent = 0usize;
     for k in 0..lanes.len() {

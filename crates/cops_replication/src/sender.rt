@@ -24,7 +24,7 @@ impl Sender {
     ghost use Rattle.std.specs.Prelude.{◌≡◌, ◌-◌, IfOk, OnOk, Err, map};
     ghost use Rattle.cops_types.specs.declared.limits.TheConstants.{PLACES};
     ghost use Rattle.cops_replication.specs.Drains.{IsSentOut};
-    ghost use Rattle.cops_replication.specs.Lanes.{HasSentAll, frames, idle};
+    ghost use Rattle.cops_replication.specs.Lanes.{AreClearOrFull, HasSentAll, frames, idle};
     ghost use Rattle.cops_replication.specs.Reading.{unread};
     ghost use Rattle.cops_replication.specs.Sending.{Carries, CarriesBelow, lanes};
     ghost use Rattle.cops_replication.specs.Turns.{IsTurnOf};
@@ -52,6 +52,7 @@ impl Sender {
         ensures carries { Carries cluster.now self.old self.new }
         ensures all { OnOk result (CarriesBelow PLACES cluster.now self.old self.new) }
         ensures did { IfOk result (IsTurnOf (frames (lanes self.new) - frames (lanes self.old))) }
+        ensures filled { OnOk result (AreClearOrFull (lanes self.new)) }
     {
         let read = self.read(rt, cluster);
         let sent = self.outbox.send()?;

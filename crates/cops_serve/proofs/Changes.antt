@@ -4,6 +4,9 @@ use Rattle.std.specs.Prelude.{slice_get, MatchOption}
 use Rattle.std.specs.Global.{Vec}
 use Rattle.std.proofs.lemmas.Option.{slice_get_read}
 use Rattle.cops_node.specs.declared.event.NodeEvent.TheVariants.{Ask}
+use Rattle.std.specs.Prelude.{Result, Ok, Err}
+use Rattle.cops_types.specs.declared.gate.GateHeld.{GateHeld}
+use Rattle.cops_types.specs.declared.refusal.Refusal.{Refusal}
 use Rattle.cops_node.specs.declared.outcome.Outcome.{Outcome}
 use Rattle.cops_node.specs.declared.outcome.Outcome.TheVariants.{Refused}
 use Rattle.cops_types.specs.declared.refusal.Refusal.TheVariants.{Memory}
@@ -48,13 +51,24 @@ put_of c key value k v out before after ek ev h = rw (sym ek, sym ev) h
 pub got_of : (c : Cluster) (key k : List ℕ) (out : Outcome) (before after : Client) → k ≡ key → HasGot c k out before after → HasGot c key out before after
 got_of c key k out before after ek h = rw (sym ek) h
 
+abbrev outcome_in : Outcome → Result Outcome GateHeld → Outcome
+outcome_in other (Ok outcome) = outcome
+outcome_in other (Err held) = other
+
+-- what is told of the answer is told of its outcome
+pub where_refused : (Says : Type 0) (result : Result Outcome GateHeld) (out : Outcome) (refused : Refusal) → result ≡ Ok out → (result ≡ Ok (Refused refused) → Says) → out ≡ Refused refused → Says
+where_refused Says result out refused is told e = told (is ∙ ap Ok e)
+
+pub some_refusal : (result : Result Outcome GateHeld) (out : Outcome) → result ≡ Ok out → (refused : Refusal) × (result ≡ Ok (Refused refused)) → (refused : Refusal) × (out ≡ Refused refused)
+some_refusal result out is (refused, e) = (refused, ap (outcome_in out) (sym is ∙ e))
+
 -- a put that was not made for want of memory
 pub no_put : (c : Cluster) (key value : List ℕ) (client : Client) → HasPut c key value (Refused Memory) client client
-no_put c key value client = ((refl, refl, refl), (λ h. absurd cc, λ h. refl), refl)
+no_put c key value client = ((refl, refl, refl), (λ h. absurd cc, λ h. refl), refl, λ e. absurd cc)
 
 -- a get that was not made for want of memory
 pub no_get : (c : Cluster) (key : List ℕ) (client : Client) → HasGot c key (Refused Memory) client client
-no_get c key client = ((refl, refl, refl), (λ h. absurd cc, λ h. refl), refl)
+no_get c key client = ((refl, refl, refl), (λ h. absurd cc, λ h. refl), refl, λ e. absurd cc, λ e. absurd cc, λ e. (Memory, refl))
 
 -- a question with the share that the client lent
 pub asked_of : (c : Cluster) (dc : ℕ) (key : List ℕ) (version : ℕ) (out : Outcome) (client : Client) (lent after : Share) → lent ≡ client.share → after.holder ≡ lent.holder

@@ -2,7 +2,8 @@
 use Rattle.std.specs.Prelude.{◌≡◌, ◌<◌, ◌+◌, ◌↔◌, ℕ, List, length, slice_get, slice_set, Option, Some, Result, Ok, Err, MatchOption, vec_len, vec_capacity, IsSome, IsNone}
 use Rattle.cops_types.specs.declared.put_record.NodeStatus.{NodeStatus}
 use Rattle.cops_types.specs.declared.refusal.Refusal.{Refusal}
-use Rattle.cops_types.specs.declared.refusal.Refusal.TheVariants.{UnknownClient}
+use Rattle.cops_types.specs.declared.refusal.Refusal.TheVariants.{ContextFull, UnknownClient}
+use Rattle.cops_types.specs.declared.limits.TheConstants.{MAX_DEPS}
 use Rattle.cops_node.specs.declared.event.NodeEvent.TheVariants.{Put, Get, Ask}
 use Rattle.cops_node.specs.declared.outcome.Outcome.{Outcome}
 use Rattle.cops_node.specs.declared.outcome.Outcome.TheVariants.{Wait, Refused}
@@ -10,6 +11,7 @@ use Rattle.cops_cluster.specs.declared.client.Client.{Client}
 use Rattle.cops_cluster.specs.declared.cluster.Cluster.{Cluster}
 use Rattle.cops_cluster.specs.Cluster.{IsNode, IsSameClient, after_get, after_put, node_of}
 use Rattle.cops_cluster.specs.Lending.{with_share}
+use Rattle.cops_cluster.specs.Outcomes.{IsUnknown}
 use Rattle.cops_cluster.specs.Shares.{Adds}
 use Rattle.cops_net.specs.declared.reply.Reply.{Reply}
 use Rattle.cops_serve.specs.declared.front_end.FrontEnd.{FrontEnd}
@@ -65,19 +67,24 @@ Hellos old number (Err refused) new = ((dc : ℕ) → IsHome old number dc → �
 
 -- ---- puts, gets and questions
 
--- What a put of a client leaves of it, by the outcome: the entry in its share, where a node answered, and its context.
+-- What a put of a client leaves of it, by the outcome: the entry in its share, where a node answered, and its context. It is refused
+-- with 3 only where the cluster does not know the client.
 abbrev pub HasPut : Cluster → List ℕ → List ℕ → Outcome → Client → Client → Type 0
 HasPut c key value out before after =
     IsSameClient before after
     × Adds before.share.entries.items after.share.entries.items (node_of c before.dc key) (Put before.number key value before.context.pairs) out
     × (after.context.pairs ≡ after_put before.context.pairs key out)
+    × (out ≡ Refused UnknownClient → IsUnknown c before)
 
--- the same of a get
+-- the same of a get, which is refused with 2 only where the client's context is full, and there it is always refused
 abbrev pub HasGot : Cluster → List ℕ → Outcome → Client → Client → Type 0
 HasGot c key out before after =
     IsSameClient before after
     × Adds before.share.entries.items after.share.entries.items (node_of c before.dc key) (Get before.number key) out
     × (after.context.pairs ≡ after_get before.context.pairs key out)
+    × (out ≡ Refused UnknownClient → IsUnknown c before)
+    × (out ≡ Refused ContextFull → length before.context.pairs ≡ MAX_DEPS)
+    × (length before.context.pairs ≡ MAX_DEPS → (refused : Refusal) × (out ≡ Refused refused))
 
 -- the same of a question in a data centre, which changes the share alone
 abbrev pub HasAsked : Cluster → ℕ → List ℕ → ℕ → Outcome → Client → Client → Type 0

@@ -1,4 +1,4 @@
-use Rattle.std.proofs.Common.{◌≡◌, ℕ, List, [], ◌∷◌, ◌++◌, length, sym, ◌∙◌, ap, subst, arith, length-append, vec_len}
+use Rattle.std.proofs.Common.{◌≡◌, ℕ, [], ◌∷◌, length, ◌∙◌, ap, subst, arith, length-append}
 use Rattle.cops_cluster.specs.Close.{IsReplay, entries_at, number_of}
 use Rattle.cops_cluster.proofs.Lists.{lists_more, replays_more}
 use Rattle.cops_cluster.proofs.closing.listed.Goals as goal

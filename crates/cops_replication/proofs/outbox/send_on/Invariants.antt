@@ -1,5 +1,5 @@
-use Rattle.std.proofs.Common.{◌≡◌, ◌-◌, ◌≤◌, All, map, min}
-use Rattle.cops_replication.specs.Lanes.{EachSends, frames, shown, IsWithin}
+use Rattle.std.proofs.Common.{◌≡◌, ◌-◌, ◌<◌, ◌≤◌, ℕ, All, get_or, map, min}
+use Rattle.cops_replication.specs.Lanes.{ALane, EachSends, IsClearOrFull, frames, shown, IsWithin}
 use Rattle.cops_replication.proofs.outbox.send_on.Given as goal
 
 abbrev pub invariant-loop-k : goal.invariant-loop-k
@@ -8,4 +8,5 @@ invariant-loop-k l = record {
   sends : EachSends (map (shown l.puts) l.initial.lanes) (map (shown l.puts) l.lanes);
   more : frames (map (shown l.puts) l.initial.lanes) ≤ frames (map (shown l.puts) l.lanes);
   count : l.sent ≡ min (frames (map (shown l.puts) l.lanes) - frames (map (shown l.puts) l.initial.lanes)) 18446744073709551615;
+  filled : (i : ℕ) (d : ALane) → i < l.k → IsClearOrFull (get_or (map (shown l.puts) l.lanes) i d);
 }

@@ -1,5 +1,6 @@
 use Rattle.std.proofs.Common.{refl}
-use Rattle.cops_serve.proofs.Changes.{changed, got_of, no_get}
+use Rattle.cops_types.specs.declared.refusal.Refusal.TheVariants.{ContextFull, UnknownClient}
+use Rattle.cops_serve.proofs.Changes.{changed, got_of, no_get, some_refusal, where_refused}
 use Rattle.cops_serve.proofs.Seats.{kept}
 use Rattle.cops_serve.proofs.front_end.FrontEnd.get_outcome.Goals as goal
 
@@ -17,7 +18,14 @@ returns-clause-done g c =
     rw c.in-Some.is (
       (refl, refl, refl, refl, refl, refl),
       changed _ _ _ _ _ _ c.from.ensures c.in-Some-get_mut.ensures.item.3
-          (got_of c.args.self.now.cluster c.args.key.now c.in-Ok.key c.in-Ok-get.outcome c.in-Some-get_mut.client.now c.get.new.client c.in-Ok.ensures.cases (p.who, p.told, p.context)),
+          (got_of c.args.self.now.cluster c.args.key.now c.in-Ok.key c.in-Ok-get.outcome c.in-Some-get_mut.client.now c.get.new.client c.in-Ok.ensures.cases (
+            p.who,
+            p.told,
+            p.context,
+            where_refused _ c.get.result _ UnknownClient c.in-Ok-get.is c.get.ensures.unknown.0,
+            where_refused _ c.get.result _ ContextFull c.in-Ok-get.is c.get.ensures.only_full,
+            λ full. some_refusal c.get.result _ c.in-Ok-get.is (c.get.ensures.refused full),
+          )),
     )
 
 pub invariant_of-self-2-clause-seated : goal.invariant_of-self-2-clause-seated

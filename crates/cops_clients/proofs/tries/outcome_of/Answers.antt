@@ -1,6 +1,6 @@
 use Rattle.std.proofs.lemmas.Result.{on_err_weaker}
 use Rattle.cops_clients.proofs.Holding.{at_key}
-use Rattle.cops_clients.proofs.clients.outcome_of.Goals as goal
+use Rattle.cops_clients.proofs.tries.outcome_of.Goals as goal
 
 pub returns-in-Ok-clone-clause-held : goal.returns-in-Ok-clone-clause-held
 returns-in-Ok-clone-clause-held g c =

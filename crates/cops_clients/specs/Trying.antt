@@ -1,0 +1,28 @@
+-- An operation that is tried again while memory is refused to it.
+use Rattle.std.specs.Prelude.{◌≡◌, ℕ, ◌+◌, ◌≤◌, Option, None, Some}
+use Rattle.cops_types.specs.declared.refusal.Refusal.{Refusal}
+use Rattle.cops_types.specs.declared.refusal.Refusal.TheVariants.{Memory}
+use Rattle.cops_node.specs.declared.outcome.Outcome.{Outcome}
+use Rattle.cops_node.specs.declared.outcome.Outcome.TheVariants.{Refused}
+use Rattle.cops_clients.specs.declared.tries.Tries.{Tries}
+
+-- why it is refused, where it is
+abbrev pub refusal_in : Outcome → Option Refusal
+refusal_in (Refused refused) = Some refused
+refusal_in _ = None
+
+-- one try more, which was refused so, where it was
+abbrev pub IsTry : Tries → Option Refusal → Tries → Type 0
+IsTry old refused new =
+    (new.made ≡ old.made + 1)
+    × (new.last ≡ refused)
+    × (refused ≡ Some Memory → new.wanting ≡ old.wanting + 1)
+    × ((refused ≡ Some Memory → ⊥) → new.wanting ≡ old.wanting)
+
+-- All tries of an operation, which is tried so many times more at most: memory was refused to each of them but the last, so it was
+-- tried again for nothing else; and where memory was refused to the last too, it had been tried again so often.
+abbrev pub AreAllTries : ℕ → Tries → Type 0
+AreAllTries more t =
+    (t.made ≤ more + 1)
+    × (t.last ≡ Some Memory → (t.made ≡ more + 1) × (t.wanting ≡ t.made))
+    × ((t.last ≡ Some Memory → ⊥) → t.made ≡ t.wanting + 1)

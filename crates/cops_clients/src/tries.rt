@@ -1,0 +1,111 @@
+//! The tries of one operation of a script.
+ghost use Rattle.std.specs.Prelude.{◌≡◌, ◌+◌, OnErr, length};
+ghost use Rattle.cops_cluster.specs.Cluster.{IsSameClient};
+ghost use Rattle.cops_clients.specs.Gates.{MayHoldIn};
+ghost use Rattle.cops_clients.specs.Trying.{refusal_in};
+
+use crate::stage::Stage;
+use cops_cluster::Client;
+use cops_core::ScriptOp;
+use cops_node::Outcome;
+use cops_types::{Gate, GateHeld, Refusal};
+use std::sync::Wait;
+
+/// How many tries of an operation were made, to how many of them memory was refused, and why the last one was refused,
+/// where it was. A try alone adds to them.
+#[derive(Clone, Copy)]
+pub(crate) struct Tries {
+    made: u16,
+    wanting: u16,
+    last: Option<Refusal>,
+}
+
+impl Tries {
+    ghost use Rattle.std.specs.Prelude.{◌≡◌, ◌<◌, ◌≤◌, ◌+◌, IfOk, None, OnErr, length};
+    ghost use Rattle.cops_cluster.specs.Cluster.{IsSameClient};
+    ghost use Rattle.cops_clients.specs.Gates.{MayHoldIn};
+    ghost use Rattle.cops_clients.specs.Trying.{IsTry};
+
+    /// None was made.
+    pub(crate) fn none() -> Tries
+        ensures { result ≡ record { made = 0; wanting = 0; last = None } }
+    {
+        Tries {
+            made: 0,
+            wanting: 0,
+            last: None,
+        }
+    }
+
+    /// Why the last one was refused, where it was.
+    pub(crate) fn last(&self) -> Option<Refusal>
+        ensures { result ≡ self.now.last }
+    {
+        self.last
+    }
+
+    /// Tries an operation once: it tells why that is refused, where it is.
+    pub(crate) fn attempt<R: Wait, G: Gate>(
+        &mut self,
+        rt: &R,
+        stage: &Stage,
+        gate: &G,
+        client: &mut Client,
+        op: &ScriptOp,
+    ) -> Result<Option<Refusal>, GateHeld>
+        requires few { self.old.made < 65535 }
+        requires fewer { self.old.wanting ≤ self.old.made }
+        ensures same { IsSameClient client.old client.new }
+        ensures held { OnErr result (MayHoldIn (G.may_hold gate.now) (length stage.now.cluster.place.splits + 1) client.old.dc client.old.number) }
+        ensures tried { IfOk result (λ refused. IsTry self.old refused self.new) }
+    {
+        let outcome = outcome_of(rt, stage, gate, client, op)?;
+        let refused = refusal(&outcome);
+        self.made += 1;
+        if refused == Some(Refusal::Memory) {
+            self.wanting += 1;
+        }
+        self.last = refused;
+        Ok(refused)
+    }
+}
+
+/// The outcome of one operation of a script.
+fn outcome_of<R: Wait, G: Gate>(
+    rt: &R,
+    stage: &Stage,
+    gate: &G,
+    client: &mut Client,
+    op: &ScriptOp,
+) -> Result<Outcome, GateHeld>
+    ensures same { IsSameClient client.old client.new }
+    ensures held { OnErr result (MayHoldIn (G.may_hold gate.now) (length stage.now.cluster.place.splits + 1) client.old.dc client.old.number) }
+{
+    match op {
+        ScriptOp::Put { key, value } => {
+            let Ok(key) = key.clone() else {
+                return Ok(Outcome::Refused(Refusal::Memory));
+            };
+            let Ok(value) = value.clone() else {
+                return Ok(Outcome::Refused(Refusal::Memory));
+            };
+            stage.cluster().put(rt, client, gate, key, value)
+        }
+        ScriptOp::Get { key } => {
+            let Ok(key) = key.clone() else {
+                return Ok(Outcome::Refused(Refusal::Memory));
+            };
+            stage.cluster().get(rt, client, gate, key)
+        }
+    }
+}
+
+/// Why it is refused, where it is.
+fn refusal(outcome: &Outcome) -> Option<Refusal>
+    ensures { result ≡ refusal_in outcome.now }
+{
+    match outcome {
+        Outcome::Refused(refusal) => Some(*refusal),
+        _ => None,
+    }
+}
