@@ -107,13 +107,13 @@ def by_links(tree):
     check("by a link on PATH", (ran.returncode, ran.stdout, ran.stderr), ANSWER)
 
 
-def as_another_user():
+def as_another_user(tree):
     """The words behind which a command runs as a user who does not own the tree, none where the tree's folders are closed to this user, or nothing
     where that cannot be had."""
     if os.geteuid() != 0:
         return []
     words = ["setpriv", f"--reuid={NOBODY}", f"--regid={NOBODY}", "--clear-groups"]
-    if shutil.which("setpriv") and not subprocess.run([*words, "true"], capture_output=True).returncode:
+    if shutil.which("setpriv") and not subprocess.run([*words, "test", "-r", tree.file("cops")], capture_output=True).returncode:
         return words
     return None
 
@@ -148,7 +148,7 @@ def not_written(tree, name, words):
 
 
 def of_another_user(tree):
-    words = as_another_user()
+    words = as_another_user(tree)
     if words == []:
         os.chmod(tree.file("release"), 0o555)
     not_written(tree, "of another user", words)

@@ -133,8 +133,8 @@ fn later(faults: &Faults) -> &'static str
     ensures { result.now ≡ later_text faults.now }
 {
     match faults {
-        Faults::Doubled(_) =>
-            "\nnot looked for while duplicate versions remain: reads without a source, puts out of order, stale reads\n",
+        Faults::Doubled(_) => "\nnot looked for while duplicate versions remain: \
+             reads without a source, puts out of order, stale reads\n",
         Faults::NoSource(_) =>
             "\nnot looked for while reads without a source remain: puts out of order, stale reads\n",
         Faults::NotAbove(_) => "\nnot looked for while puts out of order remain: stale reads\n",
@@ -166,10 +166,10 @@ fn refusal(
 /// and behind an empty line each a paragraph for each fault that is asked for, in order of names: its number, counted
 /// from 1, its class and its name; what happened, with keys, values and versions; the operations that show it, of a
 /// stale get the chain of `chain` from the newer put, and by which operation its client knew of that put; and in two
-/// lines what usually causes it. Keys and values are escaped as `show` does. Where the first 20 are asked for and there
-/// are more, it says how many are left out, and where there is no fault of the number that is asked for, it says so. The
-/// last line names the classes of faults that were not looked for, where there are any. `Memory` where an allocation
-/// failed.
+/// lines what usually causes it. Keys and values are escaped as `show` does. Where the first 20 are asked for and
+/// there are more, it says how many are left out, and where there is no fault of the number that is asked for, it says
+/// so. The last line names the classes of faults that were not looked for, where there are any. `Memory` where an
+/// allocation failed.
 pub fn explain(
     alloc: Global,
     history: &History,

@@ -1,8 +1,8 @@
 //! Explanations: for each fault of a refusal a paragraph, which tells what happened, why it is a fault, where to look
 //! and what usually causes it, and of one fault a picture in SVG, with the operations concerned in lanes by their
-//! clients. Stands on the report, whose first line, chains and puts by versions it uses. The layer above uses that the
-//! text is exactly that of the faults that were asked for, that the picture is of the fault that was asked for, and
-//! that there is none exactly where there is no such fault.
+//! clients. Stands on the report, whose line of an accepted history, chains and puts by versions it uses. The layer
+//! above uses that the text is exactly that of the faults that were asked for, that the picture is of the fault that
+//! was asked for, and that there is none exactly where there is no such fault.
 #![tactic(auto)]
 
 mod causes;
@@ -24,6 +24,6 @@ mod steps;
 mod style;
 
 pub use explaining::explain;
-pub use laws::one_explanation;
+pub use laws::{known_by_its_client, one_explanation};
 pub use limits::{FIRST_FAULTS, MOST_OTHERS};
 pub use pictures::picture;

@@ -94,7 +94,7 @@ fn fault_at(verdict: &Verdict, number: u32) -> Option<Fault>
 }
 
 /// A picture of one fault of the verdict, in SVG: the fault of that number, counted from 1, in the order of the report.
-/// None where there is none, and `Memory` where a growth was refused.
+/// None where there is none, and `Memory` where an allocation failed.
 ///
 /// Each client concerned has a lane, and each operation a card, which stand from left to right so that those of one
 /// client are in its order. A stale get's picture has its chain, as that of the report, with an arrow from each
