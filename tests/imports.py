@@ -17,7 +17,7 @@ WHOLE = re.compile(r"0|[1-9][0-9]*")
 VERSION = re.compile(r"(0|[1-9][0-9]*)\.(0|[1-9][0-9]*)", re.ASCII)
 PLAIN = b"ABCDEFGHIJKLMNOPQRSTUVWXYZabcdefghijklmnopqrstuvwxyz0123456789-._"
 
-FIRST = b'{"client":1,"get":"k"}\n'
+FIRST = b'{"client":1,"get":"k","value":null}\n'
 
 # Lines, and what is wrong with the last of them.
 WRONG = [
@@ -45,6 +45,8 @@ WRONG = [
     (b'{"client":1,"put":"k","version":1}', "bad value"),
     (b'{"client":1,"put":"k","value":1,"version":1}', "bad value"),
     (b'{"client":1,"put":"k"}', "bad value"),
+    (b'{"client":1,"get":"k"}', "bad value"),
+    (b'{"client":1,"get":"k","version":null}', "bad value"),
     (b'{"client":1,"get":"k","value":null,"version":1}', "bad value"),
     (b'{"client":1,"put":"k","value":"' + b"v" * 4097 + b'","version":1}', "bad value"),
     (b'{"client":1,"get":"k","value":""}', "bad version"),
@@ -136,7 +138,7 @@ def told(line):
         raise Wrong("both operations")
     key = text(of.get("put", of.get("get")), "bad key", 1, MAX_KEY)
     key = struct.pack(">B", len(key)) + key
-    if "get" in of and of.get("value") is None and of.get("version") is None:
+    if "get" in of and of.get("value", 0) is None and of.get("version") is None:
         return name, TRACE_MISSED, key
     value = text(of.get("value"), "bad value", 0, MAX_VALUE)
     value = struct.pack(">H", len(value)) + value
@@ -235,7 +237,7 @@ def worked():
     empty = example("empty.trace")[:7] + b"\0\0" + example("empty.trace")[9:]
     for data in (b"", b"\n", b" \t\r\n\r\n"):
         check(f"import of blank lines {data}", imported(data), (0, b"imported: 0 operations, 0 clients\n", b"", empty))
-    names = '{"client":"","get":"k"}\n{"client":"a b/%\\n\\u0000","get":"k"}\n{"client":"ü-._Z9","get":"k"}\n'.encode()
+    names = "".join('{"client":"%s","get":"k","value":null}\n' % name for name in ("", "a b/%\\n\\u0000", "ü-._Z9")).encode()
     shown = b"client 0 \nclient 1 a%20b%2f%25%0a%00\nclient 2 %c3%bc-._Z9\nimported: 3 operations, 3 clients\n"
     check("names that are escaped", imported(names)[:3], (0, shown, b""))
 
@@ -276,10 +278,10 @@ def replaced():
 
 def limits():
     """The most clients, and one more; the most operations of a client, and one more."""
-    clients = b"".join(b'{"client":%d,"get":"k"}\n' % n for n in range(MAX_CLIENTS))
+    clients = b"".join(b'{"client":%d,"get":"k","value":null}\n' % n for n in range(MAX_CLIENTS))
     names = b"".join(b"client %d %d\n" % (n, n) for n in range(MAX_CLIENTS))
     cases = [
-        ("clients", clients, names + b"imported: 65535 operations, 65535 clients\n", b'{"client":"more","get":"k"}', b"faulty: line 65536: too many clients\n"),
+        ("clients", clients, names + b"imported: 65535 operations, 65535 clients\n", b'{"client":"more","get":"k","value":null}', b"faulty: line 65536: too many clients\n"),
         ("operations", FIRST * MAX_CLIENT_OPS, b"client 0 1\nimported: 1000000 operations, 1 clients\n", FIRST, b"faulty: line 1000001: too many operations\n"),
     ]
     for name, most, told, more, faulty in cases:
@@ -357,8 +359,12 @@ def generated(seed):
         of = {"client": pick.choice(names), pick.choice(("put", "get")): pick.choice(keys)}
         if "put" in of or pick.random() < 0.7:
             of.update(value=pick.choice(values), version=version())
-        elif pick.random() < 0.5:
-            of.update(value=None, version=None)
+        else:
+            of.update(value=None)
+            if pick.random() < 0.5:
+                of.update(version=None)
+            if pick.random() < 0.01:
+                del of["value"]
         if pick.random() < 0.2:
             of[pick.choice(("at", "time", ""))] = pick.choice((1.5, None, [], {"put": 1}))
         if pick.random() < 0.02:
