@@ -18,4 +18,4 @@ pub use judged::report_judged;
 pub use laws::{chain_is_evidence, one_chain, past_has_a_chain};
 pub use lines::version_at;
 pub use puts::{from_version, put_table};
-pub use reports::{refused, report};
+pub use reports::report;
