@@ -6,7 +6,8 @@ use Rattle.std.proofs.Common.{Result, Ok, Err, ◌≡◌, ℕ, List, [], ◌++�
 use Rattle.std.proofs.lemmas.List.{length-map}
 use Rattle.cops_node.specs.declared.outcome.Outcome.{Outcome}
 use Rattle.cops_core.specs.declared.event.Event.{Event}
-use Rattle.cops_core.specs.World.{IsSetting, Setting, World, opening, Run, IsReached}
+use Rattle.cops_core.specs.World.{IsSetting, Setting, World, opening, IsReached}
+use Rattle.cops_core.specs.Memory.{AnswersEach}
 use Rattle.cops_types.specs.Verdicts.{HasAcceptedVerdict}
 use Rattle.cops_core.specs.Opened.{AWorld, opened_world}
 use Rattle.cops_trace.specs.Text.{ATrace, IsTrace, sessions_after, sessions_of}
@@ -18,21 +19,21 @@ use Rattle.cops_run_stream.specs.declared.leaving.Left.{Left}
 use Rattle.cops_run_stream.specs.Lines.{outcome_lines}
 use Rattle.cops_run_stream.specs.Parts.{AreAnswers, IsRunLeft}
 use Rattle.cops_run_stream.specs.Running.{all_seen, IsEventRun, IsRunOf, IsLeft}
-use Rattle.cops_run_stream.proofs.Recording.{run_saw}
+use Rattle.cops_run_stream.proofs.Recording.{run_of, run_saw}
 
 -- a world that was opened, and events came
 answered : (s : AScenario) (c : AWorld) (d : Setting) (events : List Event) (outcomes : List Outcome) (end : World)
     → ((t : Setting) (w : World) → IsSetting t → IsReached t w → HasAcceptedVerdict w.sessions)
-    → c ≡ opened_world s.place (homes_of s) → d ≡ c.setting → IsSetting d → Run c.setting c.world events outcomes end → AreAnswers (setting_of s) events outcomes
+    → c ≡ opened_world s.place (homes_of s) → d ≡ c.setting → IsSetting d → AnswersEach c.setting c.world events outcomes end → AreAnswers (setting_of s) events outcomes
 answered s c d events outcomes end law opened same legal ran =
     let t = setting_of s in
     let legal_t : IsSetting t = subst (λ (k : AWorld). IsSetting k.setting) opened (subst IsSetting same legal) in
-    let ran_t : Run t (opening t) events outcomes end = subst (λ (k : AWorld). Run k.setting k.world events outcomes end) opened ran in
-    (end, ran_t, law t end legal_t (events, outcomes, ran_t))
+    let ran_t : AnswersEach t (opening t) events outcomes end = subst (λ (k : AWorld). AnswersEach k.setting k.world events outcomes end) opened ran in
+    (end, ran_t, law t end legal_t (events, outcomes, run_of t (opening t) events outcomes end ran_t))
 
 pub answered_if : (s : AScenario) (c : AWorld) (d : Setting) (events : List Event) (r : Result (Vec Outcome) Memory) (end : World)
     → ((t : Setting) (w : World) → IsSetting t → IsReached t w → HasAcceptedVerdict w.sessions)
-    → c ≡ opened_world s.place (homes_of s) → d ≡ c.setting → IsSetting d → IfOk r (λ outcomes. Run c.setting c.world events outcomes.items end)
+    → c ≡ opened_world s.place (homes_of s) → d ≡ c.setting → IsSetting d → IfOk r (λ outcomes. AnswersEach c.setting c.world events outcomes.items end)
     → IfOk r (λ outcomes. AreAnswers (setting_of s) events outcomes.items)
 answered_if s c d events (Ok outcomes) end law opened same legal ran = answered s c d events outcomes.items end law opened same legal ran
 answered_if s c d events (Err e) end law opened same legal ran = tt
@@ -46,7 +47,7 @@ event_run s events outcomes lines t n (end, ran, accepted) count trace told =
     let start = opening (setting_of s) in
     let homes : length (homes_of s) ≡ n = length-map s.clients (λ (k : ScriptedClient). k.at) ∙ sym count in
     let saw_these : end.sessions ≡ sessions_of t =
-    run_saw (setting_of s) start events outcomes end ran ∙ ap (λ (k : ℕ). sessions_after (replicate k []) records) homes ∙ ap (λ (u : ATrace). sessions_of u) (sym trace) in (
+    run_saw (setting_of s) start events outcomes end (run_of (setting_of s) start events outcomes end ran) ∙ ap (λ (k : ℕ). sessions_after (replicate k []) records) homes ∙ ap (λ (u : ATrace). sessions_of u) (sym trace) in (
       record {
         outcomes = outcomes;
         end = end;

@@ -12,6 +12,7 @@ use Rattle.cops_types.specs.declared.refusal.Refusal.TheVariants.{NeverSent, Mem
 use Rattle.cops_core.specs.declared.event.Event.{Event}
 use Rattle.cops_core.specs.declared.event.Event.TheVariants.{Put as PutBy, Get as GetBy, Deliver as DeliverTo, Ask as AskAt, Mark as MarkAt, Settle as SettleAt}
 use Rattle.cops_core.specs.World.{Setting, World, Happens, asks, checks, context_in, delivers, done, home, keeps, node_at, primary, refusal, sent, unless, Run}
+use Rattle.cops_core.specs.Memory.{AnswersEach}
 use Rattle.cops_types.specs.NodeNumber.{place_of}
 use Rattle.cops_trace.specs.declared.record.Record.{Record}
 use Rattle.cops_trace.specs.Text.{sessions_after}
@@ -108,6 +109,14 @@ happened_saw s w mid event outcome (inl e) = checked_saw s w mid event (refusal 
 happened_saw s w mid event outcome (inr (e, same)) =
     let none : saw event outcome ≡ [] = ap (λ (o : Outcome). saw event o) e ∙ refused_saw event Memory in
     ap (λ (v : World). v.sessions) same ∙ ap (λ (rs : List Record). sessions_after w.sessions rs) (sym none)
+
+-- what is answered so is a run
+pub run_of : (s : Setting) (old : World) (events : List Event) (outcomes : List Outcome) (new : World) → AnswersEach s old events outcomes new
+    → Run s old events outcomes new
+run_of s old [] [] new e = e
+run_of s old (event ∷ events) (outcome ∷ outcomes) new (mid, (first, rest)) = (mid, (first.0, run_of s mid events outcomes new rest))
+run_of s old [] (outcome ∷ outcomes) new none = absurd none
+run_of s old (event ∷ events) [] new none = absurd none
 
 -- a whole run
 pub run_saw : (s : Setting) (old : World) (events : List Event) (outcomes : List Outcome) (new : World) → Run s old events outcomes new

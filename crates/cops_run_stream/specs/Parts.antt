@@ -2,15 +2,17 @@
 use Rattle.std.specs.Prelude.{List}
 use Rattle.cops_node.specs.declared.outcome.Outcome.{Outcome}
 use Rattle.cops_core.specs.declared.event.Event.{Event}
-use Rattle.cops_core.specs.World.{Setting, World, opening, Run}
+use Rattle.cops_core.specs.World.{Setting, World, opening}
+use Rattle.cops_core.specs.Memory.{AnswersEach}
 use Rattle.cops_types.specs.Verdicts.{HasAcceptedVerdict}
 use Rattle.cops_scenario.specs.Scenario.{AScenario}
 use Rattle.cops_run_stream.specs.declared.leaving.Left.{Left}
 use Rattle.cops_run_stream.specs.Running.{IsLeft}
 
--- a world that was opened so answered these events with these outcomes, and what its clients saw is accepted
+-- a world that was opened so answered these events with these outcomes, out of memory only where an answer takes some, and what its clients
+-- saw is accepted
 abbrev pub AreAnswers : Setting → List Event → List Outcome → Type 0
-AreAnswers s events outcomes = (end : World) × Run s (opening s) events outcomes end × HasAcceptedVerdict end.sessions
+AreAnswers s events outcomes = (end : World) × AnswersEach s (opening s) events outcomes end × HasAcceptedVerdict end.sessions
 
 -- a run of the scenario, and what tells it
 abbrev pub IsRunLeft : AScenario → Left → Type 0

@@ -6,7 +6,8 @@ use Rattle.cops_node.specs.declared.outcome.Outcome.{Outcome}
 use Rattle.cops_node.specs.declared.outcome.Outcome.TheVariants.{PutDone, Got as Answered, Missed as Nothing}
 use Rattle.cops_core.specs.declared.event.Event.{Event}
 use Rattle.cops_core.specs.declared.event.Event.TheVariants.{Put as PutBy, Get as GetBy}
-use Rattle.cops_core.specs.World.{Setting, World, opening, Run}
+use Rattle.cops_core.specs.World.{World, opening}
+use Rattle.cops_core.specs.Memory.{AnswersEach}
 use Rattle.cops_types.specs.Verdicts.{HasAcceptedVerdict}
 use Rattle.cops_trace.specs.declared.record.Record.{Record}
 use Rattle.cops_trace.specs.Live.{IsCutShort}
@@ -36,11 +37,12 @@ all_seen [] outcomes = []
 all_seen (event ∷ events) [] = []
 all_seen (event ∷ events) (outcome ∷ outcomes) = saw event outcome ++ all_seen events outcomes
 
--- these events, one after the other, in the scenario's world: the trace is what its clients saw
+-- these events, one after the other, in the scenario's world, each refused for memory only where its answer takes some: the trace is what
+-- its clients saw
 pub record IsEventRun (s : AScenario) (events : List Event) (lines : List ℕ) (t : ATrace) : Type 0 where
   pub outcomes : List Outcome
   pub end : World
-  pub ran : Run (setting_of s) (opening (setting_of s)) events outcomes end
+  pub ran : AnswersEach (setting_of s) (opening (setting_of s)) events outcomes end
   pub trace_is : t ≡ record { clients = length s.clients; records = all_seen events outcomes }
   pub saw_these : end.sessions ≡ sessions_of t
   pub lines_are : lines ≡ outcome_lines outcomes

@@ -8,4 +8,4 @@ pub returns : goal.returns
 returns c =
     answered_if c.args.scenario.now c.in_ok-world.world c.world.inside.setting c.args.events.now c.run.result c.run.new.self.world
     c.every_interleaving_is_accepted.ensures.accepted (c.in_ok-world.ensures ∙ ap (λ (t : Setting). opened_world t.place t.homes) c.in_ok-setting.ensures) (ap (λ (k : AWorld). k.setting) c.world.view_is ∙ c.run.ensures.setting)
-    c.world.invariant.setting c.run.ensures.ok
+    c.world.invariant.setting c.run.ensures.memory

@@ -3,14 +3,17 @@ use Rattle.cops_scenario.specs.Scenario.{setting_of}
 use Rattle.cops_core.specs.declared.event.Event.{Event}
 use Rattle.cops_core.specs.World.{opening}
 use Rattle.cops_run_stream.specs.Running.{IsRunOf}
-use Rattle.cops_run_stream.proofs.Recording.{run_len}
+use Rattle.cops_run_stream.proofs.Recording.{run_len, run_of}
 use Rattle.cops_run_stream.proofs.Left.{event_run, left_of}
 use Rattle.cops_run_stream.proofs.events.run_events.Goals as goal
 
 pub recorded-requires : goal.recorded-requires
 recorded-requires c =
     let s = setting_of c.args.scenario.now in
-    ap length c.deref-2.ensures.value ∙ run_len s (opening s) c.args.events.now c.in_ok-outcomes.outcomes.items c.in_ok-outcomes.ensures.0 c.in_ok-outcomes.ensures.1
+    let outcomes = c.in_ok-outcomes.outcomes.items in
+    let end = c.in_ok-outcomes.ensures.0 in
+    let ran = run_of s (opening s) c.args.events.now outcomes end c.in_ok-outcomes.ensures.1 in
+    ap length c.deref-2.ensures.value ∙ run_len s (opening s) c.args.events.now outcomes end ran
 
 pub returns : goal.returns
 returns c =
