@@ -57,6 +57,15 @@ fn stale_lines(
     Ok(())
 }
 
+/// The first line of a refusal with so many faults: `refused: N operations, M puts, F faults`.
+fn refused(alloc: Global, history: &History, faults: usize) -> Result<Vec<u8>, Memory>
+    ensures { IfOk result (λ text. text.items ≡ refusal history.now.sessions faults []) }
+{
+    let mut text = Vec::new(alloc);
+    lines::refused(alloc, &mut text, history.len(), history.puts(), faults)?;
+    Ok(text)
+}
+
 fn accepted(alloc: Global, history: &History) -> Result<Vec<u8>, Memory>
     ensures { IfOk result (λ text. text.items
         ≡ accepted_line (count_of history.now.sessions) (put_count history.now.sessions)) }
