@@ -1,5 +1,6 @@
 use crate::building::*;
 use cops_audit::*;
+use cops_testing::pair;
 use cops_types::{History, Op, OpName, Version};
 use std::alloc::Global;
 use std::test::Fail;

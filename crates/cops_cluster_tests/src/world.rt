@@ -95,7 +95,7 @@ fn surely_open(alloc: Global) -> Option<World> {
 /// What a world shows of itself: how many operations and puts there are and how long the contexts of both clients are,
 /// and which of the two puts are settled in which of the two data centres.
 #[derive(Clone, Copy, PartialEq, Eq)]
-struct Shown {
+struct View {
     operations: usize,
     puts: usize,
     contexts: [usize; 2],
@@ -125,8 +125,8 @@ fn settled(alloc: Global, world: &World) -> Option<[bool; 4]> {
 }
 
 /// What the world shows, or none where an allocation fails.
-fn shown(alloc: Global, world: &World) -> Option<Shown> {
-    Some(Shown {
+fn shown(alloc: Global, world: &World) -> Option<View> {
+    Some(View {
         operations: world.history().len(),
         puts: world.puts(),
         contexts: [context_len(world, 0)?, context_len(world, 1)?],
@@ -135,7 +135,7 @@ fn shown(alloc: Global, world: &World) -> Option<Shown> {
 }
 
 /// What the world shows, also where one allocation fails.
-fn surely_shown(alloc: Global, world: &World) -> Option<Shown> {
+fn surely_shown(alloc: Global, world: &World) -> Option<View> {
     match shown(alloc, world) {
         None => shown(alloc, world),
         shown => shown,

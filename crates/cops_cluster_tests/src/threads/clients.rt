@@ -1,6 +1,6 @@
 use crate::threads::building::*;
 use cops_cluster::*;
-use cops_node::Outcome;
+use cops_node::{Node, Outcome};
 use cops_testing::{HoldsSteps, Meeting};
 use cops_types::{
     Dep, Deps, Gate, GateHeld, OpenGate, Point, PutRecord, Refusal, TypeFault, Version,
@@ -25,6 +25,7 @@ fn word(outcome: &Outcome, of: Version) -> &'static str {
         Outcome::Marked => "marked",
         Outcome::Settled => "settled",
         Outcome::Refused(Refusal::UnknownDc) => "no data centre",
+        Outcome::Refused(Refusal::UnknownClient) => "no client",
         Outcome::Refused(Refusal::NoYes) => "no yes",
         _ => "other",
     }
@@ -104,6 +105,41 @@ fn a_client_gets_what_it_put(rt: HostRuntime) -> Result<(), Fail> {
 }
 
 /// Whether the answer tells that a put was done. It is let go.
+/// What is told of a put and of a get of the second client of another cluster, where there is one client.
+fn of_another<R: Wait>(
+    rt: &R,
+    alloc: Global,
+    here: &Opened,
+    other: &mut Opened,
+) -> Result<[&'static str; 2], Fail> {
+    let of = Version::new(1, 0)?;
+    let client = other.clients.get_mut(1).ok_or("no second client")?;
+    let put = put(rt, alloc, &here.cluster, client, &OpenGate, b'x', of)?;
+    let get = get(rt, alloc, &here.cluster, client, b'x', of)?;
+    Ok([put, get])
+}
+
+/// What such a client is told.
+fn told_of_another<R: Wait>(
+    rt: &R,
+    alloc: Global,
+    here: &Opened,
+) -> Result<[&'static str; 2], Fail> {
+    let mut other = opened(alloc, 1, false, &[0, 0])?;
+    let told = of_another(rt, alloc, here, &mut other);
+    drop(other);
+    told
+}
+
+#[test]
+fn a_client_that_is_not_there_is_refused(rt: HostRuntime) -> Result<(), Fail> {
+    let here = opened(rt.alloc(), 1, false, &[0])?;
+    let told = told_of_another(&rt, rt.alloc(), &here);
+    drop(here);
+    assert!(rt; told? == ["no client", "no client"]);
+    Ok(())
+}
+
 fn is_done(answer: Result<Outcome, GateHeld>) -> bool {
     let is_done = matches!(&answer, Ok(Outcome::PutDone(_)));
     drop(answer);
@@ -381,6 +417,27 @@ fn mark_y_by_x<R: Wait>(
     Ok(told)
 }
 
+/// A node at which y at 2.0 waits for x at 1.0.
+fn node_of_y(alloc: Global, y: Version) -> Result<Node, TypeFault> {
+    let put = put_of(alloc, b'y', y, true)?;
+    let mut node = Node::open(alloc, 64);
+    drop(node.deliver(put));
+    Ok(node)
+}
+
+/// Whether the Yes for x at 1.0 in data centre 0 allows to mark there the dependency of y, in data centre 1, and what
+/// is no dependency of y.
+fn allowed(alloc: Global, elsewhere: &Yes, y: Version) -> Result<[bool; 3], TypeFault> {
+    let node = node_of_y(alloc, y)?;
+    let allowed = [
+        elsewhere.allows(0, &node, y, 0),
+        elsewhere.allows(1, &node, y, 0),
+        elsewhere.allows(1, &node, y, 1),
+    ];
+    drop(node);
+    Ok(allowed)
+}
+
 /// A put of y waits for x: the Yes for z marks nothing, nor does that for x of another data centre, and that for x
 /// does.
 fn waits_for_x<R: Wait + Abort>(
@@ -391,6 +448,7 @@ fn waits_for_x<R: Wait + Abort>(
     elsewhere: &Yes,
 ) -> Result<(), Fail> {
     let y = Version::new(2, 0)?;
+    assert!(*rt; allowed(alloc, elsewhere, y)? == [true, false, true]);
     assert!(*rt; deliver(rt, alloc, cluster, share, b'y', y)? == "waits");
     assert!(*rt; is_no_yes_of_z(rt, alloc, cluster, share, y)?);
     assert!(*rt; is_no_yes(rt, cluster, share, y, elsewhere));
