@@ -3,6 +3,8 @@ import json
 import os
 import random
 import re
+import resource
+import signal
 import struct
 import subprocess
 import tempfile
@@ -343,6 +345,15 @@ def copies(folder, path, lines):
     check("a copy of wrong lines", ran(kept, b"x"), ((2, b"faulty: line 1: no JSON\n", b""), []))
     check("a copy for a full device", ran(kept, data, "/dev/full"), ((4, b"", b"failed: write\n"), []))
     check("a copy in no folder", ran("/nothing/there", data), ((4, b"", b"failed: create\n"), []))
+    for name, lines_by, given in (("lines", "-", data), ("a trace", path, b"")):
+        few = subprocess.run([BUILT, "import", lines_by, os.devnull], input=given, capture_output=True, preexec_fn=short_files)
+        check(f"a copy of {name} that may not grow", (few.returncode, few.stdout, few.stderr), (4, b"", b"failed: temporary copy\n"))
+
+
+def short_files():
+    """No file of this process may have more than 10 bytes, and a write of more fails."""
+    signal.signal(signal.SIGXFSZ, signal.SIG_IGN)
+    resource.setrlimit(resource.RLIMIT_FSIZE, (10, 10))
 
 
 def generated(seed):

@@ -6,10 +6,11 @@ import subprocess
 import tempfile
 import xml.etree.ElementTree as ElementTree
 
-from traces import ROOT, check, cops, example, skip, trace
+from traces import BUILT, ROOT, check, cops, example, skip, trace
 from write_trace import TRACE_END, TRACE_GOT, TRACE_HEAD, TRACE_PUT, frame
 
 SVG = "{http://www.w3.org/2000/svg}"
+NOT_DRAWN = b"nothing was drawn: there is no such fault\n"
 
 # The label of each example's picture, and the operations that it shows, from left to right, each with the class of its card.
 PICTURES = [
@@ -108,6 +109,8 @@ def pictures():
     rendered(all_drawn)
     many_others()
     over_inputs()
+    to_standard_output()
+    not_drawn()
 
 
 def over_inputs():
@@ -122,6 +125,45 @@ def over_inputs():
                 check(f"{words[0]} over its own input", cops(words[0], same, *words[1:], name), (4, b"", b"failed: same file\n"))
             with open(same, "rb") as file, open(path, "rb") as source:
                 check(f"the input of {words[0]} is as it was", file.read() == source.read(), True)
+
+
+def to_standard_output():
+    """A picture for `-` goes to standard output, and the words to standard error."""
+    path = os.path.join(ROOT, "examples", "stale.trace")
+    words = cops("explain", path)
+    with open(os.path.join(ROOT, "docs", "stale.svg"), "rb") as file:
+        picture = file.read()
+    with tempfile.TemporaryDirectory() as folder:
+        ran = subprocess.run([BUILT, "explain", path, "--picture", "-"], stdout=subprocess.PIPE, stderr=subprocess.PIPE, cwd=folder)
+        check("a picture for -", (ran.returncode, ran.stdout, ran.stderr, os.listdir(folder)), (1, picture, words[1], []))
+    accepted = subprocess.run([BUILT, "explain", "-", "--picture", "-"], input=example("empty.trace"), stdout=subprocess.PIPE, stderr=subprocess.PIPE)
+    told = b"accepted: 0 operations, 0 puts\n" + NOT_DRAWN
+    check("no picture for -", (accepted.returncode, accepted.stdout, accepted.stderr), (0, b"", told))
+
+
+def not_drawn():
+    """Where there is no such fault the file is left empty, and where the trace is faulty as it was, or it is not made."""
+    old = b"<svg/>" * 1_000
+    with tempfile.TemporaryDirectory() as folder:
+        picture, none = os.path.join(folder, "picture"), os.path.join(folder, "none")
+        for name, words, status, left, errors in (
+            ("empty.trace", [], 0, b"", NOT_DRAWN),
+            ("stale.trace", ["--fault", "2"], 1, b"", NOT_DRAWN),
+            ("two_clients.json", [], 2, old, b"this looks like JSON Lines, which `cops import` reads\n"),
+        ):
+            with open(picture, "wb") as file:
+                file.write(old)
+            path = os.path.join(ROOT, "examples", name)
+            got = cops("explain", path, *words, "--picture", picture)
+            with open(picture, "rb") as file:
+                check(f"nothing drawn of {name}", (got[0], got[2], file.read() == left), (status, errors, True))
+            check(f"nothing drawn anew of {name}", cops("explain", path, *words, "--picture", none), got)
+            check(f"the new file of {name}", os.path.exists(none), status != 2)
+            if os.path.exists(none):
+                os.remove(none)
+        path = os.path.join(ROOT, "examples", "stale.trace")
+        check("a picture in no folder", cops("explain", path, "--picture", "/nothing/there"), (4, b"", b"failed: open\n"))
+        check("a picture to a full device", cops("explain", path, "--picture", "/dev/full")[::2], (4, b"failed: write\n"))
 
 
 def many_others():

@@ -20,7 +20,7 @@ from cut_traces import cut_traces  # noqa: E402
 from large_traces import each_kind, generated, little_memory, long_chain, long_traces, many_rounds, many_suspects  # noqa: E402
 from pictures import pictures  # noqa: E402
 from redis import redis  # noqa: E402
-from traces import ROOT, audited, by_stalling_pipe, check, cops, ended, example, ran, skip, trace  # noqa: E402
+from traces import BUILT, ROOT, audited, by_stalling_pipe, check, cops, ended, example, ran, skip, trace  # noqa: E402
 from client import message, talk  # noqa: E402
 from events import scenario  # noqa: E402
 from imports import imports  # noqa: E402
@@ -345,20 +345,76 @@ def scripted(*scripts, data_centres=1, **more):
 
 
 def replaced():
-    """A trace that is there stays where a scenario is faulty, where there is none none is left, and one is replaced as a whole where it runs."""
+    """A faulty scenario leaves an empty file, whether there was a trace or none, and a trace is replaced as a whole where it runs."""
     old = b"what was there\n" * 1_000
     with tempfile.NamedTemporaryFile(suffix=".trace") as file:
         file.write(old)
         file.flush()
         check("a faulty scenario", cops("run", "-", file.name, stdin=b"{}"), (2, b"faulty: scenario field data_centres\n", b""))
         with open(file.name, "rb") as there:
-            check("the trace that was there", there.read() == old, True)
+            check("the file of its trace", there.read(), b"")
+        with open(file.name, "wb") as there:
+            there.write(old)
         check("a scenario that runs", cops("run", "-", file.name, stdin=scripted(data_centres=2)), (0, b"accepted: 0 operations, 0 puts\n", b""))
         check("the trace in its place", cops("audit", file.name), (0, b"accepted: 0 operations, 0 puts\n", b""))
     with tempfile.TemporaryDirectory() as folder:
         trace = os.path.join(folder, "trace")
         check("a faulty scenario for a new trace", cops("run", "-", trace, stdin=b"{}"), (2, b"faulty: scenario field data_centres\n", b""))
-        check("no trace where there was none", os.listdir(folder), [])
+        check("an empty file where there was none", os.path.getsize(trace), 0)
+        os.remove(trace)
+        check("no scenario to open for a new trace", cops("run", "/nothing/there", trace), (4, b"", b"failed: open\n"))
+        check("no file where no scenario was opened", os.listdir(folder), [])
+
+
+# Commands whose input is an example, by name or by standard input, and what is put behind for the shell: each writes to its input.
+OVER_INPUTS = [
+    ("put_and_get.jsonl", "import - FILE < FILE"),
+    ("put_and_get.jsonl", "import FILE - >> FILE"),
+    ("put_and_get.jsonl", "import - - < FILE 1<> FILE"),
+    ("two_clients.json", "run - FILE < FILE"),
+    ("two_clients.json", "run - - < FILE >> FILE"),
+    ("two_clients.json", "run FILE - >> FILE"),
+    ("two_clients.json", "run FILE - 1<> FILE"),
+    ("two_clients.json", "run FILE NEW >> FILE"),
+    ("stale.trace", "explain - --picture FILE < FILE"),
+    ("stale.trace", "explain FILE --picture - >> FILE"),
+    ("stale.trace", "explain FILE --picture NEW >> FILE"),
+    ("stale.trace", "audit FILE >> FILE"),
+    ("stale.trace", "show FILE 1<> FILE"),
+    ("stale.trace", "< FILE >> FILE"),
+]
+
+
+def over_inputs():
+    """No command writes to the file that it reads, however that is given: it says so, and the file stays as it was."""
+    for name, words in OVER_INPUTS:
+        with tempfile.TemporaryDirectory() as folder:
+            path, new = os.path.join(folder, "file"), os.path.join(folder, "new")
+            with open(path, "wb") as file:
+                file.write(example(name))
+            line = f"{BUILT} {words.replace('FILE', path).replace('NEW', new)}"
+            ended = subprocess.run(["sh", "-c", line], stdin=subprocess.DEVNULL, stdout=subprocess.PIPE, stderr=subprocess.PIPE)
+            with open(path, "rb") as file:
+                left = file.read()
+            got = ended.returncode, ended.stdout, ended.stderr, left == example(name), os.listdir(folder)
+            check(f"over its input: {words}", got, (4, b"", b"failed: same file\n", True, ["file"]))
+    with open(os.devnull, "rb") as none:
+        ended = subprocess.run([BUILT, "run", "-", os.devnull], stdin=none, stdout=subprocess.PIPE, stderr=subprocess.PIPE)
+    check("a device is no file that is lost", (ended.returncode, ended.stdout, ended.stderr), (2, b"faulty: scenario is not JSON\n", b""))
+
+
+def lines_in_place_of_a_trace():
+    """What begins as JSON Lines do is told so on standard error, and the answer is that of any other input."""
+    line = b"this looks like JSON Lines, which `cops import` reads\n"
+    for data in (b'{"client":1,"get":"k"}\n', b"[1]", b"\xef\xbb\xbf{}"):
+        for words in (["audit", "-"], [], ["show", "-"], ["explain", "-"]):
+            ended = subprocess.run([BUILT, *words], input=data, stdout=subprocess.PIPE, stderr=subprocess.PIPE)
+            out = b"faulty: cut at 0\n" if len(data) < 4 else b"faulty: bad length at 0\n"
+            check(f"{words} of {data}", (ended.returncode, ended.stdout, ended.stderr), (2, out, line))
+    ended = subprocess.run([BUILT, "audit", "-", "--so-far"], input=b"{", stdout=subprocess.PIPE, stderr=subprocess.PIPE)
+    check("so far of a brace", (ended.returncode, ended.stdout, ended.stderr), (0, b"cut at 0\nso far: clean\n", line))
+    for data in (b"\xef\xbb", b"\xef\xbb\0{", b"", b" {"):
+        check(f"no line on {data}", cops(stdin=data)[2], b"")
 
 
 def random_script(pick, operations, keys):
@@ -762,7 +818,7 @@ def no_thread():
 
 
 for tests in (
-    examples, long_chain, many_rounds, faults, cut_traces, shown, scenarios, refusals, faulty_scenarios, replaced, scripts, mixed_scripts, working_clusters,
+    examples, long_chain, many_rounds, faults, cut_traces, shown, scenarios, refusals, faulty_scenarios, replaced, over_inputs, lines_in_place_of_a_trace, scripts, mixed_scripts, working_clusters,
     plain_cluster.random_worlds, many_workers, served, replies, strange_peers, sent_behind, idle_clients, listens_here_alone, words, devices,
     on_a_terminal, generated, long_traces, each_kind, many_suspects, little_memory, no_thread, imports, pictures, redis, definition_files, wrong_edits,
     plain.rows, plain.random_histories,

@@ -27,10 +27,10 @@ def all_of(terminal):
         told += piece
 
 
-def slowly_audited(words, data):
-    """The status, the output and what is told last on a terminal of an audit that waits for the second half of its input."""
+def slowly(words, data):
+    """The status, the output and what is written on a terminal of a command that waits for the second half of its input."""
     terminal, errors = pty.openpty()
-    process = subprocess.Popen([BUILT, "audit", "-", *words], stdin=subprocess.PIPE, stdout=subprocess.PIPE, stderr=errors)
+    process = subprocess.Popen([BUILT, *words], stdin=subprocess.PIPE, stdout=subprocess.PIPE, stderr=errors)
     os.close(errors)
     with process.stdin as pipe:
         pipe.write(data[: len(data) // 2])
@@ -39,14 +39,43 @@ def slowly_audited(words, data):
         pipe.write(data[len(data) // 2 :])
     out = process.stdout.read()
     told = all_of(terminal)
-    return process.wait(), out, told[told.rfind(b"\r", 0, told.rfind(b"\r")) :]
+    return process.wait(), out, told
+
+
+def last_line(ended):
+    """The same with what is told last on the terminal."""
+    status, out, told = ended
+    return status, out, told[told.rfind(b"\r", 0, told.rfind(b"\r")) :]
+
+
+def no_words():
+    """What stands on a terminal, which is also standard input, of a program without words, and how it ends."""
+    terminal, other = pty.openpty()
+    process = subprocess.Popen([BUILT], stdin=other, stdout=subprocess.PIPE, stderr=other)
+    os.close(other)
+    told = os.read(terminal, 4096)
+    # (the end of the input)
+    os.write(terminal, b"\x04")
+    out = process.stdout.read()
+    ended = process.wait()
+    os.close(terminal)
+    return told, ended, out
 
 
 def on_a_terminal():
-    """A line tells how many operations and bytes were read, and is removed before the answer."""
+    """A line tells how much was read, and is removed before the answer."""
     whole = example("put_and_get.trace")
     line = b"\r2 operations, 66 bytes\r\x1b[K"
-    check("a slow audit", slowly_audited([], whole), (0, b"accepted: 2 operations, 1 puts\n", line))
-    check("a slow audit so far", slowly_audited(["--so-far"], whole[:57]), (0, b"cut at 57\nso far: clean\n", b"\r2 operations, 57 bytes\r\x1b[K"))
+    check("a slow audit", last_line(slowly(["audit", "-"], whole)), (0, b"accepted: 2 operations, 1 puts\n", line))
+    so_far = last_line(slowly(["audit", "-", "--so-far"], whole[:57]))
+    check("a slow audit so far", so_far, (0, b"cut at 57\nso far: clean\n", b"\r2 operations, 57 bytes\r\x1b[K"))
     bad = whole[:-1] + b"\3"
-    check("a slow audit of a faulty trace", slowly_audited([], bad), (2, b"faulty: bad count at 57\n", line))
+    check("a slow audit of a faulty trace", last_line(slowly(["audit", "-"], bad)), (2, b"faulty: bad count at 57\n", line))
+    check("a slow explanation", last_line(slowly(["explain", "-"], whole)), (0, b"accepted: 2 operations, 1 puts\n", line))
+    lines = b'{"client":1,"get":"k"}\n{"client":2,"get":"k"}\n'
+    status, out, told = slowly(["import", "-", os.devnull], lines)
+    check("a slow import", (status, out), (0, b"client 0 1\nclient 1 2\nimported: 2 operations, 2 clients\n"))
+    check("the lines of a slow import", (b"\r\x1b[Kcopying: 2 lines, 46 bytes" in told, told.endswith(b"\r\x1b[K")), (True, True))
+    waits = b"waiting for a trace on standard input\r\n"
+    check("no words on a terminal", no_words(), (waits, 2, b"faulty: cut at 0\n"))
+    check("no words by a pipe", last_line(slowly([], whole)), (0, b"accepted: 2 operations, 1 puts\n", line))

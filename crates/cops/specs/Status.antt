@@ -1,99 +1,125 @@
--- The statuses that the program ends with, and what they say.
-use Rattle.std.specs.Prelude.{◌≡◌, ◌≢◌, ◌≤◌, ℕ, List, Option, Ok, Err}
+-- The statuses that the program ends with, and what they say of the input and of what the writers hold before and afterwards: `made` is what
+-- the writer of a trace or a picture holds, and the others what was printed.
+use Rattle.std.specs.Prelude.{◌≡◌, ◌≢◌, ◌≤◌, ℕ, Bool, true, false, List, [], Option, Some, None, Ok, Err}
+use Rattle.std.specs.Global.{Vec}
+use Rattle.std.specs.Io.KnownBytes.{Appends, Keeps}
 use Rattle.cops_types.specs.declared.limits.TheConstants.{MAX_WORKERS}
 use Rattle.cops_types.specs.declared.selection.Selection.{Selection}
 use Rattle.cops_line.specs.declared.job.Job.{Job}
 use Rattle.cops_line.specs.declared.job.Job.TheVariants.{Audit, SoFar, Explain, Show, Import, Run, Serve}
 use Rattle.cops_trace.specs.declared.fault.TraceFault.{TraceFault}
 use Rattle.cops_trace.specs.declared.fault.TraceFault.TheVariants.{Cut}
+use Rattle.cops_trace.specs.Live.{IsCutShort}
 use Rattle.cops_trace.specs.Text.{ATrace}
 use Rattle.cops_trace.specs.Answer.{Says}
 use Rattle.cops_scenario.specs.Scenario.{AScenario}
 use Rattle.cops_scenario.specs.File.{IsTextOf}
 use Rattle.cops_command.specs.Scenario.{TellsNone}
-use Rattle.cops_stream.specs.declared.audit.Answer.TheVariants.{Refused}
-use Rattle.cops_stream.specs.Audit.{AuditSays}
-use Rattle.cops_stream.specs.Explain.{ExplainSays}
-use Rattle.cops_stream.specs.SoFar.{IsSoundSoFar, SaysSoFar}
+use Rattle.cops_command.specs.Status.{number}
+use Rattle.cops_command.specs.declared.status.Status.TheVariants.{Accepted, Faulty}
+use Rattle.cops_stream.specs.declared.audit.Answer.{Answer}
+use Rattle.cops_stream.specs.declared.audit.Answer.TheVariants as answer
+use Rattle.cops_stream.specs.Audit.{Writes}
+use Rattle.cops_stream.specs.Explain.{PictureSays, WritesExplained}
+use Rattle.cops_stream.specs.Show.{Shows}
+use Rattle.cops_stream.specs.SoFar.{IsSoundSoFar, WritesSoFar}
 use Rattle.cops_stream.specs.Convergent.{SpellsConvergent}
 use Rattle.cops_import.specs.Faults.{IsFirstFaulty}
 use Rattle.cops_import.specs.Imports.{IsImport}
+use Rattle.cops_import.specs.Words.{faulty_line, told_text}
 use Rattle.cops_import.specs.declared.fault.ImportFault.{ImportFault}
 use Rattle.cops_import.specs.declared.fault.ImportFault.TheVariants.{Line}
 use Rattle.cops_import.specs.declared.fault.LineFault.{LineFault}
-use Rattle.cops_run_stream.specs.Running.{IsLeft}
+use Rattle.cops_run_stream.specs.Running.{EndsWell as HasRun}
 use Rattle.cops_serve.specs.Serving.{IsServed}
 
 -- the bytes are a trace's text
 abbrev pub TellsTrace : List ℕ → Type 0
 TellsTrace bytes = (t : ATrace) × Says bytes (Ok t)
 
--- the bytes tell a scenario, and there is a run of it, with its trace, which is accepted
-abbrev pub TellsRun : List ℕ → Type 0
-TellsRun bytes = (s : AScenario) × (t : ATrace) × (told : List ℕ) × IsTextOf bytes s × IsLeft s t told
-
--- the bytes tell a scenario, and there is a report on so many sessions of clients of its world, which is accepted
-abbrev pub TellsServed : ℕ → List ℕ → Type 0
-TellsServed sessions bytes = (s : AScenario) × (text : List ℕ) × IsTextOf bytes s × IsServed sessions s text
-
--- the lines of the bytes tell one trace, and its text went out
-abbrev pub TellsImport : List ℕ → Type 0
-TellsImport bytes = (old new : Option (List ℕ)) × (names : List (List ℕ)) × (operations : ℕ) × IsImport bytes old new names operations
-
--- what is so of the bytes of a job's input where the job ends as accepted
-abbrev pub EndsWell : Job → List ℕ → Type 0
-EndsWell (Audit trace workers) bytes = SpellsConvergent bytes
-EndsWell (SoFar trace) bytes = IsSoundSoFar bytes
-EndsWell (Explain trace faults picture) bytes = SpellsConvergent bytes
-EndsWell (Show trace) bytes = TellsTrace bytes
-EndsWell (Import lines trace) bytes = TellsImport bytes
-EndsWell (Run scenario trace) bytes = TellsRun bytes
-EndsWell (Serve port scenario sessions idle) bytes = TellsServed sessions bytes
-
--- the bytes are those of a trace that is refused
-abbrev pub TellsRefused : List ℕ → Type 0
-TellsRefused bytes = (told : List ℕ) × AuditSays bytes Refused told
-
--- the bytes are those of a trace that is refused, or whose records before a cut are refused so far
-abbrev pub TellsRefusedSoFar : List ℕ → Type 0
-TellsRefusedSoFar bytes = (told : List ℕ) × SaysSoFar bytes Refused told
-
--- the bytes are those of a trace that is refused, of which these faults are explained
-abbrev pub TellsExplained : Selection → List ℕ → Type 0
-TellsExplained faults bytes = (told : List ℕ) × ExplainSays faults bytes Refused told
-
--- what is so of them where it ends as refused, as audits and explanations alone do
-abbrev pub EndsRefused : Job → List ℕ → Type 0
-EndsRefused (Audit trace workers) bytes = TellsRefused bytes
-EndsRefused (SoFar trace) bytes = TellsRefusedSoFar bytes
-EndsRefused (Explain trace faults picture) bytes = TellsExplained faults bytes
-EndsRefused job bytes = ⊥
-
--- the bytes are no trace's text, by the fault that is told
+-- the bytes are no trace's text, by the fault that is said
 abbrev pub TellsNoTrace : List ℕ → Type 0
 TellsNoTrace bytes = (e : TraceFault) × Says bytes (Err e)
 
--- the same by a fault that is no cut
+-- they are none by a fault that is no cut
 abbrev pub TellsOtherFault : List ℕ → Type 0
 TellsOtherFault bytes = (e : TraceFault) × ((offset : ℕ) → e ≢ Cut offset) × Says bytes (Err e)
 
--- a line of the bytes is wrong, and none before it
-abbrev pub TellsFaultyLine : List ℕ → Type 0
-TellsFaultyLine bytes = (line : ℕ) × (fault : LineFault) × IsFirstFaulty bytes line fault
+-- the bytes of a picture, and none where there is none
+abbrev pub drawn_text : Option (Vec ℕ) → List ℕ
+drawn_text None = []
+drawn_text (Some picture) = picture.items
 
--- an import's fault is that of a line
-abbrev pub IsLine : ImportFault → Type 0
-IsLine e = (line : ℕ) × (fault : LineFault) × (e ≡ Line line fault)
+-- where a picture is to be drawn its writer gained that of the fault that is asked for, which is none where there is no such fault; else it
+-- holds what it held
+abbrev pub Draws : Bool → Selection → List ℕ → Option (List ℕ) → Option (List ℕ) → Type 0
+Draws false asked bytes made_old made_new = Keeps made_old made_new
+Draws true asked bytes made_old made_new = (picture : Option (Vec ℕ)) × PictureSays asked bytes picture × Appends made_old made_new (drawn_text picture)
 
--- what is so of them where it ends as faulty: they are no trace's text, or no scenario's, or a line of them is wrong; a cut is no fault of what is asked so far
-abbrev pub EndsFaulty : Job → List ℕ → Type 0
-EndsFaulty (Audit trace workers) bytes = TellsNoTrace bytes
-EndsFaulty (SoFar trace) bytes = TellsOtherFault bytes
-EndsFaulty (Explain trace faults picture) bytes = TellsNoTrace bytes
-EndsFaulty (Show trace) bytes = TellsNoTrace bytes
-EndsFaulty (Import lines trace) bytes = TellsFaultyLine bytes
-EndsFaulty (Run scenario trace) bytes = TellsNone bytes
-EndsFaulty (Serve port scenario sessions idle) bytes = TellsNone bytes
+-- what is explained of the bytes was printed, and drawn where that is asked
+abbrev pub Explains : Bool → Selection → List ℕ → Answer → Option (List ℕ) → Option (List ℕ) → Option (List ℕ) → Option (List ℕ) → Type 0
+Explains is_drawn asked bytes answer made_old made_new old new = WritesExplained asked bytes answer old new × Draws is_drawn asked bytes made_old made_new
+
+-- a picture is to be drawn
+abbrev pub is_named : {A : Type 0} → Option A → Bool
+is_named None = false
+is_named (Some name) = true
+
+-- the lines of the bytes tell one trace, whose text its writer gained, and the names of its clients were printed
+pub record Imports (bytes : List ℕ) (made_old made_new old new : Option (List ℕ)) : Type 0 where
+  pub names : List (List ℕ)
+  pub operations : ℕ
+  pub is_import : IsImport bytes made_old made_new names operations
+  pub printed : Appends old new (told_text names operations)
+
+-- the line of a line that is wrong was printed
+abbrev pub PrintsLine : ImportFault → Option (List ℕ) → Option (List ℕ) → Type 0
+PrintsLine e old new = (line : ℕ) × (fault : LineFault) × (e ≡ Line line fault) × Appends old new (faulty_line line fault)
+
+-- a line of the bytes is wrong, and none before it, which was printed; the writer of the trace gained some first bytes of a trace's text, fewer
+-- than all
+pub record StopsAtLine (bytes : List ℕ) (made_old made_new old new : Option (List ℕ)) : Type 0 where
+  pub line : ℕ
+  pub fault : LineFault
+  pub is_first : IsFirstFaulty bytes line fault
+  pub printed : Appends old new (faulty_line line fault)
+  pub written : ℕ
+  pub cut : IsCutShort made_old made_new written
+
+-- the bytes tell a scenario, and a report on so many sessions of clients of its world, which is accepted, was printed
+abbrev pub HasServed : ℕ → List ℕ → Option (List ℕ) → Option (List ℕ) → Type 0
+HasServed sessions bytes old new = (s : AScenario) × IsTextOf bytes s × ((text : List ℕ) × IsServed sessions s text × Appends old new text)
+
+-- What is so where a job ends as accepted: of its input, and of what the writers gained. What makes nothing leaves the writer for it as it was.
+abbrev pub EndsWell : Job → List ℕ → Option (List ℕ) → Option (List ℕ) → Option (List ℕ) → Option (List ℕ) → Type 0
+EndsWell (Audit trace workers) bytes made_old made_new old new = SpellsConvergent bytes × Writes bytes answer.Accepted old new × (made_new ≡ made_old)
+EndsWell (SoFar trace) bytes made_old made_new old new = IsSoundSoFar bytes × WritesSoFar bytes answer.Accepted old new × (made_new ≡ made_old)
+EndsWell (Explain trace faults picture) bytes made_old made_new old new =
+    SpellsConvergent bytes × Explains (is_named picture) faults bytes answer.Accepted made_old made_new old new
+EndsWell (Show trace) bytes made_old made_new old new = TellsTrace bytes × Shows bytes (number Accepted) old new × (made_new ≡ made_old)
+EndsWell (Import lines trace) bytes made_old made_new old new = Imports bytes made_old made_new old new
+EndsWell (Run scenario trace) bytes made_old made_new old new = HasRun bytes made_old made_new old new
+EndsWell (Serve port scenario sessions idle) bytes made_old made_new old new = HasServed sessions bytes old new × (made_new ≡ made_old)
+
+-- what is so where it ends as refused, as audits and explanations alone do
+abbrev pub EndsRefused : Job → List ℕ → Option (List ℕ) → Option (List ℕ) → Option (List ℕ) → Option (List ℕ) → Type 0
+EndsRefused (Audit trace workers) bytes made_old made_new old new = Writes bytes answer.Refused old new × (made_new ≡ made_old)
+EndsRefused (SoFar trace) bytes made_old made_new old new = WritesSoFar bytes answer.Refused old new × (made_new ≡ made_old)
+EndsRefused (Explain trace faults picture) bytes made_old made_new old new =
+    Explains (is_named picture) faults bytes answer.Refused made_old made_new old new
+EndsRefused job bytes made_old made_new old new = ⊥
+
+-- What is so where it ends as faulty: the bytes are no trace's text, or no scenario's, or a line of them is wrong; a cut is no fault of what is
+-- asked so far. No trace is whole.
+abbrev pub EndsFaulty : Job → List ℕ → Option (List ℕ) → Option (List ℕ) → Option (List ℕ) → Option (List ℕ) → Type 0
+EndsFaulty (Audit trace workers) bytes made_old made_new old new = TellsNoTrace bytes × Writes bytes answer.Faulty old new × (made_new ≡ made_old)
+EndsFaulty (SoFar trace) bytes made_old made_new old new = TellsOtherFault bytes × WritesSoFar bytes answer.Faulty old new × (made_new ≡ made_old)
+EndsFaulty (Explain trace faults picture) bytes made_old made_new old new =
+    TellsNoTrace bytes × (made_new ≡ made_old)
+EndsFaulty (Show trace) bytes made_old made_new old new = TellsNoTrace bytes × Shows bytes (number Faulty) old new × (made_new ≡ made_old)
+EndsFaulty (Import lines trace) bytes made_old made_new old new = StopsAtLine bytes made_old made_new old new
+EndsFaulty (Run scenario trace) bytes made_old made_new old new = TellsNone bytes × Keeps made_old made_new
+EndsFaulty (Serve port scenario sessions idle) bytes made_old made_new old new = TellsNone bytes × (made_new ≡ made_old)
 
 -- the workers of an audit are as many as there may be
 abbrev pub MayWork : Job → Type 0

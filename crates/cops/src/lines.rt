@@ -2,10 +2,10 @@
 //! standard input or by a pipe. No clause speaks of what a file has.
 use cops_command::Status;
 use std::fs::{File, OpenOptions};
-use std::io::{Input, Read, Seek, Write};
-use std::os::unix::fs::{MetadataExt, OpenOptionsExt};
+use std::io::{ErrorKind, Read, Seek, Write};
+use std::os::unix::fs::OpenOptionsExt;
 use std::rt::{Env, Files};
-use std::{env, fs};
+use std::{env, fs, io};
 
 /// How the name of a copy, or of a draft, begins; behind it stands the number of the process.
 const COPY: &str = "cops-lines-";
@@ -24,27 +24,24 @@ const READS: u64 = 1 << 40;
 pub enum NoLines {
     /// Memory ran out.
     Memory,
-    /// The file of that name could not be opened.
-    Open,
     /// The copy could not be made.
     Create,
     /// What is to be copied could not be read, or the file could not be read again.
     Read,
     /// The copy could not be written.
-    Write,
+    Copy,
     /// What is to be copied did not end within 2^40 reads.
     Endless,
 }
 
 impl NoLines {
-    /// The word that tells it.
+    /// The word that says it.
     pub fn word(self) -> &'static str {
         match self {
             NoLines::Memory => "memory",
-            NoLines::Open => "open",
             NoLines::Create => "create",
             NoLines::Read => "read",
-            NoLines::Write => "write",
+            NoLines::Copy => "temporary copy",
             NoLines::Endless => "endless",
         }
     }
@@ -58,21 +55,19 @@ impl NoLines {
     }
 }
 
-/// The file of lines of that name, or a copy of standard input where that is `-`. Of what is no plain file, as a pipe,
-/// it is a copy too.
-pub fn opened<R>(rt: &R, name: &str, process: u32) -> Result<File, NoLines>
-where
-    R: Files<File = File> + Env + Input + AllocGlobal,
-{
-    if name == "-" {
-        return copied(rt, rt.reader(), process);
+/// Why nothing was created: memory, where an allocation failed.
+fn not_created(fault: io::Error) -> NoLines {
+    match fault.kind() {
+        ErrorKind::OutOfMemory => NoLines::Memory,
+        _ => NoLines::Create,
     }
-    let Ok(file) = File::open(rt, name) else {
-        return Err(NoLines::Open);
-    };
+}
+
+/// Whether it is a plain file, which can be read twice.
+pub fn is_plain(file: &File) -> bool {
     match file.metadata() {
-        Ok(metadata) if metadata.is_file() => Ok(file),
-        _ => copied(rt, file, process),
+        Ok(metadata) => metadata.is_file(),
+        Err(_) => false,
     }
 }
 
@@ -84,19 +79,11 @@ pub fn rewound(mut file: File) -> Result<File, NoLines> {
     }
 }
 
-/// Whether the file of that name is this one.
-pub fn has_name<R: Files>(rt: &R, file: &File, name: &str) -> bool {
-    match (file.metadata(), fs::metadata(rt, name)) {
-        (Ok(here), Ok(there)) => here.dev() == there.dev() && here.ino() == there.ino(),
-        _ => false,
-    }
-}
-
 /// A copy of all that comes, at its beginning.
-fn copied<R, I>(rt: &R, mut input: I, process: u32) -> Result<File, NoLines>
+pub fn copied<R, I>(rt: &R, input: &mut I, process: u32) -> Result<File, NoLines>
 where
     R: Files<File = File> + Env + AllocGlobal,
-    I: Read + Drop,
+    I: Read,
 {
     let mut copy = created(rt, process)?;
     let mut piece = [0u8; PIECE];
@@ -108,7 +95,7 @@ where
             return rewound(copy);
         }
         if copy.write_all(&piece[..count]).is_err() {
-            return Err(NoLines::Write);
+            return Err(NoLines::Copy);
         }
     }
     Err(NoLines::Endless)
@@ -120,8 +107,9 @@ pub fn created<R>(rt: &R, process: u32) -> Result<File, NoLines>
 where
     R: Files<File = File> + Env + AllocGlobal,
 {
-    let Ok(mut path) = env::temp_dir(rt) else {
-        return Err(NoLines::Create);
+    let mut path = match env::temp_dir(rt) {
+        Ok(path) => path,
+        Err(fault) => return Err(not_created(fault)),
     };
     let Ok(name) = format!(in rt.alloc(); "{COPY}{process}") else {
         return Err(NoLines::Memory);
@@ -131,11 +119,12 @@ where
     }
     let mut options = OpenOptions::new();
     options.read(true).write(true).create_new(true).mode(MODE);
-    let Ok(file) = options.open(rt, path.as_path()) else {
-        return Err(NoLines::Create);
+    let file = match options.open(rt, path.as_path()) {
+        Ok(file) => file,
+        Err(fault) => return Err(not_created(fault)),
     };
     match fs::remove_file(rt, path.as_path()) {
         Ok(()) => Ok(file),
-        Err(_) => Err(NoLines::Create),
+        Err(fault) => Err(not_created(fault)),
     }
 }

@@ -1,35 +1,26 @@
-//! The program `cops`: it reads the words of the command line, opens what they name, runs the command over it, and ends
-//! with the command's status: 0 accepted, 1 refused, 2 faulty input or usage, 3 want of memory, 4 a device's fault.
+//! The program `cops`: it reads the words of the command line, opens what they name, inputs before outputs, runs the
+//! command over that, and ends with the command's status: 0 accepted, 1 refused, 2 faulty input or usage, 3 out of
+//! memory, 4 a device's fault.
 #![tactic(auto)]
 
-ghost use Rattle.std.specs.Prelude.{◌≡◌, ◌≢◌, ◌≤◌, ◌⊎◌, IfSome, Ok, Err};
-ghost use Rattle.cops_types.specs.declared.limits.TheConstants.{MAX_WORKERS};
-ghost use Rattle.cops_stream.specs.Audit.{answer_status};
-ghost use Rattle.cops_stream.specs.Convergent.{SpellsConvergent};
-ghost use Rattle.cops_stream.specs.SoFar.{IsSoundSoFar};
-ghost use Rattle.cops_command.specs.Scenario.{TellsNone};
-ghost use Rattle.cops_command.specs.Status.{number, number as status_number};
-ghost use Rattle.cops_command.specs.declared.status.Status.TheVariants.{Accepted, Failed, Faulty, Refused};
-ghost use Rattle.cops.specs.Status.{EndsFaulty, EndsRefused, EndsWell, IsLine, MayWork, TellsExplained, TellsFaultyLine, TellsImport, TellsNoTrace, TellsOtherFault, TellsRefused, TellsRefusedSoFar, TellsRun, TellsServed, TellsTrace};
+ghost use Rattle.std.specs.Prelude.{◌≡◌};
+ghost use Rattle.cops_command.specs.Status.{number};
 
+mod command;
+mod input;
 mod lines;
 mod output;
 mod progress;
 
-use crate::lines::{NoLines, created, has_name, opened, rewound};
-use crate::output::{Draft, Renewed};
-use crate::progress::{Cleared, Watched, begun, remove};
-use cops_command::{Status, print};
-use cops_import::{
-    ImportFault, Imported, LineFault, Unimported, count_clients, faulty_line, import_stream,
-};
+use crate::command::{Ended, Outputs, command};
+use crate::input::{Source, plain_output};
+use crate::lines::{NoLines, copied, created, is_plain, rewound};
+use crate::output::{Draft, Made, Printed, Renewed};
+use crate::progress::{Cleared, Reading, Watched, begun, remove};
+use cops_command::Status;
+use cops_import::{ImportFault, count_clients};
 use cops_line::{Job, line};
-use cops_run_stream::{Streamed, run_stream};
-use cops_serve::serve_stream;
-use cops_stream::{
-    Answer, Explained, StreamFault, audit_so_far, audit_stream, explain_stream, show_stream,
-};
-use cops_types::{Counted, Memory, OpenGate, Selection};
+use cops_types::Counted;
 use std::alloc::AllocError;
 use std::fs::File;
 use std::io::{BufWriter, ErrorKind, IsTerminal, Read, Write};
@@ -41,8 +32,14 @@ use std::thread::Threads;
 use std::time::{Clock, Instant};
 use std::{env, fs, io, process};
 
-/// Why a file is not written that is the one which is read.
+/// What is said where a command would write to the file that it reads.
 const SAME_FILE: &str = "same file";
+
+/// What is said of an input that is no trace and begins as JSON Lines do.
+const LOOKS_LIKE_LINES: &str = "this looks like JSON Lines, which `cops import` reads";
+
+/// What is said where there are no words, and standard input is a terminal.
+const WAITS: &str = "waiting for a trace on standard input";
 
 /// Prints why the program failed, and gives the status.
 fn failed<R: Eprint>(rt: &R, why: &str, status: Status) -> u8
@@ -52,368 +49,48 @@ fn failed<R: Eprint>(rt: &R, why: &str, status: Status) -> u8
     status.number()
 }
 
-/// The status that an audit ends with; a line tells why there is no answer.
-fn ended<R: Eprint + Clock>(
-    rt: &R,
-    audited: Result<Answer, StreamFault>,
-    begun: Option<Instant>,
-) -> u8
-    ensures accepted { result ≡ number Accepted → audited ≡ Ok Answer.Accepted }
-    ensures refused { result ≡ number Refused → audited ≡ Ok Answer.Refused }
-    ensures faulty { result ≡ number Faulty → (audited ≡ Ok Answer.Faulty) ⊎ (audited ≡ Err StreamFault.BadWorkers) }
-{
-    if audited.is_err() {
-        remove(rt, begun);
-    }
-    match audited {
-        Ok(answer) => answer.status().number(),
-        Err(StreamFault::Memory) => failed(rt, "memory", Status::NoMemory),
-        Err(StreamFault::BadWorkers) => failed(rt, "workers", Status::Faulty),
-        Err(StreamFault::Held) => failed(rt, "held", Status::Failed),
-        Err(StreamFault::ReadFailed) => failed(rt, "read", Status::Failed),
-        Err(StreamFault::WriteFailed) => failed(rt, "write", Status::Failed),
-    }
+/// What a job makes a trace or a picture in, as it was opened: nothing, standard output, or a file with its name.
+#[derive(Drop)]
+enum Target<'a> {
+    Nothing,
+    Standard,
+    File(&'a str, Renewed),
 }
 
-/// Audits the input by so many workers, and gives the status: accepted only where the bytes spell one history, and it
-/// is causally convergent.
-fn audit<R, I>(rt: &R, input: I, workers: u8, is_told: bool) -> u8
-where
-    R: Print + Eprint + AllocGlobal + Threads + Wait + Sync + Clock,
-    I: Read + Drop,
-    ensures accepted { result ≡ number Accepted → IfSome (I.remaining input) SpellsConvergent }
-    ensures refused { result ≡ number Refused → IfSome (I.remaining input) TellsRefused }
-    ensures faulty { result ≡ number Faulty → (1 ≤ workers) → (workers ≤ MAX_WORKERS) → IfSome (I.remaining input) TellsNoTrace }
-{
-    let begun = begun(rt, is_told);
-    let mut reader = Counted::new(Watched::new(rt, input, begun));
-    let mut writer = Counted::new(Cleared::new(rt, io::writer(rt), begun));
-    let audited = audit_stream(rt, rt.alloc(), &mut reader, &mut writer, workers, &OpenGate);
-    ended(rt, audited, begun)
-}
-
-/// Audits the input, which may be cut, and gives the status: accepted only where the bytes spell one history, and it is
-/// causally convergent, or where they are cut after records without a lasting fault.
-fn so_far<R, I>(rt: &R, input: I, is_told: bool) -> u8
-where
-    R: Print + Eprint + AllocGlobal + Clock,
-    I: Read + Drop,
-    ensures accepted { result ≡ number Accepted → IfSome (I.remaining input) IsSoundSoFar }
-    ensures refused { result ≡ number Refused → IfSome (I.remaining input) TellsRefusedSoFar }
-    ensures faulty { result ≡ number Faulty → IfSome (I.remaining input) TellsOtherFault }
-{
-    let begun = begun(rt, is_told);
-    let mut reader = Counted::new(Watched::new(rt, input, begun));
-    let mut writer = Counted::new(Cleared::new(rt, io::writer(rt), begun));
-    let audited = audit_so_far(rt.alloc(), &mut reader, &mut writer);
-    ended(rt, audited, begun)
-}
-
-/// Explains the faults of the input that are asked for, draws the one of them, or the first, to the file of a name that
-/// is given, and gives the status of an audit.
-fn explain<R, I>(rt: &R, input: I, faults: Selection, name: Option<&str>) -> u8
-where
-    R: Files<File = File> + Print + Eprint + AllocGlobal + Clock,
-    I: Read + Drop,
-    ensures accepted { result ≡ number Accepted → IfSome (I.remaining input) SpellsConvergent }
-    ensures refused { result ≡ number Refused → IfSome (I.remaining input) (TellsExplained faults) }
-    ensures faulty { result ≡ number Faulty → IfSome (I.remaining input) TellsNoTrace }
-{
-    let mut reader = Counted::new(input);
-    let mut writer = Counted::new(io::writer(rt));
-    match explain_stream(rt.alloc(), &mut reader, &mut writer, faults, name.is_some()) {
-        Ok(explained) => {
-            let Explained { answer, picture } = explained;
-            drawn(rt, answer, name, picture)
+impl<'a> Target<'a> {
+    /// Nothing for no name, and standard output for `-`.
+    fn open<R: Files<File = File>>(rt: &R, name: Option<&'a str>) -> io::Result<Target<'a>> {
+        match name {
+            None => Ok(Target::Nothing),
+            Some("-") => Ok(Target::Standard),
+            Some(name) => {
+                let file = Renewed::open(rt, name)?;
+                Ok(Target::File(name, file))
+            }
         }
-        Err(fault) => ended(rt, Err(fault), None),
     }
 }
 
-/// Writes the picture, if there is one, to the file of that name, and gives the status of the answer.
-fn drawn<R>(rt: &R, answer: Answer, name: Option<&str>, picture: Option<Vec<u8>>) -> u8
-where
-    R: Files<File = File> + Eprint,
-    ensures { (result ≡ number (answer_status answer)) ⊎ (result ≡ number Failed) }
-{
-    let (Some(name), Some(picture)) = (name, picture) else {
-        return answer.status().number();
-    };
-    let Ok(mut file) = File::create(rt, name) else {
-        return failed(rt, "open", Status::Failed);
-    };
-    match file.write_all(&picture) {
-        Ok(()) => answer.status().number(),
-        Err(_) => failed(rt, "write", Status::Failed),
-    }
-}
-
-/// Shows the input, and gives the status: accepted only of a trace's text.
-fn show<R, I, E>(rt: &R, input: I, errors: E) -> u8
-where
-    R: Print + Eprint + AllocGlobal,
-    I: Read + Drop,
-    E: Write + Drop,
-    ensures shown { result ≡ number Accepted → IfSome (I.remaining input) TellsTrace }
-    ensures refused { result ≡ number Refused → IfSome (I.remaining input) (λ _. ⊥) }
-    ensures faulty { result ≡ number Faulty → IfSome (I.remaining input) TellsNoTrace }
-{
-    let mut reader = Counted::new(input);
-    let mut out = Counted::new(io::writer(rt));
-    let mut errors = Counted::new(errors);
-    match show_stream(rt.alloc(), &mut reader, &mut out, &mut errors) {
-        Ok(status) => status,
-        Err(Memory) => failed(rt, "memory", Status::NoMemory),
-    }
-}
-
-/// Runs the scenario that the input holds, writes its trace to the file of that name, and gives the status: accepted
-/// only of a scenario with a run whose history is accepted. Where the name is `-`, the trace goes to standard output,
-/// and all else that is printed to standard error.
-fn run_scenario<R, I, E>(rt: &R, input: I, trace: &str, errors: E) -> u8
-where
-    R: Files<File = File> + Print + Eprint + AllocGlobal + Threads + Wait + Sync,
-    I: Read + Drop,
-    E: Write + Copy + Drop,
-    ensures ran { result ≡ number Accepted → IfSome (I.remaining input) TellsRun }
-    ensures refused { result ≡ number Refused → IfSome (I.remaining input) (λ _. ⊥) }
-    ensures faulty { result ≡ number Faulty → IfSome (I.remaining input) TellsNone }
-{
-    if trace == "-" {
-        return run_over(rt, input, io::writer(rt), errors, errors);
-    }
-    let Ok(output) = Renewed::open(rt, trace) else {
-        return failed(rt, "open", Status::Failed);
-    };
-    let is_new = output.is_new();
-    let status = run_over(rt, input, output, io::writer(rt), errors);
-    unmade(rt, trace, is_new, status)
-}
-
-/// Removes the file of that name where it was made for what a faulty input has nothing for, and gives the status.
-fn unmade<R: Files>(rt: &R, name: &str, is_new: bool, status: u8) -> u8
-    ensures { result ≡ status }
-{
-    if is_new && status == Status::Faulty.number() {
+/// Removes the file of that name, if it was made for what never came.
+fn close<R: Files>(rt: &R, name: &str, file: Renewed) {
+    if file.is_idle() {
         let _ = fs::remove_file(rt, name);
     }
-    status
 }
 
-/// The same over the writers of the trace, of what is printed, and of what failed.
-fn run_over<R, I, T, W, E>(rt: &R, input: I, trace: T, out: W, errors: E) -> u8
-where
-    R: Eprint + AllocGlobal + Threads + Wait + Sync,
-    I: Read + Drop,
-    T: Write + Send + Drop,
-    W: Write + Drop,
-    E: Write + Drop,
-    ensures ran { result ≡ number Accepted → IfSome (I.remaining input) TellsRun }
-    ensures refused { result ≡ number Refused → IfSome (I.remaining input) (λ _. ⊥) }
-    ensures faulty { result ≡ number Faulty → IfSome (I.remaining input) TellsNone }
-{
-    let mut reader = Counted::new(input);
-    let mut out = Counted::new(out);
-    let mut errors = Counted::new(errors);
-    let Streamed { status, .. } = run_stream(
-        rt,
-        rt.alloc(),
-        &mut reader,
-        Counted::new(trace),
-        &mut out,
-        &mut errors,
-        &OpenGate,
-    );
-    match status {
-        Ok(status) => status,
-        Err(Memory) => failed(rt, "memory", Status::NoMemory),
+/// Lets go of a target that nothing was made in.
+fn give_up<R: Files>(rt: &R, target: Target<'_>) {
+    if let Target::File(name, file) = target {
+        close(rt, name, file);
     }
 }
 
-/// Imports the lines of the input, of which an earlier reading named so many clients, writes their trace to the file of
-/// that name, and gives the status: accepted only of lines that tell a trace. Where the name is `-`, the trace goes to
-/// standard output, and all else that is printed to standard error.
-fn import<R, I, E>(rt: &R, clients: u16, input: I, trace: &str, errors: E, process: u32) -> u8
-where
-    R: Files<File = File> + Print + Eprint + AllocGlobal + Env,
-    I: Read + Drop,
-    E: Write + Copy + Drop,
-    ensures imported { result ≡ number Accepted → IfSome (I.remaining input) TellsImport }
-    ensures refused { result ≡ number Refused → IfSome (I.remaining input) (λ _. ⊥) }
-    ensures faulty { result ≡ number Faulty → IfSome (I.remaining input) TellsFaultyLine }
-{
-    if trace == "-" {
-        return import_over(rt, clients, input, io::writer(rt), errors, errors);
-    }
-    let Ok(output) = Renewed::open(rt, trace) else {
-        return failed(rt, "open", Status::Failed);
-    };
-    let waiting = match created(rt, process) {
-        Ok(waiting) => waiting,
-        Err(NoLines::Memory) => return failed(rt, "memory", Status::NoMemory),
-        Err(_) => return failed(rt, "create", Status::Failed),
-    };
-    let is_new = output.is_new();
-    let draft = Draft::new(waiting, output);
-    let status = import_over(rt, clients, input, draft, io::writer(rt), errors);
-    unmade(rt, trace, is_new, status)
-}
-
-/// The same over the writers of the trace, of what is printed, and of what failed.
-fn import_over<R, I, T, W, E>(rt: &R, clients: u16, input: I, trace: T, out: W, errors: E) -> u8
-where
-    R: Eprint + AllocGlobal,
-    I: Read + Drop,
-    T: Write + Drop,
-    W: Write + Drop,
-    E: Write + Drop,
-    ensures imported { result ≡ number Accepted → IfSome (I.remaining input) TellsImport }
-    ensures refused { result ≡ number Refused → IfSome (I.remaining input) (λ _. ⊥) }
-    ensures faulty { result ≡ number Faulty → IfSome (I.remaining input) TellsFaultyLine }
-{
-    let mut lines = Counted::new(input);
-    let mut out = Counted::new(out);
-    let mut errors = Counted::new(errors);
-    let Ok(trace) = BufWriter::new(rt.alloc(), trace) else {
-        return failed(rt, "memory", Status::NoMemory);
-    };
-    match import_stream(rt.alloc(), clients, &mut lines, Counted::new(trace)) {
-        Ok(imported) => told(rt, imported, &mut out, &mut errors),
-        Err(unimported) => {
-            let Unimported { fault, .. } = unimported;
-            not_imported(rt, fault, &mut out, &mut errors)
-        }
-    }
-}
-
-/// Prints what was imported, once its trace has gone out, and gives the status.
-fn told<R, T, W, E>(
-    rt: &R,
-    imported: Imported<BufWriter<T>>,
-    out: &mut Counted<W>,
-    errors: &mut Counted<E>,
-) -> u8
-where
-    R: Eprint + AllocGlobal,
-    T: Write + Drop,
-    W: Write,
-    E: Write,
-    ensures { (result ≢ number Refused) × (result ≢ number Faulty) }
-{
-    let text = imported.told(rt.alloc());
-    let Imported { writer, .. } = imported;
-    if writer.into_inner().flush().is_err() {
-        return failed(rt, "write", Status::Failed);
-    }
-    match text {
-        Ok(text) => print(text.as_bytes(), Status::Accepted, out, errors),
-        Err(_) => failed(rt, "memory", Status::NoMemory),
-    }
-}
-
-/// Tells why nothing was imported, and gives the status: faulty only of a line that is wrong.
-fn not_imported<R, W, E>(
-    rt: &R,
-    fault: ImportFault,
-    out: &mut Counted<W>,
-    errors: &mut Counted<E>,
-) -> u8
-where
-    R: Eprint + AllocGlobal,
-    W: Write,
-    E: Write,
-    ensures status { (result ≢ number Accepted) × (result ≢ number Refused) }
-    ensures faulty { result ≡ number Faulty → IsLine fault }
-{
-    match fault {
-        ImportFault::Memory => failed(rt, "memory", Status::NoMemory),
-        ImportFault::ReadFailed => failed(rt, "read", Status::Failed),
-        ImportFault::WriteFailed { .. } => failed(rt, "write", Status::Failed),
-        ImportFault::Line { number, fault } => faulty(rt, number, fault, out, errors),
-        ImportFault::Changed => failed(rt, "changed", Status::Failed),
-        ImportFault::Endless => failed(rt, "endless", Status::Failed),
-    }
-}
-
-/// Prints the line of a line that is wrong, and gives the status.
-fn faulty<R, W, E>(
-    rt: &R,
-    number: u64,
-    fault: LineFault,
-    out: &mut Counted<W>,
-    errors: &mut Counted<E>,
-) -> u8
-where
-    R: Eprint + AllocGlobal,
-    W: Write,
-    E: Write,
-    ensures { (result ≢ status_number Accepted) × (result ≢ status_number Refused) }
-{
-    match faulty_line(rt.alloc(), number, fault) {
-        Ok(line) => print(line.as_bytes(), Status::Faulty, out, errors),
-        Err(_) => failed(rt, "memory", Status::NoMemory),
-    }
-}
-
-/// Serves so many sessions of clients of the cluster of the scenario that the input holds, each of which may be idle
-/// for so many seconds, where they are given, and gives the status: accepted only of a scenario with a report on so
-/// many sessions, whose history is accepted.
-fn serve<R, I, E>(rt: &R, input: I, port: u16, sessions: u16, idle: Option<u16>, errors: E) -> u8
-where
-    R: Net<Listener = TcpListener, Stream = TcpStream> + Print + Eprint + AllocGlobal + Wait,
-    I: Read + Drop,
-    E: Write + Drop,
-    ensures served { result ≡ number Accepted → IfSome (I.remaining input) (TellsServed sessions) }
-    ensures refused { result ≡ number Refused → IfSome (I.remaining input) (λ _. ⊥) }
-    ensures faulty { result ≡ number Faulty → IfSome (I.remaining input) TellsNone }
-{
-    let mut reader = Counted::new(input);
-    let mut out = Counted::new(io::writer(rt));
-    let mut errors = Counted::new(errors);
-    match serve_stream(
-        rt,
-        rt.alloc(),
-        &mut reader,
-        port,
-        sessions,
-        idle,
-        &mut out,
-        &mut errors,
-    ) {
-        Ok(status) => status,
-        Err(Memory) => failed(rt, "memory", Status::NoMemory),
-    }
-}
-
-/// Does a job over its input, of which an earlier reading named so many clients where it is an import's, and gives the
-/// status.
-fn command<R, I, E>(rt: &R, job: Job<'_>, clients: u16, input: I, errors: E, process: u32) -> u8
-where
-    R: Files<File = File> + Print + Eprint + AllocGlobal + Env + Threads + Wait + Sync + Clock,
-    R: Net<Listener = TcpListener, Stream = TcpStream>,
-    I: Read + Drop,
-    E: Write + IsTerminal + Copy + Drop,
-    ensures well { result ≡ number Accepted → IfSome (I.remaining input) (EndsWell job.entry) }
-    ensures refused { result ≡ number Refused → IfSome (I.remaining input) (EndsRefused job.entry) }
-    ensures faulty { result ≡ number Faulty → MayWork job.entry → IfSome (I.remaining input) (EndsFaulty job.entry) }
-{
-    match job {
-        Job::Audit { workers, .. } => audit(rt, input, workers, errors.is_terminal()),
-        Job::SoFar { .. } => so_far(rt, input, errors.is_terminal()),
-        Job::Explain {
-            faults,
-            picture,
-            ..
-        } => explain(rt, input, faults, picture),
-        Job::Show { .. } => show(rt, input, errors),
-        Job::Import { trace, .. } => import(rt, clients, input, trace, errors, process),
-        Job::Run { trace, .. } => run_scenario(rt, input, trace, errors),
-        Job::Serve {
-            port,
-            sessions,
-            idle,
-            ..
-        } => serve(rt, input, port, sessions, idle, errors),
+/// Lets go of what a job wrote.
+fn close_made<R: Files + Print>(rt: &R, name: Option<&str>, made: Made<'_, R>) {
+    match (name, made) {
+        (Some(name), Made::File(file)) => close(rt, name, file),
+        (Some(name), Made::Draft(draft)) => close(rt, name, draft.into_output()),
+        _ => {}
     }
 }
 
@@ -430,21 +107,55 @@ fn input_of<'a>(job: Job<'a>) -> &'a str {
     }
 }
 
-/// The name of the file that the job writes, where it writes one.
+/// The name of what the job makes, where it makes something.
 fn output_of<'a>(job: Job<'a>) -> Option<&'a str> {
     match job {
         Job::Explain { picture, .. } => picture,
-        Job::Import { trace, .. } | Job::Run { trace, .. } if trace != "-" => Some(trace),
+        Job::Import { trace, .. } => Some(trace),
+        Job::Run { trace, .. } => Some(trace),
         _ => None,
     }
 }
 
-/// Whether the file that the job writes is the one that it reads: to write it would be to lose what is in it.
-fn writes_over<R: Files>(rt: &R, job: Job<'_>, input: &File) -> bool {
-    output_of(job).is_some_and(|name| has_name(rt, input, name))
+/// Whether standard output or the target is the file that is read: to write there would destroy what is in it.
+fn is_over_input<R, S>(rt: &R, source: &Source<S>, target: &Target<'_>) -> bool
+where
+    R: Files,
+    S: Read,
+{
+    let Some(input) = source.plain(rt) else {
+        return false;
+    };
+    let made = match target {
+        Target::File(_, file) => file.plain(),
+        _ => None,
+    };
+    made == Some(input) || plain_output(rt) == Some(input)
 }
 
-/// Runs the job over the file that it names, or over standard input where that is `-`.
+/// The writers of a command. What is printed goes to standard error where what is made goes to standard output.
+fn outputs<'r, R, E>(
+    rt: &'r R,
+    made: Made<'r, R>,
+    errors: E,
+    begun: Option<Instant>,
+) -> Outputs<Made<'r, R>, Cleared<'r, R, Printed<'r, R, E>>, Cleared<'r, R, E>>
+where
+    R: Print + Eprint + Clock,
+    E: Write + Copy + Drop,
+{
+    let printed = match made {
+        Made::Standard(_) | Made::Gathered(_) => Printed::Errors(errors),
+        _ => Printed::Output(io::writer(rt)),
+    };
+    Outputs {
+        made: Counted::new(made),
+        out: Counted::new(Cleared::new(rt, printed, begun)),
+        errors: Counted::new(Cleared::new(rt, errors, begun)),
+    }
+}
+
+/// Runs the job over what it names, once that is open.
 fn perform<R, E>(rt: &R, job: Job<'_>, errors: E, process: u32) -> u8
 where
     R: Files<File = File> + Input + Print + Eprint + AllocGlobal + Env,
@@ -452,55 +163,176 @@ where
     R: Net<Listener = TcpListener, Stream = TcpStream>,
     E: Write + IsTerminal + Copy + Drop,
 {
-    if let Job::Import { lines, trace } = job {
-        return perform_import(rt, lines, trace, errors, process);
-    }
-    let input = input_of(job);
-    if input == "-" {
-        return command(rt, job, 0, rt.reader(), errors, process);
-    }
-    let Ok(file) = File::open(rt, input) else {
+    let Ok(source) = Source::open(rt, input_of(job)) else {
         return failed(rt, "open", Status::Failed);
     };
-    if writes_over(rt, job, &file) {
+    let Ok(target) = Target::open(rt, output_of(job)) else {
+        return failed(rt, "open", Status::Failed);
+    };
+    if is_over_input(rt, &source, &target) {
+        give_up(rt, target);
         return failed(rt, SAME_FILE, Status::Failed);
     }
-    command(rt, job, 0, file, errors, process)
+    if let Job::Import { .. } = job {
+        return perform_import(rt, job, source, target, (errors, process));
+    }
+    match made_at_once(rt, job, target) {
+        Ok(made) => perform_over(rt, job, source, made, errors),
+        Err(_) => failed(rt, "open", Status::Failed),
+    }
 }
 
-/// Runs an import of the lines of that name, which are read twice: first their clients are counted.
-fn perform_import<R, E>(rt: &R, lines: &str, trace: &str, errors: E, process: u32) -> u8
+/// What a job that is no import makes something in. The file of a run is empty before its scenario is read; that of a
+/// picture stays as it is until there is something to take its place.
+fn made_at_once<'r, R>(rt: &'r R, job: Job<'_>, target: Target<'_>) -> io::Result<Made<'r, R>>
 where
-    R: Files<File = File> + Input + Print + Eprint + AllocGlobal + Env,
+    R: Print,
+{
+    match target {
+        Target::Nothing => Ok(Made::Nothing),
+        Target::Standard => Ok(Made::Standard(io::writer(rt))),
+        Target::File(_, mut file) => {
+            if let Job::Run { .. } = job {
+                file.begin()?;
+            }
+            Ok(Made::File(file))
+        }
+    }
+}
+
+/// Runs a job that is no import.
+fn perform_over<R, S, E>(
+    rt: &R,
+    job: Job<'_>,
+    source: Source<S>,
+    made: Made<'_, R>,
+    errors: E,
+) -> u8
+where
+    R: Files<File = File> + Print + Eprint + AllocGlobal,
     R: Threads + Wait + Sync + Clock,
     R: Net<Listener = TcpListener, Stream = TcpStream>,
+    S: Read + Drop,
     E: Write + IsTerminal + Copy + Drop,
 {
-    let file = match opened(rt, lines, process) {
-        Ok(file) => file,
-        Err(why) => return failed(rt, why.word(), why.status()),
-    };
-    if writes_over(rt, Job::Import { lines, trace }, &file) {
-        return failed(rt, SAME_FILE, Status::Failed);
+    let is_judged = matches!(
+        job,
+        Job::Audit { .. } | Job::SoFar { .. } | Job::Explain { .. }
+    );
+    let begun = begun(rt, is_judged && errors.is_terminal());
+    let mut input = Counted::new(Watched::new(rt, source, Reading::Trace, begun));
+    let outputs = outputs(rt, made, errors, begun);
+    let Ended { status, outputs } = command(rt, job, 0, &mut input, outputs);
+    let Outputs { made, .. } = outputs;
+    close_made(rt, output_of(job), made.into_inner());
+    let reads_trace = is_judged || matches!(job, Job::Show { .. });
+    if reads_trace && input.get_ref().looks_like_lines() {
+        let _ = eprintln!(rt; "{LOOKS_LIKE_LINES}");
     }
-    let mut file = Counted::new(file);
-    let clients = match count_clients(rt.alloc(), &mut file) {
-        Ok(clients) => clients,
-        Err(fault) => {
-            let (mut out, mut errors) = (Counted::new(errors), Counted::new(errors));
-            return not_imported(rt, fault, &mut out, &mut errors);
+    status
+}
+
+/// Runs an import, whose lines are read twice: first their clients are counted.
+fn perform_import<R, S, E>(
+    rt: &R,
+    job: Job<'_>,
+    source: Source<S>,
+    target: Target<'_>,
+    given: (E, u32),
+) -> u8
+where
+    R: Files<File = File> + Print + Eprint + AllocGlobal + Env,
+    R: Threads + Wait + Sync + Clock,
+    R: Net<Listener = TcpListener, Stream = TcpStream>,
+    S: Read + Drop,
+    E: Write + IsTerminal + Copy + Drop,
+{
+    let (errors, process) = given;
+    let begun = begun(rt, errors.is_terminal());
+    let found = match counted_lines(rt, source, begun, process) {
+        Ok((clients, file)) => match drafted(rt, target, process) {
+            Ok(made) => Ok((clients, file, made)),
+            Err(why) => Err(why),
+        },
+        Err(why) => {
+            give_up(rt, target);
+            Err(why)
         }
     };
-    match rewound(file.into_inner()) {
-        Ok(file) => command(
-            rt,
-            Job::Import { lines, trace },
-            clients,
-            file,
-            errors,
-            process,
-        ),
-        Err(why) => failed(rt, why.word(), why.status()),
+    let (clients, file, made) = match found {
+        Ok(found) => found,
+        Err(why) => {
+            remove(rt, begun);
+            return failed(rt, why.word(), why.status());
+        }
+    };
+    let mut input = Counted::new(Watched::new(rt, file, Reading::Lines("importing"), begun));
+    let outputs = outputs(rt, made, errors, begun);
+    let Ended { status, outputs } = command(rt, job, clients, &mut input, outputs);
+    let Outputs { made, .. } = outputs;
+    close_made(rt, output_of(job), made.into_inner());
+    status
+}
+
+/// How many clients the lines name, and the lines as a file that is at its beginning again.
+fn counted_lines<R, S>(
+    rt: &R,
+    source: Source<S>,
+    begun: Option<Instant>,
+    process: u32,
+) -> Result<(u16, File), NoLines>
+where
+    R: Files<File = File> + Eprint + AllocGlobal + Env + Clock,
+    S: Read + Drop,
+{
+    let file = match source {
+        Source::File(file) if is_plain(&file) => file,
+        source => {
+            let mut source = Watched::new(rt, source, Reading::Lines("copying"), begun);
+            copied(rt, &mut source, process)?
+        }
+    };
+    let mut file = Counted::new(Watched::new(rt, file, Reading::Lines("counting"), begun));
+    let clients = match count_clients(rt.alloc(), &mut file) {
+        Ok(clients) => clients,
+        Err(ImportFault::Memory) => return Err(NoLines::Memory),
+        Err(ImportFault::Endless) => return Err(NoLines::Endless),
+        Err(_) => return Err(NoLines::Read),
+    };
+    let file = rewound(file.into_inner().into_inner())?;
+    Ok((clients, file))
+}
+
+/// What an import makes its trace in: a file has it once it is whole.
+fn drafted<'r, R>(rt: &'r R, target: Target<'_>, process: u32) -> Result<Made<'r, R>, NoLines>
+where
+    R: Files<File = File> + Print + AllocGlobal + Env,
+{
+    match target {
+        Target::Nothing => Ok(Made::Nothing),
+        Target::Standard => match BufWriter::new(rt.alloc(), io::writer(rt)) {
+            Ok(writer) => Ok(Made::Gathered(writer)),
+            Err(_) => Err(NoLines::Memory),
+        },
+        Target::File(name, file) => match waiting(rt, process) {
+            Ok(waiting) => Ok(Made::Draft(Draft::new(waiting, file))),
+            Err(why) => {
+                close(rt, name, file);
+                Err(why)
+            }
+        },
+    }
+}
+
+/// An empty file without a name, for a draft.
+fn waiting<R>(rt: &R, process: u32) -> Result<BufWriter<File>, NoLines>
+where
+    R: Files<File = File> + AllocGlobal + Env,
+{
+    let file = created(rt, process)?;
+    match BufWriter::new(rt.alloc(), file) {
+        Ok(writer) => Ok(writer),
+        Err(_) => Err(NoLines::Memory),
     }
 }
 
@@ -519,8 +351,14 @@ fn no_job<R: Print + Eprint>(rt: &R, fault: cops_line::LineFault) -> u8 {
     }
 }
 
-/// Does what the words after the program's name ask for.
-fn run<R, E>(rt: &R, arguments: &[String], errors: E, process: u32) -> Result<u8, AllocError>
+/// Does what the words after the program's name ask for. `is_terminal` says what standard input is.
+fn run<R, E>(
+    rt: &R,
+    arguments: &[String],
+    is_terminal: bool,
+    errors: E,
+    process: u32,
+) -> Result<u8, AllocError>
 where
     R: Files<File = File> + Input + Print + Eprint + AllocGlobal + Env,
     R: Threads + Wait + Sync + Clock,
@@ -532,6 +370,9 @@ where
         .skip(1)
         .map(|word| word.as_str())
         .collect(rt.alloc())?;
+    if words.is_empty() && is_terminal {
+        let _ = eprintln!(rt; "{WAITS}");
+    }
     Ok(match line(rt.alloc(), words.as_slice()) {
         Ok(job) => perform(rt, job, errors, process),
         Err(fault) => no_job(rt, fault),
@@ -557,10 +398,13 @@ fn no_words<R: Eprint>(rt: &R, fault: io::Error) -> u8 {
 fn main(rt: HostRuntime) -> ExitCode {
     let process = process::id(rt.process());
     let status = match arguments(&rt) {
-        Ok(words) => match run(&rt, words.as_slice(), rt.stderr(), process) {
-            Ok(status) => status,
-            Err(_) => failed(&rt, "memory", Status::NoMemory),
-        },
+        Ok(words) => {
+            let is_terminal = rt.stdin().is_terminal();
+            match run(&rt, words.as_slice(), is_terminal, rt.stderr(), process) {
+                Ok(status) => status,
+                Err(_) => failed(&rt, "memory", Status::NoMemory),
+            }
+        }
         Err(fault) => no_words(&rt, fault),
     };
     ExitCode::from(status)

@@ -1,11 +1,12 @@
-//! How far an audit has read, which it tells on a terminal while it reads: no clause speaks of it.
+//! How far a command has read, which it says on a terminal while it reads, and how what it reads begins: no clause
+//! speaks of either.
 ghost use Rattle.std.specs.Prelude.{◌≡◌};
 
 use std::io;
 use std::io::{Eprint, Read, Write};
 use std::time::{Clock, Instant};
 
-/// For how many seconds an audit reads before it tells how far it is, and then until it tells it again.
+/// For how many seconds a command reads before it says how far it is, and then until it says it again.
 const PATIENCE: u64 = 1;
 
 /// The length of a head and of an end: each record's is greater.
@@ -52,12 +53,47 @@ impl Records {
     }
 }
 
-/// When an audit began, where it tells how far it is.
+/// What is counted of the bytes that are read.
+#[derive(Drop)]
+enum Counts {
+    /// The records of a trace.
+    Records(Records),
+    /// Lines, in a reading with this name.
+    Lines { ended: u64, reading: &'static str },
+}
+
+impl Counts {
+    fn take(&mut self, piece: &[u8]) {
+        match self {
+            Counts::Records(records) => {
+                for byte in piece {
+                    records.take(*byte);
+                }
+            }
+            Counts::Lines { ended, .. } => {
+                for byte in piece {
+                    if *byte == b'\n' {
+                        *ended = ended.saturating_add(1);
+                    }
+                }
+            }
+        }
+    }
+}
+
+/// What is read: a trace, or the lines of an import, in a reading with this name.
+#[derive(Clone, Copy, Debug, PartialEq, Eq)]
+pub enum Reading {
+    Trace,
+    Lines(&'static str),
+}
+
+/// When a command began, where it says how far it is.
 pub fn begun<R: Clock>(rt: &R, is_told: bool) -> Option<Instant> {
     if is_told { Instant::now(rt).ok() } else { None }
 }
 
-/// Removes the line that tells how far an audit is, if it began so long ago that there may be one.
+/// Removes the line that says how far a command is, if it began so long ago that there may be one.
 pub fn remove<R: Clock + Eprint>(rt: &R, begun: Option<Instant>) {
     let Some(begun) = begun else {
         return;
@@ -69,21 +105,19 @@ pub fn remove<R: Clock + Eprint>(rt: &R, begun: Option<Instant>) {
     }
 }
 
-/// How much was read, and when it was last told.
+/// How much was read, and when it was last said.
 #[derive(Drop)]
 struct Progress<'r, R> {
     rt: &'r R,
     told: Instant,
-    records: Records,
+    counts: Counts,
     bytes: u64,
 }
 
 impl<R: Clock + Eprint> Progress<'_, R> {
-    /// Counts what was read, and tells how much it is where it was not told for a while.
+    /// Counts what was read, and says how much it is where it was not said for a while.
     fn take(&mut self, piece: &[u8]) {
-        for byte in piece {
-            self.records.take(*byte);
-        }
+        self.counts.take(piece);
         self.bytes = self.bytes.saturating_add(piece.len() as u64);
         let Ok(now) = Instant::now(self.rt) else {
             return;
@@ -92,34 +126,96 @@ impl<R: Clock + Eprint> Progress<'_, R> {
             return;
         }
         self.told = now;
-        let operations = self.records.ended;
+        self.tell();
+    }
+
+    fn tell(&self) {
         let bytes = self.bytes;
-        let _ = eprint!(self.rt; "\r{operations} operations, {bytes} bytes");
+        let _ = match &self.counts {
+            Counts::Records(records) => {
+                let operations = records.ended;
+                eprint!(self.rt; "\r{operations} operations, {bytes} bytes")
+            }
+            Counts::Lines { ended, reading } => {
+                eprint!(self.rt; "\r\x1b[K{reading}: {ended} lines, {bytes} bytes")
+            }
+        };
     }
 }
 
-/// Reads on from an input, and tells how much was read.
+/// The first bytes of an input.
+#[derive(Drop)]
+struct Beginning {
+    bytes: [u8; 3],
+    count: usize,
+}
+
+impl Beginning {
+    fn take(&mut self, piece: &[u8]) {
+        for byte in piece {
+            if self.count >= self.bytes.len() {
+                return;
+            }
+            self.bytes[self.count] = *byte;
+            self.count += 1;
+        }
+    }
+
+    /// Whether it is that of JSON, or a byte order mark.
+    fn looks_like_lines(&self) -> bool {
+        let [first, second, third] = self.bytes;
+        match first {
+            b'{' | b'[' => self.count > 0,
+            0xef => self.count == 3 && second == 0xbb && third == 0xbf,
+            _ => false,
+        }
+    }
+}
+
+/// Reads on from an input, and says how much was read.
 #[derive(Drop)]
 pub struct Watched<'r, R, I> {
     input: I,
+    beginning: Beginning,
     progress: Option<Progress<'r, R>>,
 }
 
 impl<'r, R, I> Watched<'r, R, I> {
-    /// Tells it where the audit's beginning is given.
-    pub fn new(rt: &'r R, input: I, begun: Option<Instant>) -> Self
+    /// Says it where the beginning is given.
+    pub fn new(rt: &'r R, input: I, reading: Reading, begun: Option<Instant>) -> Self
         ensures { result.input ≡ input }
     {
+        let counts = match reading {
+            Reading::Trace => Counts::Records(Records::new()),
+            Reading::Lines(reading) => Counts::Lines { ended: 0, reading },
+        };
         let progress = match begun {
             Some(begun) => Some(Progress {
                 rt,
                 told: begun,
-                records: Records::new(),
+                counts,
                 bytes: 0,
             }),
             None => None,
         };
-        Watched { input, progress }
+        let beginning = Beginning {
+            bytes: [0; 3],
+            count: 0,
+        };
+        Watched {
+            input,
+            beginning,
+            progress,
+        }
+    }
+
+    pub fn into_inner(self) -> I {
+        self.input
+    }
+
+    /// Whether what was read begins as JSON Lines do.
+    pub fn looks_like_lines(&self) -> bool {
+        self.beginning.looks_like_lines()
     }
 }
 
@@ -128,6 +224,9 @@ impl<R: Clock + Eprint, I: Read> Read for Watched<'_, R, I> {
 
     fn read(&mut self, buf: &mut [u8]) -> io::Result<usize> {
         let answer = self.input.read(buf);
+        if let Ok(count) = &answer {
+            self.beginning.take(&buf[..*count]);
+        }
         if let (Some(progress), Ok(count)) = (&mut self.progress, &answer) {
             progress.take(&buf[..*count]);
         }
@@ -135,7 +234,7 @@ impl<R: Clock + Eprint, I: Read> Read for Watched<'_, R, I> {
     }
 }
 
-/// Writes on to an output, and before that removes the line that tells how far the audit is.
+/// Writes on to an output, and before that removes the line that says how far the command is.
 #[derive(Drop)]
 pub struct Cleared<'r, R, W> {
     rt: &'r R,

@@ -1,0 +1,497 @@
+//! The commands over readers and writers, whatever these stand for: a contract says of each what the writers gained.
+ghost use Rattle.std.specs.Prelude.{◌≡◌, ◌≢◌, ◌≤◌, ◌⊎◌, ◌++◌, [], true, IfSome, Ok, Err};
+ghost use Rattle.std.specs.Io.KnownBytes.{Appends, Keeps};
+ghost use Rattle.cops_types.specs.declared.limits.TheConstants.{MAX_WORKERS};
+ghost use Rattle.cops_types.specs.Counted.{inner};
+ghost use Rattle.cops_import.specs.Words.{told_text, faulty_line as faulty_text};
+ghost use Rattle.cops_stream.specs.Audit.{Writes, answer_status};
+ghost use Rattle.cops_stream.specs.Convergent.{SpellsConvergent};
+ghost use Rattle.cops_stream.specs.Show.{Shows};
+ghost use Rattle.cops_stream.specs.SoFar.{IsSoundSoFar, WritesSoFar};
+ghost use Rattle.cops_command.specs.Scenario.{TellsNone};
+ghost use Rattle.cops_command.specs.Status.{number, number as status_number};
+ghost use Rattle.cops_command.specs.declared.status.Status.TheVariants.{Accepted, Failed, Faulty, NoMemory, Refused};
+ghost use Rattle.cops_run_stream.specs.Running.{EndsWell as HasRun};
+ghost use Rattle.cops.specs.Status.{EndsFaulty, EndsRefused, EndsWell, Explains, HasServed, Imports, MayWork, PrintsLine, StopsAtLine, TellsNoTrace, TellsOtherFault, TellsTrace, drawn_text};
+
+use crate::output::Output;
+use cops_command::{Status, print};
+use cops_import::{ImportFault, Imported, LineFault, Unimported, faulty_line, import_stream};
+use cops_line::Job;
+use cops_run_stream::{Streamed, run_stream};
+use cops_serve::serve_stream;
+use cops_stream::{
+    Answer, Explained, StreamFault, audit_so_far, audit_stream, explain_stream, show_stream,
+};
+use cops_types::{Counted, Memory, OpenGate, Selection, write_text};
+use std::alloc::Global;
+use std::io::{Read, Write};
+use std::net::{Net, TcpListener, TcpStream};
+use std::sync::Wait;
+use std::thread::Threads;
+
+/// The line for out of memory.
+const NO_MEMORY: &[u8] = b"failed: memory\n";
+
+/// The line for a picture that was asked for where there is no such fault.
+const NOT_DRAWN: &[u8] = b"nothing was drawn: there is no such fault\n";
+
+/// The writers of a command: of the trace or the picture that it makes, of what it prints, and of why it failed.
+#[derive(Drop)]
+pub struct Outputs<T, W, E> {
+    pub made: Counted<T>,
+    pub out: Counted<W>,
+    pub errors: Counted<E>,
+}
+
+/// The status of a command, and its writers.
+#[derive(Drop)]
+pub struct Ended<T, W, E> {
+    pub status: u8,
+    pub outputs: Outputs<T, W, E>,
+}
+
+/// Does a job over its input, of which an earlier reading named so many clients where it is an import's.
+#[tactic(auto, using(crate::proofs::Kept::explained))]
+pub fn command<R, I, T, W, E>(
+    rt: &R,
+    job: Job<'_>,
+    clients: u16,
+    input: &mut Counted<I>,
+    outputs: Outputs<T, W, E>,
+) -> Ended<T, W, E>
+where
+    R: AllocGlobal + Threads + Wait + Sync,
+    R: Net<Listener = TcpListener, Stream = TcpStream>,
+    I: Read,
+    T: Write + Output + Send + Drop,
+    W: Write + Drop,
+    E: Write + Drop,
+    ensures well { result.status ≡ number Accepted → IfSome (I.remaining (inner input.old)) (λ bytes. EndsWell job.entry bytes
+        (T.contents (inner outputs.made)) (T.contents (inner result.outputs.made)) (W.contents (inner outputs.out)) (W.contents (inner result.outputs.out))) }
+    ensures refused { result.status ≡ number Refused → IfSome (I.remaining (inner input.old)) (λ bytes. EndsRefused job.entry bytes
+        (T.contents (inner outputs.made)) (T.contents (inner result.outputs.made)) (W.contents (inner outputs.out)) (W.contents (inner result.outputs.out))) }
+    ensures faulty { result.status ≡ number Faulty → MayWork job.entry → IfSome (I.remaining (inner input.old)) (λ bytes. EndsFaulty job.entry bytes
+        (T.contents (inner outputs.made)) (T.contents (inner result.outputs.made)) (W.contents (inner outputs.out)) (W.contents (inner result.outputs.out))) }
+{
+    match job {
+        Job::Audit { workers, .. } => audit(rt, workers, input, outputs),
+        Job::SoFar { .. } => so_far(rt.alloc(), input, outputs),
+        Job::Explain {
+            faults,
+            picture: None,
+            ..
+        } => explain(rt.alloc(), faults, false, input, outputs),
+        Job::Explain {
+            faults,
+            picture: Some(_),
+            ..
+        } => explain(rt.alloc(), faults, true, input, outputs),
+        Job::Show { .. } => show(rt.alloc(), input, outputs),
+        Job::Import { .. } => import(rt.alloc(), clients, input, outputs),
+        Job::Run { .. } => run_scenario(rt, input, outputs),
+        Job::Serve {
+            port,
+            sessions,
+            idle,
+            ..
+        } => serve(rt, port, sessions, idle, input, outputs),
+    }
+}
+
+/// Prints why the command failed, and gives the status.
+fn failed<E: Write>(errors: &mut Counted<E>, why: &[u8], status: Status) -> u8
+    ensures { result ≡ number status }
+{
+    let _ = write_text(errors, why);
+    status.number()
+}
+
+/// The status of a command that gives one, unless memory ran out.
+fn status_of<E: Write>(errors: &mut Counted<E>, status: Result<u8, Memory>) -> u8
+    ensures { (status ≡ Ok result) ⊎ (result ≡ number NoMemory) }
+{
+    match status {
+        Ok(status) => status,
+        Err(Memory) => failed(errors, NO_MEMORY, Status::NoMemory),
+    }
+}
+
+/// The status that an audit ends with; a line says why there is no answer.
+fn audit_status<E: Write>(errors: &mut Counted<E>, audited: Result<Answer, StreamFault>) -> u8
+    ensures accepted { result ≡ number Accepted → audited ≡ Ok Answer.Accepted }
+    ensures refused { result ≡ number Refused → audited ≡ Ok Answer.Refused }
+    ensures faulty { result ≡ number Faulty → (audited ≡ Ok Answer.Faulty) ⊎ (audited ≡ Err StreamFault.BadWorkers) }
+{
+    match audited {
+        Ok(answer) => answer.status().number(),
+        Err(StreamFault::Memory) => failed(errors, NO_MEMORY, Status::NoMemory),
+        Err(StreamFault::BadWorkers) => failed(errors, b"failed: workers\n", Status::Faulty),
+        Err(StreamFault::Held) => failed(errors, b"failed: held\n", Status::Failed),
+        Err(StreamFault::ReadFailed) => failed(errors, b"failed: read\n", Status::Failed),
+        Err(StreamFault::WriteFailed) => failed(errors, b"failed: write\n", Status::Failed),
+    }
+}
+
+/// Audits the input by so many workers: accepted only where the bytes spell one history, and it is causally convergent.
+/// What is printed is what the audit says of the bytes, and nothing is made.
+fn audit<R, I, T, W, E>(
+    rt: &R,
+    workers: u8,
+    input: &mut Counted<I>,
+    outputs: Outputs<T, W, E>,
+) -> Ended<T, W, E>
+where
+    R: AllocGlobal + Threads + Wait + Sync,
+    I: Read,
+    W: Write,
+    E: Write,
+    ensures accepted { result.status ≡ number Accepted → IfSome (I.remaining (inner input.old)) (λ bytes. SpellsConvergent bytes
+        × Writes bytes Answer.Accepted (W.contents (inner outputs.out)) (W.contents (inner result.outputs.out))) }
+    ensures refused { result.status ≡ number Refused → IfSome (I.remaining (inner input.old)) (λ bytes.
+        Writes bytes Answer.Refused (W.contents (inner outputs.out)) (W.contents (inner result.outputs.out))) }
+    ensures faulty { result.status ≡ number Faulty → (1 ≤ workers) → (workers ≤ MAX_WORKERS) → IfSome (I.remaining (inner input.old)) (λ bytes.
+        TellsNoTrace bytes × Writes bytes Answer.Faulty (W.contents (inner outputs.out)) (W.contents (inner result.outputs.out))) }
+    ensures made { result.outputs.made ≡ outputs.made }
+{
+    let Outputs {
+        made,
+        mut out,
+        mut errors,
+    } = outputs;
+    let audited = audit_stream(rt, rt.alloc(), input, &mut out, workers, &OpenGate);
+    let status = audit_status(&mut errors, audited);
+    Ended {
+        status,
+        outputs: Outputs { made, out, errors },
+    }
+}
+
+/// Audits the input, which may be cut: accepted only where the bytes spell one history, and it is causally convergent,
+/// or where they are cut after records without a lasting fault.
+fn so_far<I, T, W, E>(
+    alloc: Global,
+    input: &mut Counted<I>,
+    outputs: Outputs<T, W, E>,
+) -> Ended<T, W, E>
+where
+    I: Read,
+    W: Write,
+    E: Write,
+    ensures accepted { result.status ≡ number Accepted → IfSome (I.remaining (inner input.old)) (λ bytes. IsSoundSoFar bytes
+        × WritesSoFar bytes Answer.Accepted (W.contents (inner outputs.out)) (W.contents (inner result.outputs.out))) }
+    ensures refused { result.status ≡ number Refused → IfSome (I.remaining (inner input.old)) (λ bytes.
+        WritesSoFar bytes Answer.Refused (W.contents (inner outputs.out)) (W.contents (inner result.outputs.out))) }
+    ensures faulty { result.status ≡ number Faulty → IfSome (I.remaining (inner input.old)) (λ bytes. TellsOtherFault bytes
+        × WritesSoFar bytes Answer.Faulty (W.contents (inner outputs.out)) (W.contents (inner result.outputs.out))) }
+    ensures made { result.outputs.made ≡ outputs.made }
+{
+    let Outputs {
+        made,
+        mut out,
+        mut errors,
+    } = outputs;
+    let audited = audit_so_far(alloc, input, &mut out);
+    let status = audit_status(&mut errors, audited);
+    Ended {
+        status,
+        outputs: Outputs { made, out, errors },
+    }
+}
+
+/// Explains the faults of the input that are asked for, and draws the one of them, or the first, where it is to be
+/// drawn. The status is that of an audit, unless the picture could not be written.
+fn explain<I, T, W, E>(
+    alloc: Global,
+    faults: Selection,
+    is_drawn: bool,
+    input: &mut Counted<I>,
+    outputs: Outputs<T, W, E>,
+) -> Ended<T, W, E>
+where
+    I: Read,
+    T: Write + Output,
+    W: Write,
+    E: Write,
+    ensures accepted { result.status ≡ number Accepted → IfSome (I.remaining (inner input.old)) (λ bytes. SpellsConvergent bytes × Explains is_drawn faults bytes Answer.Accepted
+        (T.contents (inner outputs.made)) (T.contents (inner result.outputs.made)) (W.contents (inner outputs.out)) (W.contents (inner result.outputs.out))) }
+    ensures refused { result.status ≡ number Refused → IfSome (I.remaining (inner input.old)) (λ bytes. Explains is_drawn faults bytes Answer.Refused
+        (T.contents (inner outputs.made)) (T.contents (inner result.outputs.made)) (W.contents (inner outputs.out)) (W.contents (inner result.outputs.out))) }
+    ensures faulty { result.status ≡ number Faulty → IfSome (I.remaining (inner input.old)) TellsNoTrace }
+    ensures undrawn { result.status ≡ number Faulty → T.contents (inner result.outputs.made) ≡ T.contents (inner outputs.made) }
+{
+    let Outputs {
+        mut made,
+        mut out,
+        mut errors,
+    } = outputs;
+    let status = match explain_stream(alloc, input, &mut out, faults, is_drawn) {
+        Ok(explained) => {
+            let Explained { answer, picture } = explained;
+            match (is_drawn, answer) {
+                (true, Answer::Accepted) => {
+                    drawn(Answer::Accepted, picture, &mut made, &mut errors)
+                }
+                (true, Answer::Refused) => {
+                    drawn(Answer::Refused, picture, &mut made, &mut errors)
+                }
+                _ => answer.status().number(),
+            }
+        }
+        Err(fault) => audit_status(&mut errors, Err(fault)),
+    };
+    Ended {
+        status,
+        outputs: Outputs { made, out, errors },
+    }
+}
+
+/// Writes the picture, or says that there is none, of which the file is left empty, and gives the status of the answer.
+fn drawn<T, E>(
+    answer: Answer,
+    picture: Option<Vec<u8>>,
+    made: &mut Counted<T>,
+    errors: &mut Counted<E>,
+) -> u8
+where
+    T: Write + Output,
+    E: Write,
+    ensures { (result ≡ number Failed) ⊎ ((result ≡ number (answer_status answer)) × Appends (T.contents (inner made.old)) (T.contents (inner made.new)) (drawn_text picture)) }
+{
+    let is_written = match picture {
+        Some(picture) => write_text(made, &picture).is_ok(),
+        None => {
+            let _ = write_text(errors, NOT_DRAWN);
+            true
+        }
+    };
+    if !is_written || made.flush().is_err() {
+        return failed(errors, made.get_ref().failure(), Status::Failed);
+    }
+    answer.status().number()
+}
+
+/// Shows the input: accepted only of a trace's text. What is printed are the lines of its frames, and of its fault.
+fn show<I, T, W, E>(
+    alloc: Global,
+    input: &mut Counted<I>,
+    outputs: Outputs<T, W, E>,
+) -> Ended<T, W, E>
+where
+    I: Read,
+    W: Write,
+    E: Write,
+    ensures shown { result.status ≡ number Accepted → IfSome (I.remaining (inner input.old)) (λ bytes. TellsTrace bytes
+        × Shows bytes (number Accepted) (W.contents (inner outputs.out)) (W.contents (inner result.outputs.out))) }
+    ensures refused { result.status ≡ number Refused → IfSome (I.remaining (inner input.old)) (λ _. ⊥) }
+    ensures faulty { result.status ≡ number Faulty → IfSome (I.remaining (inner input.old)) (λ bytes. TellsNoTrace bytes
+        × Shows bytes (number Faulty) (W.contents (inner outputs.out)) (W.contents (inner result.outputs.out))) }
+    ensures made { result.outputs.made ≡ outputs.made }
+{
+    let Outputs {
+        made,
+        mut out,
+        mut errors,
+    } = outputs;
+    let shown = show_stream(alloc, input, &mut out, &mut errors);
+    let status = status_of(&mut errors, shown);
+    Ended {
+        status,
+        outputs: Outputs { made, out, errors },
+    }
+}
+
+/// Imports the lines of the input, of which an earlier reading named so many clients: accepted only of lines that tell a
+/// trace, whose text went out before it was flushed.
+#[tactic(auto, using(crate::proofs::Kept::imported))]
+fn import<I, T, W, E>(
+    alloc: Global,
+    clients: u16,
+    input: &mut Counted<I>,
+    outputs: Outputs<T, W, E>,
+) -> Ended<T, W, E>
+where
+    I: Read,
+    T: Write + Output + Drop,
+    W: Write,
+    E: Write,
+    ensures imported { result.status ≡ number Accepted → IfSome (I.remaining (inner input.old)) (λ bytes. Imports bytes
+        (T.contents (inner outputs.made)) (T.contents (inner result.outputs.made)) (W.contents (inner outputs.out)) (W.contents (inner result.outputs.out))) }
+    ensures refused { result.status ≢ number Refused }
+    ensures faulty { result.status ≡ number Faulty → IfSome (I.remaining (inner input.old)) (λ bytes. StopsAtLine bytes
+        (T.contents (inner outputs.made)) (T.contents (inner result.outputs.made)) (W.contents (inner outputs.out)) (W.contents (inner result.outputs.out))) }
+{
+    let Outputs {
+        made,
+        mut out,
+        mut errors,
+    } = outputs;
+    let (status, made) = match import_stream(alloc, clients, input, made) {
+        Ok(imported) => told(alloc, imported, &mut out, &mut errors),
+        Err(unimported) => {
+            let Unimported { fault, writer } = unimported;
+            let why = writer.get_ref().failure();
+            let status = not_imported(alloc, fault, why, &mut out, &mut errors);
+            (status, writer)
+        }
+    };
+    Ended {
+        status,
+        outputs: Outputs { made, out, errors },
+    }
+}
+
+/// Prints what was imported, once its trace is flushed, and gives the status and the trace's writer. The text is made
+/// first: where memory runs out nothing is flushed.
+fn told<T, W, E>(
+    alloc: Global,
+    imported: Imported<T>,
+    out: &mut Counted<W>,
+    errors: &mut Counted<E>,
+) -> (u8, Counted<T>)
+where
+    T: Write + Output + Drop,
+    W: Write,
+    E: Write,
+    ensures told { result.0 ≡ number Accepted → Keeps (T.contents (inner imported.writer)) (T.contents (inner result.1))
+        × Appends (W.contents (inner out.old)) (W.contents (inner out.new)) (told_text imported.names imported.operations) }
+    ensures other { (result.0 ≢ number Refused) × (result.0 ≢ number Faulty) }
+{
+    let text = imported.told(alloc);
+    let Imported { mut writer, .. } = imported;
+    let Ok(text) = text else {
+        return (failed(errors, NO_MEMORY, Status::NoMemory), writer);
+    };
+    if writer.flush().is_err() {
+        let status = failed(errors, writer.get_ref().failure(), Status::Failed);
+        return (status, writer);
+    }
+    let status = print(text.as_bytes(), Status::Accepted, out, errors);
+    (status, writer)
+}
+
+/// Prints why nothing was imported, where a write failed the line that says why, and gives the status: faulty only of a
+/// line that is wrong.
+pub fn not_imported<W, E>(
+    alloc: Global,
+    fault: ImportFault,
+    why: &[u8],
+    out: &mut Counted<W>,
+    errors: &mut Counted<E>,
+) -> u8
+where
+    W: Write,
+    E: Write,
+    ensures status { (result ≢ number Accepted) × (result ≢ number Refused) }
+    ensures faulty { result ≡ number Faulty → PrintsLine fault (W.contents (inner out.old)) (W.contents (inner out.new)) }
+{
+    match fault {
+        ImportFault::Memory => failed(errors, NO_MEMORY, Status::NoMemory),
+        ImportFault::ReadFailed => failed(errors, b"failed: read\n", Status::Failed),
+        ImportFault::WriteFailed { .. } => failed(errors, why, Status::Failed),
+        ImportFault::Line { number, fault } => faulty(alloc, number, fault, out, errors),
+        ImportFault::Changed => failed(errors, b"failed: changed\n", Status::Failed),
+        ImportFault::Endless => failed(errors, b"failed: endless\n", Status::Failed),
+    }
+}
+
+/// Prints the line of a line that is wrong, and gives the status.
+fn faulty<W, E>(
+    alloc: Global,
+    number: u64,
+    fault: LineFault,
+    out: &mut Counted<W>,
+    errors: &mut Counted<E>,
+) -> u8
+where
+    W: Write,
+    E: Write,
+    ensures status { (result ≢ status_number Accepted) × (result ≢ status_number Refused) }
+    ensures printed { result ≡ status_number Faulty → Appends (W.contents (inner out.old)) (W.contents (inner out.new)) (faulty_text number fault) }
+{
+    match faulty_line(alloc, number, fault) {
+        Ok(line) => print(line.as_bytes(), Status::Faulty, out, errors),
+        Err(_) => failed(errors, NO_MEMORY, Status::NoMemory),
+    }
+}
+
+/// Runs the scenario that the input holds: accepted only of a scenario with a run whose history is accepted, where the
+/// trace of the run went out, and what tells it was printed.
+fn run_scenario<R, I, T, W, E>(
+    rt: &R,
+    input: &mut Counted<I>,
+    outputs: Outputs<T, W, E>,
+) -> Ended<T, W, E>
+where
+    R: AllocGlobal + Threads + Wait + Sync,
+    I: Read,
+    T: Write + Send + Drop,
+    W: Write,
+    E: Write,
+    ensures ran { result.status ≡ number Accepted → IfSome (I.remaining (inner input.old)) (λ bytes. HasRun bytes
+        (T.contents (inner outputs.made)) (T.contents (inner result.outputs.made)) (W.contents (inner outputs.out)) (W.contents (inner result.outputs.out))) }
+    ensures refused { result.status ≡ number Refused → IfSome (I.remaining (inner input.old)) (λ _. ⊥) }
+    ensures faulty { result.status ≡ number Faulty → IfSome (I.remaining (inner input.old)) (λ bytes. TellsNone bytes
+        × Keeps (T.contents (inner outputs.made)) (T.contents (inner result.outputs.made))) }
+{
+    let Outputs {
+        made,
+        mut out,
+        mut errors,
+    } = outputs;
+    let alloc = rt.alloc();
+    let streamed = run_stream(rt, alloc, input, made, &mut out, &mut errors, &OpenGate);
+    let Streamed {
+        status,
+        trace: made,
+    } = streamed;
+    let status = status_of(&mut errors, status);
+    Ended {
+        status,
+        outputs: Outputs { made, out, errors },
+    }
+}
+
+/// Serves on a port so many sessions of clients of the cluster of the scenario that the input holds, each of which may
+/// be idle for so many seconds, where they are given: accepted only of a scenario with a report on so many sessions,
+/// whose history is accepted, and which was printed.
+fn serve<R, I, T, W, E>(
+    rt: &R,
+    port: u16,
+    sessions: u16,
+    idle: Option<u16>,
+    input: &mut Counted<I>,
+    outputs: Outputs<T, W, E>,
+) -> Ended<T, W, E>
+where
+    R: Net<Listener = TcpListener, Stream = TcpStream> + AllocGlobal + Wait,
+    I: Read,
+    W: Write,
+    E: Write,
+    ensures served { result.status ≡ number Accepted → IfSome (I.remaining (inner input.old)) (λ bytes.
+        HasServed sessions bytes (W.contents (inner outputs.out)) (W.contents (inner result.outputs.out))) }
+    ensures refused { result.status ≡ number Refused → IfSome (I.remaining (inner input.old)) (λ _. ⊥) }
+    ensures faulty { result.status ≡ number Faulty → IfSome (I.remaining (inner input.old)) TellsNone }
+    ensures made { result.outputs.made ≡ outputs.made }
+{
+    let Outputs {
+        made,
+        mut out,
+        mut errors,
+    } = outputs;
+    let served = serve_stream(
+        rt,
+        rt.alloc(),
+        input,
+        port,
+        sessions,
+        idle,
+        &mut out,
+        &mut errors,
+    );
+    let status = status_of(&mut errors, served);
+    Ended {
+        status,
+        outputs: Outputs { made, out, errors },
+    }
+}
