@@ -39,8 +39,10 @@ pub const EXPLAIN_LONG_ABOUT: &str = "\
 Explains the faults of a recorded history: of each, which operations show it.
 
 Without --all and --fault the first 20 faults are explained. With --picture the operations that
-show them are drawn as well, and the file of the picture is written anew. A file that is no trace
-is answered with one line, `faulty: ..`, that says what is wrong and at which byte.";
+show one of them are drawn as well, and the file of the picture is written anew: it is empty where
+there is no such fault. Where the picture goes to standard output, the words go to standard error.
+A file that is no trace is answered with one line, `faulty: ..`, that says what is wrong and at
+which byte.";
 
 pub const SHOW_ABOUT: &str = "Prints a trace as text, a line for each frame";
 
@@ -63,9 +65,9 @@ passed over.
 
 Prints a line `client N NAME` for each client with its number in the trace, and then
 `imported: N operations, M clients`. The first line that is wrong is answered with one line,
-`faulty: line N: ..`, and leaves a trace that is cut. The trace file is written anew. The lines
-are read twice: those of standard input are kept in a file meanwhile, in the folder that TMPDIR
-names, or else in /tmp. Where the trace goes to standard output, all that is printed goes to
+`faulty: line N: ..`, and leaves an older trace file as it was. The lines are read twice: those of
+standard input, and the trace until it is whole, are kept in files meanwhile, in the folder that
+TMPDIR names, or else in /tmp. Where the trace goes to standard output, all that is printed goes to
 standard error.";
 
 pub const RUN_ABOUT: &str = "Runs a scenario, and records what its clients saw";
@@ -115,7 +117,7 @@ pub const ALL_HELP: &str = "Explain all faults, without --fault";
 
 pub const FAULT_HELP: &str = "Explain the fault of this number alone, 1 to 16000000";
 
-pub const PICTURE_HELP: &str = "The file to draw the explained faults to";
+pub const PICTURE_HELP: &str = "The file to draw a fault to, or `-` for standard output";
 
 /// What is told where `--so-far` stands beside `--workers`.
 pub const SO_FAR_CONFLICT: &str = "\
