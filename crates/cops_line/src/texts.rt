@@ -40,8 +40,10 @@ Explains the faults of a recorded history: of each, which operations show it.
 
 Without --all and --fault the first 20 faults are explained. The last line names the classes of
 faults that were not looked for, where there are any. With --picture one fault is drawn as well,
-the one of --fault or else the first, and the file of the picture is written anew. A file that is
-no trace is answered with one line, `faulty: ..`, that says what is wrong and at which byte.";
+the one of --fault or else the first, and the file of the picture is written anew: it is empty
+where there is no such fault. Where the picture goes to standard output, the words go to standard
+error. A file that is no trace is answered with one line, `faulty: ..`, that says what is wrong and
+at which byte.";
 
 pub const SHOW_ABOUT: &str = "Prints a trace as text, a line for each frame";
 
@@ -64,10 +66,10 @@ members, and lines of blanks, are passed over.
 
 Prints a line `client N NAME` for each client with its number in the trace, and then
 `imported: N operations, M clients`. The first line that is wrong is answered with one line,
-`faulty: line N: ..`, and an older trace file stays as it was. Else the trace file is written
-anew. The lines are read twice: those of standard input or of a pipe are kept in a file
-meanwhile, in the folder that TMPDIR names, or else in /tmp, and so is the trace until it is
-whole. Where the trace goes to standard output, all that is printed goes to standard error.";
+`faulty: line N: ..`, and an older trace file stays as it was. The lines are read twice: those of
+standard input or of a pipe are kept in a file meanwhile, in the folder that TMPDIR names, or else
+in /tmp, and so is the trace until it is whole. Where the trace goes to standard output, all that is
+printed goes to standard error.";
 
 pub const RUN_ABOUT: &str = "Runs a scenario, and records what its clients saw";
 
@@ -117,7 +119,8 @@ pub const ALL_HELP: &str = "Explain every fault, not only the first 20; not with
 
 pub const FAULT_HELP: &str = "Explain only the fault of this number, 1 to 16000000";
 
-pub const PICTURE_HELP: &str = "The file to draw one fault to: that of --fault, or else the first";
+pub const PICTURE_HELP: &str =
+    "The file to draw one fault to, that of --fault or else the first; `-` for standard output";
 
 /// What is told where `--so-far` stands beside `--workers`.
 pub const SO_FAR_CONFLICT: &str = "\
