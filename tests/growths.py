@@ -79,10 +79,14 @@ class Refusing:
         source = os.path.join(ROOT, "tests", "refusing.c")
         subprocess.run(["cc", "-shared", "-fPIC", "-O1", "-o", self.library, source], check=True)
 
-    def run(self, work, kind, number):
-        """How a work ends of which that call is refused, by its status and its output, and whether there was such a call."""
+    def ran(self, words, kind, number, stdin=b""):
+        """A run in which that call fails."""
         environment = {"LD_PRELOAD": self.library, "REFUSED": f"{kind} {number}"}
-        ran = subprocess.run(work.words, env=environment, stdin=subprocess.DEVNULL, capture_output=True, timeout=SECONDS)
+        return subprocess.run(words, env=environment, input=stdin, capture_output=True, timeout=SECONDS)
+
+    def run(self, work, kind, number):
+        """How a work ends in which that call fails, by its status and its output, and whether there was such a call."""
+        ran = self.ran(work.words, kind, number)
         return (ran.returncode, ran.stdout), b"refused\n" in ran.stderr
 
 
@@ -115,6 +119,47 @@ def refused(refusing, work, kind):
             number = numbers.stop
 
 
+def is_import_well(ran, kind, trace, older):
+    """Whether an import left its file as it was, and said so, or has written all of it: where an allocation fails it is out of memory, and where a write
+    does before the file is touched it is the temporary copy that could not be written."""
+    was_refused = b"refused\n" in ran.stderr
+    why = ran.stderr.replace(b"refused\n", b"")
+    if trace != older:
+        return ran.returncode == 0 or was_refused and kind == "write" and (ran.returncode, why) == (DEVICE, b"failed: write\n")
+    failures = {"growth": (MEMORY, b"failed: memory\n"), "read": (DEVICE, why), "write": (DEVICE, b"failed: temporary copy\n")}
+    return was_refused and (ran.returncode, why) == failures[kind]
+
+
+def imports_into(refusing, folder, kind, stdin):
+    """How many imports into a file that has an older trace, of a named file or of standard input, in each of which one call of a kind fails, end well, and
+    how many do not. That all is there ends them."""
+    program, name = os.path.join(ROOT, "crates", "cops", "out", "cops"), os.path.join(folder, "imported.trace")
+    with open(example("put_and_get.trace"), "rb") as file:
+        whole = file.read()
+    passed = failed = 0
+    for number in range(1, 10_000):
+        with open(name, "wb") as file:
+            file.write(b"older")
+        ran = refusing.ran([program, "import", "-" if stdin else example("put_and_get.jsonl"), name], kind, number, stdin)
+        with open(name, "rb") as file:
+            trace = file.read()
+        is_well = is_import_well(ran, kind, trace, b"older") and (ran.returncode != 0 or trace == whole)
+        passed, failed = passed + is_well, failed + (not is_well)
+        if not is_well:
+            print(f"import into a file, {kind} {number} refused: {ran.returncode}, {ran.stderr}, {trace}")
+        if b"refused\n" not in ran.stderr or failed > MOST_TOLD:
+            break
+    return passed, failed
+
+
+def imports(refusing, folder):
+    with open(example("put_and_get.jsonl"), "rb") as file:
+        lines = file.read()
+    found = [imports_into(refusing, folder, kind, stdin) for kind in ("growth", "read", "write") for stdin in (b"", lines)]
+    print(f"import into a file with an older trace: {sum(it[0] for it in found)} runs ended well")
+    return [sum(it) for it in zip(*found)]
+
+
 def main():
     passed = failed = 0
     with tempfile.TemporaryDirectory() as folder:
@@ -125,6 +170,7 @@ def main():
             # (and one run of each kind is refused nothing)
             passed += sum(count + 1 - wrong for count, wrong in counts.values())
             failed += sum(wrong for _, wrong in counts.values())
+        passed, failed = map(sum, zip((passed, failed), imports(refusing, folder)))
     print(f"{passed} passed, {failed} failed")
     return 0 if passed and not failed else 1
 
