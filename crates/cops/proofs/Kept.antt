@@ -1,10 +1,18 @@
 -- What a writer gained before it was flushed, it holds afterwards.
-use Rattle.std.proofs.Common.{◌≡◌, ℕ, List, Option, None, Some, ◌∙◌}
-use Rattle.std.specs.Prelude.{IfSome}
+use Rattle.std.proofs.Common.{◌≡◌, ℕ, Bool, true, false, List, Option, None, Some, Result, Ok, Err, refl, subst, sym, ◌∙◌}
+use Rattle.std.specs.Global.{Vec}
+use Rattle.std.specs.Prelude.{IfOk, IfSome}
 use Rattle.std.specs.Io.KnownBytes.{Appends, Keeps}
+use Rattle.cops_types.specs.declared.selection.Selection.{Selection}
 use Rattle.cops_import.specs.Imports.{IsImport}
 use Rattle.cops_import.specs.Words.{told_text}
-use Rattle.cops.specs.Status.{Imports, TellsNoTrace}
+use Rattle.cops_stream.specs.declared.audit.Answer.{Answer}
+use Rattle.cops_stream.specs.declared.audit.Answer.TheVariants as answer
+use Rattle.cops_stream.specs.declared.audit.StreamFault.{StreamFault}
+use Rattle.cops_stream.specs.declared.explain.Explained.{Explained}
+use Rattle.cops_stream.specs.Convergent.{SpellsConvergent}
+use Rattle.cops_stream.specs.Explain.{PictureSays, WritesExplained}
+use Rattle.cops.specs.Status.{Draws, Explains, Gains, HasAnswered, Imports, TellsNoTrace}
 
 kept_text : (old mid new : Option (List ℕ)) (bs : List ℕ) → Appends old mid bs → Keeps mid new → Appends old new bs
 kept_text None mid new bs gained kept = tt
@@ -36,3 +44,34 @@ pub explained : (known : Option (List ℕ)) (made_old made_new : Option (List �
     → IfSome known (λ bytes. TellsNoTrace bytes × (made_new ≡ made_old))
 explained None made_old made_new none same = tt
 explained (Some bytes) made_old made_new none same = (none, same)
+
+-- what was drawn is what the picture says
+draws : (is_drawn : Bool) (asked : Selection) (bytes : List ℕ) (picture : Option (Vec ℕ)) (made_old made_new : Option (List ℕ)) → (is_drawn ≡ true → PictureSays asked bytes picture)
+    → Gains is_drawn picture made_old made_new → Draws is_drawn asked bytes made_old made_new
+draws false asked bytes picture made_old made_new says gains = gains
+draws true asked bytes picture made_old made_new says gains = (picture, says refl, gains)
+
+-- what is explained of the bytes with this answer
+pub explains : (known : Option (List ℕ)) (is_drawn : Bool) (asked : Selection) (given : Answer) (result : Result Explained StreamFault) (made_old made_new old new : Option (List ℕ))
+    → HasAnswered is_drawn given result made_old made_new
+    → IfOk result (λ e. IfSome known (λ bytes. WritesExplained asked bytes e.answer old new))
+    → (is_drawn ≡ true → IfOk result (λ e. IfSome known (λ bytes. PictureSays asked bytes e.picture)))
+    → IfSome known (λ bytes. Explains is_drawn asked bytes given made_old made_new old new)
+explains None is_drawn asked given result made_old made_new old new has writes says = tt
+explains (Some bytes) is_drawn asked given (Ok e) made_old made_new old new has writes says = (
+  subst (λ (a : Answer). WritesExplained asked bytes a old new) has.0 writes,
+  draws is_drawn asked bytes e.picture made_old made_new says has.1,
+)
+explains (Some bytes) is_drawn asked given (Err fault) made_old made_new old new has writes says = absurd has
+
+-- and where that is Accepted the history is causally convergent
+pub explains_accepted : (known : Option (List ℕ)) (is_drawn : Bool) (asked : Selection) (result : Result Explained StreamFault) (made_old made_new old new : Option (List ℕ))
+    → HasAnswered is_drawn answer.Accepted result made_old made_new
+    → IfOk result (λ e. IfSome known (λ bytes. WritesExplained asked bytes e.answer old new))
+    → (is_drawn ≡ true → IfOk result (λ e. IfSome known (λ bytes. PictureSays asked bytes e.picture)))
+    → IfOk result (λ e. e.answer ≡ answer.Accepted → IfSome known SpellsConvergent)
+    → IfSome known (λ bytes. SpellsConvergent bytes × Explains is_drawn asked bytes answer.Accepted made_old made_new old new)
+explains_accepted None is_drawn asked result made_old made_new old new has writes says converges = tt
+explains_accepted (Some bytes) is_drawn asked (Ok e) made_old made_new old new has writes says converges =
+    (converges has.0, explains (Some bytes) is_drawn asked answer.Accepted (Ok e) made_old made_new old new has writes says)
+explains_accepted (Some bytes) is_drawn asked (Err fault) made_old made_new old new has writes says converges = absurd has

@@ -1,8 +1,9 @@
 -- The statuses that the program ends with, and what they say of the input and of what the writers hold before and afterwards: `made` is what
 -- the writer of a trace or a picture holds, and the others what was printed.
-use Rattle.std.specs.Prelude.{◌≡◌, ◌≢◌, ◌≤◌, ℕ, Bool, true, false, List, [], Option, Some, None, Ok, Err}
+use Rattle.std.specs.Prelude.{◌≡◌, ◌≢◌, ◌≤◌, ℕ, Bool, true, false, List, [], Option, Some, None, Result, Ok, Err}
 use Rattle.std.specs.Global.{Vec}
 use Rattle.std.specs.Io.KnownBytes.{Appends, Keeps}
+use Rattle.std.specs.Option.{is_some}
 use Rattle.cops_types.specs.declared.limits.TheConstants.{MAX_WORKERS}
 use Rattle.cops_types.specs.declared.selection.Selection.{Selection}
 use Rattle.cops_line.specs.declared.job.Job.{Job}
@@ -18,6 +19,9 @@ use Rattle.cops_command.specs.Scenario.{TellsNone}
 use Rattle.cops_command.specs.Status.{number}
 use Rattle.cops_command.specs.declared.status.Status.TheVariants.{Accepted, Faulty}
 use Rattle.cops_stream.specs.declared.audit.Answer.{Answer}
+use Rattle.cops_stream.specs.declared.audit.StreamFault.{StreamFault}
+use Rattle.cops_stream.specs.declared.audit.StreamFault.TheVariants.{BadWorkers}
+use Rattle.cops_stream.specs.declared.explain.Explained.{Explained}
 use Rattle.cops_stream.specs.declared.audit.Answer.TheVariants as answer
 use Rattle.cops_stream.specs.Audit.{Writes}
 use Rattle.cops_stream.specs.Explain.{PictureSays, WritesExplained}
@@ -56,14 +60,24 @@ abbrev pub Draws : Bool → Selection → List ℕ → Option (List ℕ) → Opt
 Draws false asked bytes made_old made_new = Keeps made_old made_new
 Draws true asked bytes made_old made_new = (picture : Option (Vec ℕ)) × PictureSays asked bytes picture × Appends made_old made_new (drawn_text picture)
 
+-- the writer of a picture gained it where it is to be drawn, and else holds what it held
+abbrev pub Gains : Bool → Option (Vec ℕ) → Option (List ℕ) → Option (List ℕ) → Type 0
+Gains false picture made_old made_new = Keeps made_old made_new
+Gains true picture made_old made_new = Appends made_old made_new (drawn_text picture)
+
+-- an explanation has this answer, and the writer of its picture gained that
+abbrev pub HasAnswered : Bool → Answer → Result Explained StreamFault → Option (List ℕ) → Option (List ℕ) → Type 0
+HasAnswered is_drawn answer (Ok explained) made_old made_new = (explained.answer ≡ answer) × Gains is_drawn explained.picture made_old made_new
+HasAnswered is_drawn answer (Err fault) made_old made_new = ⊥
+
+-- it is one of what is no trace, or was asked for with a number of workers that is none
+abbrev pub IsFaultyAnswer : Result Explained StreamFault → Type 0
+IsFaultyAnswer (Ok explained) = explained.answer ≡ answer.Faulty
+IsFaultyAnswer (Err fault) = fault ≡ BadWorkers
+
 -- what is explained of the bytes was printed, and drawn where that is asked
 abbrev pub Explains : Bool → Selection → List ℕ → Answer → Option (List ℕ) → Option (List ℕ) → Option (List ℕ) → Option (List ℕ) → Type 0
 Explains is_drawn asked bytes answer made_old made_new old new = WritesExplained asked bytes answer old new × Draws is_drawn asked bytes made_old made_new
-
--- a picture is to be drawn
-abbrev pub is_named : {A : Type 0} → Option A → Bool
-is_named None = false
-is_named (Some name) = true
 
 -- the lines of the bytes tell one trace, whose text its writer gained, and the names of its clients were printed
 pub record Imports (bytes : List ℕ) (made_old made_new old new : Option (List ℕ)) : Type 0 where
@@ -95,7 +109,7 @@ abbrev pub EndsWell : Job → List ℕ → Option (List ℕ) → Option (List �
 EndsWell (Audit trace workers) bytes made_old made_new old new = SpellsConvergent bytes × Writes bytes answer.Accepted old new × (made_new ≡ made_old)
 EndsWell (SoFar trace) bytes made_old made_new old new = IsSoundSoFar bytes × WritesSoFar bytes answer.Accepted old new × (made_new ≡ made_old)
 EndsWell (Explain trace faults picture) bytes made_old made_new old new =
-    SpellsConvergent bytes × Explains (is_named picture) faults bytes answer.Accepted made_old made_new old new
+    SpellsConvergent bytes × Explains (is_some picture) faults bytes answer.Accepted made_old made_new old new
 EndsWell (Show trace) bytes made_old made_new old new = TellsTrace bytes × Shows bytes (number Accepted) old new × (made_new ≡ made_old)
 EndsWell (Import lines trace) bytes made_old made_new old new = Imports bytes made_old made_new old new
 EndsWell (Run scenario trace) bytes made_old made_new old new = HasRun bytes made_old made_new old new
@@ -106,7 +120,7 @@ abbrev pub EndsRefused : Job → List ℕ → Option (List ℕ) → Option (List
 EndsRefused (Audit trace workers) bytes made_old made_new old new = Writes bytes answer.Refused old new × (made_new ≡ made_old)
 EndsRefused (SoFar trace) bytes made_old made_new old new = WritesSoFar bytes answer.Refused old new × (made_new ≡ made_old)
 EndsRefused (Explain trace faults picture) bytes made_old made_new old new =
-    Explains (is_named picture) faults bytes answer.Refused made_old made_new old new
+    Explains (is_some picture) faults bytes answer.Refused made_old made_new old new
 EndsRefused job bytes made_old made_new old new = ⊥
 
 -- What is so where it ends as faulty: the bytes are no trace's text, or no scenario's, or a line of them is wrong; a cut is no fault of what is

@@ -12,7 +12,7 @@ ghost use Rattle.cops_command.specs.Scenario.{TellsNone};
 ghost use Rattle.cops_command.specs.Status.{number, number as status_number};
 ghost use Rattle.cops_command.specs.declared.status.Status.TheVariants.{Accepted, Failed, Faulty, NoMemory, Refused};
 ghost use Rattle.cops_run_stream.specs.Running.{EndsWell as HasRun};
-ghost use Rattle.cops.specs.Status.{EndsFaulty, EndsRefused, EndsWell, Explains, HasServed, Imports, MayWork, PrintsLine, StopsAtLine, TellsNoTrace, TellsOtherFault, TellsTrace, drawn_text};
+ghost use Rattle.cops.specs.Status.{EndsFaulty, EndsRefused, EndsWell, Explains, HasAnswered, HasServed, Imports, IsFaultyAnswer, MayWork, PrintsLine, StopsAtLine, TellsNoTrace, TellsOtherFault, TellsTrace, drawn_text};
 
 use crate::output::Output;
 use cops_command::{Status, print};
@@ -79,14 +79,9 @@ where
         Job::SoFar { .. } => so_far(rt.alloc(), input, outputs),
         Job::Explain {
             faults,
-            picture: None,
+            picture,
             ..
-        } => explain(rt.alloc(), faults, false, input, outputs),
-        Job::Explain {
-            faults,
-            picture: Some(_),
-            ..
-        } => explain(rt.alloc(), faults, true, input, outputs),
+        } => explain(rt.alloc(), faults, picture.is_some(), input, outputs),
         Job::Show { .. } => show(rt.alloc(), input, outputs),
         Job::Import { .. } => import(rt.alloc(), clients, input, outputs),
         Job::Run { .. } => run_scenario(rt, input, outputs),
@@ -225,24 +220,35 @@ where
         mut out,
         mut errors,
     } = outputs;
-    let status = match explain_stream(alloc, input, &mut out, faults, is_drawn) {
-        Ok(explained) => {
-            let Explained { answer, picture } = explained;
-            match (is_drawn, answer) {
-                (true, Answer::Accepted) => {
-                    drawn(Answer::Accepted, picture, &mut made, &mut errors)
-                }
-                (true, Answer::Refused) => {
-                    drawn(Answer::Refused, picture, &mut made, &mut errors)
-                }
-                _ => answer.status().number(),
-            }
-        }
-        Err(fault) => audit_status(&mut errors, Err(fault)),
-    };
+    let explained = explain_stream(alloc, input, &mut out, faults, is_drawn);
+    let status = explained_status(explained, is_drawn, &mut made, &mut errors);
     Ended {
         status,
         outputs: Outputs { made, out, errors },
+    }
+}
+
+/// The status of an explanation, whose picture is written where it is to be drawn: of what is no trace there is none.
+fn explained_status<T, E>(
+    explained: Result<Explained, StreamFault>,
+    is_drawn: bool,
+    made: &mut Counted<T>,
+    errors: &mut Counted<E>,
+) -> u8
+where
+    T: Write + Output,
+    E: Write,
+    ensures accepted { result ≡ number Accepted → HasAnswered is_drawn Answer.Accepted explained (T.contents (inner made.old)) (T.contents (inner made.new)) }
+    ensures refused { result ≡ number Refused → HasAnswered is_drawn Answer.Refused explained (T.contents (inner made.old)) (T.contents (inner made.new)) }
+    ensures faulty { result ≡ number Faulty → IsFaultyAnswer explained × (T.contents (inner made.new) ≡ T.contents (inner made.old)) }
+{
+    match explained {
+        Ok(Explained { answer, picture }) => match (is_drawn, answer) {
+            (true, Answer::Accepted) => drawn(Answer::Accepted, picture, made, errors),
+            (true, Answer::Refused) => drawn(Answer::Refused, picture, made, errors),
+            _ => answer.status().number(),
+        },
+        Err(fault) => audit_status(errors, Err(fault)),
     }
 }
 

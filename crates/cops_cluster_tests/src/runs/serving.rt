@@ -115,7 +115,7 @@ fn cut<R: Wait>(
     len: usize,
 ) -> Result<(Result<Served, NetFault>, Option<usize>), Fail> {
     let mut front_end = front_end(alloc)?;
-    let mut reader = Counted::new(&MESSAGES[..len]);
+    let mut reader = Counted::new(&MESSAGES[..len.min(MESSAGES.len())]);
     let mut writer = Counted::new(Vec::new(alloc));
     let ended = serve_session(rt, alloc, &mut reader, &mut writer, &mut front_end);
     drop(front_end);
@@ -128,10 +128,10 @@ fn cut<R: Wait>(
 
 /// How many messages end within so many bytes, and how long their replies are.
 fn whole(len: usize) -> (u32, usize) {
-    let mut whole = (0, 0);
+    let mut whole = (0u32, 0);
     for (end, replied) in ENDS {
         if end <= len {
-            whole = (whole.0 + 1, replied);
+            whole = (whole.0.saturating_add(1), replied);
         }
     }
     whole
