@@ -119,15 +119,17 @@ def refused(refusing, work, kind):
             number = numbers.stop
 
 
-def is_import_well(ran, kind, trace, older):
-    """Whether an import left its file as it was, and said so, or has written all of it: where an allocation fails it is out of memory, and where a write
-    does before the file is touched it is the temporary copy that could not be written."""
+def is_import_well(ran, kind, trace, older, whole):
+    """Whether an import has written all of its file, or left it as it was and says why: where an allocation fails it is out of memory, and where a write does
+    before the file is touched it is the temporary copy that could not be written. While the file is written a device may fail, and no allocation."""
     was_refused = b"refused\n" in ran.stderr
-    why = ran.stderr.replace(b"refused\n", b"")
-    if trace != older:
-        return ran.returncode == 0 or was_refused and kind == "write" and (ran.returncode, why) == (DEVICE, b"failed: write\n")
-    failures = {"growth": (MEMORY, b"failed: memory\n"), "read": (DEVICE, why), "write": (DEVICE, b"failed: temporary copy\n")}
-    return was_refused and (ran.returncode, why) == failures[kind]
+    ended = ran.returncode, ran.stderr.replace(b"refused\n", b"")
+    copy = DEVICE, b"failed: temporary copy\n"
+    if ran.returncode == 0:
+        return trace == whole
+    if trace == older:
+        return was_refused and ended in {"growth": [(MEMORY, b"failed: memory\n")], "read": [(DEVICE, b"failed: read\n"), copy], "write": [copy]}[kind]
+    return was_refused and whole.startswith(trace) and ended == {"read": copy, "write": (DEVICE, b"failed: write\n")}.get(kind)
 
 
 def imports_into(refusing, folder, kind, stdin):
@@ -143,7 +145,7 @@ def imports_into(refusing, folder, kind, stdin):
         ran = refusing.ran([program, "import", "-" if stdin else example("put_and_get.jsonl"), name], kind, number, stdin)
         with open(name, "rb") as file:
             trace = file.read()
-        is_well = is_import_well(ran, kind, trace, b"older") and (ran.returncode != 0 or trace == whole)
+        is_well = is_import_well(ran, kind, trace, b"older", whole)
         passed, failed = passed + is_well, failed + (not is_well)
         if not is_well:
             print(f"import into a file, {kind} {number} refused: {ran.returncode}, {ran.stderr}, {trace}")
