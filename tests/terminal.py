@@ -72,10 +72,10 @@ def on_a_terminal():
     bad = whole[:-1] + b"\3"
     check("a slow audit of a faulty trace", last_line(slowly(["audit", "-"], bad)), (2, b"faulty: bad count at 57\n", line))
     check("a slow explanation", last_line(slowly(["explain", "-"], whole)), (0, b"accepted: 2 operations, 1 puts\n", line))
-    lines = b'{"client":1,"get":"k"}\n{"client":2,"get":"k"}\n'
+    lines = b'{"client":1,"get":"k","value":null}\n{"client":2,"get":"k","value":null}\n'
     status, out, told = slowly(["import", "-", os.devnull], lines)
     check("a slow import", (status, out), (0, b"client 0 1\nclient 1 2\nimported: 2 operations, 2 clients\n"))
-    check("the lines of a slow import", (b"\r\x1b[Kcopying: 2 lines, 46 bytes" in told, told.endswith(b"\r\x1b[K")), (True, True))
+    check("the lines of a slow import", (b"\r\x1b[Kcopying: 2 lines, 72 bytes" in told, told.endswith(b"\r\x1b[K")), (True, True))
     waits = b"waiting for a trace on standard input\r\n"
     check("no words on a terminal", no_words(), (waits, 2, b"faulty: cut at 0\n"))
     check("no words by a pipe", last_line(slowly([], whole)), (0, b"accepted: 2 operations, 1 puts\n", line))

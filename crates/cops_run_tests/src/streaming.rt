@@ -1,4 +1,4 @@
-use crate::runs::building::{HEAD, TWO};
+use crate::building::{HEAD, TWO};
 use cops_run_stream::{Streamed, run_stream};
 use cops_testing::HoldsSteps;
 use cops_types::Counted;

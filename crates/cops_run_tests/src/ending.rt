@@ -1,4 +1,4 @@
-use crate::runs::building::{DONE, TWO, ran, scenario};
+use crate::building::{DONE, TWO, ran, scenario};
 use cops_clients::*;
 use cops_core::Setting;
 use cops_node::Outcome;

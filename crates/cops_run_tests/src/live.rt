@@ -1,4 +1,4 @@
-use crate::runs::building::{DONE, HEAD, TWO, fault_of, operations_of, scenario};
+use crate::building::{DONE, HEAD, TWO, fault_of, operations_of, scenario};
 use cops_clients::*;
 use cops_stream::{Answer, StreamFault, audit_stream};
 use cops_testing::waits_for;

@@ -1,4 +1,4 @@
-use crate::runs::building::{DONE, TWO, fault_of, operations_of, ran, scenario};
+use crate::building::{DONE, TWO, fault_of, operations_of, ran, scenario};
 use cops_clients::*;
 use cops_core::{Event, World};
 use cops_node::Outcome;
