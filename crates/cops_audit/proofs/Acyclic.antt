@@ -1,8 +1,7 @@
 -- Where no operation is faulty by its version, steps never lead back.
 use Rattle.std.proofs.Common.{◌≡◌, ◌<◌, ◌≤◌, ◌⊎◌, ℕ, Some, refl, sym, ◌∙◌, ap, inl, inr, arith}
-use Rattle.cops_types.specs.declared.op.Op.TheVariants.{Put, Got}
 use Rattle.cops_types.specs.declared.op.OpName.{OpName}
-use Rattle.cops_types.specs.Histories.{Sessions, op_at, PutsVersion}
+use Rattle.cops_types.specs.Histories.{Sessions, op_at, PutsVersion, write, read}
 use Rattle.cops_types.specs.Operations.{GetsVersion}
 use Rattle.cops_types.specs.Past.{Step, Past, step, more}
 use Rattle.cops_types.specs.Faults.{IsNotBelow}
@@ -13,13 +12,13 @@ same_name a b c i = ap (λ (p : ℕ × ℕ). let n : OpName = record { client = 
 -- a put is no get
 pub put_is_no_get : (h : Sessions) (p g : OpName) (v w : ℕ) → PutsVersion h p v → GetsVersion h g w → p ≡ g → ⊥
 put_is_no_get h p g v w put got e =
-    let at : Some (Put put.0 put.1 v) ≡ Some (Got got.0 got.1 w) = sym put.2 ∙ ap (op_at h) e ∙ got.2 in
+    let at : Some (write put.0 put.1 v) ≡ Some (read got.0 got.1 w) = sym put.2 ∙ ap (op_at h) e ∙ got.2 in
     cc
 
 -- a put has one version
 pub one_version : (h : Sessions) (p q : OpName) (v w : ℕ) → PutsVersion h p v → PutsVersion h q w → p ≡ q → v ≡ w
 one_version h p q v w first second e =
-    let at : Some (Put first.0 first.1 v) ≡ Some (Put second.0 second.1 w) = sym first.2 ∙ ap (op_at h) e ∙ second.2 in
+    let at : Some (write first.0 first.1 v) ≡ Some (write second.0 second.1 w) = sym first.2 ∙ ap (op_at h) e ∙ second.2 in
     cc
 
 -- an earlier operation and a later one, by their places in one session
@@ -67,8 +66,8 @@ module _ (h : Sessions) (rise : VersionsRise h) where
     got = c;
     v = s.version;
     w = s.version;
-    is_put = (s.key, s.value, s.put);
-    is_got = (s.key, s.value, s.got);
+    is_put = (s.key, s.content, s.put);
+    is_got = (s.key, s.content, s.got);
     rises = omega arith;
     after_from = (e.0, omega (arith, e.1));
     before_to = (refl, omega arith);
@@ -85,14 +84,14 @@ module _ (h : Sessions) (rise : VersionsRise h) where
     before_to = (x.before_to.0 ∙ s.same_client, omega (arith, s.earlier, x.before_to.1));
   })
   more_precise a b c (inr x) (inr s) =
-      let below : x.w < s.version = got_below x.got b x.w s.version x.is_got (s.key, s.value, s.put) x.before_to in
+      let below : x.w < s.version = got_below x.got b x.w s.version x.is_got (s.key, s.content, s.put) x.before_to in
       inr (record {
         put = x.put;
         got = c;
         v = x.v;
         w = s.version;
         is_put = x.is_put;
-        is_got = (s.key, s.value, s.got);
+        is_got = (s.key, s.content, s.got);
         rises = omega (arith, below, x.rises);
         after_from = x.after_from;
         before_to = (refl, omega arith);
@@ -105,8 +104,8 @@ module _ (h : Sessions) (rise : VersionsRise h) where
     got = b;
     v = s.version;
     w = s.version;
-    is_put = (s.key, s.value, s.put);
-    is_got = (s.key, s.value, s.got);
+    is_put = (s.key, s.content, s.put);
+    is_got = (s.key, s.content, s.got);
     rises = omega arith;
     after_from = (refl, omega arith);
     before_to = (refl, omega arith);

@@ -91,8 +91,8 @@ module _ (h : Sessions) (table : List VersionedPut) (t : IsVersionTable h table)
     note_step a b (inr s) =
         let at_a = note_there h table notes noted a (_, s.put) in
         let at_b = note_there h table notes noted b (_, s.got) in
-        let put = seen_put h table a s.version at_a.0.seen (says h table t notes noted a at_a.0 at_a.1) (s.key, s.value, s.put) in
-        let got = seen_got h table b s.version at_b.0.seen (λ f. f.none a s) (says h table t notes noted b at_b.0 at_b.1) (s.key, s.value, s.got) in
+        let put = seen_put h table a s.version at_a.0.seen (says h table t notes noted a at_a.0 at_a.1) (s.key, s.content, s.put) in
+        let got = seen_got h table b s.version at_b.0.seen (λ f. f.none a s) (says h table t notes noted b at_b.0 at_b.1) (s.key, s.content, s.got) in
         let same : put.0 ≡ got.0 = same_place table t.rising put.0 got.0 a got.1 s.version put.2 got.3 in
         inr (got.0, s.version, at_b.0.mark, subst (λ (p : ℕ). StandsAt table p a s.version) same put.2, at_b.1 ∙ ap (λ (x : Seen). Some (let y : Note = record { seen = x; mark = at_b.0.mark } in y)) got.2)
 

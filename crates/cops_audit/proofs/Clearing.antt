@@ -34,7 +34,7 @@ seen_missed : (h : Sessions) (table : List VersionedPut) (n : OpName) (k : List 
 seen_missed h table n k (Put p) s missed = absurd (missed_puts_nothing h n k s.0 missed s.1)
 seen_missed h table n k (Got p) s missed = absurd (missed_gets_nothing h n k s.1 missed s.3)
 seen_missed h table n k Missed s missed = refl
-seen_missed h table n k (Sourceless p) s missed = absurd (missed_gets_nothing h n k s.0.version missed (s.0.key, s.0.value, s.0.got))
+seen_missed h table n k (Sourceless p) s missed = absurd (missed_gets_nothing h n k s.0.version missed (s.0.key, s.0.content, s.0.got))
 
 module _ (h : Sessions) (table : List VersionedPut) (t : IsVersionTable h table) (notes : List (List Note)) (noted : IsNoted h table notes) (sources : HaveSourcesOrWait h) (above_all : AllAbove h) (op : OpName) where
   -- a put in the past of an operation stands below its mark

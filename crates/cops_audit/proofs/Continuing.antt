@@ -1,8 +1,7 @@
 -- A lasting fault stays, and a clean history is an accepted one.
 use Rattle.std.proofs.Common.{◌≡◌, ◌↔◌, ℕ, List, Some, sym, ◌∙◌, subst, inl, inr}
-use Rattle.cops_types.specs.declared.op.Op.TheVariants.{Put, Got}
 use Rattle.cops_types.specs.declared.op.OpName.{OpName}
-use Rattle.cops_types.specs.Histories.{Sessions, PutsVersion, SourceStep}
+use Rattle.cops_types.specs.Histories.{Sessions, PutsVersion, SourceStep, write, read}
 use Rattle.cops_types.specs.Operations.{GetsVersion}
 use Rattle.cops_types.specs.Past.{Step, Past, step, more}
 use Rattle.cops_types.specs.Faults.{HasNoSource, IsNewer, IsNotAbove, IsNotBelow, IsStale}
@@ -27,7 +26,7 @@ module _ (h longer : Sessions) (continues : Continues h longer) where
 
   step_stays : (a b : OpName) → Step h a b → Step longer a b
   step_stays a b (inl s) = inl (record { same_client = s.same_client; earlier = s.earlier; is_there = (s.is_there.0, continues b _ s.is_there.1) })
-  step_stays a b (inr s) = inr (record { key = s.key; value = s.value; version = s.version; put = continues a _ s.put; got = continues b _ s.got })
+  step_stays a b (inr s) = inr (record { key = s.key; content = s.content; version = s.version; put = continues a _ s.put; got = continues b _ s.got })
 
   pub past_stays : (a b : OpName) → Past h a b → Past longer a b
   past_stays a b (step s) = step (step_stays a b s)
@@ -55,9 +54,9 @@ module _ (h longer : Sessions) (continues : Continues h longer) where
   -- a source in the longer history was one before, where both operations were there
   source_was : (put got : OpName) (v w : ℕ) → PutsVersion h put v → GetsVersion h got w → SourceStep longer put got → SourceStep h put got
   source_was put got v w is_put is_got s =
-      let p : Some (Put is_put.0 is_put.1 v) ≡ Some (Put s.key s.value s.version) = sym (continues put _ is_put.2) ∙ s.put in
-      let g : Some (Got is_got.0 is_got.1 w) ≡ Some (Got s.key s.value s.version) = sym (continues got _ is_got.2) ∙ s.got in
-      record { key = s.key; value = s.value; version = s.version; put = is_put.2 ∙ p; got = is_got.2 ∙ g }
+      let p : Some (write is_put.0 is_put.1 v) ≡ Some (write s.key s.content s.version) = sym (continues put _ is_put.2) ∙ s.put in
+      let g : Some (read is_got.0 is_got.1 w) ≡ Some (read s.key s.content s.version) = sym (continues got _ is_got.2) ∙ s.got in
+      record { key = s.key; content = s.content; version = s.version; put = is_put.2 ∙ p; got = is_got.2 ∙ g }
 
   pub stays_refused : HasLastingFault h → (puts : List OpName) → ¬ IsAccepted longer puts
   stays_refused (inl d) puts accepted =
@@ -84,9 +83,9 @@ none_waits h puts accepted n w =
 sources_there : (h : Sessions) → ¬ HasLastingFault h → ((n : OpName) → ¬ IsWaiting h n) → (n : OpName) → ¬ HasNoSource h n
 sources_there h no_fault none_waiting n f = none_waiting n (record {
   version = f.version;
-  gets = (f.key, f.value, f.got);
+  gets = (f.key, f.content, f.got);
   none = λ put bears.
-      no_fault (inr (inr (inr (n, put, record { version = f.version; gets = (f.key, f.value, f.got); puts = bears; no_source = f.none put }))));
+      no_fault (inr (inr (inr (n, put, record { version = f.version; gets = (f.key, f.content, f.got); puts = bears; no_source = f.none put }))));
 })
 
 -- a clean history has no verdict but acceptance

@@ -1,8 +1,7 @@
 -- Accepted exactly where convergent with the version order.
-use Rattle.std.proofs.Common.{◌≡◌, ◌≢◌, ◌<◌, ◌⊎◌, ℕ, zero, suc, List, [], ◌∷◌, Bool, true, false, Some, refl, sym, ◌∙◌, ap, subst, inl, inr, arith, slice_get, Contains}
-use Rattle.cops_types.specs.declared.op.Op.TheVariants.{Put, Got}
+use Rattle.std.proofs.Common.{◌≡◌, ◌≢◌, ◌<◌, ◌⊎◌, ℕ, zero, suc, List, [], ◌∷◌, Bool, true, false, Option, Some, refl, sym, ◌∙◌, ap, subst, inl, inr, arith, slice_get, Contains}
 use Rattle.cops_types.specs.declared.op.OpName.{OpName}
-use Rattle.cops_types.specs.Histories.{Sessions, op_at, IsPut, IsGot, IsMissed, PutsVersion, SessionStep, SourceStep}
+use Rattle.cops_types.specs.Histories.{Sessions, op_at, IsPut, IsGot, IsMissed, PutsVersion, SessionStep, SourceStep, write, read}
 use Rattle.cops_types.specs.Past.{Step, Past, step, more}
 use Rattle.cops_types.specs.Convergence.{Order, Precedes, IsCausalOrder, StandsBefore, IsArbitration, ReturnsLast, Explains, ConvergesBy}
 use Rattle.cops_types.specs.Verdicts.{AllHaveSources, IsAccepted}
@@ -58,7 +57,7 @@ find_source h got (n ∷ ns) = by_test (source_test (op_at h n) (op_at h got)) r
         → ((s : OpName) × SourceStep h s got) ⊎ ((s : OpName) → Mem s (n ∷ ns) → ¬ SourceStep h s got)
     by_test true e rest =
         let t = source_told (op_at h n) (op_at h got) (sym e) in
-        inl (n, record { key = t.0; value = t.1; version = t.2; put = t.3; got = t.4 })
+        inl (n, record { key = t.0; content = t.1; version = t.2; put = t.3; got = t.4 })
     by_test false e (inl found) = inl found
     by_test false e (inr none) = inr (λ s there is_source. elim there [
       | inl same ↦ let passes = source_passes h s got is_source in
@@ -66,12 +65,12 @@ find_source h got (n ∷ ns) = by_test (source_test (op_at h n) (op_at h got)) r
       | inr later ↦ none s later is_source
     ])
 
-pub source_of : (h : Sessions) → AllHaveSources h → (got : OpName) (key value : List ℕ) (version : ℕ) → IsGot h got key value version → (s : OpName) × SourceStep h s got
-source_of h sourced got key value version is_got = elim (find_source h got (names_of h)) [
+pub source_of : (h : Sessions) → AllHaveSources h → (got : OpName) (key : List ℕ) (content : Option (List ℕ)) (version : ℕ) → IsGot h got key content version → (s : OpName) × SourceStep h s got
+source_of h sourced got key content version is_got = elim (find_source h got (names_of h)) [
   | inl found ↦ found
   | inr none ↦ absurd (sourced got (record {
     key = key;
-    value = value;
+    content = content;
     version = version;
     got = is_got;
     none = λ s is_source.
@@ -80,11 +79,11 @@ source_of h sourced got key value version is_got = elim (find_source h got (name
 ]
 
 -- the source of a get has the get's version
-pub source_version : (h : Sessions) (s got : OpName) (key value : List ℕ) (version : ℕ) → SourceStep h s got → IsGot h got key value version → PutsVersion h s version
-source_version h s got key value version is_source is_got =
-    let same : Some (Got is_source.key is_source.value is_source.version) ≡ Some (Got key value version) = sym is_source.got ∙ is_got in
+pub source_version : (h : Sessions) (s got : OpName) (key : List ℕ) (content : Option (List ℕ)) (version : ℕ) → SourceStep h s got → IsGot h got key content version → PutsVersion h s version
+source_version h s got key content version is_source is_got =
+    let same : Some (read is_source.key is_source.content is_source.version) ≡ Some (read key content version) = sym is_source.got ∙ is_got in
     let v : is_source.version ≡ version = cc in
-    (is_source.key, is_source.value, subst (λ x. IsPut h s is_source.key is_source.value x) v is_source.put)
+    (is_source.key, is_source.content, subst (λ x. IsPut h s is_source.key is_source.content x) v is_source.put)
 
 module _ (h : Sessions) (names : List OpName) (accepted : IsAccepted h names) where
   rise : VersionsRise h
@@ -105,10 +104,10 @@ module _ (h : Sessions) (names : List OpName) (accepted : IsAccepted h names) wh
         (past_below h rise p q first.0 second.0 first.1 second.1 (precedes_past h p q before));
   }
 
-  returns_last : (got : OpName) (key value : List ℕ) (version : ℕ) → IsGot h got key value version → ReturnsLast h (past_order h) names got key
-  returns_last got key value version is_got =
-      let s = source_of h accepted.sources got key value version is_got in
-      let put = source_version h s.0 got key value version s.1 is_got in
+  returns_last : (got : OpName) (key : List ℕ) (content : Option (List ℕ)) (version : ℕ) → IsGot h got key content version → ReturnsLast h (past_order h) names got key
+  returns_last got key content version is_got =
+      let s = source_of h accepted.sources got key content version is_got in
+      let put = source_version h s.0 got key content version s.1 is_got in
       record {
         source = s.0;
         is_source = s.1;
@@ -118,7 +117,7 @@ module _ (h : Sessions) (names : List OpName) (accepted : IsAccepted h names) wh
               key = key;
               put = on_key;
               past = precedes_past h q got before;
-              returned = inl (value, version, is_got, less);
+              returned = inl (content, version, is_got, less);
             }) in
             let not_same : ¬ (version ≡ w) = λ e. accepted.doubled s.0 (record {
               version = version;
@@ -162,16 +161,16 @@ module _ (h : Sessions) (names : List OpName) (by_version : IsVersionOrder h nam
 
   none_sourceless : AllHaveSources h
   none_sourceless name fault =
-      let r = explains.got name fault.key fault.value fault.version fault.got in
+      let r = explains.got name fault.key fault.content fault.version fault.got in
       fault.none r.source r.is_source
 
   none_below : (e n : OpName) → ¬ IsNotBelow h e n
   none_below e n f = by_cases f.has
     where
       session : SessionStep h e n
-      session = record { same_client = f.same_client; earlier = f.before; is_there = (Put f.put.0 f.put.1 f.own, f.put.2) }
+      session = record { same_client = f.same_client; earlier = f.before; is_there = (write f.put.0 f.put.1 f.own, f.put.2) }
 
-      by_cases : (PutsVersion h e f.version) ⊎ ((key : List ℕ) × (value : List ℕ) × IsGot h e key value f.version) → ⊥
+      by_cases : (PutsVersion h e f.version) ⊎ ((key : List ℕ) × (content : Option (List ℕ)) × IsGot h e key content f.version) → ⊥
       by_cases (inl put) = omega (arith, f.not_below, ordered_rises e n f.version f.own put f.put (causal.sessions e n session))
       by_cases (inr got) =
           let r = explains.got e got.0 got.1 f.version got.2 in
@@ -189,7 +188,7 @@ module _ (h : Sessions) (names : List OpName) (by_version : IsVersionOrder h nam
       before : Precedes order q n
       before = past_ordered h order causal q n f.past
 
-      by_cases : ((value : List ℕ) × (old : ℕ) × IsGot h n f.key value old × (old < w)) ⊎ IsMissed h n f.key → ⊥
+      by_cases : ((content : Option (List ℕ)) × (old : ℕ) × IsGot h n f.key content old × (old < w)) ⊎ IsMissed h n f.key → ⊥
       by_cases (inr missed) = explains.missed n q f.key w missed f.put before
       by_cases (inl got) =
           let r = explains.got n f.key got.0 got.1 got.2 in

@@ -1,9 +1,7 @@
 -- Where some operation makes a put faulty, the first one does; where some put is newer, the newest one is.
-use Rattle.std.proofs.Common.{◌≡◌, ◌<◌, ◌≤◌, ◌+◌, ℕ, zero, suc, List, [], ◌∷◌, Some, ap, arith, slice_get, slice_index_or}
-use Rattle.cops_types.specs.declared.op.Op.{Op}
-use Rattle.cops_types.specs.declared.op.Op.TheVariants.{Put, Got, Missed}
+use Rattle.std.proofs.Common.{◌≡◌, ◌<◌, ◌≤◌, ◌+◌, ℕ, zero, suc, List, [], ◌∷◌, Option, Some, ap, arith, slice_get, slice_index_or}
 use Rattle.cops_types.specs.declared.op.OpName.{OpName}
-use Rattle.cops_types.specs.Histories.{Sessions, PutsVersion}
+use Rattle.cops_types.specs.Histories.{Sessions, PutsVersion, Operation, write, read, missed}
 use Rattle.cops_types.specs.Faults.{IsNotBelow, IsNewer}
 use Rattle.cops_audit.proofs.Acyclic.{VersionsRise}
 use Rattle.cops_types.specs.Verdicts.{AllAbove, NoneStale}
@@ -23,12 +21,12 @@ pub versions_rise : (h : Sessions) → AllAbove h → VersionsRise h
 versions_rise h above earlier name fault = none_within h above (suc earlier.index) earlier name (omega arith) fault
 
 -- no version in the history is above this
-version_of : Op → ℕ
-version_of (Put k v w) = w
-version_of (Got k v w) = w
-version_of (Missed k) = 0
+version_of : Operation → ℕ
+version_of (write k v w) = w
+version_of (read k v w) = w
+version_of (missed k) = 0
 
-session_bound : List Op → ℕ
+session_bound : List Operation → ℕ
 session_bound [] = 0
 session_bound (op ∷ ops) = version_of op + session_bound ops
 
@@ -36,15 +34,15 @@ bound : Sessions → ℕ
 bound [] = 0
 bound (s ∷ ss) = session_bound s + bound ss
 
-session_bounds : (s : List Op) (i : ℕ) (k x : List ℕ) (w : ℕ) → slice_get s i ≡ Some (Put k x w) → w ≤ session_bound s
+session_bounds : (s : List Operation) (i : ℕ) (k : List ℕ) (x : Option (List ℕ)) (w : ℕ) → slice_get s i ≡ Some (write k x w) → w ≤ session_bound s
 unfolding session_bound version_of
 session_bounds [] i k x w e = absurd cc
 session_bounds (op ∷ ops) zero k x w e =
-    let same : version_of op ≡ w = ap version_of (let e' : op ≡ Put k x w = cc in e') in
+    let same : version_of op ≡ w = ap version_of (let e' : op ≡ write k x w = cc in e') in
     omega (arith, same)
 session_bounds (op ∷ ops) (suc i) k x w e = omega (arith, session_bounds ops i k x w e)
 
-bounds : (ss : Sessions) (c i : ℕ) (k x : List ℕ) (w : ℕ) → slice_get (slice_index_or ss c []) i ≡ Some (Put k x w) → w ≤ bound ss
+bounds : (ss : Sessions) (c i : ℕ) (k : List ℕ) (x : Option (List ℕ)) (w : ℕ) → slice_get (slice_index_or ss c []) i ≡ Some (write k x w) → w ≤ bound ss
 unfolding bound
 bounds [] c i k x w e = absurd cc
 bounds (s ∷ ss) zero i k x w e = omega (arith, session_bounds s i k x w e)

@@ -4,9 +4,8 @@ use Rattle.std.proofs.lemmas.List.Quantifiers.{all_pairs_push}
 use Rattle.std.proofs.lemmas.List.Elements.{Contains-append_left, Contains-push, Contains-push_cases, Contains-get_or}
 use Rattle.std.proofs.lemmas.List.{take_more}
 use Rattle.std.proofs.lemmas.List.Sums.{sum_by_more}
-use Rattle.cops_types.specs.declared.op.Op.{Op}
 use Rattle.cops_types.specs.declared.op.OpName.{OpName}
-use Rattle.cops_types.specs.Histories.{Sessions}
+use Rattle.cops_types.specs.Histories.{Sessions, Operation}
 use Rattle.cops_types.specs.Faults.{IsBefore, IsNewer}
 use Rattle.cops_types.specs.declared.versioned_put.VersionedPut.{VersionedPut}
 use Rattle.cops_audit.specs.declared.window.Suspect.{Suspect}
@@ -85,7 +84,7 @@ pub session_gathered : (h : Sessions) (table : List VersionedPut) (client index 
 session_gathered h table client index suspects less end so_far = record {
   names = so_far.names;
   listed = next_session h client so_far.names (subst (λ i. ListsBefore h client i so_far.names) end so_far.listed);
-  count = omega (arith, so_far.count, end, sum_by_more (length {A = Op}) h client [] less);
+  count = omega (arith, so_far.count, end, sum_by_more (length {A = Operation}) h client [] less);
   are = so_far.are;
   few = so_far.few;
 }

@@ -7,8 +7,7 @@ use Rattle.std.proofs.lemmas.Bool.{cases_lt}
 use Rattle.std.proofs.lemmas.List.{length-map, length-replicate}
 use Rattle.std.proofs.lemmas.List.Folds.{sum_by-replicate}
 use Rattle.std.proofs.lemmas.List.Sums.{sum_by-cons, sum_by-set}
-use Rattle.cops_types.specs.declared.op.Op.{Op}
-use Rattle.cops_types.specs.Histories.{Sessions, with_op}
+use Rattle.cops_types.specs.Histories.{Sessions, with_op, Operation}
 use Rattle.cops_types.specs.Counts.{count_of}
 use Rattle.cops_audit.specs.declared.notes.Note.{Note}
 use Rattle.cops_audit.specs.declared.room.Room.{Room}
@@ -23,11 +22,11 @@ use Rattle.cops_audit.proofs.Flooring.{zero_at}
 
 -- sessions without operations
 pub count_empty : (n : ℕ) → count_of (replicate n []) ≡ 0
-count_empty n = omega (arith, sum_by-replicate (length {A = Op}) n [])
+count_empty n = omega (arith, sum_by-replicate (length {A = Operation}) n [])
 
 -- a client's next operation
-module _ (h : Sessions) (client : ℕ) (op : Op) (inside : client < length h) where
-  abbrev own : List Op
+module _ (h : Sessions) (client : ℕ) (op : Operation) (inside : client < length h) where
+  abbrev own : List Operation
   own = slice_index_or h client []
 
   count_more : count_of (with_op h client op) ≡ count_of h + 1

@@ -20,7 +20,7 @@ use Rattle.cops_audit.proofs.Gets.{one_get_version}
 pub waiting_sourceless : (h : Sessions) (n : OpName) → IsWaiting h n → HasNoSource h n
 waiting_sourceless h n w = record {
   key = w.gets.0;
-  value = w.gets.1;
+  content = w.gets.1;
   version = w.version;
   got = w.gets.2;
   none = λ put s. w.none put (source_version h put n w.gets.0 w.gets.1 w.version s w.gets.2);
@@ -31,7 +31,7 @@ module _ (h : Sessions) (doubled : NoneDoubled h) where
   mismatched_sourceless : (got put : OpName) → IsMismatched h got put → HasNoSource h got
   mismatched_sourceless got put m = record {
     key = m.gets.0;
-    value = m.gets.1;
+    content = m.gets.1;
     version = m.version;
     got = m.gets.2;
     none = λ other s. elim (name_cases put other) [

@@ -1,9 +1,8 @@
 -- The puts on each key, from the last place down.
 use Rattle.std.proofs.Common.{◌≡◌, ◌≢◌, ◌<◌, ◌+◌, ℕ, zero, suc, List, [], ◌∷◌, length, Some, None, Option, get_or, refl, sym, ◌∙◌, ap, subst, inl, inr, ◌⊎◌, arith, slice_get, slice_set}
 use Rattle.std.proofs.Math.Nat.{eq-or-lt_of_le}
-use Rattle.cops_types.specs.declared.op.Op.TheVariants.{Put}
 use Rattle.cops_types.specs.declared.op.OpName.{OpName}
-use Rattle.cops_types.specs.Histories.{Sessions, op_at, PutsKey}
+use Rattle.cops_types.specs.Histories.{Sessions, op_at, PutsKey, write}
 use Rattle.cops_types.specs.declared.versioned_put.VersionedPut.{VersionedPut}
 use Rattle.cops_types.specs.Recorded.{Recorded}
 use Rattle.std.specs.Option.{unwrap_or}
@@ -17,7 +16,7 @@ use Rattle.cops_audit.proofs.Unique.{stands}
 -- a put has one key
 pub one_key : (h : Sessions) (p q : OpName) (a b : List ℕ) (v w : ℕ) → PutsKey h p a v → PutsKey h q b w → p ≡ q → a ≡ b
 one_key h p q a b v w first second e =
-    let at : Some (Put a first.0 v) ≡ Some (Put b second.0 w) = sym first.1 ∙ ap (op_at h) e ∙ second.1 in
+    let at : Some (write a first.0 v) ≡ Some (write b second.0 w) = sym first.1 ∙ ap (op_at h) e ∙ second.1 in
     cc
 
 module _ (h : Sessions) (table : List VersionedPut) (rising : Rises table) where

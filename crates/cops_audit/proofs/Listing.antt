@@ -3,9 +3,8 @@ use Rattle.std.proofs.Common.{◌≡◌, ◌<◌, ◌≤◌, ◌+◌, ◌↔◌,
 use Rattle.std.proofs.Math.Nat.{eq-or-lt_of_le}
 use Rattle.std.proofs.lemmas.List.Quantifiers.{all_pairs_push}
 use Rattle.std.proofs.lemmas.List.Elements.{Contains-append_left, Contains-push, Contains-push_cases, Contains-get_or}
-use Rattle.cops_types.specs.declared.op.Op.{Op}
 use Rattle.cops_types.specs.declared.op.OpName.{OpName}
-use Rattle.cops_types.specs.Histories.{Sessions, op_at, IsNamed}
+use Rattle.cops_types.specs.Histories.{Sessions, op_at, IsNamed, Operation}
 use Rattle.cops_types.specs.Faults.{IsBefore, Lists}
 use Rattle.cops_audit.specs.Names.{ListsBefore}
 use Rattle.cops_audit.proofs.Acyclic.{same_name}
@@ -27,7 +26,7 @@ slice_get_there (y ∷ ys) (suc i) less = slice_get_there ys i (omega (arith, le
 pub named_index : (h : Sessions) (n : OpName) → IsNamed h n → n.index < length (slice_index_or h n.client [])
 named_index h n there = slice_get_below (slice_index_or h n.client []) n.index there.0 there.1
 
-named_client' : (ss : Sessions) (c i : ℕ) (op : Op) → slice_get (slice_index_or ss c []) i ≡ Some op → c < length ss
+named_client' : (ss : Sessions) (c i : ℕ) (op : Operation) → slice_get (slice_index_or ss c []) i ≡ Some op → c < length ss
 named_client' [] c i op e = absurd cc
 named_client' (s ∷ ss) zero i op e = omega arith
 named_client' (s ∷ ss) (suc c) i op e = omega (arith, named_client' ss c i op e)

@@ -51,8 +51,8 @@ module _ (h : Sessions) (table : List VersionedPut) (t : IsVersionTable h table)
       let session = session_of h table notes noted a x at_a in
       mark_grows (slice_index_or notes a.client []) (a.index + 1) (b.index + 1) x.mark y.mark (session.marks a.index x at_a) (session.marks b.index y in_b) (omega (arith, s.earlier))
   step_mark a b x y (inr s) at_a at_b =
-      let put = seen_put h table a s.version x.seen (says h table t notes noted a x at_a) (s.key, s.value, s.put) in
-      let got = seen_got h table b s.version y.seen (λ f. f.none a s) (says h table t notes noted b y at_b) (s.key, s.value, s.got) in
+      let put = seen_put h table a s.version x.seen (says h table t notes noted a x at_a) (s.key, s.content, s.put) in
+      let got = seen_got h table b s.version y.seen (λ f. f.none a s) (says h table t notes noted b y at_b) (s.key, s.content, s.got) in
       let same : put.0 ≡ got.0 = same_place table t.rising put.0 got.0 a got.1 s.version put.2 got.3 in
       let high : above y.seen ≡ got.0 + 1 = ap above got.2 in
       omega (arith, put_mark a x put.0 at_a put.1, mark_is b y at_b, high, same)

@@ -1,10 +1,8 @@
 -- Whether an operation is in the past of another is decided, so the past is a finite set of pairs.
 use Rattle.std.proofs.Common.{◌≡◌, ◌<◌, ◌⊎◌, ◌||◌, ◌&&◌, ℕ, zero, suc, List, [], ◌∷◌, ◌++◌, Bool, true, false, cond, eqb, ltb, Option, Some, None, is_some, refl, sym, ◌∙◌, ap, subst, inl, inr, arith, slice_get, slice_index_or}
 use Rattle.std.proofs.lemmas.Bool.{eqb-true, eq-eqb, ltb-true, lt-ltb}
-use Rattle.cops_types.specs.declared.op.Op.{Op}
-use Rattle.cops_types.specs.declared.op.Op.TheVariants.{Put, Got, Missed}
 use Rattle.cops_types.specs.declared.op.OpName.{OpName}
-use Rattle.cops_types.specs.Histories.{Sessions, op_at, SourceStep}
+use Rattle.cops_types.specs.Histories.{Sessions, op_at, SourceStep, Operation, write, read, missed}
 use Rattle.cops_types.specs.Past.{Step, Past, step, more}
 use Rattle.cops_types.specs.Convergence.{Order, Precedes}
 use Rattle.cops_audit.proofs.Reach.{Mem, linked, step_linked, linked_cases, joined}
@@ -40,36 +38,53 @@ same_bytes_true (x ∷ xs) (y ∷ ys) e =
     let tail : xs ≡ ys = same_bytes_true xs ys p.1 in
     cc
 
+same_content : Option (List ℕ) → Option (List ℕ) → Bool
+same_content (Some xs) (Some ys) = same_bytes xs ys
+same_content None None = true
+same_content _ _ = false
+
+same_content_refl : (x : Option (List ℕ)) → same_content x x ≡ true
+unfolding same_content
+same_content_refl (Some xs) = same_bytes_refl xs
+same_content_refl None = refl
+
+same_content_true : (x y : Option (List ℕ)) → same_content x y ≡ true → x ≡ y
+unfolding same_content
+same_content_true (Some xs) (Some ys) e = ap Some (same_bytes_true xs ys e)
+same_content_true (Some xs) None e = absurd cc
+same_content_true None (Some ys) e = absurd cc
+same_content_true None None e = refl
+
 -- a put and a get that returned it
-pub source_test : Option Op → Option Op → Bool
-source_test (Some (Put k x v)) (Some (Got l y w)) = same_bytes k l && (same_bytes x y && eqb v w)
+pub source_test : Option Operation → Option Operation → Bool
+source_test (Some (write k x v)) (Some (read l y w)) = same_bytes k l && (same_content x y && eqb v w)
 source_test _ _ = false
 
-source_here : (k x : List ℕ) (v : ℕ) → source_test (Some (Put k x v)) (Some (Got k x v)) ≡ true
+source_here : (k : List ℕ) (x : Option (List ℕ)) (v : ℕ) → source_test (Some (write k x v)) (Some (read k x v)) ≡ true
 unfolding source_test
-source_here k x v = both _ _ (same_bytes_refl k) (both _ _ (same_bytes_refl x) (eq-eqb v v refl))
+source_here k x v = both _ _ (same_bytes_refl k) (both _ _ (same_content_refl x) (eq-eqb v v refl))
 
-pub source_told : (a b : Option Op) → source_test a b ≡ true → (k : List ℕ) × (x : List ℕ) × (v : ℕ) × (a ≡ Some (Put k x v)) × (b ≡ Some (Got k x v))
+pub source_told : (a b : Option Operation) → source_test a b ≡ true → (k : List ℕ) × (x : Option (List ℕ)) × (v : ℕ) × (a ≡ Some (write k x v)) × (b ≡ Some (read k x v))
 unfolding source_test
-source_told (Some (Put k x v)) (Some (Got l y w)) e =
-    let p = parts (same_bytes k l) (same_bytes x y && eqb v w) e in
-    let q = parts (same_bytes x y) (eqb v w) p.1 in
+source_told (Some (write k x v)) (Some (read l y w)) e =
+    let p = parts (same_bytes k l) (same_content x y && eqb v w) e in
+    let q = parts (same_content x y) (eqb v w) p.1 in
     let kl : k ≡ l = same_bytes_true k l p.0 in
-    let xy : x ≡ y = same_bytes_true x y q.0 in
+    let xy : x ≡ y = same_content_true x y q.0 in
     let vw : v ≡ w = eqb-true v w q.1 in
     (k, x, v, refl, cc)
-source_told (Some (Put k x v)) (Some (Put l y w)) e = absurd cc
-source_told (Some (Put k x v)) (Some (Missed l)) e = absurd cc
-source_told (Some (Put k x v)) None e = absurd cc
-source_told (Some (Got k x v)) b e = absurd cc
-source_told (Some (Missed k)) b e = absurd cc
+source_told (Some (write k x v)) (Some (write l y w)) e = absurd cc
+source_told (Some (write k x v)) (Some (missed l)) e = absurd cc
+source_told (Some (write k x v)) None e = absurd cc
+source_told (Some (read k x v)) b e = absurd cc
+source_told (Some (missed k)) b e = absurd cc
 source_told None b e = absurd cc
 
 pub source_passes : (h : Sessions) (a b : OpName) → SourceStep h a b → source_test (op_at h a) (op_at h b) ≡ true
 source_passes h a b s =
-    ap (λ p. source_test p (op_at h b)) s.put ∙ ap (λ p. source_test (Some (Put s.key s.value s.version)) p) s.got ∙ source_here s.key s.value s.version
+    ap (λ p. source_test p (op_at h b)) s.put ∙ ap (λ p. source_test (Some (write s.key s.content s.version)) p) s.got ∙ source_here s.key s.content s.version
 
-session_test : OpName → OpName → Option Op → Bool
+session_test : OpName → OpName → Option Operation → Bool
 session_test a b to = eqb a.client b.client && (ltb a.index b.index && is_some to)
 
 is_some_told : {A : Type 0} (o : Option A) → is_some o ≡ true → (x : A) × (o ≡ Some x)
@@ -93,7 +108,7 @@ step_told h a b e =
           inl (record { same_client = eqb-true _ _ p.0; earlier = ltb-true _ _ q.0; is_there = is_some_told (op_at h b) q.1 })
       | inr s ↦
           let t = source_told (op_at h a) (op_at h b) s in
-          inr (record { key = t.0; value = t.1; version = t.2; put = t.3; got = t.4 })
+          inr (record { key = t.0; content = t.1; version = t.2; put = t.3; got = t.4 })
     ]
 
 or_true_left : (a b : Bool) → a ≡ true → a || b ≡ true
@@ -112,16 +127,16 @@ step_passes h a b (inr s) =
     or_true_right (session_test a b (op_at h b)) (source_test (op_at h a) (op_at h b))
     (source_passes h a b s)
 
-pub earlier_there : (s : List Op) (i j : ℕ) → i < j → (op : Op) × (slice_get s j ≡ Some op) → (op : Op) × (slice_get s i ≡ Some op)
+pub earlier_there : (s : List Operation) (i j : ℕ) → i < j → (op : Operation) × (slice_get s j ≡ Some op) → (op : Operation) × (slice_get s i ≡ Some op)
 earlier_there [] i j less at = absurd cc
 earlier_there (x ∷ xs) zero j less at = (x, refl)
 earlier_there (x ∷ xs) (suc i) zero less at = absurd (omega (arith, less))
 earlier_there (x ∷ xs) (suc i) (suc j) less at = earlier_there xs i j (omega (arith, less)) at
 
 -- the first operation of a step is in the history
-pub from_there : (h : Sessions) (a b : OpName) → Step h a b → (op : Op) × (op_at h a ≡ Some op)
+pub from_there : (h : Sessions) (a b : OpName) → Step h a b → (op : Operation) × (op_at h a ≡ Some op)
 from_there h a b (inl s) = earlier_there _ a.index b.index s.earlier (s.is_there.0, ap (λ c. slice_get (slice_index_or h c []) b.index) s.same_client ∙ s.is_there.1)
-from_there h a b (inr s) = (Put s.key s.value s.version, s.put)
+from_there h a b (inr s) = (write s.key s.content s.version, s.put)
 
 -- the past, decided
 pub past_test : Sessions → OpName → OpName → Bool
@@ -151,15 +166,15 @@ unfolding past_test
 past_passes h a b p = past_linked h a b p
 
 -- both ends of a past are in the history
-pub past_from : (h : Sessions) (a b : OpName) → Past h a b → (op : Op) × (op_at h a ≡ Some op)
+pub past_from : (h : Sessions) (a b : OpName) → Past h a b → (op : Operation) × (op_at h a ≡ Some op)
 past_from h a b (step s) = from_there h a b s
 past_from h a b (more {by = m} p s) = past_from h a m p
 
-pub past_to : (h : Sessions) (a b : OpName) → Past h a b → (op : Op) × (op_at h b ≡ Some op)
+pub past_to : (h : Sessions) (a b : OpName) → Past h a b → (op : Operation) × (op_at h b ≡ Some op)
 past_to h a b (step (inl s)) = s.is_there
-past_to h a b (step (inr s)) = (Got s.key s.value s.version, s.got)
+past_to h a b (step (inr s)) = (read s.key s.content s.version, s.got)
 past_to h a b (more p (inl s)) = s.is_there
-past_to h a b (more p (inr s)) = (Got s.key s.value s.version, s.got)
+past_to h a b (more p (inr s)) = (read s.key s.content s.version, s.got)
 
 -- the pairs of two lists that pass a test
 row : (OpName → OpName → Bool) → OpName → List OpName → Order

@@ -1,8 +1,7 @@
 -- What notes say of a history.
 use Rattle.std.proofs.Common.{◌≡◌, ◌<◌, ◌≤◌, ◌↔◌, ◌⊎◌, ℕ, List, Some, refl, sym, ◌∙◌, ap, subst, inl, inr, arith}
-use Rattle.cops_types.specs.declared.op.Op.TheVariants as op
 use Rattle.cops_types.specs.declared.op.OpName.{OpName}
-use Rattle.cops_types.specs.Histories.{Sessions, IsMissed, PutsVersion, SourceStep}
+use Rattle.cops_types.specs.Histories.{Sessions, IsMissed, PutsVersion, SourceStep, write, read, missed}
 use Rattle.cops_types.specs.Operations.{GetsVersion}
 use Rattle.cops_types.specs.Faults.{HasNoSource, HasVersion}
 use Rattle.cops_types.specs.declared.versioned_put.VersionedPut.{VersionedPut}
@@ -16,12 +15,12 @@ use Rattle.cops_audit.proofs.Gets.{one_get_version}
 use Rattle.cops_audit.proofs.Noting.{note_there, session_of}
 use Rattle.cops_audit.proofs.Places.{place_rises}
 
--- an operation that missed is no put and no get
+-- an operation that nothing is no put and no get
 pub missed_puts_nothing : (h : Sessions) (n : OpName) (k : List ℕ) (v : ℕ) → IsMissed h n k → PutsVersion h n v → ⊥
-missed_puts_nothing h n k v missed put = let e : Some (op.Missed k) ≡ Some (op.Put put.0 put.1 v) = sym missed ∙ put.2 in cc
+missed_puts_nothing h n k v nothing put = let e : Some (missed k) ≡ Some (write put.0 put.1 v) = sym nothing ∙ put.2 in cc
 
 pub missed_gets_nothing : (h : Sessions) (n : OpName) (k : List ℕ) (v : ℕ) → IsMissed h n k → GetsVersion h n v → ⊥
-missed_gets_nothing h n k v missed got = let e : Some (op.Missed k) ≡ Some (op.Got got.0 got.1 v) = sym missed ∙ got.2 in cc
+missed_gets_nothing h n k v nothing got = let e : Some (missed k) ≡ Some (read got.0 got.1 v) = sym nothing ∙ got.2 in cc
 
 module _ (h : Sessions) (table : List VersionedPut) where
   -- a put is seen at its own place
@@ -29,7 +28,7 @@ module _ (h : Sessions) (table : List VersionedPut) where
   seen_put n v (Put p) s put = (p, refl, subst (StandsAt table p n) (one_version h n n s.0 v s.1 put refl) s.2)
   seen_put n v (Got p) s put = absurd (put_is_no_get h n n v s.1 put s.3 refl)
   seen_put n v Missed s put = absurd (missed_puts_nothing h n s.0 v s.1 put)
-  seen_put n v (Sourceless p) s put = absurd (put_is_no_get h n n v s.0.version put (s.0.key, s.0.value, s.0.got) refl)
+  seen_put n v (Sourceless p) s put = absurd (put_is_no_get h n n v s.0.version put (s.0.key, s.0.content, s.0.got) refl)
 
   -- a get that has a source is seen at its source's place
   pub seen_got : (n : OpName) (v : ℕ) (seen : Seen) → ¬ HasNoSource h n → IsSeen h table n seen → GetsVersion h n v → (p : ℕ) × (s : OpName) × (seen ≡ Got p) × StandsAt table p s v × SourceStep h s n
@@ -47,9 +46,9 @@ module _ (h : Sessions) (table : List VersionedPut) where
 
   -- a get without a source is seen to have none
   pub seen_sourceless : (n : OpName) (seen : Seen) → IsSeen h table n seen → HasNoSource h n → (p : ℕ) × (seen ≡ Sourceless p)
-  seen_sourceless n (Put p) s f = absurd (put_is_no_get h n n s.0 f.version s.1 (f.key, f.value, f.got) refl)
+  seen_sourceless n (Put p) s f = absurd (put_is_no_get h n n s.0 f.version s.1 (f.key, f.content, f.got) refl)
   seen_sourceless n (Got p) s f = absurd (f.none s.0 s.4)
-  seen_sourceless n Missed s f = absurd (missed_gets_nothing h n s.0 f.version s.1 (f.key, f.value, f.got))
+  seen_sourceless n Missed s f = absurd (missed_gets_nothing h n s.0 f.version s.1 (f.key, f.content, f.got))
   seen_sourceless n (Sourceless p) s f = (p, refl)
 
 module _ (h : Sessions) (table : List VersionedPut) (t : IsVersionTable h table) (notes : List (List Note)) (noted : IsNoted h table notes) where
@@ -75,4 +74,4 @@ module _ (h : Sessions) (table : List VersionedPut) (t : IsVersionTable h table)
       let not : ¬ (s.1 < own) = λ l. let q : p < place = place_rises table t.rising p place s.0 name s.1 own s.2 at l in omega (arith, q, less) in
       (s.1, inr s.3, omega (arith, not))
   above_version own place name e Missed at s less = absurd (omega (arith, less))
-  above_version own place name e (Sourceless p) at s less = let l = s.1.before place name own at less in (s.0.version, inr (s.0.key, s.0.value, s.0.got), omega (arith, l))
+  above_version own place name e (Sourceless p) at s less = let l = s.1.before place name own at less in (s.0.version, inr (s.0.key, s.0.content, s.0.got), omega (arith, l))

@@ -68,7 +68,7 @@ module _ (h : Sessions) where
   -- the sources of a get bear its version
   source_version : (put name : OpName) (own version : ℕ) → PutsVersion h put own → GetsVersion h name version → SourceStep h put name → own ≡ version
   source_version put name own version puts gets s =
-      one_version h put put own s.version puts (s.key, s.value, s.put) refl ∙ one_get_version h name s.version version (s.key, s.value, s.got) gets
+      one_version h put put own s.version puts (s.key, s.content, s.put) refl ∙ one_get_version h name s.version version (s.key, s.content, s.got) gets
 
   -- the sources at the places so far are counted
   abbrev pub CountedTo : List VersionedPut → OpName → ℕ → Sweep → Type 0
@@ -83,7 +83,7 @@ module _ (h : Sessions) where
 
     -- no source stands from a place with a higher version on
     pub none_after : (place : ℕ) (s : Sweep) → place < length table → ((d : VersionedPut) → version < (get_or table place d).version) → CountedTo table name place s → (put : OpName) → SourceStep h put name → Counted s.counts put
-    none_after place s inside high so_far put source = by_place (place_of_put h table t put version (subst (PutsVersion h put) (one_get_version h name source.version version (source.key, source.value, source.got) gets) (source.key, source.value, source.put)))
+    none_after place s inside high so_far put source = by_place (place_of_put h table t put version (subst (PutsVersion h put) (one_get_version h name source.version version (source.key, source.content, source.got) gets) (source.key, source.content, source.put)))
       where
         by_place : (at : (k : ℕ) × (k < length table) × ((d : VersionedPut) → get_or table k d ≡ (let q : VersionedPut = record { version = version; name = put } in q))) → Counted s.counts put
         by_place at =
@@ -100,7 +100,7 @@ module _ (h : Sessions) where
 
     pub all_sources : (place : ℕ) (s : Sweep) → length table ≤ place → CountedTo table name place s → (put : OpName) → SourceStep h put name → Counted s.counts put
     all_sources place s enough so_far put source =
-        let at = place_of_put h table t put version (subst (PutsVersion h put) (one_get_version h name source.version version (source.key, source.value, source.got) gets) (source.key, source.value, source.put)) in
+        let at = place_of_put h table t put version (subst (PutsVersion h put) (one_get_version h name source.version version (source.key, source.content, source.got) gets) (source.key, source.content, source.put)) in
         let d : VersionedPut = record { version = version; name = put } in
         let is : (get_or table at.0 d).name ≡ put = ap (λ (q : VersionedPut). q.name) (at.2 d) in
         subst (Counted s.counts) is (so_far at.0 d (omega (arith, at.1, enough)) at.1 (subst (λ x. SourceStep h x name) (sym is) source))

@@ -1,12 +1,10 @@
 -- Where the sources of open gets stand.
-use Rattle.std.proofs.Common.{◌≡◌, ◌<◌, ℕ, List, [], ◌∷◌, ◌++◌, length, get_or, Some, sym, ap, ◌∙◌, subst, inl, inr, arith, slice_get}
+use Rattle.std.proofs.Common.{◌≡◌, ◌<◌, ℕ, List, [], ◌∷◌, ◌++◌, length, get_or, Option, Some, sym, ap, ◌∙◌, subst, inl, inr, arith, slice_get}
 use Rattle.std.specs.Prelude.{◌⊎◌}
 use Rattle.std.proofs.lemmas.Option.{slice_get_within}
-use Rattle.cops_types.specs.declared.op.Op.{Op}
-use Rattle.cops_types.specs.declared.op.Op.TheVariants.{Got}
 use Rattle.cops_types.specs.declared.op.OpName.{OpName}
 use Rattle.cops_types.specs.declared.versioned_put.VersionedPut.{VersionedPut}
-use Rattle.cops_types.specs.Histories.{Sessions, IsPut, SourceStep, op_at}
+use Rattle.cops_types.specs.Histories.{Sessions, IsPut, SourceStep, op_at, Operation, read}
 use Rattle.cops_types.specs.Operations.{GetsVersion}
 use Rattle.cops_types.specs.Recorded.{Recorded, IsOpenAt}
 use Rattle.cops_types.specs.Verdicts.{AllHaveSources}
@@ -18,21 +16,21 @@ use Rattle.cops_audit.proofs.Marks.{slice_get_push}
 use Rattle.cops_audit.proofs.Unique.{stands}
 
 -- the get of that name, whose source stands at that place
-pub source_seen : (h : Sessions) (table : List VersionedPut) (got : OpName) (op : Op) (place : ℕ) → IsSourcePlace h table op place → op_at h got ≡ Some op → IsSeen h table got (SeenGot place)
+pub source_seen : (h : Sessions) (table : List VersionedPut) (got : OpName) (op : Operation) (place : ℕ) → IsSourcePlace h table op place → op_at h got ≡ Some op → IsSeen h table got (SeenGot place)
 source_seen h table got op place p at =
-    let is : op_at h got ≡ Some (Got p.1 p.2 p.3) = at ∙ ap (λ (o : Op). Some o) p.6 in
-    (p.0, p.3, p.4, (p.1, p.2, is), record { key = p.1; value = p.2; version = p.3; put = p.5; got = is })
+    let is : op_at h got ≡ Some (read p.1 p.2 p.3) = at ∙ ap (λ (o : Operation). Some o) p.6 in
+    (p.0, p.3, p.4, (p.1, p.2, is), record { key = p.1; content = p.2; version = p.3; put = p.5; got = is })
 
 -- a put that was looked at, where it stands
-pub source_stands : (h : Sessions) (table : List VersionedPut) (op : Op) (place : ℕ) (d : VersionedPut) → place < length table
-    → (key value : List ℕ) (version : ℕ) → (get_or table place d).version ≡ version → IsPut h (get_or table place d).name key value version → op ≡ Got key value version → IsSourcePlace h table op place
-source_stands h table op place d inside key value version bears puts got =
+pub source_stands : (h : Sessions) (table : List VersionedPut) (op : Operation) (place : ℕ) (d : VersionedPut) → place < length table
+    → (key : List ℕ) (content : Option (List ℕ)) (version : ℕ) → (get_or table place d).version ≡ version → IsPut h (get_or table place d).name key content version → op ≡ read key content version → IsSourcePlace h table op place
+source_stands h table op place d inside key content version bears puts got =
     let put = get_or table place d in
-    (put.name, key, value, version, stands table place d inside ∙ (λ j. Some (record { version = bears j; name = put.name })), puts, got)
+    (put.name, key, content, version, stands table place d inside ∙ (λ j. Some (record { version = bears j; name = put.name })), puts, got)
 
 -- one more place
 pub places_push : (r : Recorded) (table : List VersionedPut) (places : List ℕ) (place : ℕ) → AreSourcePlaces r table places
-    → ((op : Op) → slice_get r.gets (length places) ≡ Some op → IsSourcePlace r.sessions table op place) → AreSourcePlaces r table (places ++ place ∷ [])
+    → ((op : Operation) → slice_get r.gets (length places) ≡ Some op → IsSourcePlace r.sessions table op place) → AreSourcePlaces r table (places ++ place ∷ [])
 places_push r table places place are is number found op get at = elim (slice_get_push places place found number at) [
   | inl old ↦ are number found op get old
   | inr new ↦ subst (IsSourcePlace r.sessions table op) new.1 (is op (sym (ap (slice_get r.gets) new.0) ∙ get))
@@ -41,7 +39,7 @@ places_push r table places place are is number found op get at = elim (slice_get
 -- where there is a place for each open get, each get has its source
 pub all_sourced : (r : Recorded) (table : List VersionedPut) (places : List ℕ) → AreSourcePlaces r table places → length places ≡ length r.gets
     → ((got : OpName) (version : ℕ) → GetsVersion r.sessions got version → ((number : ℕ) × IsOpenAt r number got) ⊎ ((put : OpName) × SourceStep r.sessions put got)) → AllHaveSources r.sessions
-all_sourced r table places are whole others name f = elim (others name f.version (f.key, f.value, f.got)) [
+all_sourced r table places are whole others name f = elim (others name f.version (f.key, f.content, f.got)) [
   | inr sourced ↦ f.none sourced.0 sourced.1
   | inl it ↦
       let at = it.1 in

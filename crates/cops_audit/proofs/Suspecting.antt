@@ -1,8 +1,7 @@
 -- Gets that may be stale, and gets that the window on versions clears.
-use Rattle.std.proofs.Common.{◌≡◌, ◌≢◌, ◌<◌, ◌≤◌, ℕ, List, Some, None, refl, sym, ◌∙◌, subst, inl, inr, arith}
-use Rattle.cops_types.specs.declared.op.Op.TheVariants.{Got, Missed}
+use Rattle.std.proofs.Common.{◌≡◌, ◌≢◌, ◌<◌, ◌≤◌, ℕ, List, Option, Some, None, refl, sym, ◌∙◌, subst, inl, inr, arith}
 use Rattle.cops_types.specs.declared.op.OpName.{OpName}
-use Rattle.cops_types.specs.Histories.{Sessions, IsGot, IsMissed, PutsKey, PutsVersion}
+use Rattle.cops_types.specs.Histories.{Sessions, IsGot, IsMissed, PutsKey, PutsVersion, read, missed}
 use Rattle.cops_types.specs.Operations.{GetsVersion}
 use Rattle.cops_types.specs.declared.versioned_put.VersionedPut.{VersionedPut}
 use Rattle.cops_audit.specs.declared.notes.Seen.TheVariants as seen
@@ -16,15 +15,15 @@ use Rattle.cops_audit.proofs.Gets.{one_get_version}
 use Rattle.cops_audit.proofs.Linking.{same_key}
 use Rattle.cops_audit.proofs.Places.{put_there, place_rises, version_rises, same_place}
 
-missed_is_no_get : (h : Sessions) (n : OpName) (k key value : List ℕ) (v : ℕ) → IsMissed h n k → IsGot h n key value v → ⊥
-missed_is_no_get h n k key value v missed got = let e : Some (Missed k) ≡ Some (Got key value v) = sym missed ∙ got in cc
+missed_is_no_get : (h : Sessions) (n : OpName) (k key : List ℕ) (content : Option (List ℕ)) (v : ℕ) → IsMissed h n k → IsGot h n key content v → ⊥
+missed_is_no_get h n k key content v nothing got = let e : Some (missed k) ≡ Some (read key content v) = sym nothing ∙ got in cc
 
 one_missed_key : (h : Sessions) (n : OpName) (a b : List ℕ) → IsMissed h n a → IsMissed h n b → a ≡ b
-one_missed_key h n a b first second = let e : Some (Missed a) ≡ Some (Missed b) = sym first ∙ second in cc
+one_missed_key h n a b first second = let e : Some (missed a) ≡ Some (missed b) = sym first ∙ second in cc
 
-one_got : (h : Sessions) (n : OpName) (a b x y : List ℕ) (v w : ℕ) → IsGot h n a x v → IsGot h n b y w → (a ≡ b) × (v ≡ w)
+one_got : (h : Sessions) (n : OpName) (a b : List ℕ) (x y : Option (List ℕ)) (v w : ℕ) → IsGot h n a x v → IsGot h n b y w → (a ≡ b) × (v ≡ w)
 one_got h n a b x y v w first second =
-    let e : Some (Got a x v) ≡ Some (Got b y w) = sym first ∙ second in
+    let e : Some (read a x v) ≡ Some (read b y w) = sym first ∙ second in
     (let k : a ≡ b = cc in k, let s : v ≡ w = cc in s)
 
 module _ (h : Sessions) (table : List VersionedPut) (t : IsVersionTable h table) where
@@ -42,10 +41,10 @@ module _ (h : Sessions) (table : List VersionedPut) (t : IsVersionTable h table)
       let same : puts.0 ≡ k = same_key h table t.rising first puts.0 k (has puts.0 (put, version, at, own)).on_key on in
       subst (λ x. PutsKey h put x version) same own
 
-  module _ (op : OpName) (k : List ℕ) (missed : IsMissed h op k) where
+  module _ (op : OpName) (k : List ℕ) (nothing : IsMissed h op k) where
     would_missed : (p : ℕ) (put : OpName) (version : ℕ) → StandsAt table p put version → WouldBeNewer h op put version → OnKey h table p k
-    would_missed p put version at (key, puts, inl got) = absurd (missed_is_no_get h op k key got.0 got.1 missed got.2)
-    would_missed p put version at (key, puts, inr other) = (put, version, at, subst (λ x. PutsKey h put x version) (one_missed_key h op key k other missed) puts)
+    would_missed p put version at (key, puts, inl got) = absurd (missed_is_no_get h op k key got.0 got.1 nothing got.2)
+    would_missed p put version at (key, puts, inr other) = (put, version, at, subst (λ x. PutsKey h put x version) (one_missed_key h op key k other nothing) puts)
 
     pub missed_clear : (mark : ℕ) → IsFirstFrom h table 0 k None → NoneWithin h table op mark
     missed_clear mark none p put version at would = absurd (none p (omega arith) (would_missed p put version at would))
@@ -55,17 +54,17 @@ module _ (h : Sessions) (table : List VersionedPut) (t : IsVersionTable h table)
 
     pub missed_is : (first : ℕ) → IsFirstFrom h table 0 k (Some first) → IsSuspect h table (record { op = op; first = first; from = first })
     missed_is first is = record {
-      named = (_, missed);
+      named = (_, nothing);
       later = λ p put version at would. let on = would_missed p put version at would in (is.2 p (omega arith) on, has_first p first k on is);
-      newer = λ p put version at le has. (k, on_first p first k put version at has is.1, inr missed);
-      source = λ p put version at s. absurd (missed_is_no_get h op k s.key s.value s.version missed s.got);
+      newer = λ p put version at le has. (k, on_first p first k put version at has is.1, inr nothing);
+      source = λ p put version at s. absurd (missed_is_no_get h op k s.key s.content s.version nothing s.got);
     }
 
   module _ (op : OpName) (place : ℕ) (got : IsSeen h table op (seen.Sourceless place)) (waits : IsWaiting h op) where
     would_wait : (p : ℕ) (put : OpName) (version : ℕ) → StandsAt table p put version → WouldBeNewer h op put version → OnKey h table p got.0.key × (place ≤ p)
-    would_wait p put version at (key', puts, inr missed) = absurd (missed_is_no_get h op key' got.0.key got.0.value got.0.version missed got.0.got)
+    would_wait p put version at (key', puts, inr nothing) = absurd (missed_is_no_get h op key' got.0.key got.0.content got.0.version nothing got.0.got)
     would_wait p put version at (key', puts, inl g) =
-        let same = one_got h op key' got.0.key g.0 got.0.value g.1 got.0.version g.2 got.0.got in
+        let same = one_got h op key' got.0.key g.0 got.0.content g.1 got.0.version g.2 got.0.got in
         let not : ¬ (p < place) = λ l. let low = got.1.before p put version at l in omega (arith, low, same.1, g.3) in
         ((put, version, at, subst (λ x. PutsKey h put x version) same.0 puts), omega (arith, not))
 
@@ -80,10 +79,10 @@ module _ (h : Sessions) (table : List VersionedPut) (t : IsVersionTable h table)
       named = (_, got.0.got);
       later = λ p put version at would. let w = would_wait p put version at would in (w.1, has_first p first got.0.key w.0 is);
       newer = λ p put version at le has.
-          let gets : GetsVersion h op got.0.version = (got.0.key, got.0.value, got.0.got) in
+          let gets : GetsVersion h op got.0.version = (got.0.key, got.0.content, got.0.got) in
           let late : waits.version ≡ got.0.version = one_get_version h op waits.version got.0.version waits.gets gets in
           let differs : version ≢ got.0.version = λ e. waits.none put (subst (PutsVersion h put) (e ∙ sym late) (put_there h table t.table p put version at)) in
-          (got.0.key, on_first p first got.0.key put version at has is.1, inl (got.0.value, got.0.version, got.0.got, let l = got.1.from p put version at le in omega (arith, l, differs)));
+          (got.0.key, on_first p first got.0.key put version at has is.1, inl (got.0.content, got.0.version, got.0.got, let l = got.1.from p put version at le in omega (arith, l, differs)));
       source = λ p put version at s. absurd (got.0.none put s);
     }
 
@@ -93,18 +92,18 @@ module _ (h : Sessions) (table : List VersionedPut) (t : IsVersionTable h table)
 
     -- the source's version
     version_is : got.4.version ≡ got.1
-    version_is = one_get_version h op got.4.version got.1 (got.4.key, got.4.value, got.4.got) got.3
+    version_is = one_get_version h op got.4.version got.1 (got.4.key, got.4.content, got.4.got) got.3
 
     source_key : PutsKey h got.0 got.4.key got.1
-    source_key = subst (PutsKey h got.0 got.4.key) version_is (got.4.value, got.4.put)
+    source_key = subst (PutsKey h got.0 got.4.key) version_is (got.4.content, got.4.put)
 
     pub on_source : OnKey h table place got.4.key
     on_source = (got.0, got.1, got.2, source_key)
 
     would_got : (p : ℕ) (put : OpName) (version : ℕ) → StandsAt table p put version → WouldBeNewer h op put version → OnKey h table p got.4.key × (place < p)
-    would_got p put version at (key', puts, inr missed) = absurd (missed_is_no_get h op key' got.4.key got.4.value got.4.version missed got.4.got)
+    would_got p put version at (key', puts, inr nothing) = absurd (missed_is_no_get h op key' got.4.key got.4.content got.4.version nothing got.4.got)
     would_got p put version at (key', puts, inl g) =
-        let same = one_got h op key' got.4.key g.0 got.4.value g.1 got.4.version g.2 got.4.got in
+        let same = one_got h op key' got.4.key g.0 got.4.content g.1 got.4.version g.2 got.4.got in
         let v : g.1 ≡ got.1 = same.1 ∙ version_is in
         ((put, version, at, subst (λ x. PutsKey h put x version) same.0 puts), place_rises table t.rising place p got.0 put got.1 version got.2 at (omega (arith, v, g.3)))
 
@@ -123,11 +122,11 @@ module _ (h : Sessions) (table : List VersionedPut) (t : IsVersionTable h table)
       newer = λ p put version at le has. (
         got.4.key,
         on_first p first got.4.key put version at has is.1,
-        inl (got.4.value, got.4.version, got.4.got, omega (arith, version_is, version_rises table t.rising place p got.0 put got.1 version got.2 at (omega (arith, next.0, le)))),
+        inl (got.4.content, got.4.version, got.4.got, omega (arith, version_is, version_rises table t.rising place p got.0 put got.1 version got.2 at (omega (arith, next.0, le)))),
       );
       source = λ p put version at s.
-          let v : s.version ≡ got.4.version = (one_got h op s.key got.4.key s.value got.4.value s.version got.4.version s.got got.4.got).1 in
-          let w : version ≡ s.version = one_version h put put version s.version (put_there h table t.table p put version at) (s.key, s.value, s.put) refl in
+          let v : s.version ≡ got.4.version = (one_got h op s.key got.4.key s.content got.4.content s.version got.4.version s.got got.4.got).1 in
+          let w : version ≡ s.version = one_version h put put version s.version (put_there h table t.table p put version at) (s.key, s.content, s.put) refl in
           let e : p ≡ place = same_place table t.rising p place put got.0 got.1 (subst (StandsAt table p put) (w ∙ v ∙ version_is) at) got.2 in
           omega (arith, e, next.0);
     }

@@ -1,16 +1,19 @@
 -- A verdict with the sessions that it is on, their values left out.
-use Rattle.std.specs.Prelude.{◌≡◌, [], map}
-use Rattle.cops_types.specs.declared.op.Op.{Op}
-use Rattle.cops_types.specs.declared.op.Op.TheVariants.{Put, Got, Missed}
-use Rattle.cops_types.specs.Histories.{Sessions}
+use Rattle.std.specs.Prelude.{◌≡◌, ℕ, List, [], map, Option, Some, None}
+use Rattle.cops_types.specs.Histories.{Sessions, Operation, write, read, missed}
 use Rattle.cops_audit.specs.declared.verdict.Verdict.{Verdict}
 use Rattle.cops_audit.specs.Verdicts.{IsVerdict}
 
+-- the content with its value left out: whether there was one stays
+abbrev pub without : Option (List ℕ) → Option (List ℕ)
+without (Some value) = Some []
+without None = None
+
 -- the operation with its value left out
-abbrev pub without_value : Op → Op
-without_value (Put key value version) = Put key [] version
-without_value (Got key value version) = Got key [] version
-without_value (Missed key) = Missed key
+abbrev pub without_value : Operation → Operation
+without_value (write key content version) = write key (without content) version
+without_value (read key content version) = read key (without content) version
+without_value (missed key) = missed key
 
 -- the sessions with their values left out
 abbrev pub without_values : Sessions → Sessions

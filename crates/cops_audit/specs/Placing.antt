@@ -1,10 +1,8 @@
 -- Where puts, and the sources of open gets, stand in the table, by their numbers.
-use Rattle.std.specs.Prelude.{◌≡◌, ◌<◌, ℕ, List, length, slice_get, Some, true}
-use Rattle.cops_types.specs.declared.op.Op.{Op}
-use Rattle.cops_types.specs.declared.op.Op.TheVariants.{Got}
+use Rattle.std.specs.Prelude.{◌≡◌, ◌<◌, ℕ, List, length, slice_get, Option, Some, true}
 use Rattle.cops_types.specs.declared.op.OpName.{OpName}
 use Rattle.cops_types.specs.declared.versioned_put.VersionedPut.{VersionedPut}
-use Rattle.cops_types.specs.Histories.{Sessions, IsPut}
+use Rattle.cops_types.specs.Histories.{Sessions, IsPut, Operation, read}
 use Rattle.cops_types.specs.Recorded.{Recorded}
 use Rattle.cops_types.specs.Verdicts.{AllHaveSources}
 use Rattle.cops_audit.specs.declared.sources.Sources.{Sources}
@@ -16,12 +14,12 @@ pub record ArePutPlaces (puts : List OpName) (table : List VersionedPut) (places
   pub all : (k : ℕ) → k < length table → (number : ℕ) × (slice_get places number ≡ Some k)
 
 -- a put of what the get returned stands at this place
-abbrev pub IsSourcePlace : Sessions → List VersionedPut → Op → ℕ → Type 0
-IsSourcePlace h table op place = (put : OpName) × (key value : List ℕ) × (version : ℕ) × StandsAt table place put version × IsPut h put key value version × (op ≡ Got key value version)
+abbrev pub IsSourcePlace : Sessions → List VersionedPut → Operation → ℕ → Type 0
+IsSourcePlace h table op place = (put : OpName) × (key : List ℕ) × (content : Option (List ℕ)) × (version : ℕ) × StandsAt table place put version × IsPut h put key content version × (op ≡ read key content version)
 
 -- the places of the sources of open gets, each at the get's number
 abbrev pub AreSourcePlaces : Recorded → List VersionedPut → List ℕ → Type 0
-AreSourcePlaces r table places = (number place : ℕ) (op : Op) → slice_get r.gets number ≡ Some op → slice_get places number ≡ Some place → IsSourcePlace r.sessions table op place
+AreSourcePlaces r table places = (number place : ℕ) (op : Operation) → slice_get r.gets number ≡ Some op → slice_get places number ≡ Some place → IsSourcePlace r.sessions table op place
 
 -- those places, and where it is said each get has its source
 pub record AreSources (r : Recorded) (table : List VersionedPut) (sources : Sources) : Type 0 where

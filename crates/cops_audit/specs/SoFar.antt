@@ -1,8 +1,7 @@
 -- What can be said of a history that goes on.
 use Rattle.std.specs.Prelude.{◌≡◌, ◌<◌, ◌⊎◌, ℕ, List, length, Some}
-use Rattle.cops_types.specs.declared.op.Op.{Op}
 use Rattle.cops_types.specs.declared.op.OpName.{OpName}
-use Rattle.cops_types.specs.Histories.{Sessions, op_at, PutsVersion, SourceStep}
+use Rattle.cops_types.specs.Histories.{Sessions, op_at, PutsVersion, SourceStep, Operation}
 use Rattle.cops_types.specs.Operations.{GetsVersion}
 use Rattle.cops_types.specs.Faults.{HasNoSource, IsNotAbove, IsStale, Lists}
 use Rattle.cops_types.specs.VersionOrder.{IsDoubled}
@@ -36,7 +35,7 @@ HasLastingFault h =
 
 -- each operation of the one is there in the other, under its name
 abbrev pub Continues : Sessions → Sessions → Type 0
-Continues h longer = (name : OpName) (op : Op) → op_at h name ≡ Some op → op_at longer name ≡ Some op
+Continues h longer = (name : OpName) (op : Operation) → op_at h name ≡ Some op → op_at longer name ≡ Some op
 
 -- no lasting fault and no get that waits, no lasting fault and so many gets that wait, or a lasting fault
 abbrev pub IsSoFar : Sessions → SoFar → Type 0

@@ -1,5 +1,5 @@
 -- Gets that may be stale.
-use Rattle.std.specs.Prelude.{◌≡◌, ◌<◌, ◌≤◌, ◌+◌, ◌⊎◌, ℕ, List, Contains, AllPairs, length, sum_by, take}
+use Rattle.std.specs.Prelude.{◌≡◌, ◌<◌, ◌≤◌, ◌+◌, ◌⊎◌, ℕ, List, Option, Contains, AllPairs, length, sum_by, take}
 use Rattle.cops_types.specs.declared.op.OpName.{OpName}
 use Rattle.cops_types.specs.Histories.{Sessions, IsGot, IsMissed, IsNamed, PutsKey, SourceStep}
 use Rattle.cops_types.specs.Faults.{IsBefore, IsNewer, Lists}
@@ -12,7 +12,7 @@ use Rattle.cops_audit.specs.Notes.{StandsAt}
 -- a put of this version on the key, which is newer than what was returned if it is in the past
 abbrev pub WouldBeNewer : Sessions → OpName → OpName → ℕ → Type 0
 WouldBeNewer h name newer version = (key : List ℕ) × PutsKey h newer key version
-    × (((value : List ℕ) × (old : ℕ) × IsGot h name key value old × (old < version)) ⊎ IsMissed h name key)
+    × (((content : Option (List ℕ)) × (old : ℕ) × IsGot h name key content old × (old < version)) ⊎ IsMissed h name key)
 
 -- the put at this place is on the key whose first place this is
 abbrev pub HasFirst : Sessions → List VersionedPut → ℕ → ℕ → Type 0

@@ -34,6 +34,7 @@ impl Online {
     ghost use Rattle.cops_types.specs.Recorded.{IsFull};
     ghost use Rattle.cops_types.specs.OpViews.{viewed};
     ghost use Rattle.cops_types.specs.Histories.{with_op};
+    ghost use Rattle.cops_types.specs.Operations.{operation_of};
     ghost use Rattle.cops_audit.specs.Judged.{IsJudged};
     ghost use Rattle.cops_audit.specs.SoFar.{IsSoFar};
     ghost use Rattle.cops_audit.specs.Verdicts.{IsVerdict};
@@ -57,7 +58,7 @@ impl Online {
     /// client has 1,000,000 operations or there are 16,000,000. A fault changes nothing.
     #[inline(always)]
     pub fn feed(&mut self, client: u16, op: Op) -> Result<(), FeedFault>
-        ensures ok { OnOk result (self.new ≡ with_op self.old client op) }
+        ensures ok { OnOk result (self.new ≡ with_op self.old client (operation_of op)) }
         ensures err { OnErr result (self.new ≡ self.old) }
         ensures unknown { IsErrOf result FeedFault.UnknownClient ↔ (length self.old ≤ client) }
         ensures too_many { IsErrOf result FeedFault.TooManyOps ↔ (client < length self.old × IsFull self.old client) }

@@ -41,8 +41,7 @@ fn make_room<T: Drop>(items: &mut Vec<T>, count: usize) -> Result<(), AllocError
 
 impl Room {
     ghost use Rattle.std.specs.Prelude.{◌<◌, ◌+◌, ℕ, OnErr, OnOk, length};
-    ghost use Rattle.cops_types.specs.Histories.{with_op};
-    ghost use Rattle.cops_types.specs.declared.op.Op.{Op as AnOp};
+    ghost use Rattle.cops_types.specs.Histories.{Operation, with_op};
     ghost use Rattle.cops_audit.specs.Rooms.{Fits, HasSpace, IsSameButSpace};
 
     /// Room for no operations, of so many clients.
@@ -100,7 +99,7 @@ impl Room {
     /// Makes room for one more operation, and for the note on it.
     pub fn grow(&mut self, notes: &mut FlatNotes, history: &History) -> Result<(), AllocError>
         requires { Fits history.now.sessions self.old notes.old }
-        ensures ok { (client : ℕ) (op : AnOp) → client < length history.now.sessions → OnOk result (Fits (with_op history.now.sessions client op) self.new notes.new) }
+        ensures ok { (client : ℕ) (op : Operation) → client < length history.now.sessions → OnOk result (Fits (with_op history.now.sessions client op) self.new notes.new) }
         ensures kept { Fits history.now.sessions self.new notes.new }
     {
         let count = history.len() + 1;

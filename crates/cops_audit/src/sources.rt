@@ -1,6 +1,5 @@
-ghost use Rattle.std.specs.Prelude.{◌≡◌, ◌↔◌, ℕ, List, [], false, Some, IfOk, IfSome, IsTrue, AllPairs, slice_get};
-ghost use Rattle.cops_types.specs.declared.op.Op.{Op as AnOp};
-ghost use Rattle.cops_types.specs.declared.op.Op.TheVariants.{Put as PutOp, Got as GotOp};
+ghost use Rattle.std.specs.Prelude.{◌≡◌, ◌↔◌, ℕ, List, [], false, Option, Some, IfOk, IfSome, IsTrue, AllPairs, slice_get};
+ghost use Rattle.cops_types.specs.Histories.{Operation, write, read};
 ghost use Rattle.cops_types.specs.declared.op.OpName.{OpName};
 ghost use Rattle.cops_types.specs.Faults.{HasNoSource, IsBefore};
 ghost use Rattle.cops_types.specs.OpRefs.{seen};
@@ -38,7 +37,7 @@ impl Sources {
 
 /// Whether the one is a put, and the other a get that returned it: its key, its value and its version.
 fn is_returned(put: &OpRef, got: &OpRef) -> bool
-    ensures { IsTrue result → (key value : List ℕ) × (version : ℕ) × (seen put.now ≡ PutOp key value version) × (seen got.now ≡ GotOp key value version) }
+    ensures { IsTrue result → (key : List ℕ) × (content : Option (List ℕ)) × (version : ℕ) × (seen put.now ≡ write key content version) × (seen got.now ≡ read key content version) }
 {
     match (put, got) {
         (
@@ -65,7 +64,7 @@ fn source_place(
     number: u32,
 ) -> Option<u32>
     requires { IsVersionTable history.now.sessions table.now }
-    ensures { IfSome result (λ place. (op : AnOp) → slice_get history.now.gets number ≡ Some op → IsSourcePlace history.now.sessions table.now op place) }
+    ensures { IfSome result (λ place. (op : Operation) → slice_get history.now.gets number ≡ Some op → IsSourcePlace history.now.sessions table.now op place) }
 {
     let got = history.open_get(number)?;
     let OpRef::Got { version, .. } = got else {

@@ -8,7 +8,7 @@ use std::test::Fail;
 /// What an item says: its client, 100 for the head and 200 for the end.
 fn told(item: &Item) -> u16 {
     match item {
-        Item::Head { clients } => clients.saturating_add(100),
+        Item::Head { clients, .. } => clients.saturating_add(100),
         Item::Op { client, .. } => *client,
         Item::End => 200,
     }

@@ -1,5 +1,5 @@
 -- A book that gains the entry of a step still replays.
-use Rattle.std.proofs.Common.{◌≡◌, ◌⊎◌, inl, inr, ℕ, Bool, true, false, if◌then◌else◌, List, [], ◌∷◌, ◌++◌, Option, None, Some, refl, sym, ap, subst, ◌∙◌, ◌==◌}
+use Rattle.std.proofs.Common.{◌≡◌, ◌⊎◌, inl, inr, ℕ, Bool, true, false, if◌then◌else◌, List, [], ◌∷◌, ◌++◌, Option, None, Some, refl, sym, ap, subst, ◌∙◌}
 use Rattle.cops_types.specs.declared.refusal.Refusal.TheVariants.{Memory}
 use Rattle.cops_held.specs.Held.{Waiting, waiting}
 use Rattle.cops_node.specs.declared.event.NodeEvent.{NodeEvent}

@@ -7,14 +7,13 @@ use Rattle.cops_cluster.specs.declared.client.Client.{Client}
 use Rattle.cops_cluster.specs.declared.cluster.Cluster.{Cluster}
 use Rattle.cops_cluster.specs.declared.receiving.TheConstants.{RECEIVER}
 use Rattle.cops_cluster.specs.Cluster.{MayHoldStep, node_of}
-use Rattle.cops_replication.specs.Turns.{MayHoldReceiver}
 use Rattle.cops_clients.specs.Gates.{MayHold, MayHoldIn, MayHoldReceiving}
 use Rattle.cops_clients.specs.Callers.{IsClientOf}
 
 -- a step at a key's node
 pub at_key : (c whole : Cluster) (may_hold : Point → Type 0) (dc client : ℕ) (key : List ℕ) → c ≡ whole → MayHoldStep may_hold (node_of c dc key) client → MayHoldIn may_hold (length whole.place.splits + 1) dc client
 at_key c whole may_hold dc client key same may =
-    let s : Setting = record { place = c.place; homes = [] } in
+    let s : Setting = record { format = c.format; place = c.place; homes = [] } in
     let few : primary s key ≤ length c.place.splits = count_by-le-length _ c.place.splits in
     subst (λ (w : Cluster). MayHoldIn may_hold (length w.place.splits + 1) dc client) same (primary s key, omega (arith, few), may)
 
@@ -24,11 +23,6 @@ of_client s c may_hold client same is may =
     let there : MayHoldIn may_hold (length s.place.splits + 1) client.dc client.number = subst (λ (p : _). MayHoldIn may_hold (length p.splits + 1) client.dc client.number) same may in
     (client.dc, is.2, (client.number, inl (is.0, sym is.1), there))
 
--- a step of a receiver
-pub of_receiver : (c whole : Cluster) (may_hold : Point → Type 0) (dc : ℕ) → c ≡ whole → MayHoldReceiver may_hold c dc → MayHoldReceiving whole may_hold
-of_receiver c whole may_hold dc same may =
-    subst (λ (w : Cluster). MayHoldReceiving w may_hold) same (dc, may.1.0, (may.0, may.1.1, may.2))
-
 pub of_receiving : (s : Setting) (c : Cluster) (may_hold : Point → Type 0) → c.place ≡ s.place → MayHoldReceiving c may_hold → MayHold s may_hold
 of_receiving s c may_hold same may =
-    subst (λ (p : _). MayHold (record { place = p; homes = s.homes }) may_hold) same (may.0, may.1, (RECEIVER, inr refl, may.2))
+    subst (λ (p : _). MayHold (record s { place = p }) may_hold) same (may.0, may.1, (RECEIVER, inr refl, may.2))

@@ -66,28 +66,3 @@ jobs_of s clients jobs setting (len, numbered, homes, contexts, held, entries) a
 pub receivers_of : (s : Setting) (shares : List Share) (receivers : List Receiver) → AreReceivers s.place.dcs shares → AreWired s.place.dcs shares receivers → AreReceiversOf s receivers
 receivers_of s shares receivers (len, held, entries) (dcs, are, fresh) =
     (dcs, placed_from receivers shares 0 s.place.dcs dcs are (λ k d less. held k d less ∙ ap HeldByReceiver (omega arith)))
-
--- ---- shares that are brought
-
--- by one thread more
-pub brought_one : (lost after : Bool) (first before now : List Share) (callers : List Holder) (x : Share) (who : Holder) → (IsTrue lost → IsTrue after) → IsTrue after ⊎ (now ≡ before ++ x ∷ []) → x.holder ≡ who
-    → IsTrue lost ⊎ (holders before ≡ holders first ++ callers) → IsTrue after ⊎ (holders now ≡ holders first ++ (callers ++ who ∷ []))
-brought_one lost after first before now callers x who stays more is so_far =
-    elim more [
-      | inl gone ↦ inl gone
-      | inr added ↦
-          elim so_far [
-            | inl gone ↦ inl (stays gone)
-            | inr all ↦ inr (ap holders added ∙ map_push (λ (s : Share). s.holder) before x ∙ ap (λ (l : List Holder). l ++ x.holder ∷ []) all
-                ∙ ap (λ (h : Holder). (holders first ++ callers) ++ h ∷ []) is ∙ append_assoc (holders first) callers (who ∷ []))
-          ]
-    ]
-
--- by others after some
-pub brought_both : (lost after : Bool) (before now : List Share) (first second : List Holder) → (IsTrue lost → IsTrue after) → IsTrue lost ⊎ (holders before ≡ first)
-    → IsTrue after ⊎ (holders now ≡ holders before ++ second) → IsTrue after ⊎ (holders now ≡ first ++ second)
-brought_both lost after before now first second stays some rest =
-    elim rest [
-      | inl gone ↦ inl gone
-      | inr all ↦ elim some [ inl gone ↦ inl (stays gone) | inr are ↦ inr (all ∙ ap (λ (l : List Holder). l ++ second) are) ]
-    ]

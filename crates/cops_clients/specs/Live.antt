@@ -1,9 +1,10 @@
 -- What a run leaves of the writer that its trace is written to.
-use Rattle.std.specs.Prelude.{◌≡◌, ℕ, ◌+◌, max, min, List, [], ◌∷◌, Option, Some, slice_get, take}
+use Rattle.std.specs.Prelude.{◌≡◌, ℕ, ◌+◌, max, min, List, [], ◌∷◌, Option, Some, slice_get, map, take}
 use Rattle.std.specs.Global.{Vec}
 use Rattle.cops_types.specs.Failures.{Failed}
 use Rattle.cops_trace.specs.Counts.{HasTurn}
 use Rattle.cops_trace.specs.Live.{Gains, IsCutShort}
+use Rattle.cops_trace.specs.Text.{record_of}
 use Rattle.cops_trace.specs.declared.live.LiveTrace.{LiveTrace}
 use Rattle.cops_trace.specs.declared.record.Record.{Record}
 use Rattle.cops_book.specs.declared.entry.Entry.{Entry}
@@ -25,7 +26,7 @@ IsHeardFor _ old new = Unit {0}
 -- it has these records more, each once and in their order, up to the first whose client may have no more
 pub record Follows {W : Type 0} (records : List Record) (old new : LiveTrace W) : Type 0 where
   pub count : ℕ
-  pub gains : Gains (take count records) old new
+  pub gains : Gains (map record_of (take count records)) old new
   pub full : (r : Record) → slice_get records count ≡ Some r → HasTurn new.writer.counts r.client → ⊥
 
 -- the greater one of a ticket and the one above the greatest of these entries

@@ -7,7 +7,7 @@ use Rattle.cops_types.specs.declared.gate.Point.{Point}
 use Rattle.cops_held.specs.Held.{Waiting, waiting}
 use Rattle.cops_store.specs.Store.{Stored, has_pair, shown}
 use Rattle.cops_node.specs.declared.event.NodeEvent.{NodeEvent}
-use Rattle.cops_node.specs.declared.event.NodeEvent.TheVariants.{Put, Get, Deliver, Ask, Mark, Settle}
+use Rattle.cops_node.specs.declared.event.NodeEvent.TheVariants.{Get, Ask, Mark, Settle}
 use Rattle.cops_node.specs.Node.{Node, answer, mark_at, node_step, settle_at}
 use Rattle.cops_types.specs.declared.refusal.Refusal.{Refusal}
 use Rattle.cops_node.specs.declared.outcome.Outcome.{Outcome}
@@ -48,12 +48,11 @@ ask_step n true = (refl, refl)
 ask_step n false = (refl, refl)
 
 a_step : (n : Node) (e : NodeEvent) → IsStepOf n (node_step n e)
-a_step n (Put client key value deps) = if_step n _ _ _ (refl, refl) (refl, refl)
 a_step n (Get client key) = get_step n (shown n.settled key)
-a_step n (Deliver put) = if_step n _ _ _ (refl, refl) (refl, refl)
 a_step n (Ask key version) = ask_step n (has_pair n.settled (record { key = key; version = version }))
 a_step n (Mark version dep) = mark_step n version dep (waiting n.held version)
 a_step n (Settle version) = settle_step n (waiting n.held version)
+a_step n e = if_step n _ _ _ (refl, refl) (refl, refl)
 
 -- what a node's step answers is a node's
 pub step_of_node : (n : Node) (e : NodeEvent) → is_of_node (node_step n e).0 ≡ true

@@ -1,8 +1,7 @@
 -- What a contract sees of a cluster, and of the calls of its clients.
 use Rattle.std.specs.Prelude.{◌≡◌, ◌<◌, ◌+◌, ◌⊎◌, ℕ, List, [], ◌∷◌, drop, length, Option, None, Some, false}
 use Rattle.cops_types.specs.declared.dep.Dep.{Dep}
-use Rattle.cops_types.specs.declared.op.Op.{Op}
-use Rattle.cops_types.specs.declared.op.Op.TheVariants.{Put as Wrote, Got as Saw, Missed as SawNone}
+use Rattle.cops_types.specs.Histories.{Operation, write, read, missed}
 use Rattle.cops_types.specs.declared.gate.Point.{Point}
 use Rattle.cops_types.specs.declared.gate.Point.TheVariants.{InStep, Answered}
 use Rattle.cops_context.specs.Context.{with_pair}
@@ -50,14 +49,14 @@ after_get pairs key (Got value version) = with_pair pairs (record { key = key; v
 after_get pairs key _ = pairs
 
 -- what a client saw of its put
-abbrev pub put_seen : List ℕ → List ℕ → Outcome → Option Op
-put_seen key value (PutDone version) = Some (Wrote key value version)
+abbrev pub put_seen : List ℕ → List ℕ → Outcome → Option Operation
+put_seen key value (PutDone version) = Some (write key (Some value) version)
 put_seen key value _ = None
 
 -- what a client saw of its get
-abbrev pub get_seen : List ℕ → Outcome → Option Op
-get_seen key (Got value version) = Some (Saw key value version)
-get_seen key Missed = Some (SawNone key)
+abbrev pub get_seen : List ℕ → Outcome → Option Operation
+get_seen key (Got value version) = Some (read key (Some value) version)
+get_seen key Missed = Some (missed key)
 get_seen key _ = None
 
 -- why a step was not made: refused as no node refuses, or where the gate may hold it

@@ -18,10 +18,10 @@ pub record IsNotKept (c : Cluster) (shares : List Share) (ticket : ℕ) : Type 0
   pub replays : AllReplay (length c.place.splits + 1) books
   pub least : IsLeastDifference (made_in (length c.place.splits + 1) 0 books) (told shares) ticket
 
--- at want of memory a cluster of the same place and clients, and the shares; where a share is missing all as it was; where the
+-- at want of memory a cluster of the same format, place and clients, and the shares; where a share is missing all as it was; where the
 -- entries differ all shares were there, and the ticket is the least at which they differ from the books
 abbrev pub HandsBack : Cluster → Vec Share → CloseFault → Type 0
-HandsBack c shares (Memory cluster back) = (cluster.place ≡ c.place) × ((cluster.clients ≡ c.clients) × (back ≡ shares))
+HandsBack c shares (Memory cluster back) = (cluster.format ≡ c.format) × (cluster.place ≡ c.place) × (cluster.clients ≡ c.clients) × (back ≡ shares)
 HandsBack c shares (SharesMissing cluster back) = (cluster ≡ c) × ((back ≡ shares) × (AreAll c.clients c.place.dcs shares.items → ⊥))
 HandsBack c shares (NotKept ticket) = AreAll c.clients c.place.dcs shares.items × IsNotKept c shares.items ticket
 

@@ -1,6 +1,7 @@
 -- What a cluster's calls may answer.
 use Rattle.std.specs.Prelude.{◌≡◌, ◌⊎◌, ◌≤◌, ℕ}
-use Rattle.cops_types.specs.declared.limits.TheConstants.{MAX_DEPS}
+use Rattle.cops_types.specs.declared.format.Format.{Format}
+use Rattle.cops_types.specs.Format.{most_deps}
 use Rattle.cops_types.specs.declared.refusal.Refusal.TheVariants.{ClockExhausted, ContextFull, UnknownClient, NotHeld, NoSuchDep, NoYes, DepsOpen, Memory, SessionFull}
 use Rattle.cops_node.specs.declared.event.NodeEvent.{NodeEvent}
 use Rattle.cops_node.specs.declared.outcome.Outcome.{Outcome}
@@ -59,8 +60,8 @@ abbrev pub IsUnknown : Cluster → Client → Type 0
 IsUnknown c client = (c.clients ≤ client.number) ⊎ (c.place.dcs ≤ client.dc)
 
 -- a get that no node was asked for: the client's context, with so many pairs, is full, or memory was wanting
-abbrev pub IsUnaskedGet : ℕ → Outcome → Type 0
-IsUnaskedGet pairs outcome = ((outcome ≡ RefusedWith ContextFull) × (pairs ≡ MAX_DEPS)) ⊎ (outcome ≡ RefusedWith Memory)
+abbrev pub IsUnaskedGet : Format → ℕ → Outcome → Type 0
+IsUnaskedGet format pairs outcome = ((outcome ≡ RefusedWith ContextFull) × (most_deps format ≤ pairs)) ⊎ (outcome ≡ RefusedWith Memory)
 
 -- want of memory
 abbrev pub IsWant : Outcome → Type 0

@@ -138,6 +138,7 @@ impl Cluster {
         ensures compared { (ticket : ℕ) → result ≡ Err (CloseFault.NotKept ticket) → IsTrue compares }
     {
         let Cluster {
+            format,
             place,
             clients,
             nodes,
@@ -153,10 +154,7 @@ impl Cluster {
         let places = usize::from(place.nodes());
         let books = taken_out(books, nodes);
         let recorder = match difference_where(compares, alloc, places, &books, &shares) {
-            Ok(Some(ticket)) => {
-                drop(listed(alloc, places, lists, books));
-                return Err(CloseFault::NotKept { ticket });
-            }
+            Ok(Some(ticket)) => return Err(not_kept(listed(alloc, places, lists, books), ticket)),
             Ok(None) => match recorder.into_trace() {
                 Ok(trace) => {
                     let books = listed(alloc, places, lists, books);
@@ -168,6 +166,7 @@ impl Cluster {
             Err(_) => recorder,
         };
         let cluster = Cluster {
+            format,
             place,
             clients,
             nodes: locked(locks, books),
@@ -177,6 +176,14 @@ impl Cluster {
         };
         Err(CloseFault::Memory(cluster, shares))
     }
+}
+
+/// The fault that the entries differ at a ticket: their lists are dropped.
+fn not_kept(lists: Vec<Vec<Entry>>, ticket: u64) -> CloseFault
+    ensures { result ≡ CloseFault.NotKept ticket }
+{
+    drop(lists);
+    CloseFault::NotKept { ticket }
 }
 
 /// The least ticket whose entries in the books and in the shares differ, where they are to be compared: else `None`.

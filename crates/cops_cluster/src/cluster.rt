@@ -12,15 +12,16 @@ use cops_book::{Book, Puts};
 use cops_context::Context;
 use cops_place::{Place, Setting};
 use cops_record::Recorder;
-use cops_types::{Key, Memory, NodeStatus};
+use cops_types::{Format, Key, Memory, NodeStatus};
 use std::alloc::{AllocError, Global};
 use std::sync::atomic::AtomicU64;
 use std::sync::{Mutex, Wait};
 
 /// The nodes of a cluster, each under a lock of its own, by data centre and place; one counter of tickets; and the
-/// recorder of what clients see.
+/// recorder of what clients see. The limits are those of its format.
 #[derive(Drop)]
 pub struct Cluster {
+    pub(crate) format: Format,
     pub(crate) place: Place,
     pub(crate) clients: u16,
     pub(crate) nodes: Vec<Mutex<Book>>,
@@ -48,9 +49,10 @@ impl Cluster {
     ghost use Rattle.cops_cluster.specs.Opening.{AreClientsAt, AreReceivers};
     ghost use Rattle.cops_cluster.specs.Cluster.{IsNode, IsPutsFrom};
 
-    /// A cluster of these data centres and nodes, with a client at each of these data centres: `BadClient` where one of
-    /// those is not there, or there are more than 65,535 clients.
+    /// A cluster of format 1 and of these data centres and nodes, with a client at each of these data centres:
+    /// `BadClient` where one of those is not there, or there are more than 65,535 clients.
     pub fn open(alloc: Global, place: Place, client_dcs: Vec<u8>) -> Result<Opened, OpenFault>
+        ensures format { IfOk result (λ o. o.cluster.format ≡ Format.One) }
         ensures place { IfOk result (λ o. o.cluster.place ≡ place) }
         ensures clients { IfOk result (λ o. AreClientsAt client_dcs.items (length client_dcs.items) o.clients.items) }
         ensures count { IfOk result (λ o. o.cluster.clients ≡ length client_dcs.items) }
@@ -63,8 +65,9 @@ impl Cluster {
         }
     }
 
-    /// The same of a setting, whose clients' data centres are there.
+    /// A cluster of this setting's format, data centres and nodes, with its clients.
     pub fn of(alloc: Global, setting: &Setting) -> Result<Opened, Memory>
+        ensures format { IfOk result (λ o. o.cluster.format ≡ setting.now.format) }
         ensures place { IfOk result (λ o. o.cluster.place ≡ setting.now.place) }
         ensures clients { IfOk result (λ o. AreClientsAt setting.now.homes (length setting.now.homes) o.clients.items) }
         ensures count { IfOk result (λ o. o.cluster.clients ≡ length setting.now.homes) }
@@ -75,6 +78,7 @@ impl Cluster {
         let clients = opened_clients(alloc, setting.homes())?;
         let shares = opened_shares(alloc, setting.dcs())?;
         let cluster = Cluster {
+            format: setting.format(),
             place: setting.place().clone()?,
             clients: setting.clients() as u16,
             nodes,

@@ -13,7 +13,9 @@ use crate::spot::Spot;
 use cops_book::{Book, Told};
 use cops_node::{NodeEvent, Outcome};
 use cops_record::Slot;
-use cops_types::{Dep, Deps, Gate, GateHeld, Key, Memory, Op, Point, Refusal, Value, Version};
+use cops_types::{
+    Dep, Deps, Format, Gate, GateHeld, Key, Memory, Op, Point, Refusal, Value, Version,
+};
 use std::alloc::AllocError;
 use std::sync::Wait;
 use std::sync::atomic::Ordering;
@@ -147,11 +149,12 @@ fn get_told(client: u16, key: Key) -> Result<GetTold, Memory>
 }
 
 impl Cluster {
-    ghost use Rattle.std.specs.Prelude.{◌≡◌, ◌<◌, ◌↔◌, ◌++◌, ◌⊎◌, [], ◌∷◌, ℕ, true, false, length, IfOk, IfErr, IsTrue, Ok, Err, OnOk, OnErr};
+    ghost use Rattle.std.specs.Prelude.{◌≡◌, ◌<◌, ◌≤◌, ◌↔◌, ◌++◌, ◌⊎◌, [], ◌∷◌, ℕ, true, false, length, option_map, IfOk, IfErr, IsTrue, Ok, Err, OnOk, OnErr};
     ghost use Rattle.cops_types.specs.declared.refusal.Refusal.{Refusal};
     ghost use Rattle.cops_types.specs.declared.refusal.Refusal.TheVariants.{ContextFull, UnknownClient, Memory as OutOfMemory};
     ghost use Rattle.cops_cluster.specs.declared.fault.Stop.TheVariants.{Refused};
-    ghost use Rattle.cops_types.specs.declared.limits.TheConstants.{MAX_DEPS};
+    ghost use Rattle.cops_types.specs.Format.{most_deps};
+    ghost use Rattle.cops_types.specs.Operations.{operation_of};
     ghost use Rattle.cops_node.specs.declared.event.NodeEvent.TheVariants.{Put, Get};
     ghost use Rattle.cops_node.specs.declared.outcome.Outcome.TheVariants.{Refused as RefusedWith};
     ghost use Rattle.cops_node.specs.Node.{node_step};
@@ -202,8 +205,8 @@ impl Cluster {
     }
 
     /// A client gets the value of a key. Refused where the client is of another cluster, which has no client of its
-    /// number here or no data centre of its, and then where its session is full, where its context holds 256 pairs, and
-    /// for want of memory.
+    /// number here or no data centre of its, and then where its session is full, where its context has as many pairs as
+    /// the format allows, and for want of memory.
     pub fn get<R: Wait, G: Gate>(
         &self,
         rt: &R,
@@ -215,11 +218,11 @@ impl Cluster {
         ensures told { IfOk result (λ out. Adds client.old.share.entries.items client.new.share.entries.items (node_of self.now client.old.dc key) (Get client.old.number key) out) }
         ensures most { AddsAtMostOne client.old.share.entries.items client.new.share.entries.items (node_of self.now client.old.dc key) (Get client.old.number key) }
         ensures context { IfOk result (λ out. client.new.context.pairs ≡ after_get client.old.context.pairs key out) }
-        ensures full { length client.old.context.pairs ≡ MAX_DEPS → client.new.share.entries.items ≡ client.old.share.entries.items }
+        ensures full { most_deps self.now.format ≤ length client.old.context.pairs → client.new.share.entries.items ≡ client.old.share.entries.items }
         ensures outcome { IfOk result IsGetOutcome }
         ensures unknown { result ≡ Ok (RefusedWith UnknownClient) ↔ IsUnknown self.now client.old }
-        ensures only_full { result ≡ Ok (RefusedWith ContextFull) → length client.old.context.pairs ≡ MAX_DEPS }
-        ensures refused { length client.old.context.pairs ≡ MAX_DEPS → (refused : Refusal) × (result ≡ Ok (RefusedWith refused)) }
+        ensures only_full { result ≡ Ok (RefusedWith ContextFull) → most_deps self.now.format ≤ length client.old.context.pairs }
+        ensures refused { most_deps self.now.format ≤ length client.old.context.pairs → (refused : Refusal) × (result ≡ Ok (RefusedWith refused)) }
         ensures held { OnErr result (MayHoldStep (G.may_hold gate.now) (node_of self.now client.old.dc key) client.old.number) }
     {
         if !self.knows(client) {
@@ -261,7 +264,7 @@ impl Cluster {
         ensures told { IfOk result (λ a. AddsEntry client.old.share.entries.items client.new.share.entries.items (node_of self.now client.old.dc key) (Put client.old.number key value client.old.context.pairs) a.outcome) }
         ensures answers { IfOk result (λ a. (is_of_node a.outcome ≡ true) × (a.node ≡ node_of self.now client.old.dc key)) }
         ensures context { IfOk result (λ a. client.new.context.pairs ≡ after_put client.old.context.pairs key a.outcome) }
-        ensures seen { IfOk result (λ a. a.op ≡ put_seen key value a.outcome) }
+        ensures seen { IfOk result (λ a. option_map operation_of a.op ≡ put_seen key value a.outcome) }
         ensures outcome { IfOk result (λ a. IsPutOutcome a.outcome) }
         ensures stops { IfErr result (StopsWith IsWant) }
         ensures none { OnErr result (client.new.share.entries.items ≡ client.old.share.entries.items) }
@@ -300,10 +303,10 @@ impl Cluster {
         ensures told { IfOk result (λ a. AddsEntry client.old.share.entries.items client.new.share.entries.items (node_of self.now client.old.dc key) (Get client.old.number key) a.outcome) }
         ensures answers { IfOk result (λ a. (is_of_node a.outcome ≡ true) × (a.node ≡ node_of self.now client.old.dc key)) }
         ensures context { IfOk result (λ a. client.new.context.pairs ≡ after_get client.old.context.pairs key a.outcome) }
-        ensures seen { IfOk result (λ a. a.op ≡ get_seen key a.outcome) }
+        ensures seen { IfOk result (λ a. option_map operation_of a.op ≡ get_seen key a.outcome) }
         ensures outcome { IfOk result (λ a. IsGetOutcome a.outcome) }
-        ensures stops { IfErr result (StopsWith (IsUnaskedGet (length client.old.context.pairs))) }
-        ensures full { length client.old.context.pairs ≡ MAX_DEPS → result ≡ Err (Refused ContextFull) }
+        ensures stops { IfErr result (StopsWith (IsUnaskedGet self.now.format (length client.old.context.pairs))) }
+        ensures full { most_deps self.now.format ≤ length client.old.context.pairs → result ≡ Err (Refused ContextFull) }
         ensures none { OnErr result (client.new.share.entries.items ≡ client.old.share.entries.items) }
         ensures kept { OnErr result (client.new.context.pairs ≡ client.old.context.pairs) }
         ensures stop { IfErr result (IsStop (G.may_hold gate.now) (node_of self.now client.old.dc key) client.old.number) }
@@ -319,7 +322,7 @@ impl Cluster {
         let GetTold { event, notes } = get_told(number, key)?;
         match self.step(rt, &mut client.share, gate, number, spot, event) {
             Ok(Seen { outcome, seen }) => {
-                let op = client.saw(notes.pair_key, notes.key, seen);
+                let op = client.saw(self.format, notes.pair_key, notes.key, seen);
                 let node = spot.number();
                 Ok(Answer { outcome, node, op })
             }
@@ -335,16 +338,16 @@ impl Cluster {
     fn spot_with_room(&self, client: &mut Client, key: &Key) -> Result<Spot, Refusal>
         requires { client.old.dc < self.now.place.dcs }
         ensures spot { IfOk result (λ spot. (spot.dc ≡ client.old.dc) × (spot.place ≡ primary self.now.place.splits key.now) × IsNode self.now spot.dc spot.place) }
-        ensures room { OnOk result ((length client.old.context.pairs < MAX_DEPS) × (client.new.context.room ≡ true)) }
+        ensures room { OnOk result ((length client.old.context.pairs < most_deps self.now.format) × (client.new.context.room ≡ true)) }
         ensures same { (client.new.number ≡ client.old.number) × (client.new.dc ≡ client.old.dc) × (client.new.share ≡ client.old.share) }
         ensures pairs { client.new.context.pairs ≡ client.old.context.pairs }
-        ensures full { length client.old.context.pairs ≡ MAX_DEPS → result ≡ Err ContextFull }
-        ensures refused { IfErr result (λ refused. (is_refusal_of_node refused ≡ false) × IsUnaskedGet (length client.old.context.pairs) (RefusedWith refused)) }
+        ensures full { most_deps self.now.format ≤ length client.old.context.pairs → result ≡ Err ContextFull }
+        ensures refused { IfErr result (λ refused. (is_refusal_of_node refused ≡ false) × IsUnaskedGet self.now.format (length client.old.context.pairs) (RefusedWith refused)) }
     {
         let Some(spot) = self.spot_of(client.dc, key) else {
             unreachable!()
         };
-        if !client.context.has_room() {
+        if !client.context.has_room_in(self.format) {
             return Err(Refusal::ContextFull);
         }
         match client.context.reserve() {
@@ -438,15 +441,16 @@ impl Cluster {
 }
 
 impl Client {
-    ghost use Rattle.std.specs.Prelude.{◌≡◌, ◌<◌, true, length};
-    ghost use Rattle.cops_types.specs.declared.limits.TheConstants.{MAX_DEPS};
+    ghost use Rattle.std.specs.Prelude.{◌≡◌, ◌<◌, true, length, option_map};
+    ghost use Rattle.cops_types.specs.Format.{most_deps};
+    ghost use Rattle.cops_types.specs.Operations.{operation_of};
     ghost use Rattle.cops_cluster.specs.Cluster.{after_get, after_put, get_seen, put_seen};
 
     /// The client's put was answered: what it saw, which its context then has alone.
     fn wrote(&mut self, notes: PutNotes, answer: &Outcome) -> Option<Op>
         requires { notes.pair_key ≡ notes.key }
         ensures context { self.new.context.pairs ≡ after_put self.old.context.pairs notes.key answer.now }
-        ensures seen { result ≡ put_seen notes.key notes.value answer.now }
+        ensures seen { option_map operation_of result ≡ put_seen notes.key notes.value answer.now }
         ensures same { (self.new.number ≡ self.old.number) × (self.new.dc ≡ self.old.dc) × (self.new.share ≡ self.old.share) }
     {
         let Some(version) = version_of(answer) else {
@@ -470,22 +474,21 @@ impl Client {
     }
 
     /// The client's get was answered: what it saw, whose pair its context gains.
-    fn saw(&mut self, pair_key: Key, key: Key, answer: Outcome) -> Option<Op>
+    fn saw(&mut self, format: Format, pair_key: Key, key: Key, answer: Outcome) -> Option<Op>
         requires key { pair_key ≡ key }
         requires room { self.old.context.room ≡ true }
-        requires few { length self.old.context.pairs < MAX_DEPS }
+        requires few { length self.old.context.pairs < most_deps format }
         ensures context { self.new.context.pairs ≡ after_get self.old.context.pairs key answer }
-        ensures seen { result ≡ get_seen key answer }
+        ensures seen { option_map operation_of result ≡ get_seen key answer }
         ensures same { (self.new.number ≡ self.old.number) × (self.new.dc ≡ self.old.dc) × (self.new.share ≡ self.old.share) }
     {
         match answer {
             Outcome::Got(value, version) => {
-                self.context
-                    .add(Dep {
-                        key: pair_key,
-                        version,
-                    })
-                    .unwrap();
+                let pair = Dep {
+                    key: pair_key,
+                    version,
+                };
+                self.context.add_in(format, pair).unwrap();
                 Some(Op::Got {
                     key,
                     value,

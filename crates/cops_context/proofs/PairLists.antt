@@ -1,11 +1,14 @@
 -- Lists of pairs, none twice, and one more.
-use Rattle.std.proofs.Common.{◌≡◌, ◌<◌, Bool, true, false, ◌||◌, List, [], ◌∷◌, ◌++◌, if◌then◌else◌, nat_lt, Option, None, Some, is_none, length, refl, ap, ◌∙◌, arith, rules, length-append}
-use borrow.Author.Tests.{ltb-true}
+use Rattle.std.proofs.Common.{◌≡◌, ℕ, ◌<◌, ◌≤◌, Bool, true, false, ◌||◌, List, [], ◌∷◌, ◌++◌, if◌then◌else◌, Option, None, Some, is_none, length, refl, ap, ◌∙◌, arith, rules, length-append}
 use Rattle.std.specs.Cmp.{IsEquivalence}
 use Rattle.std.specs.Cmp.Rules.{comparing}
 use Rattle.std.specs.List.{AllByRecursion, IsDistinct, list_any}
 use Rattle.cops_types.specs.declared.dep.Dep.{Dep}
+use Rattle.cops_types.specs.declared.format.Format.{Format}
+use Rattle.cops_types.specs.declared.format.Format.TheVariants.{One}
+use Rattle.cops_types.specs.declared.limits.TheConstants.{MAX_DEPS}
 use Rattle.cops_types.specs.Dep.{is_same_dep}
+use Rattle.cops_types.specs.Format.{most_deps}
 use Rattle.cops_context.specs.Context.{has_pair, with_pair}
 use Rattle.cops_context.specs.Kept.{IsContext, and_beside}
 
@@ -42,19 +45,23 @@ module _ {K : Type 0} {e : K → K → Bool} (o : IsEquivalence e) where
 same_pairs : IsEquivalence is_same_dep
 same_pairs = search (comparing, rules) depth 9
 
+-- each format's contexts have a pair at least, and no more than dependencies have
+pub deps_within : (format : Format) → (0 < most_deps format) × (most_deps format ≤ MAX_DEPS)
+deps_within One = (omega arith, omega arith)
+
 -- a context with a new pair
-pub context_push : (pairs : List Dep) (pair : Dep) → IsContext pairs → has_pair pairs pair ≡ false → length pairs < 256 → IsContext (pairs ++ pair ∷ [])
-context_push pairs pair h new few = record {
+pub context_push : (most : ℕ) (pairs : List Dep) (pair : Dep) → IsContext most pairs → has_pair pairs pair ≡ false → length pairs < most → IsContext most (pairs ++ pair ∷ [])
+context_push most pairs pair h new few = record {
   few = omega (arith, length-append pairs (pair ∷ []));
   distinct = distinct_push same_pairs pairs pair h.distinct new;
 }
 
 -- the last pair of a context is new to those before it
-pub new_last : (pairs : List Dep) (pair : Dep) → IsContext (pairs ++ pair ∷ []) → with_pair pairs pair ≡ pairs ++ pair ∷ []
-new_last pairs pair h = ap (λ b. if b then pairs else pairs ++ pair ∷ []) (absent_before same_pairs pairs pair h.distinct)
+pub new_last : (most : ℕ) (pairs : List Dep) (pair : Dep) → IsContext most (pairs ++ pair ∷ []) → with_pair pairs pair ≡ pairs ++ pair ∷ []
+new_last most pairs pair h = ap (λ b. if b then pairs else pairs ++ pair ∷ []) (absent_before same_pairs pairs pair h.distinct)
 
 -- a new pair beside the set, in the place that was empty
-pub context_beside : (pairs : List Dep) (beside : Option Dep) (pair : Dep) → is_none beside ≡ true → has_pair (and_beside pairs beside) pair ≡ false
-    → nat_lt (length (and_beside pairs beside)) 256 ≡ true → IsContext (and_beside pairs beside) → IsContext (pairs ++ pair ∷ [])
-context_beside pairs None pair empty new few h = context_push pairs pair h new (ltb-true _ _ few)
-context_beside pairs (Some other) pair empty new few h = absurd cc
+pub context_beside : (most : ℕ) (pairs : List Dep) (beside : Option Dep) (pair : Dep) → is_none beside ≡ true → has_pair (and_beside pairs beside) pair ≡ false
+    → length (and_beside pairs beside) < most → IsContext most (and_beside pairs beside) → IsContext most (pairs ++ pair ∷ [])
+context_beside most pairs None pair empty new few h = context_push most pairs pair h new few
+context_beside most pairs (Some other) pair empty new few h = absurd cc

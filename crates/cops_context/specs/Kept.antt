@@ -1,8 +1,7 @@
 -- What a context keeps, within its limit.
-use Rattle.std.specs.Prelude.{◌≤◌, Bool, List, [], ◌∷◌, ◌++◌, length, Option, None, Some}
+use Rattle.std.specs.Prelude.{◌≤◌, ℕ, Bool, List, [], ◌∷◌, ◌++◌, length, Option, None, Some}
 use Rattle.std.specs.List.{IsDistinct}
 use Rattle.cops_types.specs.declared.dep.Dep.{Dep}
-use Rattle.cops_types.specs.declared.limits.TheConstants.{MAX_DEPS}
 use Rattle.cops_types.specs.Dep.{is_same_dep}
 
 -- the pairs in order of arrival, and whether one more takes no memory
@@ -15,7 +14,7 @@ abbrev pub and_beside : List Dep → Option Dep → List Dep
 and_beside pairs None = pairs
 and_beside pairs (Some pair) = pairs ++ pair ∷ []
 
--- at most 256 pairs, none twice
-pub record IsContext (pairs : List Dep) : Type 0 where
-  pub few : length pairs ≤ MAX_DEPS
+-- at most so many pairs, none twice
+pub record IsContext (most : ℕ) (pairs : List Dep) : Type 0 where
+  pub few : length pairs ≤ most
   pub distinct : IsDistinct is_same_dep pairs

@@ -1,11 +1,11 @@
 use crate::fault::ContextFault;
-use cops_types::{Dep, Deps, MAX_DEPS, Memory};
+use cops_types::{Dep, Deps, Format, Memory};
 use indexmap::IndexSet;
 use std::alloc::{AllocError, Global};
 use std::marker::Model;
 
-/// A client's context: at most 256 pairs of a key and a version, none twice, in order of arrival. A pair for which the
-/// set has no room stands beside it, last in the list, until the set has grown.
+/// A client's context: pairs of a key and a version, none twice, in order of arrival, and at most 256, as many as
+/// `Deps` hold. A pair for which the set has no room stands beside it, last in the list, until the set has grown.
 #[derive(Drop)]
 pub struct Context {
     pairs: IndexSet<Dep>,
@@ -14,19 +14,21 @@ pub struct Context {
 
 impl Model for Context {
     ghost use Rattle.std.specs.Prelude.{is_none};
+    ghost use Rattle.cops_types.specs.declared.limits.TheConstants.{MAX_DEPS};
     ghost use Rattle.cops_context.specs.Kept.{AContext, IsContext, and_beside};
 
     ghost Value = { AContext };
 
     ghost view = { λ c. record { pairs = and_beside c.pairs.keys c.beside; room = is_none c.beside } };
 
-    ghost invariant = { λ c. IsContext (and_beside c.pairs.keys c.beside) };
+    ghost invariant = { λ c. IsContext MAX_DEPS (and_beside c.pairs.keys c.beside) };
 }
 
 impl Context {
-    ghost use Rattle.std.specs.Prelude.{◌≡◌, ◌≢◌, ◌↔◌, ◌≤◌, length, List, [], ◌∷◌, true, false, nat_lt, IsTrue, IsOk, IfOk, IfErr, OnOk, OnErr, IsErrOf};
+    ghost use Rattle.std.specs.Prelude.{◌≡◌, ◌≢◌, ◌↔◌, ◌<◌, ◌≤◌, length, List, [], ◌∷◌, true, false, nat_lt, IsTrue, IsOk, IfOk, IfErr, OnOk, OnErr, IsErrOf};
     ghost use Rattle.cops_context.specs.Context.{has_pair, with_pair};
     ghost use Rattle.cops_types.specs.declared.limits.TheConstants.{MAX_DEPS};
+    ghost use Rattle.cops_types.specs.Format.{most_deps};
     ghost use Rattle.cops_context.specs.Kept.{IsContext};
 
     /// An empty context. It takes no memory.
@@ -43,7 +45,7 @@ impl Context {
     /// How many pairs there are, at most 256.
     pub fn len(&self) -> usize
         ensures count { result ≡ length self.now.pairs }
-        ensures context { IsContext self.now.pairs }
+        ensures context { IsContext MAX_DEPS self.now.pairs }
     {
         self.pairs.len() + usize::from(self.beside.is_some())
     }
@@ -55,12 +57,20 @@ impl Context {
         self.len() == 0
     }
 
-    /// Whether there are fewer than 256 pairs.
+    /// Whether there are fewer than 256 pairs, the most of format 1.
     pub fn has_room(&self) -> bool
-        ensures value { result ≡ nat_lt (length self.now.pairs) MAX_DEPS }
-        ensures context { IsContext self.now.pairs }
+        ensures value { result ≡ nat_lt (length self.now.pairs) (most_deps Format.One) }
+        ensures context { IsContext MAX_DEPS self.now.pairs }
     {
-        self.len() < MAX_DEPS
+        self.has_room_in(Format::One)
+    }
+
+    /// Whether there are fewer pairs than the format's most.
+    pub fn has_room_in(&self, format: Format) -> bool
+        ensures value { result ≡ nat_lt (length self.now.pairs) (most_deps format) }
+        ensures context { IsContext MAX_DEPS self.now.pairs }
+    {
+        self.len() < format.most_deps()
     }
 
     /// Whether the pair is there.
@@ -88,7 +98,7 @@ impl Context {
     fn copies(&self) -> Result<Vec<Dep>, AllocError>
         ensures pairs { IfOk result (λ copies. copies.items ≡ self.now.pairs) }
         ensures err { OnErr result (self.now.pairs ≢ []) }
-        ensures context { IsContext self.now.pairs }
+        ensures context { IsContext MAX_DEPS self.now.pairs }
     {
         let mut copies = Vec::new(*self.pairs.allocator());
         let pairs = self.pairs.as_slice();
@@ -121,18 +131,29 @@ impl Context {
     }
 
     /// Adds a pair, which goes last. Nothing changes where it is there already, nor at a refusal: `ContextFull` for a
-    /// new pair where 256 are there.
+    /// new pair where 256 are there, the most of format 1.
     pub fn add(&mut self, pair: Dep) -> Result<(), ContextFault>
         ensures ok { OnOk result (self.new.pairs ≡ with_pair self.old.pairs pair) }
         ensures err { OnErr result (self.new ≡ self.old) }
-        ensures full { IsErrOf result ContextFault.ContextFull ↔ (has_pair self.old.pairs pair ≡ false × length self.old.pairs ≡ MAX_DEPS) }
+        ensures full { IsErrOf result ContextFault.ContextFull ↔ (has_pair self.old.pairs pair ≡ false × most_deps Format.One ≤ length self.old.pairs) }
+        ensures reserved { self.old.room ≡ true → ¬ IsErrOf result ContextFault.Memory }
+        ensures there { has_pair self.old.pairs pair ≡ true → IsOk result }
+    {
+        self.add_in(Format::One, pair)
+    }
+
+    /// Adds a pair as `add` does, where the most are those of a format.
+    pub fn add_in(&mut self, format: Format, pair: Dep) -> Result<(), ContextFault>
+        ensures ok { OnOk result (self.new.pairs ≡ with_pair self.old.pairs pair) }
+        ensures err { OnErr result (self.new ≡ self.old) }
+        ensures full { IsErrOf result ContextFault.ContextFull ↔ (has_pair self.old.pairs pair ≡ false × most_deps format ≤ length self.old.pairs) }
         ensures reserved { self.old.room ≡ true → ¬ IsErrOf result ContextFault.Memory }
         ensures there { has_pair self.old.pairs pair ≡ true → IsOk result }
     {
         if self.contains(&pair) {
             return Ok(());
         }
-        if !self.has_room() {
+        if !self.has_room_in(format) {
             return Err(ContextFault::ContextFull);
         }
         self.reserve().or(Err(ContextFault::Memory))?;
@@ -154,7 +175,7 @@ impl Context {
     fn put_last(&mut self, pair: Dep)
         requires room { self.old.room ≡ true }
         requires new { has_pair self.old.pairs pair ≡ false }
-        requires few { nat_lt (length self.old.pairs) MAX_DEPS ≡ true }
+        requires few { length self.old.pairs < MAX_DEPS }
         ensures { self.new.pairs ≡ with_pair self.old.pairs pair }
     {
         let is_full = self.pairs.len() == self.pairs.capacity();

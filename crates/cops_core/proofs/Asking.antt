@@ -1,8 +1,8 @@
 -- What a node answers is what the world answers, and a refused event changes nothing.
-use Rattle.std.proofs.Common.{◌≡◌, ℕ, ◌+◌, ◌⊎◌, inl, inr, Bool, true, false, cond, ◌||◌, Option, Some, None, is_some, length, refl, sym, ap, ◌∙◌, nat_lt}
+use Rattle.std.proofs.Common.{◌≡◌, ℕ, ◌+◌, ◌⊎◌, inl, inr, Bool, true, false, if◌then◌else◌, ◌||◌, Option, Some, None, is_some, length, refl, sym, ap, ◌∙◌, nat_lt}
 use Rattle.cops_types.specs.declared.limits.TheConstants.{MAX_CLOCK}
 use Rattle.cops_types.specs.declared.refusal.Refusal.{Refusal}
-use Rattle.cops_types.specs.declared.refusal.Refusal.TheVariants.{ClockExhausted, NoSuchDep, DepsOpen, Memory}
+use Rattle.cops_types.specs.declared.refusal.Refusal.TheVariants.{ClockExhausted, NoSuchDep, DepsOpen, NeverSent, Memory}
 use Rattle.cops_types.specs.declared.put_record.PutRecord.{PutRecord}
 use Rattle.cops_store.specs.Store.{has_pair}
 use Rattle.cops_held.specs.Held.{Waiting, unmarked, waiting, with_waiting, all_marked, with_mark}
@@ -16,79 +16,69 @@ use Rattle.cops_types.specs.NodeNumber.{place_of}
 use Rattle.cops_core.proofs.Nodes.{same_node}
 
 -- where the answer is a refusal, the node is put back
-pub keeps_refused : (w : World) (dc place : ℕ) (event : Event) (code : Refusal) (n : Node) → keeps w dc place event (Refused code) n ≡ with_node w dc place n
+keeps_refused : (w : World) (dc place : ℕ) (event : Event) (code : Refusal) (n : Node) → keeps w dc place event (Refused code) n ≡ with_node w dc place n
 keeps_refused w dc place (PutBy client key value) code n = refl
-keeps_refused w dc place (GetBy client key) code n = refl
-keeps_refused w dc place (DeliverTo d version) code n = refl
-keeps_refused w dc place (AskAt d key version) code n = refl
-keeps_refused w dc place (MarkAt d version dep) code n = refl
-keeps_refused w dc place (SettleAt d version) code n = refl
+keeps_refused w dc place event code n = refl
 
--- the node stays where its answer is a refusal
-abbrev StaysRefused : Node → Refusal → Outcome × Node → Type 0
-StaysRefused n code r = r.0 ≡ Refused code → r.1 ≡ n
+abbrev is_refused : Outcome → Bool
+is_refused (Refused code) = true
+is_refused _ = false
 
-node_refused : (n : Node) (e : NodeEvent) (code : Refusal) → StaysRefused n code (node_step n e)
-node_refused n (NodePut client key value deps) code = go (nat_lt (raised n.clock deps) MAX_CLOCK)
-  where
-    go : (b : Bool) → StaysRefused n code (cond b (put_at n key value (raised n.clock deps + 1)) (Refused ClockExhausted, n))
-    go true h = cc
-    go false h = refl
-node_refused n (NodeGet client key) code = λ h. refl
-node_refused n (NodeDeliver put) code = go (is_some (waiting n.held put.version) || has_pair n.settled (put_pair put))
-  where
-    go : (b : Bool) → StaysRefused n code (cond b (Repeat, n) (Held, record { number = n.number; clock = n.clock; settled = n.settled; held = with_waiting n.held (unmarked put) }))
-    go true h = refl
-    go false h = cc
-node_refused n (NodeAsk key version) code = λ h. refl
-node_refused n (NodeMark version dep) code = go (waiting n.held version)
-  where
-    found : (b : Bool) → StaysRefused n code (cond b (Marked, record { number = n.number; clock = n.clock; settled = n.settled; held = with_mark n.held version dep }) (Refused NoSuchDep, n))
-    found true h = cc
-    found false h = refl
+-- the answer is no refusal, or the node stays
+abbrev StaysRefused : Node → Outcome × Node → Type 0
+StaysRefused n r = (is_refused r.0 ≡ false) ⊎ (r.1 ≡ n)
 
-    go : (o : Option Waiting) → StaysRefused n code (mark_at n version dep o)
-    go None h = refl
-    go (Some w) h = found (nat_lt dep (length w.put.deps)) h
-node_refused n (NodeSettle version) code = go (waiting n.held version)
-  where
-    found : (w : Waiting) (b : Bool) → StaysRefused n code (cond b (Settled, settled_node n w.put) (Refused DepsOpen, n))
-    found w true h = cc
-    found w false h = refl
+either : (n : Node) (b : Bool) (x y : Outcome × Node) → StaysRefused n x → StaysRefused n y → StaysRefused n (if b then x else y)
+either n true x y p q = p
+either n false x y p q = q
 
-    go : (o : Option Waiting) → StaysRefused n code (settle_at n o)
-    go None h = refl
-    go (Some w) h = found w (all_marked w) h
+mark_refused : (n : Node) (version dep : ℕ) (o : Option Waiting) → StaysRefused n (mark_at n version dep o)
+mark_refused n version dep None = inr refl
+mark_refused n version dep (Some w) = either n (nat_lt dep (length w.put.deps)) (Marked, record n { held = with_mark n.held version dep }) (Refused NoSuchDep, n) (inl refl) (inr refl)
+
+settle_refused : (n : Node) (o : Option Waiting) → StaysRefused n (settle_at n o)
+settle_refused n None = inr refl
+settle_refused n (Some w) = either n (all_marked w) (Settled, settled_node n w.put) (Refused DepsOpen, n) (inl refl) (inr refl)
+
+node_refused : (n : Node) (e : NodeEvent) → StaysRefused n (node_step n e)
+node_refused n (NodePut client key value deps) = either n (nat_lt (raised n.clock deps) MAX_CLOCK) (put_at n key value (raised n.clock deps + 1)) (Refused ClockExhausted, n) (inl refl) (inr refl)
+node_refused n (NodeDeliver put) =
+    either n (is_some (waiting n.held put.version) || has_pair n.settled (put_pair put)) (Repeat, n) (Held, record n { held = with_waiting n.held (unmarked put) }) (inr refl) (inl refl)
+node_refused n (NodeMark version dep) = mark_refused n version dep (waiting n.held version)
+node_refused n (NodeSettle version) = settle_refused n (waiting n.held version)
+node_refused n e = inr refl
 
 asks_refused : (w : World) (event : Event) (dc place : ℕ) (asked : NodeEvent) (code : Refusal) (new : World) → asks w event dc place asked ≡ (Refused code, new) → new ≡ w
 asks_refused w event dc place asked code new e =
     let r : Outcome × Node = node_step (node_at w dc place) asked in
     let is : r.0 ≡ Refused code = ap (λ (x : Outcome × World). x.0) e in
-    let back : r.1 ≡ node_at w dc place = node_refused (node_at w dc place) asked code is in
+    let back : r.1 ≡ node_at w dc place = elim (node_refused (node_at w dc place) asked) [ inl done ↦ (let refused : is_refused r.0 ≡ true = ap is_refused is in cc) | inr stays ↦ stays ] in
     sym (ap (λ (x : Outcome × World). x.1) e)
     ∙ ap (λ o. keeps w dc place event o r.1) is
     ∙ keeps_refused w dc place event code r.1
     ∙ ap (with_node w dc place) back
     ∙ same_node w dc place
 
+-- an event is asked of one node, or it is the delivery of a put that was never sent
+pub done_asks : (P : Outcome × World → Type 0) (s : Setting) (w : World) (event : Event)
+    → ((dc place : ℕ) (asked : NodeEvent) → P (asks w event dc place asked)) → P (Refused NeverSent, w) → P (done s w event)
+done_asks P s w (DeliverTo dc version) one none = go (sent w.issued version)
+  where
+    go : (o : Option PutRecord) → P (delivers s w dc version o)
+    go None = none
+    go (Some put) = one dc (primary s put.key) (NodeDeliver put)
+done_asks P s w (PutBy client key value) one none = one (home s client) (primary s key) (NodePut client key value (context_in w client))
+done_asks P s w (GetBy client key) one none = one (home s client) (primary s key) (NodeGet client key)
+done_asks P s w (AskAt dc key version) one none = one dc (primary s key) (NodeAsk key version)
+done_asks P s w (MarkAt dc version dep) one none = one dc (place_of version) (NodeMark version dep)
+done_asks P s w (SettleAt dc version) one none = one dc (place_of version) (NodeSettle version)
+
 pub refused_stays : (s : Setting) (w new : World) (event : Event) (code : Refusal) → Happens s w event (Refused code) new → new ≡ w
 refused_stays s w new event code (inr h) = h.1
 refused_stays s w new event code (inl h) = go (refusal (checks s w event)) h
   where
-    delivered : (dc version : ℕ) (o : Option PutRecord) → delivers s w dc version o ≡ (Refused code, new) → new ≡ w
-    delivered dc version None e = sym (ap (λ (x : Outcome × World). x.1) e)
-    delivered dc version (Some put) e = asks_refused w (DeliverTo dc version) dc (primary s put.key) (NodeDeliver put) code new e
-
-    asked : (e : Event) → done s w e ≡ (Refused code, new) → new ≡ w
-    asked (PutBy client key value) e = asks_refused w (PutBy client key value) (home s client) (primary s key) (NodePut client key value (context_in w client)) code new e
-    asked (GetBy client key) e = asks_refused w (GetBy client key) (home s client) (primary s key) (NodeGet client key) code new e
-    asked (DeliverTo dc version) e = delivered dc version (sent w.issued version) e
-    asked (AskAt dc key version) e = asks_refused w (AskAt dc key version) dc (primary s key) (NodeAsk key version) code new e
-    asked (MarkAt dc version dep) e = asks_refused w (MarkAt dc version dep) dc (place_of version) (NodeMark version dep) code new e
-    asked (SettleAt dc version) e = asks_refused w (SettleAt dc version) dc (place_of version) (NodeSettle version) code new e
-
     go : (r : Option Refusal) → unless w r (done s w event) ≡ (Refused code, new) → new ≡ w
-    go None e = asked event e
+    go None e = done_asks (λ r. r ≡ (Refused code, new) → new ≡ w) s w event (λ dc place asked. asks_refused w event dc place asked code new) (λ f. sym (ap (λ (x : Outcome × World). x.1) f)) e
     go (Some c) e = sym (ap (λ (x : Outcome × World). x.1) e)
 
 -- what a node answers, or refuses for want of memory, the world does
@@ -108,6 +98,3 @@ passed_happens s w event o new p (inr h) = inr h
 -- where one refuses
 pub refused_happens : (s : Setting) (w : World) (event : Event) (code : Refusal) → refusal (checks s w event) ≡ Some code → Happens s w event (Refused code) w
 refused_happens s w event code p = inl (ap (λ r. unless w r (done s w event)) p)
-
-pub memory_happens : (s : Setting) (w : World) (event : Event) → Happens s w event (Refused Memory) w
-memory_happens s w event = inr (refl, refl)

@@ -21,7 +21,7 @@ use Rattle.cops_node.specs.declared.outcome.Outcome.{Outcome}
 use Rattle.cops_node.specs.declared.outcome.Outcome.TheVariants.{PutDone, Got as Answered, Missed as Nothing, Yes, Refused}
 use Rattle.cops_node.specs.Node.{Node, opened, raised, put_at, dep_at, NodeHappens}
 use Rattle.cops_core.specs.declared.recording.Draft.{Draft}
-use Rattle.cops_core.specs.World.{IsReached, Said, Setting, IsSetting, World, home, primary, node_at, with_node, context_in, sent, is_answered, knows, has_room, is_dc, checks, refusal, keeps, asks, delivers, done, settled_in, Happens, Event, PutBy, GetBy, DeliverTo, AskAt, MarkAt, SettleAt}
+use Rattle.cops_core.specs.World.{IsReached, Said, Setting, IsSetting, World, home, primary, node_at, with_node, context_in, sent, is_answered, knows, has_room, has_context_room, is_dc, checks, refusal, keeps, asks, delivers, done, settled_in, Happens, Event, PutBy, GetBy, DeliverTo, AskAt, MarkAt, SettleAt}
 use Rattle.cops_core.specs.Parts.{MayRecord}
 use Rattle.cops_core.proofs.Nodes.{same_node}
 use Rattle.cops_core.proofs.Placed.{Placed}
@@ -255,11 +255,11 @@ module _ {s : Setting} {w old : World} {client : ℕ} (a : Entered s w old clien
       (node_happens (PutBy client key value) (NodePut client key value (context_in w client)) o n new d e (is_node w dc place was at)
       (subst (λ (x : Draft). NodeHappens was (NodePut client x.key x.value x.deps) o n) drafted h) kept)
 
-  pub gets_at : (key : List ℕ) (dc place : ℕ) (o : Outcome) (was n : Node) (new : World) → nat_lt (length (context_in w client)) 256 ≡ true → dc ≡ home s client → place ≡ primary s key → IsAt w dc place was
+  pub gets_at : (key : List ℕ) (dc place : ℕ) (o : Outcome) (was n : Node) (new : World) → has_context_room s w client ≡ true → dc ≡ home s client → place ≡ primary s key → IsAt w dc place was
       → NodeHappens was (NodeGet client key) o n → new ≡ keeps w dc place (GetBy client key) o n → Happens s old (GetBy client key) o new
   gets_at key dc place o was n new few d e at h kept =
       passed s (GetBy client key) o new a.view
-      (client_passes ((nat_lt (length (context_in w client)) 256, ContextFull) ∷ []) a.may ∙ ap (λ b. refusal ((b, ContextFull) ∷ [])) few)
+      (client_passes ((has_context_room s w client, ContextFull) ∷ []) a.may ∙ ap (λ b. refusal ((b, ContextFull) ∷ [])) few)
       (node_happens (GetBy client key) (NodeGet client key) o n new d e (is_node w dc place was at) h kept)
 
   -- the version that a node gives is new

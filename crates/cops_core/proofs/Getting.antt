@@ -1,9 +1,9 @@
 -- A client's get is a step of the machine, and what changes one node's held puts is none.
 use Rattle.std.proofs.Common.{◌≡◌, ◌≢◌, ℕ, ◌<◌, inl, inr, List, true, Contains, Option, Some, None, length, refl, sym, ap, ◌∙◌, arith, subst, length-set}
+use Rattle.cops_types.specs.Histories.{Operation, read, missed}
 use Rattle.cops_types.specs.declared.dep.Dep.{Dep}
+use Rattle.cops_types.specs.Format.{most_deps}
 use Rattle.cops_types.specs.declared.put_record.PutRecord.{PutRecord}
-use Rattle.cops_types.specs.declared.op.Op.{Op}
-use Rattle.cops_types.specs.declared.op.Op.TheVariants.{Got, Missed}
 use Rattle.cops_context.specs.Context.{with_pair}
 use Rattle.cops_store.specs.Store.{Stored, has_pair, shown}
 use Rattle.cops_node.specs.Node.{put_pair, Node, answer}
@@ -16,7 +16,7 @@ use Rattle.cops_core.proofs.Placed.{settled_at, IsStored, Placed, is_held_more}
 use Rattle.cops_core.proofs.Simulation.{view_to, view_from, Goes}
 
 -- an answer to a client changes no node
-pub placed_answered : (s : Setting) (w : World) (client : ℕ) (op : Op) (context : List Dep) → Placed s w → Placed s (with_answer w client op context)
+pub placed_answered : (s : Setting) (w : World) (client : ℕ) (op : Operation) (context : List Dep) → Placed s w → Placed s (with_answer w client op context)
 placed_answered s w client op context p = record {
   dcs = p.dcs;
   places = p.places;
@@ -33,7 +33,7 @@ placed_answered s w client op context p = record {
 same_put : (p : PutRecord) (k x : List ℕ) (v : ℕ) → p.key ≡ k → p.value ≡ x → p.version ≡ v → p ≡ record { key = k; value = x; version = v; deps = p.deps }
 same_put p k x v a b c = λ i. record { key = a i; value = b i; version = c i; deps = p.deps }
 
-module _ (s : Setting) (w : World) (placed : Placed s w) (client : ℕ) (key : List ℕ) (bounded : IsBounded w) (has_session : client < length w.sessions) (room : has_room w client ≡ true) (few : length (context_in w client) < 256) where
+module _ (s : Setting) (w : World) (placed : Placed s w) (client : ℕ) (key : List ℕ) (bounded : IsBounded s w) (has_session : client < length w.sessions) (room : has_room w client ≡ true) (few : length (context_in w client) < most_deps s.format) where
   abbrev dc : ℕ
   dc = home s client
 
@@ -49,7 +49,7 @@ module _ (s : Setting) (w : World) (placed : Placed s w) (client : ℕ) (key : L
       let v = view_to s w placed dc p h in
       has_to node.settled (put_pair p) (subst (λ k. has_pair (node_at w dc (primary s k)).settled (put_pair p) ≡ true) e v.1)
 
-  misses : ((t : Stored) → Contains node.settled t → t.key ≢ key) → Misses (view w) (view (with_answer w client (Missed key) (context_in w client))) dc client key
+  misses : ((t : Stored) → Contains node.settled t → t.key ≢ key) → Misses (view w) (view (with_answer w client (missed key) (context_in w client))) dc client key
   misses none = record {
     none = λ p h e. (let i = on_node p h e in none i.item i.among (ap (λ (x : Dep). x.key) i.is ∙ e));
     issued = refl;
@@ -58,7 +58,7 @@ module _ (s : Setting) (w : World) (placed : Placed s w) (client : ℕ) (key : L
   }
 
   abbrev got : Stored → World
-  got t = with_answer w client (Got key t.value t.version) (with_pair (context_in w client) (record { key = key; version = t.version }))
+  got t = with_answer w client (read key (Some t.value) t.version) (with_pair (context_in w client) (record { key = key; version = t.version }))
 
   gets : (t : Stored) → IsShown node.settled key t → (put : PutRecord) × Gets (view w) (view (got t)) dc client put
   gets t shown = (
@@ -83,7 +83,7 @@ module _ (s : Setting) (w : World) (placed : Placed s w) (client : ℕ) (key : L
       put = record { key = key; value = t.value; version = t.version; deps = stored.put.deps }
 
       same : stored.put ≡ put
-      same = same_put stored.put key t.value t.version (ap (λ (x : Dep). x.key) stored.is.bears ∙ shown.on_key) stored.is.value (ap (λ (x : Dep). x.version) stored.is.bears)
+      same = same_put stored.put key t.value t.version (ap (λ (x : Dep). x.key) stored.is.bears ∙ shown.on_key) (let own : stored.put.value ≡ t.value = (let e : Some stored.put.value ≡ Some t.value = stored.is.value in cc) in own) (ap (λ (x : Dep). x.version) stored.is.bears)
 
       there : settled_at s w dc (put_pair put) ≡ true
       there = subst (λ (k : List ℕ). has_pair node.settled (at_version k t.version) ≡ true) shown.on_key (has_from node.settled t shown.among)
@@ -93,17 +93,17 @@ module _ (s : Setting) (w : World) (placed : Placed s w) (client : ℕ) (key : L
     where
       go : (o : Option Stored) → ShowsWell node.settled key o → Goes s w (keeps w dc (primary s key) (GetBy client key) (answer o) node)
       go None none =
-          subst (λ x. Goes s w (with_answer x client (Missed key) (context_in w client))) (sym (same_node w dc (primary s key)))
+          subst (λ x. Goes s w (with_answer x client (missed key) (context_in w client))) (sym (same_node w dc (primary s key)))
           (record {
             placed = placed_answered s w client _ _ placed;
-            bounded = bounded_answered w _ client (Missed key) (context_in w client) bounded has_session has_context room refl refl (bounded.contexts client);
+            bounded = bounded_answered s w _ client (missed key) (context_in w client) bounded has_session has_context room refl refl (bounded.contexts client);
             step = inr (inr (inl (client, key, misses none)));
           })
       go (Some t) shown =
-          subst (λ x. Goes s w (with_answer x client (Got key t.value t.version) (with_pair (context_in w client) (record { key = key; version = t.version })))) (sym (same_node w dc (primary s key)))
+          subst (λ x. Goes s w (with_answer x client (read key (Some t.value) t.version) (with_pair (context_in w client) (record { key = key; version = t.version })))) (sym (same_node w dc (primary s key)))
           (record {
             placed = placed_answered s w client _ _ placed;
-            bounded = bounded_answered w _ client (Got key t.value t.version) _ bounded has_session has_context room refl refl
-                (context_gains (context_in w client) (record { key = key; version = t.version }) (bounded.contexts client) few);
+            bounded = bounded_answered s w _ client (read key (Some t.value) t.version) _ bounded has_session has_context room refl refl
+                (context_gains (most_deps s.format) (context_in w client) (record { key = key; version = t.version }) (bounded.contexts client) few);
             step = inr (inl (let g = gets t shown in (client, g.0, g.1)));
           })

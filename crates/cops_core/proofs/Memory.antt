@@ -8,7 +8,7 @@ use Rattle.cops_types.specs.Counts.{count_of}
 use Rattle.cops_store.specs.Store.{Stored, shown}
 use Rattle.cops_node.specs.declared.outcome.Outcome.TheVariants.{Refused}
 use Rattle.cops_node.specs.Node.{Node, answer, raised, put_at}
-use Rattle.cops_core.specs.World.{Setting, World, home, primary, node_at, context_in, knows, has_room, checks, refusal, unless, done, happens, Event, PutBy, GetBy}
+use Rattle.cops_core.specs.World.{Setting, World, home, primary, node_at, context_in, knows, has_room, has_context_room, checks, refusal, unless, done, happens, Event, PutBy, GetBy}
 use Rattle.cops_core.specs.Memory.{TakesMemory}
 use Rattle.cops_core.proofs.Events.{Admitted, client_passes}
 
@@ -50,10 +50,10 @@ put_takes s w client key value a = passes s w (PutBy client key value) (client_p
     go true = tt
     go false = refl
 
-get_takes : (s : Setting) (w : World) (client : ℕ) (key : List ℕ) → Admitted w client → nat_lt (length (context_in w client)) 256 ≡ true → Takes s w (GetBy client key)
+get_takes : (s : Setting) (w : World) (client : ℕ) (key : List ℕ) → Admitted w client → has_context_room s w client ≡ true → Takes s w (GetBy client key)
 get_takes s w client key a few =
     passes s w (GetBy client key)
-    (client_passes ((nat_lt (length (context_in w client)) 256, ContextFull) ∷ []) a ∙ ap (λ b. refusal ((b, ContextFull) ∷ [])) few)
+    (client_passes ((has_context_room s w client, ContextFull) ∷ []) a ∙ ap (λ b. refusal ((b, ContextFull) ∷ [])) few)
     (go (shown (node_at w (home s client) (primary s key)).settled key))
   where
     go : (o : Option Stored) → TakesMemory (GetBy client key) (answer o)
@@ -64,5 +64,5 @@ get_takes s w client key a few =
 pub put_may_fail : (s : Setting) (w old : World) (client : ℕ) (key value : List ℕ) → w ≡ old → Admitted w client → Takes s old (PutBy client key value)
 put_may_fail s w old client key value is may = subst (λ x. Takes s x (PutBy client key value)) is (put_takes s w client key value may)
 
-pub get_may_fail : (s : Setting) (w old : World) (client : ℕ) (key : List ℕ) → w ≡ old → Admitted w client → nat_lt (length (context_in w client)) 256 ≡ true → Takes s old (GetBy client key)
+pub get_may_fail : (s : Setting) (w old : World) (client : ℕ) (key : List ℕ) → w ≡ old → Admitted w client → has_context_room s w client ≡ true → Takes s old (GetBy client key)
 get_may_fail s w old client key is may few = subst (λ x. Takes s x (GetBy client key)) is (get_takes s w client key may few)

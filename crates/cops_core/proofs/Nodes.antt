@@ -1,5 +1,5 @@
 -- What a node has settled and holds, after its steps; a node in its place among the others.
-use Rattle.std.proofs.Common.{◌≡◌, ◌≢◌, ℕ, zero, suc, ◌+◌, ◌*◌, ◌<◌, ◌≤◌, max, ◌⊎◌, inl, inr, List, [], ◌∷◌, ◌++◌, Bool, true, false, cond, ◌||◌, Contains, Option, Some, None, slice_set, slice_index_or, get_or, length, map, filter, find, flat_map, refl, sym, ap, ◌∙◌, arith, subst, get_or-set_same, get_or-set_other, nat_lt, bytes_eq}
+use Rattle.std.proofs.Common.{◌≡◌, ◌≢◌, ℕ, zero, suc, ◌+◌, ◌*◌, ◌<◌, ◌≤◌, max, ◌⊎◌, inl, inr, List, [], ◌∷◌, ◌++◌, Bool, true, false, cond, ◌||◌, Contains, Option, Some, None, slice_set, slice_index_or, get_or, length, filter, find, flat_map, refl, sym, ap, ◌∙◌, arith, subst, get_or-set_same, get_or-set_other, nat_lt, bytes_eq}
 use Rattle.std.specs.List.{list_any}
 use Rattle.std.proofs.lemmas.Bool.{cases_eq, or_cases, both_ways, ltb-true, ltb-false}
 use Rattle.std.proofs.lemmas.List.Elements.{Contains-append_left, Contains-append_right, Contains-push, Contains-push_cases, Contains-append_cases}
@@ -69,14 +69,6 @@ find_to test (y ∷ xs) x h = cases (test y) refl h (λ r. find_to test xs x r)
     cases : (b : Bool) → test y ≡ b → cond b (Some y) (find test xs) ≡ Some x → (find test xs ≡ Some x → Contains xs x × (test x ≡ true)) → Contains (y ∷ xs) x × (test x ≡ true)
     cases true t e rest = let same : y ≡ x = cc in (subst (λ z. Contains (y ∷ xs) z) same (contains_head y xs), ap test (sym same) ∙ t)
     cases false t e rest = let p = rest e in (contains_tail y xs x p.0, p.1)
-
-pub map_to : {X Y : Type 0} (f : X → Y) (xs : List X) (y : Y) → Contains (map f xs) y → (x : X) × (Contains xs x × (f x ≡ y))
-map_to f [] y h = absurd (contains_none y h)
-map_to {X = X} f (x ∷ xs) y h = cases (contains_cases (f x) (map f xs) y h) (λ r. map_to f xs y r)
-  where
-    cases : (f x ≡ y) ⊎ Contains (map f xs) y → (Contains (map f xs) y → (z : X) × (Contains xs z × (f z ≡ y))) → (z : X) × (Contains (x ∷ xs) z × (f z ≡ y))
-    cases (inl e) rest = (x, (contains_head x xs, e))
-    cases (inr r) rest = let p = rest r in (p.0, (contains_tail x xs p.0 p.1.0, p.1.1))
 
 -- what is held after a mark, or after one was taken out
 pub record IsMarked (held : List Waiting) (version dep : ℕ) (y : Waiting) : Type 0 where

@@ -23,9 +23,6 @@ other_pairs xs i new is e = map-set pairs xs i new ∙ ap (set (map pairs xs) i)
 pub pairs_at : (xs : List AContext) (i : ℕ) (old : AContext) → i < length xs → old ≡ get_or xs i old → get_or (map pairs xs) i [] ≡ old.pairs
 pairs_at xs i old inside at = get_or-map pairs xs i old [] inside ∙ ap pairs (sym at)
 
-pub room_at : (xs : List AContext) (i : ℕ) (old : AContext) → i < length xs → old ≡ get_or xs i old → get_or (map room xs) i false ≡ old.room
-room_at xs i old inside at = get_or-map room xs i old false inside ∙ ap room (sym at)
-
 pub own_room : (xs : List AContext) (i : ℕ) (new : AContext) → i < length xs → new.room ≡ true → get_or (map room (set xs i new)) i false ≡ true
 own_room xs i new inside is =
     let there : i < length (map room xs) = omega (arith, length-map xs room) in

@@ -1,7 +1,7 @@
 -- A client's put is a step of the machine.
-use Rattle.std.proofs.Common.{◌≡◌, ◌≢◌, ℕ, ◌+◌, ◌*◌, ◌<◌, ◌≤◌, ◌⊎◌, inl, inr, List, [], ◌∷◌, ◌++◌, true, Contains, length, refl, sym, ap, ◌∙◌, arith, length-set}
+use Rattle.std.proofs.Common.{◌≡◌, ◌≢◌, ℕ, ◌+◌, ◌*◌, ◌<◌, ◌≤◌, ◌⊎◌, inl, inr, List, [], ◌∷◌, ◌++◌, true, Contains, length, refl, sym, ap, ◌∙◌, arith, length-set, Some}
 use Rattle.std.proofs.lemmas.List.Elements.{Contains-append_left, Contains-push, Contains-push_cases}
-use Rattle.cops_types.specs.declared.op.Op.TheVariants.{Put as Wrote}
+use Rattle.cops_types.specs.Histories.{write}
 use Rattle.cops_types.specs.declared.dep.Dep.{Dep}
 use Rattle.cops_types.specs.declared.put_record.PutRecord.{PutRecord}
 use Rattle.cops_types.specs.Version.{clock_of, node_of}
@@ -17,7 +17,7 @@ use Rattle.cops_core.proofs.Bounds.{IsBounded, bounded_answered, one_pair}
 use Rattle.cops_core.proofs.Placed.{IsStored, Placed, Change, is_stored_more, is_held_more, settled_more, placed_after}
 use Rattle.cops_core.proofs.Simulation.{SettlesOne, view_settles, Goes, version_clock, version_node, primary_within, home_within, settles_there, settles_only, stored_from}
 
-module _ (s : Setting) (ok : IsSetting s) (w : World) (placed : Placed s w) (kept : Kept (home s) (view w)) (client : ℕ) (key value : List ℕ) (bounded : IsBounded w) (has_session : client < length w.sessions) (room : has_room w client ≡ true) where
+module _ (s : Setting) (ok : IsSetting s) (w : World) (placed : Placed s w) (kept : Kept (home s) (view w)) (client : ℕ) (key value : List ℕ) (bounded : IsBounded s w) (has_session : client < length w.sessions) (room : has_room w client ≡ true) where
   abbrev dc : ℕ
   dc = home s client
 
@@ -137,7 +137,7 @@ module _ (s : Setting) (ok : IsSetting s) (w : World) (placed : Placed s w) (kep
   pub put_goes : Goes s w new
   put_goes = record {
     placed = placed';
-    bounded = bounded_answered w new client (Wrote key value version) (put_pair put ∷ []) bounded has_session has_context room refl refl (one_pair (put_pair put));
+    bounded = bounded_answered s w new client (write key (Some value) version) (put_pair put ∷ []) bounded has_session has_context room refl refl (one_pair s.format (put_pair put));
     step = inl (
       client,
       put,

@@ -1,6 +1,6 @@
 -- What is reached through dependencies: it is not above, it is settled where the start is, and a new put changes none of it.
 use Rattle.std.proofs.Common.{◌≡◌, ◌≢◌, ◌<◌, ◌≤◌, ◌⊎◌, inl, inr, List, [], ◌∷◌, ◌++◌, Contains, refl, sym, ap, ◌∙◌, arith, subst}
-use Rattle.std.proofs.lemmas.List.Elements.{Contains-append_left, Contains-push_cases}
+use Rattle.std.proofs.lemmas.List.Elements.{Contains-push_cases}
 use Rattle.cops_types.specs.declared.dep.Dep.{Dep}
 use Rattle.cops_types.specs.declared.put_record.PutRecord.{PutRecord}
 use Rattle.cops_node.specs.Node.{put_pair}
@@ -11,13 +11,6 @@ reaches_itself puts p = ([], refl)
 
 pub reaches_dep : (puts : List PutRecord) (p d q : Dep) → Needs puts p d → Reaches puts d q → Reaches puts p q
 reaches_dep puts p d q n r = (d ∷ r.0, (n, r.1))
-
-pub reaches_trans : (puts : List PutRecord) (p m q : Dep) → Reaches puts p m → Reaches puts m q → Reaches puts p q
-reaches_trans puts p m q r s = go r.0 p r.1
-  where
-    go : (via : List Dep) (p : Dep) → LeadsBack puts p via m → Reaches puts p q
-    go [] p e = subst (λ x. Reaches puts x q) (sym e) s
-    go (d ∷ via) p l = reaches_dep puts p d q l.0 (go via d l.1)
 
 -- a dependency is below
 pub needs_below : (puts : List PutRecord) → IsConsistent puts → (p d : Dep) → Needs puts p d → d.version < p.version
@@ -51,16 +44,6 @@ reaches_settled puts settled c closed known p q b r = go r.0 p b r.1
         let same = one_bears puts c n.put b.put p n.among (known b.put b.among) n.bears b.bears in
         let needs : Contains b.put.deps d = subst (λ (x : PutRecord). Contains x.deps d) same n.needs in
         go via d (closed b.put d b.among needs) l.1
-
--- more puts reach no less
-pub reaches_more : (puts : List PutRecord) (new : PutRecord) (p q : Dep) → Reaches puts p q → Reaches (puts ++ new ∷ []) p q
-reaches_more puts new p q r = go r.0 p r.1
-  where
-    go : (via : List Dep) (p : Dep) → LeadsBack puts p via q → Reaches (puts ++ new ∷ []) p q
-    go [] p e = ([], e)
-    go (d ∷ via) p l =
-        let n = l.0 in
-        reaches_dep _ p d q (record { put = n.put; among = Contains-append_left puts (new ∷ []) n.put n.among; bears = n.bears; needs = n.needs }) (go via d l.1)
 
 -- a new put with a version of its own is reached from no pair that was borne before
 pub reaches_old : (puts : List PutRecord) (new : PutRecord) → IsConsistent puts → ((p : PutRecord) → Contains puts p → p.version ≢ new.version) → (p q : Dep) → Bears puts p → Reaches (puts ++ new ∷ []) p q → Reaches puts p q

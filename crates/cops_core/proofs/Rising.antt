@@ -3,8 +3,7 @@ use Rattle.std.proofs.Common.{◌≡◌, ℕ, zero, suc, ◌<◌, ◌⊎◌, inl
 use Rattle.std.proofs.lemmas.Bool.{ltb-true, ltb-false}
 use Rattle.cops_types.specs.declared.put_record.PutRecord.{PutRecord}
 use Rattle.cops_types.specs.declared.op.OpName.{OpName}
-use Rattle.cops_types.specs.declared.op.Op.TheVariants.{Put as Wrote}
-use Rattle.cops_types.specs.Histories.{Sessions, IsPut, PutsVersion}
+use Rattle.cops_types.specs.Histories.{Sessions, IsPut, PutsVersion, write}
 use Rattle.cops_types.specs.VersionOrder.{IsVersionOrder}
 use Rattle.cops_core.specs.Machine.{State, session}
 use Rattle.cops_types.specs.Verdicts.{HasAcceptedVerdict}
@@ -99,18 +98,18 @@ module _ (h : Sessions) where
       first false e rest = second (nat_lt u.version t.version) refl rest
 
   -- the puts of a list, each with a name that it has, in order of versions
-  sorted : (puts : List PutRecord) → ((p : PutRecord) → Contains puts p → (n : OpName) × IsPut h n p.key p.value p.version) → List (Tagged h)
+  sorted : (puts : List PutRecord) → ((p : PutRecord) → Contains puts p → (n : OpName) × IsPut h n p.key (Some p.value) p.version) → List (Tagged h)
   sorted [] named = []
   sorted (p ∷ puts) named =
       let n = named p (contains_head p puts) in
-      insert (record { name = n.0; version = p.version; puts = (p.key, p.value, n.1) }) (sorted puts (λ q c. named q (contains_tail p puts q c)))
+      insert (record { name = n.0; version = p.version; puts = (p.key, Some p.value, n.1) }) (sorted puts (λ q c. named q (contains_tail p puts q c)))
 
-  sorted_rising : (puts : List PutRecord) (named : (p : PutRecord) → Contains puts p → (n : OpName) × IsPut h n p.key p.value p.version) → IsRising (sorted puts named)
+  sorted_rising : (puts : List PutRecord) (named : (p : PutRecord) → Contains puts p → (n : OpName) × IsPut h n p.key (Some p.value) p.version) → IsRising (sorted puts named)
   unfolding sorted
   sorted_rising [] named = tt
   sorted_rising (p ∷ puts) named = insert_rising _ (sorted puts (λ q c. named q (contains_tail p puts q c))) (sorted_rising puts (λ q c. named q (contains_tail p puts q c)))
 
-  sorted_has : (puts : List PutRecord) (named : (p : PutRecord) → Contains puts p → (n : OpName) × IsPut h n p.key p.value p.version) (x : PutRecord) → Contains puts x → Has (sorted puts named) x.version
+  sorted_has : (puts : List PutRecord) (named : (p : PutRecord) → Contains puts p → (n : OpName) × IsPut h n p.key (Some p.value) p.version) (x : PutRecord) → Contains puts x → Has (sorted puts named) x.version
   unfolding sorted
   sorted_has [] named x c = absurd (contains_none x c)
   sorted_has (p ∷ puts) named x c =
@@ -152,7 +151,7 @@ module _ (h : Sessions) where
   rising_at (x ∷ ts) r (suc i) (suc j) t u lt ei ej = rising_at ts r.1 i j t u (omega (arith, lt)) ei ej
 
   same_version : (n : OpName) (v w : ℕ) → PutsVersion h n v → PutsVersion h n w → v ≡ w
-  same_version n v w p q = let e : Some (Wrote p.0 p.1 v) ≡ Some (Wrote q.0 q.1 w) = sym p.2 ∙ q.2 in cc
+  same_version n v w p q = let e : Some (write p.0 p.1 v) ≡ Some (write q.0 q.1 w) = sym p.2 ∙ q.2 in cc
 
   -- where each put is one of these, and no version is on two
   version_order : (ts : List (Tagged h)) → IsRising ts → IsOnce h → ((n : OpName) (v : ℕ) → PutsVersion h n v → Has ts v) → IsVersionOrder h (names_of ts)
@@ -189,6 +188,6 @@ kept_accepted home s k = (
 
     all : (n : OpName) (v : ℕ) → PutsVersion s.sessions n v → Has s.sessions ts v
     all n v p =
-        let f : WasPut s.issued (context_before [] (session s.sessions n.client) n.index) p.0 p.1 v = fair_at s.issued [] (session s.sessions n.client) n.index (Wrote p.0 p.1 v) (k.fair n.client) p.2 in
+        let f : WasPut s.issued (context_before [] (session s.sessions n.client) n.index) p.0 p.1 v = fair_at s.issued [] (session s.sessions n.client) n.index (write p.0 p.1 v) (k.fair n.client) p.2 in
         let x = sorted_has s.sessions s.issued k.named f.put f.is.among in
         (x.0, x.1, x.2 ∙ ap (λ d. d.version) f.is.bears)

@@ -31,10 +31,10 @@ pub record Holds (s : Setting) (w : World) (dc place : ℕ) (n : Node) : Type 0 
   pub settled : n.settled ≡ (node_at w dc place).settled
   pub held : (h : Waiting) → Contains n.held h → IsHeld s w dc place h
 
-holds_goes : (s : Setting) → length s.place.splits ≤ 63 → (w : World) → Placed s w → IsBounded w → (dc place : ℕ) (n : Node) → dc < s.place.dcs → place ≤ length s.place.splits → Holds s w dc place n → Goes s w (with_node w dc place n)
+holds_goes : (s : Setting) → length s.place.splits ≤ 63 → (w : World) → Placed s w → IsBounded s w → (dc place : ℕ) (n : Node) → dc < s.place.dcs → place ≤ length s.place.splits → Holds s w dc place n → Goes s w (with_node w dc place n)
 holds_goes s fits w placed bounded dc place n hd hp h = record {
   placed = placed';
-  bounded = bounded_stays w new bounded refl refl;
+  bounded = bounded_stays s w new bounded refl refl;
   step = inr (inr (inr (inr (view_stays s w new placed placed' refl refl refl (settled_more s fits w new dc place n change placed) less))));
 }
   where
@@ -68,7 +68,7 @@ holds_goes s fits w placed bounded dc place n hd hp h = record {
         (λ i. subst (λ x. has_pair x pair ≡ true) h.settled i) (λ e q ne i. i) d (primary s pair.key)
 
 -- a put comes
-pub deliver_goes : (s : Setting) → length s.place.splits ≤ 63 → (w : World) → Placed s w → IsBounded w → (dc version : ℕ) → dc < s.place.dcs → Goes s w (delivers s w dc version (sent w.issued version)).1
+pub deliver_goes : (s : Setting) → length s.place.splits ≤ 63 → (w : World) → Placed s w → IsBounded s w → (dc version : ℕ) → dc < s.place.dcs → Goes s w (delivers s w dc version (sent w.issued version)).1
 deliver_goes s fits w placed bounded dc version hd = go (sent w.issued version) refl
   where
     taken : (put : PutRecord) → Contains w.issued put → (b : Bool) → Goes s w (let n = node_at w dc (primary s put.key) in let r : Outcome × Node = cond b (Repeat, n) (Held, record { number = n.number; clock = n.clock; settled = n.settled; held = with_waiting n.held (unmarked put) }) in keeps w dc (primary s put.key) (DeliverTo dc version) r.0 r.1)
@@ -98,7 +98,7 @@ gained_cases said y x = go (was_said said y)
     go false h = Contains-push_cases said y x h
 
 -- an answer Yes names what is settled
-pub ask_goes : (s : Setting) (w : World) → Placed s w → IsBounded w → (dc : ℕ) (key : List ℕ) (version : ℕ) → (let pair : Dep = record { key = key; version = version } in Goes s w (keeps w dc (primary s key) (AskAt dc key version) (cond (settled_at s w dc pair) Yes Wait) (node_at w dc (primary s key))))
+pub ask_goes : (s : Setting) (w : World) → Placed s w → IsBounded s w → (dc : ℕ) (key : List ℕ) (version : ℕ) → (let pair : Dep = record { key = key; version = version } in Goes s w (keeps w dc (primary s key) (AskAt dc key version) (cond (settled_at s w dc pair) Yes Wait) (node_at w dc (primary s key))))
 ask_goes s w placed bounded dc key version = go (settled_at s w dc pair) refl
   where
     pair : Dep
@@ -108,7 +108,7 @@ ask_goes s w placed bounded dc key version = go (settled_at s w dc pair) refl
     go false e = back_goes s w placed bounded dc (primary s key)
     go true e = subst (λ x. Goes s w (with_said x (record { dc = dc; pair = pair }))) (sym (same_node w dc (primary s key))) (record {
       placed = placed';
-      bounded = bounded_stays w new bounded refl refl;
+      bounded = bounded_stays s w new bounded refl refl;
       step = inr (inr (inr (inr (view_stays s w new placed placed' refl refl refl (λ d p h. h) (λ d p h. h)))));
     })
       where
@@ -138,7 +138,7 @@ same_version : (s : Setting) (w : World) → Kept (home s) (view w) → (p q : P
 same_version s w kept p q hp hq e = kept.consistent.unique p q hp hq e
 
 -- a mark stands only for what was said to be settled
-pub mark_goes : (s : Setting) → length s.place.splits ≤ 63 → (w : World) → Placed s w → IsBounded w → Kept (home s) (view w) → (dc version dep : ℕ) → dc < s.place.dcs
+pub mark_goes : (s : Setting) → length s.place.splits ≤ 63 → (w : World) → Placed s w → IsBounded s w → Kept (home s) (view w) → (dc version dep : ℕ) → dc < s.place.dcs
     → is_answered w.said dc (dep_at (waiting (node_at w dc (place_of version)).held version) dep) ≡ true
     → (let r = mark_at (node_at w dc (place_of version)) version dep (waiting (node_at w dc (place_of version)).held version) in Goes s w (keeps w dc (place_of version) (MarkAt dc version dep) r.0 r.1))
 mark_goes s fits w placed bounded kept dc version dep hd = go (waiting (node_at w dc place).held version) refl
@@ -200,7 +200,7 @@ mark_goes s fits w placed bounded kept dc version dep hd = go (waiting (node_at 
         found h f.0 f.1 a (nat_lt dep (length h.put.deps))
 
 -- a held put whose dependencies are all marked is settled
-module _ (s : Setting) (fits : length s.place.splits ≤ 63) (w : World) (placed : Placed s w) (bounded : IsBounded w) (kept : Kept (home s) (view w)) (dc place : ℕ) (hd : dc < s.place.dcs) (h : Waiting) (h_held : Contains (node_at w dc place).held h) (all : all_marked h ≡ true) where
+module _ (s : Setting) (fits : length s.place.splits ≤ 63) (w : World) (placed : Placed s w) (bounded : IsBounded s w) (kept : Kept (home s) (view w)) (dc place : ℕ) (hd : dc < s.place.dcs) (h : Waiting) (h_held : Contains (node_at w dc place).held h) (all : all_marked h ≡ true) where
   abbrev node : Node
   node = node_at w dc place
 
@@ -266,7 +266,7 @@ module _ (s : Setting) (fits : length s.place.splits ≤ 63) (w : World) (placed
   pub settled_goes : Goes s w new
   settled_goes = record {
     placed = placed';
-    bounded = bounded_stays w new bounded refl refl;
+    bounded = bounded_stays s w new bounded refl refl;
     step = inr (inr (inr (inl (
       dc,
       h.put,
@@ -284,7 +284,7 @@ module _ (s : Setting) (fits : length s.place.splits ≤ 63) (w : World) (placed
     ))));
   }
 
-pub settle_goes : (s : Setting) → length s.place.splits ≤ 63 → (w : World) → Placed s w → IsBounded w → Kept (home s) (view w) → (dc version : ℕ) → dc < s.place.dcs
+pub settle_goes : (s : Setting) → length s.place.splits ≤ 63 → (w : World) → Placed s w → IsBounded s w → Kept (home s) (view w) → (dc version : ℕ) → dc < s.place.dcs
     → (let r = settle_at (node_at w dc (place_of version)) (waiting (node_at w dc (place_of version)).held version) in Goes s w (keeps w dc (place_of version) (SettleAt dc version) r.0 r.1))
 settle_goes s fits w placed bounded kept dc version hd = go (waiting (node_at w dc place).held version) refl
   where

@@ -106,10 +106,10 @@ view_stays s old new po pn i c h more less = record {
 -- what an event leads to
 pub record Goes (s : Setting) (old new : World) : Type 0 where
   pub placed : Placed s new
-  pub bounded : IsBounded new
+  pub bounded : IsBounded s new
   pub step : Step (home s) (view old) (view new)
 
-pub stays_goes : (s : Setting) (w : World) → Placed s w → IsBounded w → Goes s w w
+pub stays_goes : (s : Setting) (w : World) → Placed s w → IsBounded s w → Goes s w w
 stays_goes s w p b = record {
   placed = p;
   bounded = b;
@@ -117,11 +117,11 @@ stays_goes s w p b = record {
 }
 
 -- a node that is put back changes nothing
-pub back_goes : (s : Setting) (w : World) → Placed s w → IsBounded w → (dc place : ℕ) → Goes s w (with_node w dc place (node_at w dc place))
+pub back_goes : (s : Setting) (w : World) → Placed s w → IsBounded s w → (dc place : ℕ) → Goes s w (with_node w dc place (node_at w dc place))
 back_goes s w p b dc place = subst (Goes s w) (sym (same_node w dc place)) (stays_goes s w p b)
 
 -- where no test refuses, each passed
-pub unless_goes : (s : Setting) (w : World) → Placed s w → IsBounded w → (tests : List (Bool × Refusal)) (next : Outcome × World) → (refusal tests ≡ None → Goes s w next.1) → Goes s w (unless w (refusal tests) next).1
+pub unless_goes : (s : Setting) (w : World) → Placed s w → IsBounded s w → (tests : List (Bool × Refusal)) (next : Outcome × World) → (refusal tests ≡ None → Goes s w next.1) → Goes s w (unless w (refusal tests) next).1
 unless_goes s w p b tests next goes = go (refusal tests) refl
   where
     go : (r : Option Refusal) → refusal tests ≡ r → Goes s w (unless w r next).1

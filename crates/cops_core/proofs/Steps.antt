@@ -1,13 +1,11 @@
 -- Each step of the machine keeps what every state keeps.
-use Rattle.std.proofs.Common.{◌≡◌, ◌≢◌, ℕ, ◌<◌, ◌≤◌, ◌⊎◌, inl, inr, List, [], ◌∷◌, ◌++◌, Contains, Some, slice_get, slice_index_or, length, refl, sym, ap, ap₂, ◌∙◌, arith, subst, get_or-set_same, get_or-set_other}
+use Rattle.std.proofs.Common.{◌≡◌, ◌≢◌, ℕ, ◌<◌, ◌≤◌, ◌⊎◌, inl, inr, List, [], ◌∷◌, ◌++◌, Contains, Some, slice_get, slice_index_or, length, refl, sym, ap, ap₂, ◌∙◌, arith, subst, get_or-set_same, get_or-set_other, Option}
 use Rattle.std.proofs.lemmas.Bool.{cases_eq}
 use Rattle.std.proofs.lemmas.List.Elements.{Contains-append_left, Contains-push, Contains-push_cases}
 use Rattle.cops_types.specs.declared.dep.Dep.{Dep}
 use Rattle.cops_types.specs.declared.put_record.PutRecord.{PutRecord}
-use Rattle.cops_types.specs.declared.op.Op.{Op}
 use Rattle.cops_types.specs.declared.op.OpName.{OpName}
-use Rattle.cops_types.specs.declared.op.Op.TheVariants.{Put as Wrote, Got, Missed}
-use Rattle.cops_types.specs.Histories.{op_at}
+use Rattle.cops_types.specs.Histories.{op_at, Operation, write, read, missed}
 use Rattle.cops_context.specs.Context.{with_pair}
 use Rattle.cops_node.specs.Node.{put_pair}
 use Rattle.cops_core.specs.Dependencies.{Bears, Reaches, IsConsistent, IsClosed}
@@ -56,11 +54,11 @@ settled_closed old new dc put s closed deps d p dep hp hd = bears_more _ _ dep (
     cases (inr e) = subst (λ n. Bears (old.settled n) dep) (sym e.0) (deps dep (subst (λ (x : PutRecord). Contains x.deps dep) (sym e.1) hd))
 
 -- the context that a session leads to
-abbrev AtEnd : List Dep → List Op → Type 0
+abbrev AtEnd : List Dep → List Operation → Type 0
 AtEnd x s = x ≡ context_before [] s (length s)
 
 -- what a client's answer changes
-module _ (old new : State) (client : ℕ) (op : Op) (context : List Dep) (a : Answers old new client op context) where
+module _ (old new : State) (client : ℕ) (op : Operation) (context : List Dep) (a : Answers old new client op context) where
   session_here : session new.sessions client ≡ session old.sessions client ++ op ∷ []
   session_here = ap (λ h. session h client) a.sessions ∙ get_or-set_same old.sessions client _ [] a.has_session
 
@@ -77,7 +75,7 @@ module _ (old new : State) (client : ℕ) (op : Op) (context : List Dep) (a : An
   abbrev new_name : OpName
   new_name = record { client = client; index = length (session old.sessions client) }
 
-  operation_kept : (n : OpName) (z : Op) → op_at old.sessions n ≡ Some z → op_at new.sessions n ≡ Some z
+  operation_kept : (n : OpName) (z : Operation) → op_at old.sessions n ≡ Some z → op_at new.sessions n ≡ Some z
   operation_kept n z e = cases (cases_eq n.client client)
     where
       cases : (n.client ≡ client) ⊎ (n.client ≡ client → ⊥) → op_at new.sessions n ≡ Some z
@@ -89,7 +87,7 @@ module _ (old new : State) (client : ℕ) (op : Op) (context : List Dep) (a : An
   operation_new : op_at new.sessions new_name ≡ Some op
   operation_new = ap (λ s. slice_get s (length (session old.sessions client))) session_here ∙ get_last (session old.sessions client) op
 
-  operation_cases : (n : OpName) (z : Op) → op_at new.sessions n ≡ Some z → (op_at old.sessions n ≡ Some z) ⊎ ((n ≡ new_name) × (z ≡ op))
+  operation_cases : (n : OpName) (z : Operation) → op_at new.sessions n ≡ Some z → (op_at old.sessions n ≡ Some z) ⊎ ((n ≡ new_name) × (z ≡ op))
   operation_cases n z e = cases (cases_eq n.client client)
     where
       last : n.client ≡ client → (slice_get (session old.sessions client) n.index ≡ Some z) ⊎ ((n.index ≡ length (session old.sessions client)) × (z ≡ op)) → (op_at old.sessions n ≡ Some z) ⊎ ((n ≡ new_name) × (z ≡ op))
@@ -128,13 +126,13 @@ module _ (old new : State) (client : ℕ) (op : Op) (context : List Dep) (a : An
       cases (inl same) = subst (λ n. Bears (settled n) p) (sym same) (here p (subst (λ x. Contains x p) context_here (subst (λ n. Contains (context_of new n) p) same h)))
       cases (inr ne) = held c p (subst (λ x. Contains x p) (context_other c ne) h)
 
-  answers_named : (puts : List PutRecord) → ((p : PutRecord) → Contains puts p → (n : OpName) × (op_at old.sessions n ≡ Some (Wrote p.key p.value p.version))) → (p : PutRecord) → Contains puts p → (n : OpName) × (op_at new.sessions n ≡ Some (Wrote p.key p.value p.version))
+  answers_named : (puts : List PutRecord) → ((p : PutRecord) → Contains puts p → (n : OpName) × (op_at old.sessions n ≡ Some (write p.key (Some p.value) p.version))) → (p : PutRecord) → Contains puts p → (n : OpName) × (op_at new.sessions n ≡ Some (write p.key (Some p.value) p.version))
   answers_named puts named p h = let m = named p h in (m.0, operation_kept m.0 _ m.1)
 
-  answers_once : IsOnce old.sessions → ((n : OpName) (k l x y : List ℕ) (v : ℕ) → op ≡ Wrote k x v → op_at old.sessions n ≡ Some (Wrote l y v) → ⊥) → IsOnce new.sessions
-  answers_once once fresh m n k l x y v em en = cases (operation_cases m (Wrote k x v) em) (operation_cases n (Wrote l y v) en)
+  answers_once : IsOnce old.sessions → ((n : OpName) (k l : List ℕ) (x y : Option (List ℕ)) (v : ℕ) → op ≡ write k x v → op_at old.sessions n ≡ Some (write l y v) → ⊥) → IsOnce new.sessions
+  answers_once once fresh m n k l x y v em en = cases (operation_cases m (write k x v) em) (operation_cases n (write l y v) en)
     where
-      cases : (op_at old.sessions m ≡ Some (Wrote k x v)) ⊎ ((m ≡ new_name) × (Wrote k x v ≡ op)) → (op_at old.sessions n ≡ Some (Wrote l y v)) ⊎ ((n ≡ new_name) × (Wrote l y v ≡ op)) → m ≡ n
+      cases : (op_at old.sessions m ≡ Some (write k x v)) ⊎ ((m ≡ new_name) × (write k x v ≡ op)) → (op_at old.sessions n ≡ Some (write l y v)) ⊎ ((n ≡ new_name) × (write l y v ≡ op)) → m ≡ n
       cases (inl a) (inl b) = once m n k l x y v a b
       cases (inl a) (inr b) = absurd (fresh m l k y x v (sym b.1) a)
       cases (inr a) (inl b) = absurd (fresh n k l x y v (sym a.1) b)
@@ -193,22 +191,22 @@ module _ (home : ℕ → ℕ) (old new : State) (k : Kept home old) where
     once = answers_once old new client op (put_pair put ∷ []) s.answers k.once once_fresh;
   }
     where
-      op : Op
-      op = Wrote put.key put.value put.version
+      op : Operation
+      op = write put.key (Some put.value) put.version
 
       deps_settled : (d : Dep) → Contains put.deps d → Bears (old.settled (home client)) d
       deps_settled d h = k.held client d (subst (λ x. Contains x d) s.deps h)
 
-      named_all : (p : PutRecord) → Contains old.issued p ⊎ (put ≡ p) → (n : OpName) × (op_at new.sessions n ≡ Some (Wrote p.key p.value p.version))
+      named_all : (p : PutRecord) → Contains old.issued p ⊎ (put ≡ p) → (n : OpName) × (op_at new.sessions n ≡ Some (write p.key (Some p.value) p.version))
       named_all p (inl o) = answers_named old new client op (put_pair put ∷ []) s.answers old.issued k.named p o
       named_all p (inr e) = (
         new_name old new client op (put_pair put ∷ []) s.answers,
-        operation_new old new client op (put_pair put ∷ []) s.answers ∙ ap (λ (x : PutRecord). Some (Wrote x.key x.value x.version)) e,
+        operation_new old new client op (put_pair put ∷ []) s.answers ∙ ap (λ (x : PutRecord). Some (write x.key (Some x.value) x.version)) e,
       )
 
-      once_fresh : (n : OpName) (a l x y : List ℕ) (v : ℕ) → op ≡ Wrote a x v → op_at old.sessions n ≡ Some (Wrote l y v) → ⊥
+      once_fresh : (n : OpName) (a l : List ℕ) (x y : Option (List ℕ)) (v : ℕ) → op ≡ write a x v → op_at old.sessions n ≡ Some (write l y v) → ⊥
       once_fresh n a l x y v e o =
-          let f : WasPut old.issued (context_before [] (session old.sessions n.client) n.index) l y v = fair_at old.issued [] (session old.sessions n.client) n.index (Wrote l y v) (k.fair n.client) o in
+          let f : WasPut old.issued (context_before [] (session old.sessions n.client) n.index) l y v = fair_at old.issued [] (session old.sessions n.client) n.index (write l y v) (k.fair n.client) o in
           let version : f.put.version ≡ v = ap (λ (p : Dep). p.version) f.is.bears in
           let same : put.version ≡ v = cc in
           s.fresh f.put f.is.among (version ∙ sym same)
@@ -224,13 +222,13 @@ module _ (home : ℕ → ℕ) (old new : State) (k : Kept home old) where
         (answers_fair old new client op context s.answers old.issued k.fair (k.contexts client)
         (record { put = put; is = record { among = k.known (home client) put s.shown; bears = refl; value = refl }; newest = newest }));
     contexts = answers_contexts old new client op context s.answers k.contexts refl;
-    named = subst (λ (x : List PutRecord). (p : PutRecord) → Contains x p → (n : OpName) × (op_at new.sessions n ≡ Some (Wrote p.key p.value p.version))) (sym s.issued)
+    named = subst (λ (x : List PutRecord). (p : PutRecord) → Contains x p → (n : OpName) × (op_at new.sessions n ≡ Some (write p.key (Some p.value) p.version))) (sym s.issued)
         (answers_named old new client op context s.answers old.issued k.named);
     once = answers_once old new client op context s.answers k.once (λ n a l x y v e o. cc);
   }
     where
-      op : Op
-      op = Got put.key put.value put.version
+      op : Operation
+      op = read put.key (Some put.value) put.version
 
       context : List Dep
       context = with_pair (context_of old client) (put_pair put)
@@ -256,13 +254,13 @@ module _ (home : ℕ → ℕ) (old new : State) (k : Kept home old) where
     known = λ d p h. subst (λ x. Contains x p) (sym s.issued) (k.known d p (subst (λ (f : ℕ → List PutRecord). Contains (f d) p) s.settled h));
     closed = λ d. subst (λ (f : ℕ → List PutRecord). IsClosed (f d)) (sym s.settled) (k.closed d);
     held = λ c. subst (λ (f : ℕ → List PutRecord). (p : Dep) → Contains (context_of new c) p → Bears (f (home c)) p) (sym s.settled)
-        (answers_held old new client (Missed key) (context_of old client) s.answers (λ c. old.settled (home c)) k.held (k.held client) c);
+        (answers_held old new client (missed key) (context_of old client) s.answers (λ c. old.settled (home c)) k.held (k.held client) c);
     fair = subst (λ (x : List PutRecord). (c : ℕ) → AllFair x [] (session new.sessions c)) (sym s.issued)
-        (answers_fair old new client (Missed key) (context_of old client) s.answers old.issued k.fair (k.contexts client) (record { none = none }));
-    contexts = answers_contexts old new client (Missed key) (context_of old client) s.answers k.contexts refl;
-    named = subst (λ (x : List PutRecord). (p : PutRecord) → Contains x p → (n : OpName) × (op_at new.sessions n ≡ Some (Wrote p.key p.value p.version))) (sym s.issued)
-        (answers_named old new client (Missed key) (context_of old client) s.answers old.issued k.named);
-    once = answers_once old new client (Missed key) (context_of old client) s.answers k.once (λ n a l x y v e o. cc);
+        (answers_fair old new client (missed key) (context_of old client) s.answers old.issued k.fair (k.contexts client) (record { none = none }));
+    contexts = answers_contexts old new client (missed key) (context_of old client) s.answers k.contexts refl;
+    named = subst (λ (x : List PutRecord). (p : PutRecord) → Contains x p → (n : OpName) × (op_at new.sessions n ≡ Some (write p.key (Some p.value) p.version))) (sym s.issued)
+        (answers_named old new client (missed key) (context_of old client) s.answers old.issued k.named);
+    once = answers_once old new client (missed key) (context_of old client) s.answers k.once (λ n a l x y v e o. cc);
   }
     where
       none : (p q : Dep) → Contains (context_of old client) p → Reaches old.issued p q → q.key ≢ key
@@ -279,7 +277,7 @@ module _ (home : ℕ → ℕ) (old new : State) (k : Kept home old) where
     held = λ c p h. bears_more _ _ p (settled_stays old new dc put s.settled (home c)) (k.held c p (subst (λ (x : List (List Dep)). Contains (slice_index_or x c []) p) s.contexts h));
     fair = λ c. subst (λ (x : List PutRecord). AllFair x [] (session new.sessions c)) (sym s.issued) (subst (λ h. AllFair old.issued [] (session h c)) (sym s.sessions) (k.fair c));
     contexts = λ c. subst (λ (x : List (List Dep)). AtEnd (slice_index_or x c []) (session new.sessions c)) (sym s.contexts) (subst (λ h. AtEnd (context_of old c) (session h c)) (sym s.sessions) (k.contexts c));
-    named = λ p h. let n = k.named p (subst (λ x. Contains x p) s.issued h) in (n.0, subst (λ h. op_at h n.0 ≡ Some (Wrote p.key p.value p.version)) (sym s.sessions) n.1);
+    named = λ p h. let n = k.named p (subst (λ x. Contains x p) s.issued h) in (n.0, subst (λ h. op_at h n.0 ≡ Some (write p.key (Some p.value) p.version)) (sym s.sessions) n.1);
     once = subst IsOnce (sym s.sessions) k.once;
   }
 
@@ -291,7 +289,7 @@ module _ (home : ℕ → ℕ) (old new : State) (k : Kept home old) where
     held = λ c p h. bears_more _ _ p (λ q i. (s.settled (home c) q).1 i) (k.held c p (subst (λ (x : List (List Dep)). Contains (slice_index_or x c []) p) s.contexts h));
     fair = λ c. subst (λ (x : List PutRecord). AllFair x [] (session new.sessions c)) (sym s.issued) (subst (λ h. AllFair old.issued [] (session h c)) (sym s.sessions) (k.fair c));
     contexts = λ c. subst (λ (x : List (List Dep)). AtEnd (slice_index_or x c []) (session new.sessions c)) (sym s.contexts) (subst (λ h. AtEnd (context_of old c) (session h c)) (sym s.sessions) (k.contexts c));
-    named = λ p h. let n = k.named p (subst (λ x. Contains x p) s.issued h) in (n.0, subst (λ h. op_at h n.0 ≡ Some (Wrote p.key p.value p.version)) (sym s.sessions) n.1);
+    named = λ p h. let n = k.named p (subst (λ x. Contains x p) s.issued h) in (n.0, subst (λ h. op_at h n.0 ≡ Some (write p.key (Some p.value) p.version)) (sym s.sessions) n.1);
     once = subst IsOnce (sym s.sessions) k.once;
   }
 

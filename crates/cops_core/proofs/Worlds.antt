@@ -1,5 +1,5 @@
 -- Whole runs: what the opening world has, what each event keeps, and that what is recorded is accepted.
-use Rattle.std.proofs.Common.{◌≡◌, ◌≢◌, ℕ, zero, suc, ◌+◌, ◌*◌, ◌<◌, ◌≤◌, ◌⊎◌, inl, inr, List, [], ◌∷◌, ◌++◌, Bool, true, false, cond, Contains, Some, None, is_some, slice_get, slice_index_or, length, refl, sym, ap, ◌∙◌, arith, subst, nat_lt, replicate}
+use Rattle.std.proofs.Common.{◌≡◌, ◌≢◌, ℕ, zero, suc, ◌+◌, ◌*◌, ◌<◌, ◌≤◌, ◌⊎◌, inl, inr, List, [], ◌∷◌, ◌++◌, Bool, true, false, cond, Contains, Some, None, is_some, slice_get, slice_index_or, length, refl, sym, ap, ◌∙◌, arith, subst, nat_lt, replicate, Option}
 use Rattle.cops_types.specs.declared.limits.TheConstants.{MAX_CLOCK}
 use Rattle.cops_types.specs.declared.refusal.Refusal.{Refusal}
 use Rattle.cops_types.specs.declared.refusal.Refusal.TheVariants.{ClockExhausted, ContextFull, UnknownClient, NeverSent, NoYes, UnknownDc, SessionFull}
@@ -7,28 +7,27 @@ use Rattle.std.proofs.lemmas.Bool.{ltb-true}
 use Rattle.cops_types.specs.declared.dep.Dep.{Dep}
 use Rattle.cops_types.specs.declared.put_record.PutRecord.{PutRecord}
 use Rattle.cops_types.specs.declared.op.OpName.{OpName}
-use Rattle.cops_types.specs.declared.op.Op.TheVariants.{Put as Wrote, Got}
+use Rattle.cops_types.specs.Format.{most_deps}
 use Rattle.cops_types.specs.Past.{Past}
 use Rattle.cops_node.specs.declared.outcome.Outcome.{Outcome}
 use Rattle.cops_node.specs.declared.outcome.Outcome.TheVariants.{Refused}
-use Rattle.cops_node.specs.Node.{dep_at, put_pair, stored_of, Node, opened, raised, put_at}
+use Rattle.cops_node.specs.Node.{dep_at, put_pair, Node, opened, raised, put_at}
 use Rattle.std.proofs.Common.{length-append}
 use Rattle.std.proofs.lemmas.List.{length-replicate}
 use Rattle.std.proofs.lemmas.Option.{slice_get_within}
 use Rattle.cops_types.specs.declared.dep.Dep.{Dep}
 use Rattle.cops_types.specs.declared.put_record.PutRecord.{PutRecord}
 use Rattle.cops_types.specs.declared.op.OpName.{OpName}
-use Rattle.cops_types.specs.declared.op.Op.TheVariants.{Put as Wrote, Got}
-use Rattle.cops_types.specs.Histories.{IsNamed, IsPut, IsGot}
+use Rattle.cops_types.specs.Histories.{IsNamed, IsPut, IsGot, write, read}
 use Rattle.cops_types.proofs.Sessions.{none_within}
 use Rattle.cops_context.specs.Kept.{IsContext}
 use Rattle.cops_held.specs.Held.{waiting}
 use Rattle.cops_node.specs.declared.outcome.Outcome.{Outcome}
 use Rattle.cops_node.specs.declared.outcome.Outcome.TheVariants.{Refused}
-use Rattle.cops_node.specs.Node.{put_pair, stored_of, Node, opened, raised, put_at}
+use Rattle.cops_node.specs.Node.{put_pair, Node, opened, raised, put_at}
 use Rattle.cops_core.specs.Dependencies.{Bears}
 use Rattle.cops_core.specs.Machine.{context_of, session, Step, view}
-use Rattle.cops_core.specs.World.{Setting, IsSetting, home, primary, World, node_at, context_in, sent, is_answered, knows, has_room, is_dc, checks, refusal, keeps, done, Event, PutBy, GetBy, DeliverTo, AskAt, MarkAt, SettleAt, happens, Happens, row, rows, opening, Run, IsReached}
+use Rattle.cops_core.specs.World.{Setting, IsSetting, home, primary, World, node_at, context_in, sent, is_answered, knows, has_room, has_context_room, is_dc, checks, refusal, keeps, done, Event, PutBy, GetBy, DeliverTo, AskAt, MarkAt, SettleAt, happens, Happens, row, rows, opening, Run, IsReached}
 use Rattle.cops_types.specs.Verdicts.{HasAcceptedVerdict}
 use Rattle.cops_types.specs.NodeNumber.{place_of}
 use Rattle.cops_core.specs.Invariants.{Covers, IsCarried, IsIssued, Invariants}
@@ -48,7 +47,7 @@ use Rattle.cops_core.proofs.Settling.{deliver_goes, ask_goes, mark_goes, settle_
 -- what every world that is reached has
 pub record Sound (s : Setting) (w : World) : Type 0 where
   pub placed : Placed s w
-  pub bounded : IsBounded w
+  pub bounded : IsBounded s w
   pub kept : Kept (home s) (view w)
 
 module _ (s : Setting) (ok : IsSetting s) (w : World) (sound : Sound s w) where
@@ -69,10 +68,10 @@ module _ (s : Setting) (ok : IsSetting s) (w : World) (sound : Sound s w) where
       let b = first_passed (has_room w client) SessionFull [] a.1 in
       puts client key value (known client a.0) b.0 (nat_lt (raised (node_at w (home s client) (primary s key)).clock (context_in w client)) MAX_CLOCK)
   done_goes (GetBy client key) h =
-      let a = first_passed (knows w client) UnknownClient ((has_room w client, SessionFull) ∷ (nat_lt (length (context_in w client)) 256, ContextFull) ∷ []) h in
-      let b = first_passed (has_room w client) SessionFull ((nat_lt (length (context_in w client)) 256, ContextFull) ∷ []) a.1 in
-      let c = first_passed (nat_lt (length (context_in w client)) 256) ContextFull [] b.1 in
-      get_goes s w sound.placed client key sound.bounded (known client a.0) b.0 (ltb-true (length (context_in w client)) 256 c.0)
+      let a = first_passed (knows w client) UnknownClient ((has_room w client, SessionFull) ∷ (has_context_room s w client, ContextFull) ∷ []) h in
+      let b = first_passed (has_room w client) SessionFull ((has_context_room s w client, ContextFull) ∷ []) a.1 in
+      let c = first_passed (has_context_room s w client) ContextFull [] b.1 in
+      get_goes s w sound.placed client key sound.bounded (known client a.0) b.0 (ltb-true (length (context_in w client)) (most_deps s.format) c.0)
   done_goes (DeliverTo dc version) h = deliver_goes s ok.place.range.2 w sound.placed sound.bounded dc version (inside dc ((is_some (sent w.issued version), NeverSent) ∷ []) h)
   done_goes (AskAt dc key version) h = ask_goes s w sound.placed sound.bounded dc key version
   done_goes (MarkAt dc version dep) h =
@@ -177,12 +176,12 @@ opening_kept s = record {
   fair = λ c. subst (λ x. AllFair [] [] x) (sym (no_entry (length s.homes) c)) tt;
   contexts = λ c. no_entry (length s.homes) c ∙ ap (λ x. context_before [] x (length x)) (sym (no_entry (length s.homes) c));
   named = λ p h. absurd (contains_none p h);
-  once = λ a b k l x y v e. (let none : slice_get [] a.index ≡ Some (Wrote k x v) = subst (λ z. slice_get z a.index ≡ Some (Wrote k x v)) (no_entry (length s.homes) a.client) e in cc);
+  once = λ a b k l x y v e. (let none : slice_get [] a.index ≡ Some (write k x v) = subst (λ z. slice_get z a.index ≡ Some (write k x v)) (no_entry (length s.homes) a.client) e in cc);
 }
 
-pub opening_bounded : (s : Setting) → length s.homes ≤ 65535 → IsBounded (opening s)
+pub opening_bounded : (s : Setting) → length s.homes ≤ 65535 → IsBounded s (opening s)
 opening_bounded s few = record {
-  contexts = λ c. subst IsContext (sym (no_entry (length s.homes) c)) no_pairs;
+  contexts = λ c. subst (IsContext (most_deps s.format)) (sym (no_entry (length s.homes) c)) (no_pairs (most_deps s.format));
   limits = none_within (length s.homes) few;
 }
 
@@ -205,8 +204,8 @@ view_bears s w placed d pair h =
     let b = settled_bears s w placed d pair h in
     record { put = b.put; among = view_from s w d b.put b.among (subst (λ x. settled_at s w d x ≡ true) (sym b.bears) h); bears = b.bears }
 
-same_stored : (p : PutRecord) (k x : List ℕ) (v : ℕ) → put_pair p ≡ at_version k v → p.value ≡ x → stored_of p ≡ record { key = k; value = x; version = v }
-same_stored p k x v e f = λ i. record { key = (e i).key; value = f i; version = (e i).version }
+same_stored : (p : PutRecord) (k : List ℕ) (x : Option (List ℕ)) (v : ℕ) → put_pair p ≡ at_version k v → Some p.value ≡ x → (p.key ≡ k) × (Some p.value ≡ x) × (p.version ≡ v)
+same_stored p k x v e f = (ap (λ (d : Dep). d.key) e, f, ap (λ (d : Dep). d.version) e)
 
 pub sound_invariants : (s : Setting) (w : World) → Sound s w → Invariants s w
 sound_invariants s w sound = record {
@@ -217,7 +216,7 @@ sound_invariants s w sound = record {
   consistent = kept.consistent;
   clocks = placed.behind;
   held = λ d q x h. (placed.held d q x h).among;
-  settled = λ d q t h. (let i = placed.stored d q t h in (i.put, (i.is.among, same_stored i.put t.key t.value t.version i.is.bears i.is.value)));
+  settled = λ d q t h. (let i = placed.stored d q t h in let n = same_stored i.put t.key (Some t.value) t.version i.is.bears i.is.value in (i.put, i.is.among, n.0, n.1, n.2));
   issued = kept.named;
   once = none_doubled w.sessions kept.once;
   wrote = wrote;
@@ -232,17 +231,19 @@ sound_invariants s w sound = record {
     kept : Kept (home s) (view w)
     kept = sound.kept
 
-    wrote : (n : OpName) (k x : List ℕ) (v : ℕ) → IsPut w.sessions n k x v → IsIssued w k x v
+    wrote : (n : OpName) (k : List ℕ) (x : Option (List ℕ)) (v : ℕ) → IsPut w.sessions n k x v → IsIssued w k x v
     wrote n k x v e =
-        let f : WasPut w.issued (context_before [] (session w.sessions n.client) n.index) k x v = fair_at w.issued [] (session w.sessions n.client) n.index (Wrote k x v) (kept.fair n.client) e in
-        (f.put, (f.is.among, same_stored f.put k x v f.is.bears f.is.value))
+        let f : WasPut w.issued (context_before [] (session w.sessions n.client) n.index) k x v = fair_at w.issued [] (session w.sessions n.client) n.index (write k x v) (kept.fair n.client) e in
+        let same = same_stored f.put k x v f.is.bears f.is.value in
+        (f.put, f.is.among, same.0, same.1, same.2)
 
-    got : (n : OpName) (k x : List ℕ) (v : ℕ) → IsGot w.sessions n k x v → IsIssued w k x v
+    got : (n : OpName) (k : List ℕ) (x : Option (List ℕ)) (v : ℕ) → IsGot w.sessions n k x v → IsIssued w k x v
     got n k x v e =
-        let f : WasGot w.issued (context_before [] (session w.sessions n.client) n.index) k x v = fair_at w.issued [] (session w.sessions n.client) n.index (Got k x v) (kept.fair n.client) e in
-        (f.put, (f.is.among, same_stored f.put k x v f.is.bears f.is.value))
+        let f : WasGot w.issued (context_before [] (session w.sessions n.client) n.index) k x v = fair_at w.issued [] (session w.sessions n.client) n.index (read k x v) (kept.fair n.client) e in
+        let same = same_stored f.put k x v f.is.bears f.is.value in
+        (f.put, f.is.among, same.0, same.1, same.2)
 
-    carried : (a b : OpName) (k x : List ℕ) (v : ℕ) → IsPut w.sessions a k x v → IsNamed w.sessions b → Past w.sessions a b → IsCarried (view w) (home s b.client) b.client (record { key = k; version = v })
+    carried : (a b : OpName) (k : List ℕ) (x : Option (List ℕ)) (v : ℕ) → IsPut w.sessions a k x v → IsNamed w.sessions b → Past w.sessions a b → IsCarried (view w) (home s b.client) b.client (record { key = k; version = v })
     carried a b k x v ea eb past =
         let ops = session w.sessions b.client in
         let wrote = covers_wrote w.issued w.sessions kept.consistent kept.fair a.client a.index k x v ea in

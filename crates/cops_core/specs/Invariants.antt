@@ -1,23 +1,20 @@
 -- What holds of every world that is reached.
-use Rattle.std.specs.Prelude.{◌≡◌, ℕ, ◌≤◌, List, true, Contains, Some, slice_get}
+use Rattle.std.specs.Prelude.{◌≡◌, ℕ, ◌≤◌, List, true, Contains, Some, slice_get, Option}
 use Rattle.cops_types.specs.declared.dep.Dep.{Dep}
 use Rattle.cops_types.specs.declared.put_record.PutRecord.{PutRecord}
 use Rattle.cops_types.specs.declared.op.OpName.{OpName}
-use Rattle.cops_types.specs.Histories.{Sessions, IsNamed, IsPut, IsGot}
+use Rattle.cops_types.specs.Histories.{IsNamed, IsPut, IsGot}
 use Rattle.cops_types.specs.Past.{Past}
 use Rattle.cops_types.specs.Recorded.{IsWithinLimits}
-use Rattle.cops_types.specs.Verdicts.{IsAccepted}
 use Rattle.cops_types.specs.VersionOrder.{NoneDoubled}
 use Rattle.cops_types.specs.Version.{clock_of}
+use Rattle.cops_types.specs.Format.{most_deps}
 use Rattle.cops_context.specs.Kept.{IsContext}
 use Rattle.cops_store.specs.Store.{Stored}
 use Rattle.cops_held.specs.Held.{Waiting}
-use Rattle.cops_node.specs.declared.outcome.Outcome.{Outcome}
-use Rattle.cops_node.specs.Node.{stored_of}
 use Rattle.cops_core.specs.Dependencies.{Bears, Reaches, IsConsistent, IsClosed}
 use Rattle.cops_core.specs.Machine.{State, context_of, view}
-use Rattle.cops_core.specs.World.{Setting, IsSetting, home, World, node_at, context_in, Said, Event, opening, Run}
-use Rattle.cops_core.specs.Opened.{AWorld}
+use Rattle.cops_core.specs.World.{Setting, home, World, node_at, context_in, Said}
 
 -- a pair of the list reaches this one
 pub record Covers (puts : List PutRecord) (context : List Dep) (pair : Dep) : Type 0 where
@@ -31,8 +28,8 @@ pub record IsCarried (s : State) (dc client : ℕ) (pair : Dep) : Type 0 where
   pub covered : Covers s.issued (context_of s client) pair
 
 -- an issued put has this key, value and version
-abbrev pub IsIssued : World → List ℕ → List ℕ → ℕ → Type 0
-IsIssued w key value version = (p : PutRecord) × (Contains w.issued p × (stored_of p ≡ record { key = key; value = value; version = version }))
+abbrev pub IsIssued : World → List ℕ → Option (List ℕ) → ℕ → Type 0
+IsIssued w key content version = (p : PutRecord) × Contains w.issued p × (p.key ≡ key) × (Some p.value ≡ content) × (p.version ≡ version)
 
 pub record Invariants (s : Setting) (w : World) : Type 0 where
   -- what a data centre has settled is closed under dependencies
@@ -41,17 +38,17 @@ pub record Invariants (s : Setting) (w : World) : Type 0 where
   pub said : (y : Said) → Contains w.said y → Bears ((view w).settled y.dc) y.pair
   pub marked : (dc place : ℕ) (h : Waiting) (i : ℕ) (d : Dep) → Contains (node_at w dc place).held h → slice_get h.marks i ≡ Some true → slice_get h.put.deps i ≡ Some d → Bears ((view w).settled dc) d
   -- what a client's operations rest on it carries
-  pub carried : (a b : OpName) (key value : List ℕ) (version : ℕ) → IsPut w.sessions a key value version → IsNamed w.sessions b → Past w.sessions a b → IsCarried (view w) (home s b.client) b.client (record { key = key; version = version })
+  pub carried : (a b : OpName) (key : List ℕ) (content : Option (List ℕ)) (version : ℕ) → IsPut w.sessions a key content version → IsNamed w.sessions b → Past w.sessions a b → IsCarried (view w) (home s b.client) b.client (record { key = key; version = version })
   -- versions tell puts apart and are above those of dependencies, and no clock is behind what was settled
   pub consistent : IsConsistent w.issued
   pub clocks : (dc place : ℕ) (t : Stored) → Contains (node_at w dc place).settled t → clock_of t.version ≤ (node_at w dc place).clock
   -- held and settled puts were issued, each issued put is that of one operation, and each put and get is of an issued put
   pub held : (dc place : ℕ) (h : Waiting) → Contains (node_at w dc place).held h → Contains w.issued h.put
-  pub settled : (dc place : ℕ) (t : Stored) → Contains (node_at w dc place).settled t → IsIssued w t.key t.value t.version
-  pub issued : (p : PutRecord) → Contains w.issued p → (n : OpName) × IsPut w.sessions n p.key p.value p.version
+  pub settled : (dc place : ℕ) (t : Stored) → Contains (node_at w dc place).settled t → IsIssued w t.key (Some t.value) t.version
+  pub issued : (p : PutRecord) → Contains w.issued p → (n : OpName) × IsPut w.sessions n p.key (Some p.value) p.version
   pub once : NoneDoubled w.sessions
-  pub wrote : (n : OpName) (key value : List ℕ) (version : ℕ) → IsPut w.sessions n key value version → IsIssued w key value version
-  pub got : (n : OpName) (key value : List ℕ) (version : ℕ) → IsGot w.sessions n key value version → IsIssued w key value version
+  pub wrote : (n : OpName) (key : List ℕ) (content : Option (List ℕ)) (version : ℕ) → IsPut w.sessions n key content version → IsIssued w key content version
+  pub got : (n : OpName) (key : List ℕ) (content : Option (List ℕ)) (version : ℕ) → IsGot w.sessions n key content version → IsIssued w key content version
   -- contexts and sessions are within their limits
-  pub contexts : (client : ℕ) → IsContext (context_in w client)
+  pub contexts : (client : ℕ) → IsContext (most_deps s.format) (context_in w client)
   pub limits : IsWithinLimits w.sessions

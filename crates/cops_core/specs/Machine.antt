@@ -1,11 +1,9 @@
 -- The store as its clients may know it (COPS, section 3): one set of puts in each data centre, and no nodes, no clocks
 -- and no messages.
-use Rattle.std.specs.Prelude.{◌≡◌, ◌≢◌, ℕ, ◌<◌, ◌≤◌, ◌↔◌, ◌⊎◌, List, [], ◌∷◌, ◌++◌, length, filter, Contains, slice_index_or, slice_set}
+use Rattle.std.specs.Prelude.{◌≡◌, ◌≢◌, ℕ, ◌<◌, ◌≤◌, ◌↔◌, ◌⊎◌, List, [], ◌∷◌, ◌++◌, length, filter, Contains, slice_index_or, slice_set, Some}
 use Rattle.cops_types.specs.declared.dep.Dep.{Dep}
 use Rattle.cops_types.specs.declared.put_record.PutRecord.{PutRecord}
-use Rattle.cops_types.specs.declared.op.Op.{Op}
-use Rattle.cops_types.specs.declared.op.Op.TheVariants.{Put as Wrote, Got, Missed}
-use Rattle.cops_types.specs.Histories.{Sessions, with_op}
+use Rattle.cops_types.specs.Histories.{Sessions, with_op, Operation, write, read, missed}
 use Rattle.cops_context.specs.Context.{with_pair}
 use Rattle.cops_store.specs.Store.{has_pair}
 use Rattle.cops_node.specs.Node.{put_pair}
@@ -17,7 +15,7 @@ pub record State : Type 0 where
   pub contexts : List (List Dep)  -- of each client
   pub sessions : Sessions
 
-abbrev pub session : Sessions → ℕ → List Op
+abbrev pub session : Sessions → ℕ → List Operation
 session h client = slice_index_or h client []
 
 abbrev pub context_of : State → ℕ → List Dep
@@ -36,7 +34,7 @@ pub record SettlesAt (old new : State) (dc : ℕ) (put : PutRecord) : Type 0 whe
   pub others : (d : ℕ) → d ≢ dc → Same (old.settled d) (new.settled d)
 
 -- a client's session gains an operation, and its context is this one
-pub record Answers (old new : State) (client : ℕ) (op : Op) (context : List Dep) : Type 0 where
+pub record Answers (old new : State) (client : ℕ) (op : Operation) (context : List Dep) : Type 0 where
   pub has_session : client < length old.sessions
   pub has_context : client < length old.contexts
   pub sessions : new.sessions ≡ with_op old.sessions client op
@@ -49,7 +47,7 @@ pub record Puts (old new : State) (dc client : ℕ) (put : PutRecord) : Type 0 w
   pub fresh : (p : PutRecord) → Contains old.issued p → p.version ≢ put.version
   pub issued : new.issued ≡ old.issued ++ put ∷ []
   pub settled : SettlesAt old new dc put
-  pub answers : Answers old new client (Wrote put.key put.value put.version) (put_pair put ∷ [])
+  pub answers : Answers old new client (write put.key (Some put.value) put.version) (put_pair put ∷ [])
 
 -- a client of data centre dc gets what has the greatest version there
 pub record Gets (old new : State) (dc client : ℕ) (put : PutRecord) : Type 0 where
@@ -57,14 +55,14 @@ pub record Gets (old new : State) (dc client : ℕ) (put : PutRecord) : Type 0 w
   pub greatest : (p : PutRecord) → Contains (old.settled dc) p → p.key ≡ put.key → p.version ≤ put.version
   pub issued : new.issued ≡ old.issued
   pub settled : new.settled ≡ old.settled
-  pub answers : Answers old new client (Got put.key put.value put.version) (with_pair (context_of old client) (put_pair put))
+  pub answers : Answers old new client (read put.key (Some put.value) put.version) (with_pair (context_of old client) (put_pair put))
 
 -- a client of data centre dc gets a key that no put there has
 pub record Misses (old new : State) (dc client : ℕ) (key : List ℕ) : Type 0 where
   pub none : (p : PutRecord) → Contains (old.settled dc) p → p.key ≢ key
   pub issued : new.issued ≡ old.issued
   pub settled : new.settled ≡ old.settled
-  pub answers : Answers old new client (Missed key) (context_of old client)
+  pub answers : Answers old new client (missed key) (context_of old client)
 
 -- a data centre settles a put whose dependencies it has settled
 pub record Settles (old new : State) (dc : ℕ) (put : PutRecord) : Type 0 where

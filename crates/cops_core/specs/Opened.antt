@@ -1,6 +1,4 @@
 -- A world in its setting, as a contract sees it.
-use Rattle.std.specs.Prelude.{ℕ, List}
-use Rattle.cops_place.specs.Place.{APlace}
 use Rattle.cops_core.specs.World.{IsReached, IsSetting, Setting, World, opening}
 
 -- a world in its setting: what never changes, and what does
@@ -13,7 +11,6 @@ pub record IsReachedWorld (c : AWorld) : Type 0 where
   pub setting : IsSetting c.setting
   pub reached : IsReached c.setting c.world
 
-abbrev pub opened_world : APlace → List ℕ → AWorld
-opened_world place homes =
-    let s : Setting = record { place = place; homes = homes } in
-    record { setting = s; world = opening s }
+-- a world of this setting in which nothing has happened
+abbrev pub opened_world : Setting → AWorld
+opened_world s = record { setting = s; world = opening s }

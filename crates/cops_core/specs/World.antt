@@ -1,15 +1,14 @@
 -- The world: its nodes, what was issued and answered, and what each client saw.
-use Rattle.std.specs.Prelude.{◌≡◌, ℕ, zero, suc, ◌+◌, ◌<◌, ◌≤◌, ◌⊎◌, List, [], ◌∷◌, ◌++◌, Bool, true, false, if◌then◌else◌, ◌==◌, ◌&&◌, nat_lt, length, sum_by, find, replicate, flat_map, slice_set, slice_index_or, Option, Some, None, is_some}
+use Rattle.std.specs.Prelude.{◌≡◌, ℕ, zero, suc, ◌+◌, ◌⊎◌, List, [], ◌∷◌, ◌++◌, Bool, true, if◌then◌else◌, ◌==◌, ◌&&◌, nat_lt, length, sum_by, find, replicate, flat_map, slice_set, slice_index_or, Option, Some, None, is_some}
 use Rattle.std.specs.List.{list_any}
-use Rattle.cops_types.specs.declared.limits.TheConstants.{MAX_CLIENT_OPS, MAX_DEPS, MAX_OPS}
+use Rattle.cops_types.specs.declared.limits.TheConstants.{MAX_CLIENT_OPS, MAX_OPS}
 use Rattle.cops_types.specs.declared.dep.Dep.{Dep}
 use Rattle.cops_types.specs.declared.put_record.PutRecord.{PutRecord}
 use Rattle.cops_types.specs.declared.refusal.Refusal.{Refusal}
 use Rattle.cops_types.specs.declared.refusal.Refusal.TheVariants.{UnknownClient, SessionFull, ContextFull, UnknownDc, NeverSent, NoYes, Memory}
-use Rattle.cops_types.specs.declared.op.Op.{Op}
-use Rattle.cops_types.specs.declared.op.Op.TheVariants.{Put as Wrote, Got, Missed}
-use Rattle.cops_types.specs.Histories.{Sessions, with_op}
+use Rattle.cops_types.specs.Histories.{Sessions, with_op, Operation, write, read, missed}
 use Rattle.cops_types.specs.Dep.{is_same_dep}
+use Rattle.cops_types.specs.Format.{most_deps}
 use Rattle.cops_types.specs.NodeNumber.{node_number, place_of}
 use Rattle.cops_context.specs.Context.{with_pair}
 use Rattle.cops_store.specs.Store.{Stored}
@@ -61,7 +60,7 @@ abbrev pub context_in : World → ℕ → List Dep
 context_in w client = slice_index_or w.contexts client []
 
 -- the client's session gains an operation, and its context is this one
-abbrev pub with_answer : World → ℕ → Op → List Dep → World
+abbrev pub with_answer : World → ℕ → Operation → List Dep → World
 with_answer w client op context = record w { contexts = slice_set w.contexts client context; sessions = with_op w.sessions client op }
 
 abbrev pub with_issued : World → PutRecord → World
@@ -95,13 +94,17 @@ knows w client = nat_lt client (length w.sessions)
 abbrev pub has_room : World → ℕ → Bool
 has_room w client = nat_lt (length (slice_index_or w.sessions client [])) MAX_CLIENT_OPS && nat_lt (sum_by length w.sessions) MAX_OPS
 
+-- the client's context has room for one more pair
+abbrev pub has_context_room : Setting → World → ℕ → Bool
+has_context_room s w client = nat_lt (length (context_in w client)) (most_deps s.format)
+
 abbrev pub is_dc : Setting → ℕ → Bool
 is_dc s dc = nat_lt dc s.place.dcs
 
 -- What an event wants of the world, in the order of the refusals. Where all is there a node is asked, which may refuse too.
 abbrev pub checks : Setting → World → Event → List (Bool × Refusal)
 checks s w (PutBy client key value) = (knows w client, UnknownClient) ∷ (has_room w client, SessionFull) ∷ []
-checks s w (GetBy client key) = (knows w client, UnknownClient) ∷ (has_room w client, SessionFull) ∷ (nat_lt (length (context_in w client)) MAX_DEPS, ContextFull) ∷ []
+checks s w (GetBy client key) = (knows w client, UnknownClient) ∷ (has_room w client, SessionFull) ∷ (has_context_room s w client, ContextFull) ∷ []
 checks s w (DeliverTo dc version) = (is_dc s dc, UnknownDc) ∷ (is_some (sent w.issued version), NeverSent) ∷ []
 checks s w (AskAt dc key version) = (is_dc s dc, UnknownDc) ∷ []
 checks s w (MarkAt dc version dep) = (is_dc s dc, UnknownDc) ∷ (is_answered w.said dc (dep_at (waiting (node_at w dc (place_of version)).held version) dep), NoYes) ∷ []
@@ -116,10 +119,10 @@ refusal (t ∷ tests) = if t.0 then refusal tests else Some t.1
 abbrev pub keeps : World → ℕ → ℕ → Event → Outcome → Node → World
 keeps w dc place (PutBy client key value) (PutDone version) n =
     with_answer (with_issued (with_node w dc place n) (record { key = key; value = value; version = version; deps = context_in w client }))
-    client (Wrote key value version) (record { key = key; version = version } ∷ [])
+    client (write key (Some value) version) (record { key = key; version = version } ∷ [])
 keeps w dc place (GetBy client key) (Answered value version) n =
-    with_answer (with_node w dc place n) client (Got key value version) (with_pair (context_in w client) (record { key = key; version = version }))
-keeps w dc place (GetBy client key) Nothing n = with_answer (with_node w dc place n) client (Missed key) (context_in w client)
+    with_answer (with_node w dc place n) client (read key (Some value) version) (with_pair (context_in w client) (record { key = key; version = version }))
+keeps w dc place (GetBy client key) Nothing n = with_answer (with_node w dc place n) client (missed key) (context_in w client)
 keeps w dc place (AskAt d key version) Yes n = with_said (with_node w dc place n) (record { dc = d; pair = record { key = key; version = version } })
 keeps w dc place event outcome n = with_node w dc place n
 

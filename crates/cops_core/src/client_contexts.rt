@@ -1,7 +1,7 @@
 ghost use Rattle.std.specs.Prelude.{◌≡◌};
 
 use cops_context::Context;
-use cops_types::{Dep, Deps, Memory};
+use cops_types::{Dep, Deps, Format, Memory};
 use std::alloc::Global;
 use std::marker::Model;
 
@@ -22,7 +22,7 @@ impl Model for ClientContexts {
 
 impl ClientContexts {
     ghost use Rattle.std.specs.Prelude.{◌≡◌, ◌≢◌, ◌<◌, [], ◌∷◌, IfOk, OnOk, OnErr, length, nat_lt, replicate, slice_index_or, slice_set};
-    ghost use Rattle.cops_types.specs.declared.limits.TheConstants.{MAX_DEPS};
+    ghost use Rattle.cops_types.specs.Format.{most_deps};
     ghost use Rattle.cops_context.specs.Context.{with_pair};
     ghost use Rattle.cops_core.specs.Parts.{HasPlace};
 
@@ -54,13 +54,13 @@ impl ClientContexts {
         context.deps()
     }
 
-    /// Whether a client has fewer than 256 pairs.
-    pub fn has_room(&self, client: u16) -> bool
+    /// Whether a client has fewer pairs than the format's most.
+    pub fn has_room(&self, format: Format, client: u16) -> bool
         requires { client < length self.now.pairs }
-        ensures { result ≡ nat_lt (length (slice_index_or self.now.pairs client [])) MAX_DEPS }
+        ensures { result ≡ nat_lt (length (slice_index_or self.now.pairs client [])) (most_deps format) }
     {
         let context = &self.contexts[client as usize];
-        context.has_room()
+        context.has_room_in(format)
     }
 
     /// Makes room for a client's next pair.
@@ -73,15 +73,15 @@ impl ClientContexts {
         context.reserve()
     }
 
-    /// A client meets a pair.
-    pub fn add(&mut self, client: u16, pair: Dep)
+    /// A client meets a pair, with fewer than the format's most.
+    pub fn add(&mut self, format: Format, client: u16, pair: Dep)
         requires known { client < length self.old.pairs }
-        requires few { length (slice_index_or self.old.pairs client []) < MAX_DEPS }
+        requires few { length (slice_index_or self.old.pairs client []) < most_deps format }
         requires room { HasPlace self.old client }
         ensures { self.new.pairs ≡ slice_set self.old.pairs client (with_pair (slice_index_or self.old.pairs client []) pair) }
     {
         let context = &mut self.contexts[client as usize];
-        context.add(pair).unwrap()
+        context.add_in(format, pair).unwrap()
     }
 
     /// Leaves a client the one pair of its new put.

@@ -4,7 +4,8 @@ ghost use Rattle.std.specs.Prelude.{◌≡◌, ◌<◌, ◌⊎◌, ◌∷◌, �
 ghost use Rattle.cops_types.specs.declared.refusal.Refusal.TheVariants.{Memory as OutOfMemory, SessionFull, UnknownClient};
 ghost use Rattle.cops_types.specs.Counts.{count_of};
 ghost use Rattle.cops_types.specs.Histories.{with_op};
-ghost use Rattle.cops_types.specs.declared.op.Op.TheVariants.{Put as Wrote};
+ghost use Rattle.cops_types.specs.Histories.{write};
+ghost use Rattle.cops_types.specs.Operations.{operation_of};
 ghost use Rattle.cops_core.specs.Parts.{MayRecord};
 ghost use Rattle.cops_core.specs.World.{refusal, sent};
 
@@ -34,7 +35,7 @@ pub fn admit(history: &mut History, client: u16) -> Result<(), Refusal>
 /// Records a client's next operation.
 pub fn record(history: &mut History, client: u16, op: Op)
     requires { MayRecord history.old client }
-    ensures { history.new.sessions ≡ with_op history.old.sessions client op }
+    ensures { history.new.sessions ≡ with_op history.old.sessions client (operation_of op) }
 {
     history.push(client, op).unwrap()
 }
@@ -107,7 +108,7 @@ pub fn keep_put(
     requires may { MayRecord history.old client }
     ensures issued { issued.new.puts ≡ issued.old.puts ++ record { key = copies.issued.key; value = copies.issued.value; version = version; deps = copies.issued.deps } ∷ [] }
     ensures context { contexts.new.pairs ≡ slice_set contexts.old.pairs client (record { key = copies.pair_key; version = version } ∷ []) }
-    ensures session { history.new.sessions ≡ with_op history.old.sessions client (Wrote copies.op_key copies.op_value version) }
+    ensures session { history.new.sessions ≡ with_op history.old.sessions client (write copies.op_key (Some copies.op_value) version) }
 {
     let Copies {
         issued: put,

@@ -191,14 +191,15 @@ impl State {
         ensures memory { IfOk result (λ outcome. outcome ≡ RefusedWith OutOfMemory → TakesMemory (GetBy client key.now) (happens setting.now self.old (GetBy client key.now)).0) }
         ensures takes { OnErr result (TakesMemory (GetBy client key.now) (happens setting.now self.old (GetBy client key.now)).0) }
     {
+        let format = setting.format();
         let place = setting.primary(key);
         if let Err(refused) = admit(&mut self.history, client) {
-            if refused == Refusal::Memory && !self.contexts.has_room(client) {
+            if refused == Refusal::Memory && !self.contexts.has_room(format, client) {
                 return Ok(Outcome::Refused(Refusal::ContextFull));
             }
             return Ok(Outcome::Refused(refused));
         }
-        if !self.contexts.has_room(client) {
+        if !self.contexts.has_room(format, client) {
             return Ok(Outcome::Refused(Refusal::ContextFull));
         }
         self.contexts.reserve(client)?;
@@ -215,7 +216,7 @@ impl State {
                     key: pair_key,
                     version,
                 };
-                self.contexts.add(client, pair);
+                self.contexts.add(format, client, pair);
                 record(&mut self.history, client, op);
                 Ok(Outcome::Got(value, version))
             }

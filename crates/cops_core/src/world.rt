@@ -37,14 +37,15 @@ impl World {
     ghost use Rattle.cops_core.specs.World.{Happens, context_in, happens, home, sent, settled_in, Run};
     ghost use Rattle.cops_core.specs.Memory.{AnswersEach, TakesMemory};
     ghost use Rattle.cops_types.specs.Verdicts.{HasAcceptedVerdict};
+    ghost use Rattle.cops_types.specs.declared.format.Format.TheVariants.{One};
     ghost use Rattle.cops_core.specs.Opened.{opened_world};
     ghost use Rattle.cops_place.specs.Clients.{AreClients};
     ghost use Rattle.cops_core.specs.Invariants.{Invariants};
 
-    /// A world in which nothing has happened, of these data centres and nodes, and with a client at each of these data
-    /// centres: `BadClient` where one of those is not there, or there are more than 65,535 clients.
+    /// A world of format 1 in which nothing has happened, of these data centres and nodes, and with a client at each of
+    /// these data centres: `BadClient` where one of those is not there, or there are more than 65,535 clients.
     pub fn open(alloc: Global, place: Place, client_dcs: Vec<u8>) -> Result<Self, WorldFault>
-        ensures ok { IfOk result (λ world. world ≡ opened_world place client_dcs.items) }
+        ensures ok { IfOk result (λ world. world ≡ opened_world (record { format = One; place = place; homes = client_dcs.items })) }
         ensures bad { IsErrOf result WorldFault.BadClient ↔ (AreClients place client_dcs.items → ⊥) }
     {
         match Setting::new(place, client_dcs) {
@@ -53,9 +54,9 @@ impl World {
         }
     }
 
-    /// The same of a setting, whose clients' data centres are there.
+    /// A world of this setting in which nothing has happened.
     pub fn of(alloc: Global, setting: Setting) -> Result<Self, Memory>
-        ensures { IfOk result (λ world. world ≡ opened_world setting.place setting.homes) }
+        ensures { IfOk result (λ world. world ≡ opened_world setting) }
     {
         let state = State::open(alloc, &setting)?;
         Ok(World {

@@ -13,10 +13,9 @@ use Rattle.std.proofs.lemmas.List.Filters.{dedup_is}
 use Rattle.std.proofs.lemmas.List.Kept.{AllPairs-cons, Contains-dedup, Contains-from_dedup, IsStrictlySortedBy-dedup}
 use Rattle.std.proofs.lemmas.List.Sorted.{Contains-permutation, IsPermutation-sym}
 use Rattle.std.proofs.lemmas.List.Elements.{All-from_recursion, Contains-append_left, Contains-push, Contains-push_cases}
-use Rattle.cops_types.specs.declared.op.Op.TheVariants.{Put}
 use Rattle.cops_types.specs.declared.op.OpName.{OpName}
 use Rattle.cops_types.specs.Faults.{IsBefore}
-use Rattle.cops_types.specs.Histories.{Sessions, PutsVersion}
+use Rattle.cops_types.specs.Histories.{Sessions, PutsVersion, write}
 use Rattle.cops_types.specs.contracts.op.OpNameEq.TheImpl.Laws.{laws-law}
 use Rattle.cops_types.specs.contracts.op.OpNameOrd.TheImpl.Laws.{matches_eq-law, total-law}
 use Rattle.cops_types.specs.declared.versioned_put.VersionedPut.{VersionedPut}
@@ -27,7 +26,7 @@ use Rattle.cops_explain.specs.Others.{AreOthers, IsOther}
 
 -- a put has one version
 pub one_version : (h : Sessions) (n : OpName) (v w : ℕ) → PutsVersion h n v → PutsVersion h n w → v ≡ w
-one_version h n v w p q = (let e : Some (Put p.0 p.1 v) ≡ Some (Put q.0 q.1 w) = sym p.2 ∙ q.2 in cc)
+one_version h n v w p q = (let e : Some (write p.0 p.1 v) ≡ Some (write q.0 q.1 w) = sym p.2 ∙ q.2 in cc)
 
 -- of the puts that stand first those that are others are among the names, and all names are others
 pub record AreFound (h : Sessions) (name : OpName) (puts : List VersionedPut) (i : ℕ) (names : List OpName) : Type 0 where

@@ -1,10 +1,8 @@
 -- Operations in words.
-use Rattle.std.specs.Prelude.{ℕ, List, [], codes, decimal, Option, Some, None}
+use Rattle.std.specs.Prelude.{ℕ, List, [], codes, decimal, Option, Some}
 use Rattle.std.specs.List.{flat_map}
-use Rattle.cops_types.specs.declared.op.Op.{Op}
-use Rattle.cops_types.specs.declared.op.Op.TheVariants.{Put, Got, Missed}
 use Rattle.cops_types.specs.declared.op.OpName.{OpName}
-use Rattle.cops_types.specs.Histories.{Sessions, op_at}
+use Rattle.cops_types.specs.Histories.{Sessions, op_at, Operation, write, read, missed}
 use Rattle.cops_types.specs.Texts.{◌⧺◌, name_text, version_text}
 use Rattle.cops_wire.specs.Shown.{bytes_text}
 
@@ -13,11 +11,11 @@ abbrev pub pair_text : List ℕ → List ℕ → List ℕ → ℕ → List ℕ
 pair_text word key value version = word ⧺ bytes_text key ⧺ codes "=" ⧺ bytes_text value ⧺ codes " at " ⧺ version_text version
 
 -- what an operation did
-abbrev pub did_text : Option Op → List ℕ
-did_text (Some (Put key value version)) = pair_text (codes "put ") key value version
-did_text (Some (Got key value version)) = pair_text (codes "got ") key value version
-did_text (Some (Missed key)) = codes "got nothing at " ⧺ bytes_text key
-did_text None = []
+abbrev pub did_text : Option Operation → List ℕ
+did_text (Some (write key (Some value) version)) = pair_text (codes "put ") key value version
+did_text (Some (read key (Some value) version)) = pair_text (codes "got ") key value version
+did_text (Some (missed key)) = codes "got nothing at " ⧺ bytes_text key
+did_text _ = []
 
 -- client 0 put x=1 at 1.0
 abbrev pub act_text : Sessions → OpName → List ℕ

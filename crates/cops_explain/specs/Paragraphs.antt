@@ -1,9 +1,7 @@
 -- The paragraph of a fault.
-use Rattle.std.specs.Prelude.{◌≡◌, ◌-◌, ℕ, zero, suc, List, [], ◌∷◌, ◌++◌, ◌==◌, if◌then◌else◌, length, take, codes, decimal, Option, Some, None}
+use Rattle.std.specs.Prelude.{◌≡◌, ◌-◌, ℕ, zero, suc, List, [], ◌∷◌, ◌++◌, ◌==◌, if◌then◌else◌, length, take, codes, decimal, Option, Some}
 use Rattle.cops_types.specs.declared.op.OpName.{OpName}
-use Rattle.cops_types.specs.declared.op.Op.{Op}
-use Rattle.cops_types.specs.declared.op.Op.TheVariants.{Put, Got, Missed}
-use Rattle.cops_types.specs.Histories.{Sessions, op_at}
+use Rattle.cops_types.specs.Histories.{Sessions, Operation, missed, op_at}
 use Rattle.cops_types.specs.Texts.{◌⧺◌, name_text}
 use Rattle.cops_audit.specs.declared.verdict.NotAbove.{NotAbove as ANotAbove}
 use Rattle.cops_audit.specs.declared.verdict.Stale.{Stale as AStale}
@@ -61,11 +59,9 @@ stale_head h number fault =
     ⧺ codes ", though it had to know of the newer put " ⧺ name_text fault.newer ⧺ codes "\n"
 
 -- what a stale get returned
-abbrev pub stale_return : Option Op → List ℕ
-stale_return (Some (Put key value version)) = codes "an older put"
-stale_return (Some (Got key value version)) = codes "an older put"
-stale_return (Some (Missed key)) = codes "nothing"
-stale_return None = codes "an older put"
+abbrev pub stale_return : Option Operation → List ℕ
+stale_return (Some (missed key)) = codes "nothing"
+stale_return _ = codes "an older put"
 
 -- how the client of a stale get knew of the newer put: the put is its own, or it came to know of it by this operation
 abbrev pub known_text : AStale → OpName → List ℕ

@@ -6,6 +6,7 @@ use Rattle.std.proofs.lemmas.Bool.{cases_Bool}
 use Rattle.std.proofs.lemmas.List.Folds.{list_any-append}
 use Rattle.std.proofs.lemmas.List.Sums.{fold-append}
 use Rattle.std.proofs.lemmas.Slice.Eq.{bytes_eq-Decides}
+use Rattle.cops_types.specs.Operations.{operation_of}
 use Rattle.cops_import.specs.Lines.{names_of, record_of}
 use Rattle.cops_import.specs.Names.{number_of, same, with_name}
 use Rattle.cops_import.specs.declared.line.Told.{Told}
@@ -75,7 +76,7 @@ records_kept names (t ∷ tolds) other =
     let there : is_among all t.name ≡ true = among_after (with_name names t.name) tolds t.name (among_own names t.name) in
     let client = number_with all t.name other there in
     let rest = records_kept (with_name names t.name) tolds other in
-    ap (λ (k : ℕ). record { client = k; op = t.op } ∷ map (record_of (with_name all other)) tolds) client ∙ ap (λ (rs : List _). record_of all t ∷ rs) rest
+    ap (λ (k : ℕ). record { client = k; op = operation_of t.op } ∷ map (record_of (with_name all other)) tolds) client ∙ ap (λ (rs : List _). record_of all t ∷ rs) rest
 
 -- a new name's number is the place where it goes
 number_last : (names : List (List ℕ)) (name : List ℕ) → is_among names name ≡ false → number_of (names ++ name ∷ []) name ≡ number_of names name

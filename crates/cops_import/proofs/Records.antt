@@ -8,18 +8,21 @@ use Rattle.cops_types.specs.Counted.{failures, inner}
 use Rattle.cops_types.specs.Failures.{Failed}
 use Rattle.cops_types.specs.declared.counted.Counted.{Counted}
 use Rattle.cops_types.specs.declared.limits.TheConstants.{MAX_CLIENTS, MAX_CLIENT_OPS}
-use Rattle.cops_types.specs.declared.op.Op.{Op}
+use Rattle.cops_types.specs.Histories.{Operation}
+use Rattle.cops_types.specs.Operations.{operation_of}
+use Rattle.cops_types.specs.declared.format.Format.{Format}
+use Rattle.cops_types.specs.declared.format.Format.TheVariants.{One}
 use Rattle.cops_wire.specs.Message.{spelled}
+use Rattle.cops_wire.specs.Records.{record_message}
 use Rattle.cops_wire.specs.declared.message.Message.TheVariants.{TraceEnd}
 use Rattle.cops_trace.specs.Counts.{ACounts, AreCountsOf, HasTurn, counted, nothing}
 use Rattle.cops_trace.specs.Kept.{grown}
 use Rattle.cops_trace.specs.Live.{HasBegun, IsCutShort}
 use Rattle.cops_trace.specs.Live as live
-use Rattle.cops_trace.specs.Text.{ATrace, IsOp, IsTrace, beginning, op_message, record_text, text, turn}
+use Rattle.cops_trace.specs.Text.{ARecord, ATrace, IsOp, IsTrace, beginning, record_text, text, turn}
 use Rattle.cops_trace.specs.Writing.{IsUnwritten, end_frame, head_frame, more_written, record_frame}
 use Rattle.cops_trace.specs.declared.fault.WriteFault.{WriteFault}
 use Rattle.cops_trace.specs.declared.fault.WriteFault.TheVariants as write
-use Rattle.cops_trace.specs.declared.record.Record.{Record}
 use Rattle.cops_trace.specs.declared.writer.TraceWriter.{TraceWriter}
 use Rattle.cops_trace.proofs.Begun.{add_cut, cut_begun, cut_kept, new_cut, rest_cut}
 use Rattle.cops_trace.proofs.Growth.{IsTrace-grown, IsTrace-none, beginning-grown, beginning-none}
@@ -38,8 +41,8 @@ use Rattle.cops_import.proofs.Numbering.{names_more, number_own, records_kept}
 
 -- ---- the trace of one operation more
 
-abbrev entry : List Told → Told → Record
-entry tolds told = record { client = number_of (names_of tolds) told.name; op = told.op }
+abbrev entry : List Told → Told → ARecord
+entry tolds told = record { client = number_of (names_of tolds) told.name; op = operation_of told.op }
 
 pub trace_more : (clients : ℕ) (tolds : List Told) (told : Told) → trace_to clients (tolds ++ told ∷ []) ≡ grown (trace_to clients tolds) (entry tolds told)
 trace_more clients tolds told =
@@ -48,9 +51,9 @@ trace_more clients tolds told =
     let more : map (record_of (names_of (tolds ++ told ∷ []))) (tolds ++ told ∷ []) ≡ map (record_of all) (tolds ++ told ∷ []) =
     ap (λ (ns : List (List ℕ)). map (record_of ns) (tolds ++ told ∷ [])) (names_more tolds told) in
     let kept : map (record_of all) tolds ≡ map (record_of names) tolds = records_kept [] tolds told.name in
-    let last : record_of all told ≡ entry tolds told = ap (λ (k : ℕ). record { client = k; op = told.op }) (number_own names told.name) in
-    ap (λ (rs : List Record). record { clients = clients; records = rs })
-    (more ∙ map-append (record_of all) tolds (told ∷ []) ∙ ap (λ (rs : List Record). rs ++ record_of all told ∷ []) kept ∙ ap (λ (r : Record). map (record_of names) tolds ++ r ∷ []) last)
+    let last : record_of all told ≡ entry tolds told = ap (λ (k : ℕ). record { client = k; op = operation_of told.op }) (number_own names told.name) in
+    ap (λ (rs : List ARecord). record { format = One; clients = clients; records = rs })
+    (more ∙ map-append (record_of all) tolds (told ∷ []) ∙ ap (λ (rs : List ARecord). rs ++ record_of all told ∷ []) kept ∙ ap (λ (r : ARecord). map (record_of names) tolds ++ r ∷ []) last)
 
 -- ---- what is written
 
@@ -59,14 +62,14 @@ module _ {W : Type 0} (contents : W → Option (List ℕ)) (from : Counted W) wh
   begun_of t w h = record { trace = t; is_trace = h.is_trace; counts = h.counts; bytes_are = refl; in_all = h.in_all; appends = h.appends }
 
   -- the record of an operation more
-  pub written_more : (t : ATrace) (old new : TraceWriter W) (client : ℕ) (op : Op) → HasWritten contents from t old → HasTurn old.counts client → IsOp op
+  pub written_more : (t : ATrace) (old new : TraceWriter W) (client : ℕ) (op : Operation) → HasWritten contents from t old → HasTurn old.counts client → IsOp t.format op
       → Appends (contents (inner old.writer)) (contents (inner new.writer)) (record_frame old.counts client op) → new.counts ≡ counted old.counts client
       → new.written ≡ more_written old.written (length (record_frame old.counts client op)) → failures new.writer ≡ failures old.writer
       → HasWritten contents from (grown t (record { client = client; op = op })) new
   written_more t old new client op h room is more counts written heard =
-      let r : Record = record { client = client; op = op } in
+      let r : ARecord = record { client = client; op = op } in
       let trace = IsTrace-grown t r h.is_trace (omega (arith, h.counts.clients, room.0)) is (omega (arith, h.counts.next client, room.1)) (omega (arith, h.counts.total, room.2)) in
-      let frame : record_frame old.counts client op ≡ record_text t.records r = ap (λ (i : ℕ). spelled (op_message client i op)) (h.counts.next client) in
+      let frame : record_frame old.counts client op ≡ record_text t.records r = ap (λ (i : ℕ). spelled (record_message client i op)) (h.counts.next client) in
       let same : beginning (grown t r) ≡ beginning t ++ record_frame old.counts client op = beginning-grown t r ∙ ap (λ (l : List ℕ). beginning t ++ l) (sym frame) in
       record {
         is_trace = trace;
@@ -85,24 +88,24 @@ module _ {W : Type 0} (contents : W → Option (List ℕ)) (from : Counted W) wh
   left_of (write.WriteFailed written) w cut failed = record { cut = cut; heard = failed (λ q. let no : ⊥ = cc in no) }
 
   -- the record was not written
-  pub left_refused : (t : ATrace) (old new : TraceWriter W) (client : ℕ) (op : Op) (e : WriteFault) → HasWritten contents from t old → HasTurn old.counts client → IsOp op
+  pub left_refused : (t : ATrace) (old new : TraceWriter W) (client : ℕ) (op : Operation) (e : WriteFault) → HasWritten contents from t old → HasTurn old.counts client → IsOp t.format op
       → IsUnwritten (record_frame old.counts client op) old.written (contents (inner old.writer)) (contents (inner new.writer)) e
       → (e ≢ write.Memory → Failed (failures old.writer) (failures new.writer)) → HasLeft contents from (fault_of e) new.writer
   left_refused t old new client op e h room is unwritten failed =
       left_of e new.writer
-      (add_cut (contents (inner from)) (contents (inner old.writer)) (contents (inner new.writer)) (beginning t) old.counts old.written client op e (begun_of t old h) room is unwritten)
+      (add_cut (contents (inner from)) (contents (inner old.writer)) (contents (inner new.writer)) (beginning t) old.counts old.written client op e (begun_of t old h) room (subst (λ (f : Format). IsOp f op) (sym h.counts.format) is) unwritten)
       (λ q. subst (λ (n : ℕ). Failed n (failures new.writer)) h.heard (failed q))
 
   -- an operation more was taken
   pub taken_more : (tolds : List Told) (told : Told) (old new : Importer W) (client : ℕ) → HasTaken contents from tolds old → new.clients ≡ old.clients
       → new.names ≡ with_name old.names told.name → new.operations ≡ min (old.operations + 1) 18446744073709551615 → client ≡ number_of old.names told.name
-      → HasTurn old.writer.counts client → HasWritten contents from (grown (trace_to old.clients tolds) (record { client = client; op = told.op })) new.writer
+      → HasTurn old.writer.counts client → HasWritten contents from (grown (trace_to old.clients tolds) (record { client = client; op = operation_of told.op })) new.writer
       → HasTaken contents from (tolds ++ told ∷ []) new
   taken_more tolds told old new client h clients names operations number room wrote =
       let many : length (trace_to old.clients tolds).records ≡ length tolds = length-map tolds (record_of (names_of tolds)) in
       let entered : client ≡ number_of (names_of tolds) told.name = number ∙ ap (λ (ns : List (List ℕ)). number_of ns told.name) h.names in
-      let trace : grown (trace_to old.clients tolds) (record { client = client; op = told.op }) ≡ trace_to new.clients (tolds ++ told ∷ []) =
-      ap (λ (k : ℕ). grown (trace_to old.clients tolds) (record { client = k; op = told.op })) entered ∙ sym (trace_more old.clients tolds told)
+      let trace : grown (trace_to old.clients tolds) (record { client = client; op = operation_of told.op }) ≡ trace_to new.clients (tolds ++ told ∷ []) =
+      ap (λ (k : ℕ). grown (trace_to old.clients tolds) (record { client = k; op = operation_of told.op })) entered ∙ sym (trace_more old.clients tolds told)
       ∙ ap (λ (k : ℕ). trace_to k (tolds ++ told ∷ [])) (sym clients) in
       record {
         names = names ∙ ap (λ (ns : List (List ℕ)). with_name ns told.name) h.names ∙ sym (names_more tolds told);
@@ -112,23 +115,23 @@ module _ {W : Type 0} (contents : W → Option (List ℕ)) (from : Counted W) wh
 
   -- ---- the head and the end
 
-  pub left_new : (w : Counted W) (clients : ℕ) (e : WriteFault) → clients < 2 ^ 16 → IsUnwritten (head_frame clients) 0 (contents (inner from)) (contents (inner w)) e
+  pub left_new : (w : Counted W) (clients : ℕ) (e : WriteFault) → clients < 2 ^ 16 → IsUnwritten (head_frame One clients) 0 (contents (inner from)) (contents (inner w)) e
       → (e ≢ write.Memory → Failed (failures from) (failures w)) → HasLeft contents from (fault_of e) w
-  left_new w clients e few unwritten failed = left_of e w (new_cut (contents (inner from)) (contents (inner w)) clients e few unwritten) failed
+  left_new w clients e few unwritten failed = left_of e w (new_cut (contents (inner from)) (contents (inner w)) One clients e few unwritten) failed
 
   -- no operation was taken
-  pub taken_none : (i : Importer W) → i.names ≡ [] → i.operations ≡ 0 → i.clients < 2 ^ 16 → Appends (contents (inner from)) (contents (inner i.writer.writer)) (head_frame i.clients)
-      → i.writer.counts ≡ nothing i.clients → i.writer.written ≡ more_written 0 (length (head_frame i.clients)) → failures i.writer.writer ≡ failures from → HasTaken contents from [] i
+  pub taken_none : (i : Importer W) → i.names ≡ [] → i.operations ≡ 0 → i.clients < 2 ^ 16 → Appends (contents (inner from)) (contents (inner i.writer.writer)) (head_frame One i.clients)
+      → i.writer.counts ≡ nothing One i.clients → i.writer.written ≡ more_written 0 (length (head_frame One i.clients)) → failures i.writer.writer ≡ failures from → HasTaken contents from [] i
   taken_none i names operations few head counts written heard =
       let t = trace_to i.clients [] in
-      let trace = IsTrace-none i.clients few in
-      let same : beginning t ≡ head_frame i.clients = beginning-none i.clients in
+      let trace = IsTrace-none One i.clients few in
+      let same : beginning t ≡ head_frame One i.clients = beginning-none One i.clients in
       record {
         names = names;
         operations = operations;
         wrote = record {
           is_trace = trace;
-          counts = subst (AreCountsOf t) (sym counts) (counts_none i.clients);
+          counts = subst (AreCountsOf t) (sym counts) (counts_none One i.clients);
           in_all = omega (arith, written, ap length same, front_len (Some t) trace);
           appends = subst (Appends (contents (inner from)) (contents (inner i.writer.writer))) (sym same) head;
           heard = heard;

@@ -1,8 +1,9 @@
 -- What lines tell, and the trace of it.
 use Rattle.std.specs.Prelude.{◌≡◌, ◌==◌, ℕ, false, List, [], ◌∷◌, ◌++◌, Option, None, Some, length, map, fold}
 use Rattle.std.specs.List.{All, slice_split}
-use Rattle.cops_trace.specs.Text.{ATrace}
-use Rattle.cops_trace.specs.declared.record.Record.{Record}
+use Rattle.cops_types.specs.Operations.{operation_of}
+use Rattle.cops_types.specs.declared.format.Format.TheVariants.{One}
+use Rattle.cops_trace.specs.Text.{ARecord, ATrace}
 use Rattle.cops_import.specs.Line.{LineTells}
 use Rattle.cops_import.specs.Names.{number_of, with_name}
 use Rattle.cops_import.specs.declared.line.Told.{Told}
@@ -34,9 +35,9 @@ abbrev pub names_of : List Told → List (List ℕ)
 names_of tolds = fold (λ names told. with_name names told.name) [] tolds
 
 -- the record of what a client did, whose name stands among these
-abbrev pub record_of : List (List ℕ) → Told → Record
-record_of names told = record { client = number_of names told.name; op = told.op }
+abbrev pub record_of : List (List ℕ) → Told → ARecord
+record_of names told = record { client = number_of names told.name; op = operation_of told.op }
 
--- a record for each, in their order, of so many clients as there are names
+-- a record for each, in their order, of the first format and so many clients as there are names
 abbrev pub trace_of : List Told → ATrace
-trace_of tolds = record { clients = length (names_of tolds); records = map (record_of (names_of tolds)) tolds }
+trace_of tolds = record { format = One; clients = length (names_of tolds); records = map (record_of (names_of tolds)) tolds }

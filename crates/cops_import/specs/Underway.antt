@@ -17,7 +17,7 @@ use Rattle.cops_import.specs.declared.line.Told.{Told}
 
 -- the trace of what was told so far, of which the number of clients was said before
 abbrev pub trace_to : ℕ → List Told → ATrace
-trace_to clients tolds = record { clients = clients; records = (trace_of tolds).records }
+trace_to clients tolds = record (trace_of tolds) { clients = clients }
 
 -- head and records of a trace went out, and the writer did not fail
 pub record HasWritten {W : Type 0} (contents : W → Option (List ℕ)) (from : Counted W) (t : ATrace) (w : TraceWriter W) : Type 0 where

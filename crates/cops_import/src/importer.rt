@@ -2,6 +2,8 @@
 ghost use Rattle.std.specs.Prelude.{◌≡◌, ◌≢◌, [], ◌∷◌, ◌++◌, List, ℕ, length, IfErr, IfNone, IfOk, IfSome, OnOk};
 ghost use Rattle.cops_import.specs.Lines.{IsWithin};
 ghost use Rattle.cops_types.specs.declared.counted.Counted.{Counted as ACounted};
+ghost use Rattle.cops_types.specs.Operations.{operation_of};
+ghost use Rattle.cops_types.specs.declared.format.Format.TheVariants.{One};
 ghost use Rattle.cops_trace.specs.Text.{IsOp};
 ghost use Rattle.cops_import.specs.declared.line.Told.{Told as ATold};
 ghost use Rattle.cops_import.specs.Faults.{IsFaultOf};
@@ -65,7 +67,7 @@ impl<W: Write> Importer<W> {
 
     /// Takes what the client of a name did, which the line of this number told.
     fn take(&mut self, name: Name, op: &Op, number: u64) -> Result<(), ImportFault>
-        requires { IsOp op.now }
+        requires { IsOp One (operation_of op.now) }
         ensures ok { OnOk result ((from : ACounted W) (tolds : List ATold) → HasTaken W.contents from tolds self.old → HasTaken W.contents from (tolds ++ record { name = name; op = op.now } ∷ []) self.new) }
         ensures err { IfErr result (λ e. (from : ACounted W) (tolds : List ATold) → HasTaken W.contents from tolds self.old → HasLeft W.contents from e self.new.writer.writer) }
         ensures stop { IfErr result (λ e. (from : ACounted W) (tolds : List ATold) → HasTaken W.contents from tolds self.old → IsStopOf self.old.clients number tolds (record { name = name; op = op.now }) e) }

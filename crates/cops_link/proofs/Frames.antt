@@ -5,8 +5,8 @@ use Rattle.cops_types.specs.declared.format.Format.TheVariants.{One}
 use Rattle.cops_types.specs.declared.put_record.PutRecord.{PutRecord}
 use Rattle.cops_wire.specs.declared.decoding.Decoded.{Decoded}
 use Rattle.cops_wire.specs.declared.fault.WireFault.{WireFault}
-use Rattle.cops_wire.specs.declared.fault.WireFault.TheVariants.{Memory, Short, BadLength, UnknownKind, BadField, TrailingBytes}
-use Rattle.cops_wire.specs.Grammar.{grammar, Parts}
+use Rattle.cops_wire.specs.declared.fault.WireFault.TheVariants.{Memory}
+use Rattle.cops_wire.specs.Grammar.{grammar_one, Parts}
 use Rattle.cops_wire.specs.Message.{parts}
 use Rattle.cops_wire.specs.Replicated.{put_after}
 use Rattle.cops_wire.specs.Answer.{IsAnswer, Answers}
@@ -15,18 +15,14 @@ use Rattle.cops_wire.proofs.Messages.{parts-same}
 use Rattle.cops_link.specs.Frame.{spelled, IsPutAfter}
 
 -- The bytes of a put's message are answered by that message.
-pub answered : (bytes again : List ℕ) → again ≡ bytes → (is : IsPutAfter bytes) → IsAnswer (grammar One) again (Ok (parts (put_after is.0), length (spelled is.0)))
+pub answered : (bytes again : List ℕ) → again ≡ bytes → (is : IsPutAfter bytes) → IsAnswer grammar_one again (Ok (parts (put_after is.0), length (spelled is.0)))
 answered bytes again same is =
-    subst (λ x. IsAnswer (grammar One) x (Ok (parts (put_after is.0), length (spelled is.0)))) (append-nil _ ∙ is.2 ∙ sym same) (spelling_answered One (parts (put_after is.0)) [] is.1)
+    subst (λ x. IsAnswer grammar_one x (Ok (parts (put_after is.0), length (spelled is.0)))) (append-nil _ ∙ is.2 ∙ sym same) (spelling_answered One (parts (put_after is.0)) [] is.1)
 
 -- The only fault beside an answer is want of memory.
 pub only_memory : (e : WireFault) (a : Parts × ℕ) → Answers (Err e) (λ b. b ≡ Ok a) → e ≡ Memory
 only_memory Memory a is = refl
-only_memory Short a is = cc
-only_memory BadLength a is = cc
-only_memory UnknownKind a is = cc
-only_memory (BadField offset) a is = cc
-only_memory TrailingBytes a is = cc
+only_memory _ a is = cc
 
 -- A message with the parts of a put's message is that message.
 pub same_message : (d : Decoded) (put : PutRecord) (used : ℕ) → Answers (Ok d) (λ b. b ≡ Ok (parts (put_after put), used)) → d.message ≡ put_after put

@@ -1,16 +1,15 @@
 -- The frames that a link carries.
 use Rattle.std.specs.Prelude.{◌≡◌, ℕ, List}
-use Rattle.cops_types.specs.declared.format.Format.TheVariants.{One}
 use Rattle.cops_types.specs.declared.put_record.PutRecord.{PutRecord}
-use Rattle.cops_wire.specs.Grammar.{grammar, spelling}
-use Rattle.cops_wire.specs.Legal.{IsMessage}
+use Rattle.cops_wire.specs.Grammar.{grammar_one, spelling}
+use Rattle.cops_wire.specs.Legal.{IsLegalMessage}
 use Rattle.cops_wire.specs.Message.{parts}
 use Rattle.cops_wire.specs.Replicated.{put_after}
 
 -- the bytes of the message that replicates a put
 abbrev pub spelled : PutRecord → List ℕ
-spelled put = spelling (grammar One) (parts (put_after put))
+spelled put = spelling grammar_one (parts (put_after put))
 
 -- these bytes replicate a put whose fields are within their ranges
 abbrev pub IsPutAfter : List ℕ → Type 0
-IsPutAfter bytes = (put : PutRecord) × IsMessage (grammar One) (parts (put_after put)) × (spelled put ≡ bytes)
+IsPutAfter bytes = (put : PutRecord) × IsLegalMessage (put_after put) × (spelled put ≡ bytes)

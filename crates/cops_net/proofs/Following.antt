@@ -1,7 +1,7 @@
 -- Sessions, one after the other.
 use Rattle.std.proofs.Common.{ℕ, ◌+◌, List, [], ◌∷◌, ◌++◌, Result, Ok, Err, refl, add-one, inl, inr}
 use Rattle.cops_net.specs.declared.fault.NetFault.{NetFault}
-use Rattle.cops_net.specs.declared.fault.NetFault.TheVariants.{Memory, Wire, ReadFailed, WriteFailed, TurnLimit, BindFailed, AcceptFailed}
+use Rattle.cops_net.specs.declared.fault.NetFault.TheVariants.{Memory, Wire, ReadFailed, WriteFailed, TurnLimit}
 use Rattle.cops_net.specs.declared.reply.Call.{Call}
 use Rattle.cops_net.specs.declared.serving.Served.{Served}
 use Rattle.cops_net.specs.Sessions.{Serves}
@@ -16,8 +16,7 @@ is_session P input calls written (Err (Wire fault)) s = (s.0, s.3.called)
 is_session P input calls written (Err ReadFailed) s = (s.0, s.3.called)
 is_session P input calls written (Err WriteFailed) s = (s.0 ++ s.3.0 ∷ [], s.3.1.called)
 is_session P input calls written (Err TurnLimit) s = (s.0, s.3.2.called)
-is_session P input calls written (Err BindFailed) s = absurd s
-is_session P input calls written (Err AcceptFailed) s = absurd s
+is_session P input calls written (Err _) s = absurd s
 
 -- one session more
 pub session_more : (n : ℕ) (before last : List Call) → AreSessions n before → IsSession last → AreSessions (n + 1) (before ++ last)

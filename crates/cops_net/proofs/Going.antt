@@ -10,7 +10,7 @@ use Rattle.std.proofs.lemmas.Grind.{flat_map-append}
 use Rattle.cops_wire.specs.Legal.{IsLegalMessage}
 use Rattle.cops_wire.specs.declared.message.Message.{Message}
 use Rattle.cops_net.specs.declared.fault.NetFault.{NetFault}
-use Rattle.cops_net.specs.declared.fault.NetFault.TheVariants.{Memory, Wire, ReadFailed, WriteFailed, TurnLimit, BindFailed, AcceptFailed}
+use Rattle.cops_net.specs.declared.fault.NetFault.TheVariants.{Memory, Wire, ReadFailed, WriteFailed, TurnLimit}
 use Rattle.cops_net.specs.declared.reply.Call.{Call}
 use Rattle.cops_net.specs.declared.serving.TheConstants.{MAX_MESSAGES}
 use Rattle.cops_net.specs.Protocol.{AreCallsOf, replies, welcomes}
@@ -85,10 +85,7 @@ pub ends_reading : (P : Type 0) (ms : List Message) (input : List ℕ) (calls : 
 ends_reading P ms input calls written rest more left Memory stays a t = (ms, rest ++ more, stays, inl (more_came ms input calls written rest more a))
 ends_reading P ms input calls written rest more left (Wire fault) stays a t = (ms, rest ++ more, stays, more_came ms input calls written rest more a, t)
 ends_reading P ms input calls written rest more left ReadFailed stays a t = (ms, rest ++ more, stays, more_came ms input calls written rest more a, t)
-ends_reading P ms input calls written rest more left WriteFailed stays a t = absurd t
-ends_reading P ms input calls written rest more left TurnLimit stays a t = absurd t
-ends_reading P ms input calls written rest more left BindFailed stays a t = absurd t
-ends_reading P ms input calls written rest more left AcceptFailed stays a t = absurd t
+ends_reading P ms input calls written rest more left _ stays a t = absurd t
 
 -- the input ended behind a message
 pub ends_input : (P : Type 0) (ms : List Message) (input : List ℕ) (calls : List Call) (written rest more left : List ℕ) (n : ℕ)
@@ -129,11 +126,7 @@ ends_answering P ms input calls written rest m more left gained out WriteFailed 
         (sym (take-append-drop n (spelled reply))) (λ e. absurd (omega (arith, ap length e, length-drop n (spelled reply), fewer)))),
   ),
 )
-ends_answering P ms input calls written rest m more left gained out (Wire fault) stays a l k t = absurd t
-ends_answering P ms input calls written rest m more left gained out ReadFailed stays a l k t = absurd t
-ends_answering P ms input calls written rest m more left gained out TurnLimit stays a l k t = absurd t
-ends_answering P ms input calls written rest m more left gained out BindFailed stays a l k t = absurd t
-ends_answering P ms input calls written rest m more left gained out AcceptFailed stays a l k t = absurd t
+ends_answering P ms input calls written rest m more left gained out _ stays a l k t = absurd t
 
 -- one message too many
 pub ends_full : (P : Type 0) (ms : List Message) (input : List ℕ) (calls : List Call) (written rest : List ℕ) (m : Message) (more left : List ℕ)

@@ -63,26 +63,7 @@ replies_ignore greeted ms calls more h =
 
 pub bye_only : (m : Message) → is_bye m ≡ true → m ≡ message.Bye
 bye_only message.Bye e = refl
-bye_only (message.Hello _ _) e = absurd cc
-bye_only (message.HelloOk _ _) e = absurd cc
-bye_only (message.Put _ _ _) e = absurd cc
-bye_only (message.Get _ _) e = absurd cc
-bye_only (message.PutDone _ _) e = absurd cc
-bye_only (message.Got _ _ _) e = absurd cc
-bye_only (message.Missed _) e = absurd cc
-bye_only (message.Refused _ _) e = absurd cc
-bye_only (message.PutAfter _ _ _ _) e = absurd cc
-bye_only (message.DepCheck _ _ _) e = absurd cc
-bye_only (message.DepYes _) e = absurd cc
-bye_only (message.DepWait _) e = absurd cc
-bye_only (message.Status _ _) e = absurd cc
-bye_only (message.StatusIs _ _ _ _ _) e = absurd cc
-bye_only message.ByeOk e = absurd cc
-bye_only (message.TraceHead _ _) e = absurd cc
-bye_only (message.TracePut _ _ _ _ _) e = absurd cc
-bye_only (message.TraceGot _ _ _ _ _) e = absurd cc
-bye_only (message.TraceMissed _ _ _) e = absurd cc
-bye_only (message.TraceEnd _) e = absurd cc
+bye_only _ e = absurd cc
 
 pub one_reply : (greeted : Bool) (ms : List Message) (calls : List Call) → AreCallsOf greeted ms calls → length (replies greeted ms calls) ≡ length ms
 one_reply greeted [] calls h = refl

@@ -2,7 +2,7 @@
 use Rattle.std.specs.Prelude.{◌≡◌, ℕ, zero, suc, ◌<◌, ◌≤◌, false, List, [], ◌++◌, Result, Ok, Err}
 use Rattle.cops_wire.specs.declared.message.Message.{Message}
 use Rattle.cops_net.specs.declared.fault.NetFault.{NetFault}
-use Rattle.cops_net.specs.declared.fault.NetFault.TheVariants.{Memory, Wire, ReadFailed, WriteFailed, TurnLimit, BindFailed, AcceptFailed}
+use Rattle.cops_net.specs.declared.fault.NetFault.TheVariants.{Memory, BindFailed, AcceptFailed}
 use Rattle.cops_net.specs.declared.reply.Call.{Call}
 use Rattle.cops_net.specs.Protocol.{AreCallsOf}
 
@@ -32,7 +32,4 @@ IsCount asked begun (Ok u) = begun ≡ asked
 IsCount asked begun (Err Memory) = (0 < begun) × (begun ≤ asked)
 IsCount asked begun (Err AcceptFailed) = begun < asked
 IsCount asked begun (Err BindFailed) = begun ≡ 0
-IsCount asked begun (Err (Wire fault)) = ⊥
-IsCount asked begun (Err ReadFailed) = ⊥
-IsCount asked begun (Err WriteFailed) = ⊥
-IsCount asked begun (Err TurnLimit) = ⊥
+IsCount asked begun (Err _) = ⊥

@@ -2,18 +2,17 @@
 -- that it wrote.
 use Rattle.std.specs.Prelude.{◌≡◌, ◌≢◌, ℕ, ◌⊎◌, Bool, true, false, List, [], ◌∷◌, ◌++◌, length, All, Result, Ok, Err}
 use Rattle.std.specs.List.{flat_map, list_any}
-use Rattle.cops_types.specs.declared.format.Format.TheVariants.{One}
 use Rattle.cops_wire.specs.declared.fault.WireFault.{WireFault}
 use Rattle.cops_wire.specs.declared.fault.WireFault.TheVariants as wire
 use Rattle.cops_wire.specs.declared.message.Message.{Message}
 use Rattle.cops_wire.specs.declared.message.Message.TheVariants.{Bye}
-use Rattle.cops_wire.specs.Grammar.{grammar}
+use Rattle.cops_wire.specs.Grammar.{grammar_one}
 use Rattle.cops_wire.specs.Legal.{IsLegalMessage}
 use Rattle.cops_wire.specs.Message.{spelled}
 use Rattle.cops_wire.specs.Answer.{IsShort}
 use Rattle.cops_wire.specs.Feeding.{IsStopped}
 use Rattle.cops_net.specs.declared.fault.NetFault.{NetFault}
-use Rattle.cops_net.specs.declared.fault.NetFault.TheVariants.{Memory, Wire, ReadFailed, WriteFailed, TurnLimit, BindFailed, AcceptFailed}
+use Rattle.cops_net.specs.declared.fault.NetFault.TheVariants.{Memory, Wire, ReadFailed, WriteFailed, TurnLimit}
 use Rattle.cops_net.specs.declared.reply.Call.{Call}
 use Rattle.cops_net.specs.declared.serving.Served.{Served}
 use Rattle.cops_net.specs.declared.serving.TheConstants.{MAX_MESSAGES}
@@ -60,12 +59,8 @@ IsOver at_end ms rest =
 
 -- why no further message was taken from the rest: it is not whole and the input ended, or it has a fault
 abbrev pub IsWrong : Type 0 → List ℕ → WireFault → Type 0
-IsWrong at_end rest wire.Memory = ⊥
-IsWrong at_end rest wire.Short = (rest ≢ []) × IsShort (grammar One) rest × at_end
-IsWrong at_end rest wire.BadLength = IsStopped rest wire.BadLength
-IsWrong at_end rest wire.UnknownKind = IsStopped rest wire.UnknownKind
-IsWrong at_end rest (wire.BadField offset) = IsStopped rest (wire.BadField offset)
-IsWrong at_end rest wire.TrailingBytes = IsStopped rest wire.TrailingBytes
+IsWrong at_end rest wire.Short = (rest ≢ []) × IsShort grammar_one rest × at_end
+IsWrong at_end rest fault = IsStopped grammar_one rest fault
 
 -- What a session did, by its answer. `at_end` says that the reader has no more.
 abbrev pub Serves : Type 0 → List ℕ → List Call → List ℕ → Result Served NetFault → Type 0
@@ -78,12 +73,11 @@ Serves at_end input calls written (Err Memory) =
 Serves at_end input calls written (Err (Wire fault)) =
     (ms : List Message) × (rest : List ℕ) × StaysOpen ms × Answered ms input calls written rest × IsWrong at_end rest fault
 Serves at_end input calls written (Err ReadFailed) =
-    (ms : List Message) × (rest : List ℕ) × StaysOpen ms × Answered ms input calls written rest × IsShort (grammar One) rest
+    (ms : List Message) × (rest : List ℕ) × StaysOpen ms × Answered ms input calls written rest × IsShort grammar_one rest
 Serves at_end input calls written (Err WriteFailed) =
     (ms : List Message) × (rest : List ℕ) × StaysOpen ms × ((last : Message) × BrokeOff ms last input calls written rest)
 Serves at_end input calls written (Err TurnLimit) =
     (ms : List Message) × (rest : List ℕ) × StaysOpen ms
     × ((last : Message) × IsLegalMessage last × Answered ms input calls written (spelled last ++ rest))
     × (length ms ≡ MAX_MESSAGES)
-Serves at_end input calls written (Err BindFailed) = ⊥
-Serves at_end input calls written (Err AcceptFailed) = ⊥
+Serves at_end input calls written (Err _) = ⊥

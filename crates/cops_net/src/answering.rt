@@ -1,10 +1,7 @@
 //! A message and its reply.
 ghost use Rattle.std.specs.Prelude.{◌≡◌, ◌++◌, ◌∷◌, [], List, true, IfOk, OnErr};
 ghost use Rattle.std.specs.Io.KnownBytes.{Appends};
-ghost use Rattle.cops_types.specs.declared.format.Format.TheVariants.{One};
-ghost use Rattle.cops_wire.specs.Grammar.{grammar};
-ghost use Rattle.cops_wire.specs.Legal.{IsMessage};
-ghost use Rattle.cops_wire.specs.Message.{parts};
+ghost use Rattle.cops_wire.specs.Legal.{IsLegalMessage};
 ghost use Rattle.cops_net.specs.declared.reply.Call.{Call as ACall};
 ghost use Rattle.cops_net.specs.Answers.{IsWelcome, IsStanding};
 ghost use Rattle.cops_net.specs.Protocol.{seq_of, is_handed, Hands, told, welcome, outcome, standing, capped, welcomes};
@@ -21,7 +18,7 @@ use std::sync::Wait;
 fn welcome(answer: Result<(u8, u8), Refusal>) -> Message
     requires { IsWelcome answer }
     ensures message { result ≡ welcome 0 answer }
-    ensures legal { IsMessage (grammar One) (parts result) }
+    ensures legal { IsLegalMessage result }
 {
     match answer {
         Ok((dc, nodes)) => Message::HelloOk { dc, nodes },
@@ -32,7 +29,7 @@ fn welcome(answer: Result<(u8, u8), Refusal>) -> Message
 /// A node's answer as a message.
 fn outcome(seq: u32, reply: Reply) -> Message
     ensures message { result ≡ outcome seq reply }
-    ensures legal { IsMessage (grammar One) (parts result) }
+    ensures legal { IsLegalMessage result }
 {
     match reply {
         Reply::PutDone(version) => {
@@ -66,7 +63,7 @@ fn capped(count: u64) -> u32
 fn standing(seq: u32, status: Option<NodeStatus>) -> Message
     requires { IsStanding status }
     ensures message { result ≡ standing seq status }
-    ensures legal { IsMessage (grammar One) (parts result) }
+    ensures legal { IsLegalMessage result }
 {
     match status {
         Some(status) => Message::StatusIs {
@@ -86,7 +83,7 @@ fn ask<R: Wait, S: Session>(rt: &R, session: &mut S, greeted: bool, message: Mes
     requires room { S.has_room session.old }
     ensures told { (call : ACall) × (S.calls session.new ≡ S.calls session.old ++ call ∷ [])
         × Hands message call × (result ≡ told (seq_of message) call) × (is_welcome result ≡ welcomes call) }
-    ensures legal { IsMessage (grammar One) (parts result) }
+    ensures legal { IsLegalMessage result }
     ensures ended { S.ended session.new ≡ S.ended session.old }
 {
     let _greeted = greeted;
@@ -113,7 +110,7 @@ pub(crate) fn answer<R: Wait, S: Session>(
     ensures ok { IfOk result (λ reply. (gained : List ACall) × (S.calls session.new ≡ S.calls session.old ++ gained)
         × IsTurn greeted message gained reply) }
     ensures err { OnErr result (S.calls session.new ≡ S.calls session.old) }
-    ensures legal { IfOk result (λ reply. IsMessage (grammar One) (parts reply)) }
+    ensures legal { IfOk result (λ reply. IsLegalMessage reply) }
     ensures ended { S.ended session.new ≡ S.ended session.old }
 {
     if !is_handed(greeted, &message) {

@@ -1,6 +1,7 @@
 //! Messages from a reader.
 ghost use Rattle.std.specs.Prelude.{◌≡◌, ◌≢◌, ◌++◌, ◌+◌, ◌<◌, ◌^◌, ◌⊎◌, List, ℕ, length, None, Ok, Err, IsErrOf, OnOk, OnErr};
 ghost use Rattle.std.specs.Io.KnownBytes.{Consumes, IsAtEnd};
+ghost use Rattle.cops_types.specs.declared.format.Format.TheVariants.{One};
 ghost use Rattle.cops_types.specs.Failures.{Failed};
 ghost use Rattle.cops_types.specs.Counted.{failures, inner};
 ghost use Rattle.cops_net.specs.Turns.{IsTaken, IsFront};
@@ -20,6 +21,7 @@ pub(crate) struct Incoming {
     feeder: Feeder,
     waiting: usize,
     ghost counts: { waiting ≡ length feeder.rest },
+    ghost format: { feeder.format ≡ One },
 }
 
 impl Incoming {

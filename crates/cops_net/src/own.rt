@@ -1,11 +1,8 @@
 //! What the front door answers itself.
 ghost use Rattle.std.specs.Prelude.{◌≡◌, false};
-ghost use Rattle.cops_types.specs.declared.format.Format.TheVariants.{One};
 ghost use Rattle.cops_types.specs.Refusal.{code_of};
 ghost use Rattle.cops_wire.specs.declared.message.Message.TheVariants.{Refused};
-ghost use Rattle.cops_wire.specs.Grammar.{grammar};
-ghost use Rattle.cops_wire.specs.Legal.{IsMessage};
-ghost use Rattle.cops_wire.specs.Message.{parts};
+ghost use Rattle.cops_wire.specs.Legal.{IsLegalMessage};
 ghost use Rattle.cops_net.specs.Protocol.{seq_of, is_handed, own_reply};
 ghost use Rattle.cops_net.specs.Sessions.{is_bye};
 ghost use Rattle.cops_net.specs.Turns.{is_welcome};
@@ -67,7 +64,7 @@ pub(crate) fn is_welcome(message: &Message) -> bool
 /// The reply that tells a refusal.
 pub(crate) fn refused(seq: u32, refusal: Refusal) -> Message
     ensures reply { result ≡ Refused seq (code_of refusal) }
-    ensures legal { IsMessage (grammar One) (parts result) }
+    ensures legal { IsLegalMessage result }
 {
     let code = refusal.code();
     Message::Refused { seq, code }
@@ -77,7 +74,7 @@ pub(crate) fn refused(seq: u32, refusal: Refusal) -> Message
 pub(crate) fn own_reply(greeted: bool, message: &Message) -> Message
     requires { is_handed greeted message.now ≡ false }
     ensures reply { result ≡ own_reply greeted message.now }
-    ensures legal { IsMessage (grammar One) (parts result) }
+    ensures legal { IsLegalMessage result }
     ensures no_welcome { is_welcome result ≡ false }
 {
     let refusal = match message {

@@ -3,11 +3,8 @@ ghost use Rattle.std.specs.Prelude.{◌≡◌, ◌++◌, ◌⊎◌, List, ℕ, I
 ghost use Rattle.std.specs.Io.KnownBytes.{Appends, Consumes, IsAtEnd};
 ghost use Rattle.cops_types.specs.Failures.{Failed};
 ghost use Rattle.cops_types.specs.Counted.{failures, inner};
-ghost use Rattle.cops_types.specs.declared.format.Format.TheVariants.{One};
 ghost use Rattle.cops_wire.specs.declared.message.Message.{Message as AMessage};
-ghost use Rattle.cops_wire.specs.Grammar.{grammar};
-ghost use Rattle.cops_wire.specs.Legal.{IsMessage};
-ghost use Rattle.cops_wire.specs.Message.{parts};
+ghost use Rattle.cops_wire.specs.Legal.{IsLegalMessage};
 ghost use Rattle.cops_net.specs.declared.reply.Call.{Call};
 ghost use Rattle.cops_net.specs.Sessions.{Serves};
 ghost use Rattle.cops_net.specs.Turns.{IsTurn, IsAnswered};
@@ -43,7 +40,7 @@ fn write_reply<W: Write>(
     greeted: bool,
     reply: &Message,
 ) -> Result<bool, NetFault>
-    requires { IsMessage (grammar One) (parts reply.now) }
+    requires { IsLegalMessage reply.now }
     ensures answered { (message : AMessage) (gained : List Call) → IsTurn greeted message gained reply.now
         → (written : List ℕ) × Appends (W.contents (inner writer.old)) (W.contents (inner writer.new)) written
         × IsAnswered greeted message gained written result }

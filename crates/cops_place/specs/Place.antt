@@ -3,6 +3,7 @@ use Rattle.std.specs.Prelude.{◌≡◌, ℕ, ◌<◌, ◌≤◌, Bool, true, Li
 use Rattle.std.specs.Cmp.Lexicographic.{slice_cmp}
 use Rattle.std.specs.List.{AllAdjacentBelow}
 use Rattle.std.specs.Ordering.{is_le, is_lt, nat_cmp}
+use Rattle.cops_types.specs.declared.format.Format.{Format}
 use Rattle.cops_types.specs.declared.limits.TheConstants.{MAX_CLIENTS, MAX_DCS}
 use Rattle.cops_place.specs.declared.place.TheConstants.{MAX_SPLITS}
 
@@ -34,8 +35,9 @@ pub record IsPlace (p : APlace) : Type 0 where
   pub range : IsInRange p.dcs p.splits
   pub ascending : AreAscending p.splits
 
--- what never changes: where keys live, and the data centre of each client
+-- what never changes: the format, whose limits hold, where keys live, and the data centre of each client
 pub record Setting : Type 0 where
+  pub format : Format
   pub place : APlace
   pub homes : List ℕ
 

@@ -1,14 +1,15 @@
 ghost use Rattle.std.specs.Prelude.{◌≡◌, ◌<◌, ◌↔◌, All, IsTrue};
 
 use crate::place::Place;
-use cops_types::{Key, MAX_CLIENTS};
+use cops_types::{Format, Key, MAX_CLIENTS};
 use std::alloc::AllocError;
 use std::marker::Model;
 
-/// What never changes in a cluster: where keys live, and the data centre of each client, at most 65,535, each of which
-/// is there.
+/// What never changes in a cluster: the format, whose limits hold, where keys live, and the data centre of each client,
+/// at most 65,535, each of which is there.
 #[derive(Debug, Drop)]
 pub struct Setting {
+    format: Format,
     place: Place,
     homes: Vec<u8>,
 }
@@ -18,9 +19,9 @@ impl Model for Setting {
 
     ghost Value = { ASetting };
 
-    ghost view = { λ s. record { place = s.place; homes = s.homes.items } };
+    ghost view = { λ s. record { format = s.format; place = s.place; homes = s.homes.items } };
 
-    ghost invariant = { λ s. IsSetting (record { place = s.place; homes = s.homes.items }) };
+    ghost invariant = { λ s. IsSetting (record { format = s.format; place = s.place; homes = s.homes.items }) };
 }
 
 impl Setting {
@@ -28,15 +29,27 @@ impl Setting {
     ghost use Rattle.cops_place.specs.Clients.{AreClients};
     ghost use Rattle.cops_place.specs.Place.{IsSetting, home, primary_in};
 
-    /// The setting: none where a client's data centre is not there, or there are more than 65,535 clients.
+    /// The setting, in format 1: none where a client's data centre is not there, or there are more than 65,535 clients.
     pub fn new(place: Place, homes: Vec<u8>) -> Option<Self>
-        ensures some { IfSome result (λ setting. setting ≡ record { place = place; homes = homes.items }) }
+        ensures some { IfSome result (λ setting. setting ≡ record { format = Format.One; place = place; homes = homes.items }) }
         ensures none { IfNone result (AreClients place homes.items → ⊥) }
     {
         if homes.len() > usize::from(MAX_CLIENTS) || !are_below(&homes, place.dcs()) {
             return None;
         }
-        Some(Setting { place, homes })
+        Some(Setting {
+            format: Format::One,
+            place,
+            homes,
+        })
+    }
+
+    /// The format, whose limits hold.
+    pub fn format(&self) -> Format
+        ensures format { result ≡ self.now.format }
+        ensures setting { IsSetting self.now }
+    {
+        self.format
     }
 
     /// Where keys live, and in how many data centres.
@@ -105,6 +118,7 @@ impl Clone for Setting {
 
     fn clone(&self) -> Result<Setting, AllocError> {
         Ok(Setting {
+            format: self.format,
             place: self.place.clone()?,
             homes: self.homes.clone()?,
         })

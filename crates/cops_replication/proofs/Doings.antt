@@ -5,9 +5,9 @@ use Rattle.std.proofs.lemmas.Bool.{cases_Bool, cases_lt}
 use Rattle.std.proofs.lemmas.List.{get_or-set_other, get_or-set_same, length-append}
 use Rattle.std.proofs.lemmas.List.Sums.{sum_by-append, sum_by-set, sum_by_push}
 use Rattle.cops_node.specs.declared.event.NodeEvent.{NodeEvent}
-use Rattle.cops_node.specs.declared.event.NodeEvent.TheVariants.{Put, Get, Deliver, Ask, Mark, Settle}
+use Rattle.cops_node.specs.declared.event.NodeEvent.TheVariants.{Put, Mark, Settle}
 use Rattle.cops_node.specs.declared.outcome.Outcome.{Outcome}
-use Rattle.cops_node.specs.declared.outcome.Outcome.TheVariants.{PutDone, Got, Missed, Held, Repeat, Yes, Wait, Marked, Settled, Refused}
+use Rattle.cops_node.specs.declared.outcome.Outcome.TheVariants.{Marked, Settled, Refused}
 use Rattle.cops_types.specs.declared.refusal.Refusal.{Refusal}
 use Rattle.cops_types.specs.declared.refusal.Refusal.TheVariants.{NotHeld, UnknownDc}
 use Rattle.cops_book.specs.Book.{entry}
@@ -45,24 +45,12 @@ advances_none a b node event never most =
 -- a refusal is none
 refused_none : (event : NodeEvent) (refusal : Refusal) → is_advance event (Refused refusal) ≡ false
 refused_none (Put client key value deps) refusal = refl
-refused_none (Get client key) refusal = refl
-refused_none (Deliver put) refusal = refl
-refused_none (Ask key version) refusal = refl
-refused_none (Mark version dep) refusal = refl
-refused_none (Settle version) refusal = refl
+refused_none event refusal = refl
 
 -- nor is what no node answers
 not_of_node : (event : NodeEvent) (outcome : Outcome) → is_of_node outcome ≡ false → is_advance event outcome ≡ false
-not_of_node event (PutDone version) is = absurd (cc)
-not_of_node event (Got value version) is = absurd (cc)
-not_of_node event Missed is = absurd (cc)
-not_of_node event Held is = absurd (cc)
-not_of_node event Repeat is = absurd (cc)
-not_of_node event Yes is = absurd (cc)
-not_of_node event Wait is = absurd (cc)
-not_of_node event Marked is = absurd (cc)
-not_of_node event Settled is = absurd (cc)
 not_of_node event (Refused refusal) is = refused_none event refusal
+not_of_node event outcome is = absurd cc
 
 told_one : (a b : Share) (node : ℕ) (event : NodeEvent) (outcome : Outcome) → Adds a.entries.items b.entries.items node event outcome → advances b ≡ advances a + cond (is_advance event outcome) 1 0
 told_one a b node event outcome adds =
@@ -95,51 +83,19 @@ advances_told c dc place node a b event outcome told none unknown not_held =
 
 pub marked_is : (version dep : ℕ) (outcome : Outcome) → answer_to outcome ≡ WasMarked → is_advance (Mark version dep) outcome ≡ true
 marked_is version dep Marked is = refl
-marked_is version dep Held is = absurd (cc)
-marked_is version dep Repeat is = absurd (cc)
-marked_is version dep Settled is = absurd (cc)
-marked_is version dep (PutDone v) is = absurd (cc)
-marked_is version dep (Got value v) is = absurd (cc)
-marked_is version dep Missed is = absurd (cc)
-marked_is version dep Yes is = absurd (cc)
-marked_is version dep Wait is = absurd (cc)
-marked_is version dep (Refused refusal) is = absurd (cc)
+marked_is version dep outcome is = absurd cc
 
 pub unmarked_is : (version dep : ℕ) (outcome : Outcome) → (answer_to outcome ≡ WasMarked → ⊥) → is_advance (Mark version dep) outcome ≡ false
 unmarked_is version dep Marked other = absurd (other refl)
-unmarked_is version dep Held other = refl
-unmarked_is version dep Repeat other = refl
-unmarked_is version dep Settled other = refl
-unmarked_is version dep (PutDone v) other = refl
-unmarked_is version dep (Got value v) other = refl
-unmarked_is version dep Missed other = refl
-unmarked_is version dep Yes other = refl
-unmarked_is version dep Wait other = refl
-unmarked_is version dep (Refused refusal) other = refl
+unmarked_is version dep outcome other = refl
 
 pub settled_is : (version : ℕ) (outcome : Outcome) → answer_to outcome ≡ WasSettled → is_advance (Settle version) outcome ≡ true
 settled_is version Settled is = refl
-settled_is version Held is = absurd (cc)
-settled_is version Repeat is = absurd (cc)
-settled_is version Marked is = absurd (cc)
-settled_is version (PutDone v) is = absurd (cc)
-settled_is version (Got value v) is = absurd (cc)
-settled_is version Missed is = absurd (cc)
-settled_is version Yes is = absurd (cc)
-settled_is version Wait is = absurd (cc)
-settled_is version (Refused refusal) is = absurd (cc)
+settled_is version outcome is = absurd cc
 
 pub unsettled_is : (version : ℕ) (outcome : Outcome) → (answer_to outcome ≡ WasSettled → ⊥) → is_advance (Settle version) outcome ≡ false
 unsettled_is version Settled other = absurd (other refl)
-unsettled_is version Held other = refl
-unsettled_is version Repeat other = refl
-unsettled_is version Marked other = refl
-unsettled_is version (PutDone v) other = refl
-unsettled_is version (Got value v) other = refl
-unsettled_is version Missed other = refl
-unsettled_is version Yes other = refl
-unsettled_is version Wait other = refl
-unsettled_is version (Refused refusal) other = refl
+unsettled_is version outcome other = refl
 
 -- ---- shares that gain
 

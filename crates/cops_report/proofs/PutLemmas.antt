@@ -4,9 +4,8 @@ use Rattle.std.specs.List.Sorted.{IsNonDecreasingBy, IsPermutation, IsPartitionP
 use Rattle.std.proofs.lemmas.Bool.{cases_lt, ltb-true, ltb-false}
 use Rattle.std.proofs.lemmas.List.{get_or_past, get_or_default, get_or-drop, length-drop, take_rest}
 use Rattle.std.proofs.lemmas.List.Sorted.{Contains-permutation}
-use Rattle.cops_types.specs.declared.op.Op.TheVariants.{Got}
 use Rattle.cops_types.specs.declared.op.OpName.{OpName}
-use Rattle.cops_types.specs.Histories.{Sessions, IsNamed, PutsVersion, SourceStep}
+use Rattle.cops_types.specs.Histories.{Sessions, IsNamed, PutsVersion, SourceStep, read}
 use Rattle.cops_types.specs.Operations.{GetsVersion}
 use Rattle.cops_types.specs.PutLists.{AreAllPuts}
 use Rattle.cops_report.specs.declared.marks.Mark.{Mark}
@@ -74,7 +73,7 @@ from_all puts v i parts n has = subst (λ (xs : List VersionedPut). HasPut xs n 
 
 -- a get has one version
 pub got_once : (h : Sessions) (p g : OpName) (v : ℕ) (s : SourceStep h p g) → GetsVersion h g v → s.version ≡ v
-got_once h p g v s got = (let e : Some (Got s.key s.value s.version) ≡ Some (Got got.0 got.1 v) = sym s.got ∙ got.2 in cc)
+got_once h p g v s got = (let e : Some (read s.key s.content s.version) ≡ Some (read got.0 got.1 v) = sym s.got ∙ got.2 in cc)
 
 -- the puts that stand first are marked where they are sources
 abbrev pub BearersMarked : Sessions → Table → Mark → List VersionedPut → ℕ → Type 0

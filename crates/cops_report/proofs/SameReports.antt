@@ -5,11 +5,9 @@ use Rattle.std.proofs.lemmas.Bool.{cases_eq}
 use Rattle.std.proofs.lemmas.List.{length-map}
 use Rattle.std.proofs.lemmas.List.Sums.{sum_by-cons}
 use Rattle.std.proofs.lemmas.Option.{slice_get-map}
-use Rattle.cops_types.specs.declared.op.Op.{Op}
-use Rattle.cops_types.specs.declared.op.Op.TheVariants.{Put, Got, Missed}
 use Rattle.cops_types.specs.declared.op.OpName.{OpName}
 use Rattle.cops_types.specs.Counts.{count_of, is_put, put_count}
-use Rattle.cops_types.specs.Histories.{Sessions, op_at, IsGot, IsNamed, IsPut, SourceStep}
+use Rattle.cops_types.specs.Histories.{Sessions, op_at, IsGot, IsNamed, IsPut, SourceStep, Operation, write, read, missed}
 use Rattle.cops_types.specs.Past.{Step}
 use Rattle.cops_types.specs.Verdicts.{AllHaveSources}
 use Rattle.cops_types.specs.VersionOrder.{NoneDoubled}
@@ -32,21 +30,21 @@ session_left (s ∷ h) zero = refl
 session_left (s ∷ h) (suc c) = session_left h c
 
 op_left : (h : Sessions) (n : OpName) → op_at (without_values h) n ≡ option_map without_value (op_at h n)
-op_left h n = ap (λ (s : List Op). slice_get s n.index) (session_left h n.client) ∙ slice_get-map without_value (slice_index_or h n.client []) n.index
+op_left h n = ap (λ (s : List Operation). slice_get s n.index) (session_left h n.client) ∙ slice_get-map without_value (slice_index_or h n.client []) n.index
 
 count_left : (h : Sessions) → count_of (without_values h) ≡ count_of h
 count_left [] = refl
 count_left (s ∷ h) = sum_by-cons length (map without_value s) (without_values h) ∙ ap₂ (λ (a b : ℕ). a + b) (length-map s without_value) (count_left h) ∙ sym (sum_by-cons length s h)
 
-put_left : (op : Op) → is_put (without_value op) ≡ is_put op
-put_left (Put key value version) = refl
-put_left (Got key value version) = refl
-put_left (Missed key) = refl
+put_left : (op : Operation) → is_put (without_value op) ≡ is_put op
+put_left (write key value version) = refl
+put_left (read key value version) = refl
+put_left (missed key) = refl
 
-puts_left : (s : List Op) → count_by is_put (map without_value s) ≡ count_by is_put s
+puts_left : (s : List Operation) → count_by is_put (map without_value s) ≡ count_by is_put s
 puts_left [] = refl
 puts_left (op ∷ s) =
-    let one = λ (o : Op). cond (is_put o) 1 0 in
+    let one = λ (o : Operation). cond (is_put o) 1 0 in
     sum_by-cons one (without_value op) (map without_value s) ∙ ap₂ (λ (a b : ℕ). a + b) (ap (λ b. cond b 1 0) (put_left op)) (puts_left s) ∙ sym (sum_by-cons one op s)
 
 put_count_left : (h : Sessions) → put_count (without_values h) ≡ put_count h
@@ -54,33 +52,33 @@ put_count_left [] = refl
 put_count_left (s ∷ h) =
     sum_by-cons (count_by is_put) (map without_value s) (without_values h) ∙ ap₂ (λ (a b : ℕ). a + b) (puts_left s) (put_count_left h) ∙ sym (sum_by-cons (count_by is_put) s h)
 
-version_left : (o : Option Op) → op_version (option_map without_value o) ≡ op_version o
+version_left : (o : Option Operation) → op_version (option_map without_value o) ≡ op_version o
 version_left None = refl
-version_left (Some (Put key value version)) = refl
-version_left (Some (Got key value version)) = refl
-version_left (Some (Missed key)) = refl
+version_left (Some (write key value version)) = refl
+version_left (Some (read key value version)) = refl
+version_left (Some (missed key)) = refl
 
-returned_left : (o : Option Op) → returned_text (option_map without_value o) ≡ returned_text o
+returned_left : (o : Option Operation) → returned_text (option_map without_value o) ≡ returned_text o
 returned_left None = refl
-returned_left (Some (Put key value version)) = refl
-returned_left (Some (Got key value version)) = refl
-returned_left (Some (Missed key)) = refl
+returned_left (Some (write key value version)) = refl
+returned_left (Some (read key value version)) = refl
+returned_left (Some (missed key)) = refl
 
-named_left : (o : Option Op) (x : Op) → option_map without_value o ≡ Some x → (op : Op) × (o ≡ Some op)
+named_left : (o : Option Operation) (x : Operation) → option_map without_value o ≡ Some x → (op : Operation) × (o ≡ Some op)
 named_left None x e = absurd cc
 named_left (Some op) x e = (op, refl)
 
-put_of : (o : Option Op) (key : List ℕ) (version : ℕ) → option_map without_value o ≡ Some (Put key [] version) → (value : List ℕ) × (o ≡ Some (Put key value version))
-put_of None key version e = absurd cc
-put_of (Some (Put k v w)) key version e = (v, let a : k ≡ key = cc in let b : w ≡ version = cc in cc)
-put_of (Some (Got k v w)) key version e = absurd cc
-put_of (Some (Missed k)) key version e = absurd cc
+put_of : (o : Option Operation) (key : List ℕ) (left : Option (List ℕ)) (version : ℕ) → option_map without_value o ≡ Some (write key left version) → (content : Option (List ℕ)) × (o ≡ Some (write key content version))
+put_of None key left version e = absurd cc
+put_of (Some (write k v w)) key left version e = (v, let a : k ≡ key = cc in let b : w ≡ version = cc in cc)
+put_of (Some (read k v w)) key left version e = absurd cc
+put_of (Some (missed k)) key left version e = absurd cc
 
-got_of : (o : Option Op) (key : List ℕ) (version : ℕ) → option_map without_value o ≡ Some (Got key [] version) → (value : List ℕ) × (o ≡ Some (Got key value version))
-got_of None key version e = absurd cc
-got_of (Some (Put k v w)) key version e = absurd cc
-got_of (Some (Got k v w)) key version e = (v, let a : k ≡ key = cc in let b : w ≡ version = cc in cc)
-got_of (Some (Missed k)) key version e = absurd cc
+got_of : (o : Option Operation) (key : List ℕ) (left : Option (List ℕ)) (version : ℕ) → option_map without_value o ≡ Some (read key left version) → (content : Option (List ℕ)) × (o ≡ Some (read key content version))
+got_of None key left version e = absurd cc
+got_of (Some (write k v w)) key left version e = absurd cc
+got_of (Some (read k v w)) key left version e = (v, let a : k ≡ key = cc in let b : w ≡ version = cc in cc)
+got_of (Some (missed k)) key left version e = absurd cc
 
 -- ---- values that have to be the same
 
@@ -96,13 +94,22 @@ value_cases (x ∷ xs) (y ∷ ys) = elim (cases_eq x y) [
   | inr other ↦ inr (λ e. let same : x ≡ y = cc in other same)
 ]
 
--- a put with the key and the version of a get has its value
-one_value : (h : Sessions) → NoneDoubled h → AllHaveSources h → (put got : OpName) (key v w : List ℕ) (version : ℕ) → IsPut h put key v version → IsGot h got key w version → v ≡ w
-one_value h single sources put got key v w version p g = elim (value_cases v w) [
+content_cases : (x y : Option (List ℕ)) → (x ≡ y) ⊎ (x ≢ y)
+content_cases None None = inl refl
+content_cases None (Some ys) = inr (λ e. absurd cc)
+content_cases (Some xs) None = inr (λ e. absurd cc)
+content_cases (Some xs) (Some ys) = elim (value_cases xs ys) [
+  | inl same ↦ inl (ap Some same)
+  | inr other ↦ inr (λ e. let same : xs ≡ ys = cc in other same)
+]
+
+-- a put with the key and the version of a get has its content
+one_value : (h : Sessions) → NoneDoubled h → AllHaveSources h → (put got : OpName) (key : List ℕ) (v w : Option (List ℕ)) (version : ℕ) → IsPut h put key v version → IsGot h got key w version → v ≡ w
+one_value h single sources put got key v w version p g = elim (content_cases v w) [
   | inl same ↦ same
   | inr differs ↦ absurd (sources got (record {
     key = key;
-    value = w;
+    content = w;
     version = version;
     got = g;
     none = λ q s. no_source q s differs;
@@ -111,19 +118,19 @@ one_value h single sources put got key v w version p g = elim (value_cases v w) 
   where
     no_source : (q : OpName) → SourceStep h q got → v ≢ w → ⊥
     no_source q s differs =
-        let is : Some (Got s.key s.value s.version) ≡ Some (Got key w version) = sym s.got ∙ g in
-        let value : s.value ≡ w = cc in
+        let is : Some (read s.key s.content s.version) ≡ Some (read key w version) = sym s.got ∙ g in
+        let value : s.content ≡ w = cc in
         let bears : s.version ≡ version = cc in
         elim (name_cases q put) [
           | inl same ↦
-              let at : Some (Put s.key s.value s.version) ≡ Some (Put key v version) = sym s.put ∙ ap (op_at h) same ∙ p in
-              let own : s.value ≡ v = cc in
+              let at : Some (write s.key s.content s.version) ≡ Some (write key v version) = sym s.put ∙ ap (op_at h) same ∙ p in
+              let own : s.content ≡ v = cc in
               differs (sym own ∙ value)
           | inr other ↦ single put (record {
             version = version;
             put = (key, v, p);
             other = q;
-            other_put = (s.key, s.value, rw bears at s.put);
+            other_put = (s.key, s.content, rw bears at s.put);
             differs = other;
           })
         ]
@@ -152,10 +159,10 @@ module _ (h k : Sessions) (same : without_values h ≡ without_values k) where
   step_too : NoneDoubled k → AllHaveSources k → (from to : OpName) → Step h from to → Step k from to
   step_too single sources from to (inl s) = inl (record { same_client = s.same_client; earlier = s.earlier; is_there = named_too to s.is_there })
   step_too single sources from to (inr s) =
-      let put = put_of (op_at k from) s.key s.version (sym (same_op from) ∙ ap (option_map without_value) s.put) in
-      let got = got_of (op_at k to) s.key s.version (sym (same_op to) ∙ ap (option_map without_value) s.got) in
+      let put = put_of (op_at k from) s.key _ s.version (sym (same_op from) ∙ ap (option_map without_value) s.put) in
+      let got = got_of (op_at k to) s.key _ s.version (sym (same_op to) ∙ ap (option_map without_value) s.got) in
       let value = one_value k single sources from to s.key put.0 got.0 s.version put.1 got.1 in
-      inr (record { key = s.key; value = put.0; version = s.version; put = put.1; got = rw (sym value) at got.1 })
+      inr (record { key = s.key; content = put.0; version = s.version; put = put.1; got = rw (sym value) at got.1 })
 
   leads_too : NoneDoubled k → AllHaveSources k → (to from : OpName) (names : List OpName) → LeadsTo h to from names → LeadsTo k to from names
   leads_too single sources to from [] leads = leads

@@ -6,9 +6,8 @@ use Rattle.std.proofs.lemmas.Bool.{cases_Bool, cases_eq, cases_lt, ltb-true, ltb
 use Rattle.std.proofs.lemmas.List.{map-set, get_or-map, length-replicate, set_past, get_or_past, take_all, take_more, map-append}
 use Rattle.std.proofs.lemmas.List.Sums.{sum_by-cons, sum_by-set}
 use Rattle.std.proofs.lemmas.List.Folds.{sum_by-replicate}
-use Rattle.cops_types.specs.declared.op.Op.{Op}
 use Rattle.cops_types.specs.declared.op.OpName.{OpName}
-use Rattle.cops_types.specs.Histories.{Sessions, IsNamed}
+use Rattle.cops_types.specs.Histories.{Sessions, IsNamed, Operation}
 use Rattle.cops_types.specs.Counts.{count_of}
 use Rattle.cops_report.proofs.NameCases.{same_name}
 use Rattle.cops_report.specs.declared.marks.Mark.{Mark}
@@ -41,7 +40,7 @@ place_client t name there = elim (cases_Bool (ltb name.client (length t))) [
 abbrev no_marks : ℕ → List (Option Mark)
 no_marks n = replicate n None
 
-abbrev pub no_marks_of : List Op → List (Option Mark)
+abbrev pub no_marks_of : List Operation → List (Option Mark)
 no_marks_of s = replicate (length s) None
 
 -- the sessions' vectors have a place for each operation
@@ -147,12 +146,12 @@ none_marked (suc n) (suc i) = none_marked n i
 pub mark_at-unmarked : (h : Sessions) (n : OpName) → mark_at (unmarked h) n ≡ None
 mark_at-unmarked h n = ap (λ (s : List (Option Mark)). get_or s n.index None) (get_or-unmarked h n.client) ∙ none_marked (length (get_or h n.client [])) n.index
 
-there : (s : List Op) (i : ℕ) → i < length s → (op : Op) × (slice_get s i ≡ Some op)
+there : (s : List Operation) (i : ℕ) → i < length s → (op : Operation) × (slice_get s i ≡ Some op)
 there [] i lt = absurd (omega arith)
 there (x ∷ xs) zero lt = (x, refl)
 there (x ∷ xs) (suc i) lt = there xs i (omega arith)
 
-inside : (s : List Op) (i : ℕ) (op : Op) → slice_get s i ≡ Some op → i < length s
+inside : (s : List Operation) (i : ℕ) (op : Operation) → slice_get s i ≡ Some op → i < length s
 inside [] i op e = absurd cc
 inside (x ∷ xs) zero op e = omega arith
 inside (x ∷ xs) (suc i) op e = omega (arith, inside xs i op e)

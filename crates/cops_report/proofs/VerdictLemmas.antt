@@ -10,7 +10,7 @@ pub doubled_versions : (h : Sessions) (names : List OpName) → RefusesDoubled h
 doubled_versions h names r n c = (let d = (r.1.members n).0 c in (d.version, inl d.put))
 
 pub get_versions : (h : Sessions) (names : List OpName) → RefusesNoSource h names → (n : OpName) → Contains names n → HasSomeVersion h n
-get_versions h names r n c = (let d = (r.2.members n).0 c in (d.version, inr (d.key, d.value, d.got)))
+get_versions h names r n c = (let d = (r.2.members n).0 c in (d.version, inr (d.key, d.content, d.got)))
 
 pub put_versions : {A : Type 0} (op_of earlier_of : A → OpName) → (h : Sessions) (faults : List A) → RefusesNotAbove h op_of earlier_of faults → (f : A) → Contains faults f → HasSomeVersion h (op_of f)
 put_versions op_of earlier_of h faults r f c = (let d = (r.3.members f).0 c in (d.is_not_below.own, inl d.is_not_below.put))

@@ -1,10 +1,8 @@
 -- The text of a verdict.
 use Rattle.std.specs.Prelude.{◌≡◌, ℕ, List, [], ◌∷◌, ◌++◌, length, codes, decimal, Option, Some, None}
 use Rattle.std.specs.List.{flat_map}
-use Rattle.cops_types.specs.declared.op.Op.{Op}
-use Rattle.cops_types.specs.declared.op.Op.TheVariants.{Put, Got, Missed}
 use Rattle.cops_types.specs.declared.op.OpName.{OpName}
-use Rattle.cops_types.specs.Histories.{Sessions, op_at}
+use Rattle.cops_types.specs.Histories.{Sessions, op_at, Operation, write, read, missed}
 use Rattle.cops_types.specs.Faults.{HasVersion}
 use Rattle.cops_types.specs.Counts.{count_of, put_count}
 use Rattle.cops_types.specs.Texts.{◌⧺◌, name_text, version_text}
@@ -17,10 +15,10 @@ use Rattle.cops_audit.specs.declared.verdict.Stale.{Stale}
 use Rattle.cops_report.specs.Chains.{IsFirstChain}
 
 -- the version of a put or a get, 0 for what has none
-abbrev pub op_version : Option Op → ℕ
-op_version (Some (Put key value version)) = version
-op_version (Some (Got key value version)) = version
-op_version (Some (Missed key)) = 0
+abbrev pub op_version : Option Operation → ℕ
+op_version (Some (write key value version)) = version
+op_version (Some (read key value version)) = version
+op_version (Some (missed key)) = 0
 op_version None = 0
 
 -- the version of the operation of that name
@@ -32,8 +30,8 @@ abbrev pub HasSomeVersion : Sessions → OpName → Type 0
 HasSomeVersion h name = (v : ℕ) × HasVersion h name v
 
 -- what a get returned: a version, or nothing
-abbrev pub returned_text : Option Op → List ℕ
-returned_text (Some (Got key value version)) = version_text version
+abbrev pub returned_text : Option Operation → List ℕ
+returned_text (Some (read key value version)) = version_text version
 returned_text _ = codes "nothing"
 
 -- the line of a history that is accepted

@@ -2,6 +2,7 @@
 use Rattle.std.specs.Prelude.{IfOk}
 use Rattle.std.specs.Global.{Vec}
 use Rattle.cops_types.specs.declared.fault.Memory.{Memory}
+use Rattle.cops_types.specs.declared.format.Format.TheVariants.{One}
 use Rattle.std.proofs.Common.{Result, Ok, Err, ◌≡◌, ℕ, List, [], ◌++◌, length, replicate, sym, ap, subst, ◌∙◌}
 use Rattle.std.proofs.lemmas.List.{length-map}
 use Rattle.cops_node.specs.declared.outcome.Outcome.{Outcome}
@@ -24,7 +25,7 @@ use Rattle.cops_run_stream.proofs.Recording.{run_of, run_saw}
 -- a world that was opened, and events came
 answered : (s : AScenario) (c : AWorld) (d : Setting) (events : List Event) (outcomes : List Outcome) (end : World)
     → ((t : Setting) (w : World) → IsSetting t → IsReached t w → HasAcceptedVerdict w.sessions)
-    → c ≡ opened_world s.place (homes_of s) → d ≡ c.setting → IsSetting d → AnswersEach c.setting c.world events outcomes end → AreAnswers (setting_of s) events outcomes
+    → c ≡ opened_world (setting_of s) → d ≡ c.setting → IsSetting d → AnswersEach c.setting c.world events outcomes end → AreAnswers (setting_of s) events outcomes
 answered s c d events outcomes end law opened same legal ran =
     let t = setting_of s in
     let legal_t : IsSetting t = subst (λ (k : AWorld). IsSetting k.setting) opened (subst IsSetting same legal) in
@@ -33,14 +34,14 @@ answered s c d events outcomes end law opened same legal ran =
 
 pub answered_if : (s : AScenario) (c : AWorld) (d : Setting) (events : List Event) (r : Result (Vec Outcome) Memory) (end : World)
     → ((t : Setting) (w : World) → IsSetting t → IsReached t w → HasAcceptedVerdict w.sessions)
-    → c ≡ opened_world s.place (homes_of s) → d ≡ c.setting → IsSetting d → IfOk r (λ outcomes. AnswersEach c.setting c.world events outcomes.items end)
+    → c ≡ opened_world (setting_of s) → d ≡ c.setting → IsSetting d → IfOk r (λ outcomes. AnswersEach c.setting c.world events outcomes.items end)
     → IfOk r (λ outcomes. AreAnswers (setting_of s) events outcomes.items)
 answered_if s c d events (Ok outcomes) end law opened same legal ran = answered s c d events outcomes.items end law opened same legal ran
 answered_if s c d events (Err e) end law opened same legal ran = tt
 
 -- the trace of such events holds what the world's sessions do
 pub event_run : (s : AScenario) (events : List Event) (outcomes : List Outcome) (lines : List ℕ) (t : ATrace) (n : ℕ) → AreAnswers (setting_of s) events outcomes
-    → n ≡ length s.clients → t ≡ record { clients = n; records = all_seen events outcomes } → lines ≡ outcome_lines outcomes
+    → n ≡ length s.clients → t ≡ record { format = One; clients = n; records = all_seen events outcomes } → lines ≡ outcome_lines outcomes
     → IsEventRun s events lines t × HasAcceptedVerdict (sessions_of t)
 event_run s events outcomes lines t n (end, ran, accepted) count trace told =
     let records = all_seen events outcomes in
@@ -52,7 +53,7 @@ event_run s events outcomes lines t n (end, ran, accepted) count trace told =
         outcomes = outcomes;
         end = end;
         ran = ran;
-        trace_is = trace ∙ ap (λ (k : ℕ). record { clients = k; records = records }) count;
+        trace_is = trace ∙ ap (λ (k : ℕ). record { format = One; clients = k; records = records }) count;
         saw_these = saw_these;
         lines_are = told;
       },

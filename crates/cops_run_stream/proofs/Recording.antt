@@ -14,12 +14,12 @@ use Rattle.cops_core.specs.declared.event.Event.TheVariants.{Put as PutBy, Get a
 use Rattle.cops_core.specs.World.{Setting, World, Happens, asks, checks, context_in, delivers, done, home, keeps, node_at, primary, refusal, sent, unless, Run}
 use Rattle.cops_core.specs.Memory.{AnswersEach}
 use Rattle.cops_types.specs.NodeNumber.{place_of}
-use Rattle.cops_trace.specs.declared.record.Record.{Record}
-use Rattle.cops_trace.specs.Text.{sessions_after}
+use Rattle.cops_trace.specs.Text.{ARecord, sessions_after}
+use Rattle.cops_core.proofs.Asking.{done_asks}
 use Rattle.cops_run_stream.specs.Running.{saw, all_seen}
 
 -- some records, and then others
-after_all : (h : Sessions) (xs ys : List Record) → sessions_after h (xs ++ ys) ≡ sessions_after (sessions_after h xs) ys
+after_all : (h : Sessions) (xs ys : List ARecord) → sessions_after h (xs ++ ys) ≡ sessions_after (sessions_after h xs) ys
 after_all h [] ys = refl
 after_all h (r ∷ rs) ys = after_all (with_op h r.client r.op) rs ys
 
@@ -27,54 +27,21 @@ after_all h (r ∷ rs) ys = after_all (with_op h r.client r.op) rs ys
 keeps_saw : (w : World) (dc place : ℕ) (event : Event) (outcome : Outcome) (n : Node)
     → (keeps w dc place event outcome n).sessions ≡ sessions_after w.sessions (saw event outcome)
 keeps_saw w dc place (PutBy c k v) (PutDone version) n = refl
-keeps_saw w dc place (PutBy c k v) (Got value version) n = refl
-keeps_saw w dc place (PutBy c k v) Missed n = refl
-keeps_saw w dc place (PutBy c k v) Held n = refl
-keeps_saw w dc place (PutBy c k v) Repeat n = refl
-keeps_saw w dc place (PutBy c k v) Yes n = refl
-keeps_saw w dc place (PutBy c k v) Wait n = refl
-keeps_saw w dc place (PutBy c k v) Marked n = refl
-keeps_saw w dc place (PutBy c k v) Settled n = refl
-keeps_saw w dc place (PutBy c k v) (Refused code) n = refl
-keeps_saw w dc place (GetBy c k) (PutDone version) n = refl
-keeps_saw w dc place (GetBy c k) (Got value version) n = refl
 keeps_saw w dc place (GetBy c k) Missed n = refl
-keeps_saw w dc place (GetBy c k) Held n = refl
-keeps_saw w dc place (GetBy c k) Repeat n = refl
-keeps_saw w dc place (GetBy c k) Yes n = refl
-keeps_saw w dc place (GetBy c k) Wait n = refl
-keeps_saw w dc place (GetBy c k) Marked n = refl
-keeps_saw w dc place (GetBy c k) Settled n = refl
-keeps_saw w dc place (GetBy c k) (Refused code) n = refl
-keeps_saw w dc place (DeliverTo d version) outcome n = refl
-keeps_saw w dc place (AskAt d k version) (PutDone other) n = refl
-keeps_saw w dc place (AskAt d k version) (Got value other) n = refl
-keeps_saw w dc place (AskAt d k version) Missed n = refl
-keeps_saw w dc place (AskAt d k version) Held n = refl
-keeps_saw w dc place (AskAt d k version) Repeat n = refl
 keeps_saw w dc place (AskAt d k version) Yes n = refl
-keeps_saw w dc place (AskAt d k version) Wait n = refl
-keeps_saw w dc place (AskAt d k version) Marked n = refl
-keeps_saw w dc place (AskAt d k version) Settled n = refl
-keeps_saw w dc place (AskAt d k version) (Refused code) n = refl
-keeps_saw w dc place (MarkAt d version dep) outcome n = refl
-keeps_saw w dc place (SettleAt d version) outcome n = refl
+keeps_saw w dc place event outcome n = refl
 
 -- of a refusal nobody sees anything
 refused_saw : (event : Event) (code : Refusal) → saw event (Refused code) ≡ []
 refused_saw (PutBy c k v) code = refl
-refused_saw (GetBy c k) code = refl
-refused_saw (DeliverTo d version) code = refl
-refused_saw (AskAt d k version) code = refl
-refused_saw (MarkAt d version dep) code = refl
-refused_saw (SettleAt d version) code = refl
+refused_saw event code = refl
 
 -- a world that stays, of which an event was refused
 refused_stays : (w mid : World) (event : Event) (code : Refusal) (outcome : Outcome) → ◌≡◌ {A = Outcome × World} (Refused code, w) (outcome, mid)
     → mid.sessions ≡ sessions_after w.sessions (saw event outcome)
 refused_stays w mid event code outcome e =
     let none : saw event outcome ≡ [] = ap (λ (p : Outcome × World). saw event p.0) (sym e) ∙ refused_saw event code in
-    ap (λ (p : Outcome × World). p.1.sessions) (sym e) ∙ ap (λ (rs : List Record). sessions_after w.sessions rs) (sym none)
+    ap (λ (p : Outcome × World). p.1.sessions) (sym e) ∙ ap (λ (rs : List ARecord). sessions_after w.sessions rs) (sym none)
 
 asked_saw : (w mid : World) (event : Event) (dc place : ℕ) (asked : NodeEvent) (outcome : Outcome) → asks w event dc place asked ≡ (outcome, mid)
     → mid.sessions ≡ sessions_after w.sessions (saw event outcome)
@@ -83,19 +50,11 @@ asked_saw w mid event dc place asked outcome e =
     ap (λ (p : Outcome × World). p.1.sessions) (sym e) ∙ keeps_saw w dc place event r.0 r.1
     ∙ ap (λ (p : Outcome × World). sessions_after w.sessions (saw event p.0)) e
 
-delivered_saw : (s : Setting) (w mid : World) (dc version : ℕ) (put : Option PutRecord) (outcome : Outcome) → delivers s w dc version put ≡ (outcome, mid)
-    → mid.sessions ≡ sessions_after w.sessions (saw (DeliverTo dc version) outcome)
-delivered_saw s w mid dc version None outcome e = refused_stays w mid (DeliverTo dc version) NeverSent outcome e
-delivered_saw s w mid dc version (Some put) outcome e = asked_saw w mid (DeliverTo dc version) dc (primary s put.key) (NodeDeliver put) outcome e
-
 done_saw : (s : Setting) (w mid : World) (event : Event) (outcome : Outcome) → done s w event ≡ (outcome, mid)
     → mid.sessions ≡ sessions_after w.sessions (saw event outcome)
-done_saw s w mid (PutBy c k v) outcome e = asked_saw w mid (PutBy c k v) (home s c) (primary s k) (NodePut c k v (context_in w c)) outcome e
-done_saw s w mid (GetBy c k) outcome e = asked_saw w mid (GetBy c k) (home s c) (primary s k) (NodeGet c k) outcome e
-done_saw s w mid (DeliverTo d version) outcome e = delivered_saw s w mid d version (sent w.issued version) outcome e
-done_saw s w mid (AskAt d k version) outcome e = asked_saw w mid (AskAt d k version) d (primary s k) (NodeAsk k version) outcome e
-done_saw s w mid (MarkAt d version dep) outcome e = asked_saw w mid (MarkAt d version dep) d (place_of version) (NodeMark version dep) outcome e
-done_saw s w mid (SettleAt d version) outcome e = asked_saw w mid (SettleAt d version) d (place_of version) (NodeSettle version) outcome e
+done_saw s w mid event outcome =
+    done_asks (λ r. r ≡ (outcome, mid) → mid.sessions ≡ sessions_after w.sessions (saw event outcome)) s w event
+    (λ dc place asked. asked_saw w mid event dc place asked outcome) (refused_stays w mid event NeverSent outcome)
 
 checked_saw : (s : Setting) (w mid : World) (event : Event) (code : Option Refusal) (outcome : Outcome) → unless w code (done s w event) ≡ (outcome, mid)
     → mid.sessions ≡ sessions_after w.sessions (saw event outcome)
@@ -108,7 +67,7 @@ happened_saw : (s : Setting) (w mid : World) (event : Event) (outcome : Outcome)
 happened_saw s w mid event outcome (inl e) = checked_saw s w mid event (refusal (checks s w event)) outcome e
 happened_saw s w mid event outcome (inr (e, same)) =
     let none : saw event outcome ≡ [] = ap (λ (o : Outcome). saw event o) e ∙ refused_saw event Memory in
-    ap (λ (v : World). v.sessions) same ∙ ap (λ (rs : List Record). sessions_after w.sessions rs) (sym none)
+    ap (λ (v : World). v.sessions) same ∙ ap (λ (rs : List ARecord). sessions_after w.sessions rs) (sym none)
 
 -- what is answered so is a run
 pub run_of : (s : Setting) (old : World) (events : List Event) (outcomes : List Outcome) (new : World) → AnswersEach s old events outcomes new
@@ -142,7 +101,7 @@ seen_suc [] outcomes n event outcome p q = absurd (omega (arith, p))
 seen_suc (e ∷ es) [] n event outcome p q = absurd (omega (arith, q))
 seen_suc (e ∷ es) (o ∷ os) zero event outcome p q = append-nil (saw e o)
 seen_suc (e ∷ es) (o ∷ os) (suc n) event outcome p q =
-    ap (λ (rs : List Record). saw e o ++ rs) (seen_suc es os n event outcome (omega (arith, p)) (omega (arith, q)))
+    ap (λ (rs : List ARecord). saw e o ++ rs) (seen_suc es os n event outcome (omega (arith, p)) (omega (arith, q)))
     ∙ sym (append_assoc (saw e o) (all_seen (take n es) (take n os)) (saw (slice_index_or es n event) (slice_index_or os n outcome)))
 
 -- one event more

@@ -1,7 +1,7 @@
 -- What running a scenario leaves: the trace of what its clients saw, the lines that tell what happened, and the report.
 use Rattle.std.specs.Prelude.{◌≡◌, ◌⊎◌, ℕ, List, [], ◌∷◌, ◌++◌, length, Option, None, Some}
 use Rattle.std.specs.Io.KnownBytes.{Appends, Keeps}
-use Rattle.cops_types.specs.declared.op.Op.TheVariants.{Put as Wrote, Got, Missed}
+use Rattle.cops_types.specs.Histories.{write, read, missed}
 use Rattle.cops_node.specs.declared.outcome.Outcome.{Outcome}
 use Rattle.cops_node.specs.declared.outcome.Outcome.TheVariants.{PutDone, Got as Answered, Missed as Nothing}
 use Rattle.cops_core.specs.declared.event.Event.{Event}
@@ -9,9 +9,8 @@ use Rattle.cops_core.specs.declared.event.Event.TheVariants.{Put as PutBy, Get a
 use Rattle.cops_core.specs.World.{World, opening}
 use Rattle.cops_core.specs.Memory.{AnswersEach}
 use Rattle.cops_types.specs.Verdicts.{HasAcceptedVerdict}
-use Rattle.cops_trace.specs.declared.record.Record.{Record}
 use Rattle.cops_trace.specs.Live.{IsCutShort}
-use Rattle.cops_trace.specs.Text.{ATrace, IsTrace, sessions_of, text}
+use Rattle.cops_trace.specs.Text.{ARecord, ATrace, IsTrace, sessions_of, text}
 use Rattle.cops_audit.specs.declared.verdict.Verdict.{Verdict}
 use Rattle.cops_scenario.specs.Scenario.{AScenario, setting_of}
 use Rattle.cops_scenario.specs.File.{IsTextOf}
@@ -25,14 +24,14 @@ use Rattle.cops_command.specs.declared.status.Status.TheVariants.{Accepted, Faul
 use Rattle.cops_run_stream.specs.Lines.{outcome_lines, client_lines}
 
 -- what a client saw of an event that was answered so: of its put that was done, and of its get
-abbrev pub saw : Event → Outcome → List Record
-saw (PutBy client key value) (PutDone version) = record { client = client; op = Wrote key value version } ∷ []
-saw (GetBy client key) (Answered value version) = record { client = client; op = Got key value version } ∷ []
-saw (GetBy client key) Nothing = record { client = client; op = Missed key } ∷ []
+abbrev pub saw : Event → Outcome → List ARecord
+saw (PutBy client key value) (PutDone version) = record { client = client; op = write key (Some value) version } ∷ []
+saw (GetBy client key) (Answered value version) = record { client = client; op = read key (Some value) version } ∷ []
+saw (GetBy client key) Nothing = record { client = client; op = missed key } ∷ []
 saw event outcome = []
 
 -- what the clients saw, in the order of the events
-abbrev pub all_seen : List Event → List Outcome → List Record
+abbrev pub all_seen : List Event → List Outcome → List ARecord
 all_seen [] outcomes = []
 all_seen (event ∷ events) [] = []
 all_seen (event ∷ events) (outcome ∷ outcomes) = saw event outcome ++ all_seen events outcomes
@@ -43,7 +42,7 @@ pub record IsEventRun (s : AScenario) (events : List Event) (lines : List ℕ) (
   pub outcomes : List Outcome
   pub end : World
   pub ran : AnswersEach (setting_of s) (opening (setting_of s)) events outcomes end
-  pub trace_is : t ≡ record { clients = length s.clients; records = all_seen events outcomes }
+  pub trace_is : t ≡ record { format = (setting_of s).format; clients = length s.clients; records = all_seen events outcomes }
   pub saw_these : end.sessions ≡ sessions_of t
   pub lines_are : lines ≡ outcome_lines outcomes
 

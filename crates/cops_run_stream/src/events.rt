@@ -1,6 +1,7 @@
 //! The run of an event list, in a world on one thread.
 ghost use Rattle.std.specs.Prelude.{◌≡◌, ◌++◌, Some, length, IfOk, OnOk};
 ghost use Rattle.cops_scenario.specs.Scenario.{setting_of};
+ghost use Rattle.cops_types.specs.declared.format.Format.TheVariants.{One};
 ghost use Rattle.cops_types.specs.declared.op.Op.TheVariants.{Put as Wrote, Got};
 ghost use Rattle.cops_run_stream.specs.Lines.{outcome_lines};
 ghost use Rattle.cops_run_stream.specs.Parts.{AreAnswers, IsRunLeft};
@@ -58,7 +59,7 @@ fn recorded(
     outcomes: &[Outcome],
 ) -> Result<Trace, Memory>
     requires { length outcomes.now ≡ length events.now }
-    ensures { IfOk result (λ trace. trace ≡ record { clients = clients; records = all_seen events.now outcomes.now }) }
+    ensures { IfOk result (λ trace. trace ≡ record { format = One; clients = clients; records = all_seen events.now outcomes.now }) }
 {
     let mut trace = Trace::new(alloc, clients)?;
     for n in 0..events.len() {
@@ -69,7 +70,7 @@ fn recorded(
 
 /// Records what a client saw of an event, if it saw any of it. The world takes no more operations than a trace.
 fn record(trace: &mut Trace, event: &Event, outcome: &Outcome) -> Result<(), Memory>
-    ensures { OnOk result (trace.new ≡ record { clients = trace.old.clients; records = trace.old.records ++ saw event.now outcome.now }) }
+    ensures { OnOk result (trace.new ≡ record { format = trace.old.format; clients = trace.old.clients; records = trace.old.records ++ saw event.now outcome.now }) }
 {
     let (client, op) = match (event, outcome) {
         (Event::Put { client, key, value }, Outcome::PutDone(version)) => {

@@ -1,5 +1,6 @@
 -- What a scenario is.
 use Rattle.std.specs.Prelude.{ℕ, List, map, Option}
+use Rattle.cops_types.specs.declared.format.Format.TheVariants.{One}
 use Rattle.cops_place.specs.Place.{APlace}
 use Rattle.cops_core.specs.declared.event.Event.{Event}
 use Rattle.cops_core.specs.declared.script.ScriptedClient.{ScriptedClient}
@@ -22,4 +23,4 @@ abbrev pub homes_of : AScenario → List ℕ
 homes_of s = map (λ c. c.at) s.clients
 
 abbrev pub setting_of : AScenario → Setting
-setting_of s = record { place = s.place; homes = homes_of s }
+setting_of s = record { format = One; place = s.place; homes = homes_of s }

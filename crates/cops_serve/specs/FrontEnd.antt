@@ -1,9 +1,9 @@
 -- What the calls of a front end do.
-use Rattle.std.specs.Prelude.{◌≡◌, ◌<◌, ◌+◌, ◌↔◌, ℕ, List, length, slice_get, slice_set, Option, Some, Result, Ok, Err, MatchOption, vec_len, vec_capacity, IsSome, IsNone}
+use Rattle.std.specs.Prelude.{◌≡◌, ◌<◌, ◌≤◌, ◌+◌, ◌↔◌, ℕ, List, length, slice_get, slice_set, Option, Some, Result, Ok, Err, MatchOption, vec_len, vec_capacity, IsSome, IsNone}
 use Rattle.cops_types.specs.declared.put_record.NodeStatus.{NodeStatus}
 use Rattle.cops_types.specs.declared.refusal.Refusal.{Refusal}
 use Rattle.cops_types.specs.declared.refusal.Refusal.TheVariants.{ContextFull, UnknownClient}
-use Rattle.cops_types.specs.declared.limits.TheConstants.{MAX_DEPS}
+use Rattle.cops_types.specs.Format.{most_deps}
 use Rattle.cops_node.specs.declared.event.NodeEvent.TheVariants.{Put, Get, Ask}
 use Rattle.cops_node.specs.declared.outcome.Outcome.{Outcome}
 use Rattle.cops_node.specs.declared.outcome.Outcome.TheVariants.{Wait, Refused}
@@ -83,8 +83,8 @@ HasGot c key out before after =
     × Adds before.share.entries.items after.share.entries.items (node_of c before.dc key) (Get before.number key) out
     × (after.context.pairs ≡ after_get before.context.pairs key out)
     × (out ≡ Refused UnknownClient → IsUnknown c before)
-    × (out ≡ Refused ContextFull → length before.context.pairs ≡ MAX_DEPS)
-    × (length before.context.pairs ≡ MAX_DEPS → (refused : Refusal) × (out ≡ Refused refused))
+    × (out ≡ Refused ContextFull → most_deps c.format ≤ length before.context.pairs)
+    × (most_deps c.format ≤ length before.context.pairs → (refused : Refusal) × (out ≡ Refused refused))
 
 -- the same of a question in a data centre, which changes the share alone
 abbrev pub HasAsked : Cluster → ℕ → List ℕ → ℕ → Outcome → Client → Client → Type 0

@@ -17,6 +17,7 @@ use Rattle.cops_wire.specs.Answer.{IsBytes}
 use Rattle.cops_stream.specs.Audit.{AuditSays, IsTold}
 use Rattle.cops_stream.specs.SoFar.{SaysSoFar, answer_so_far, cut_text}
 use Rattle.cops_stream.specs.declared.audit.Answer.{Answer}
+use Rattle.cops_types.specs.declared.format.Format.TheVariants.{One}
 use Rattle.cops_stream.proofs.OneText.{one_front}
 use Rattle.cops_stream.proofs.Unique.{same_told}
 
@@ -54,7 +55,7 @@ one_cut bytes t u n m fits h k =
     let fronts : front h.begun ≡ front k.begun =
     sym (take_at (front h.begun) h.rest size refl) ∙ ap (take size) (sym h.begins.parts ∙ k.begins.parts) ∙ take_at (front k.begun) k.rest size place in
     let same = one_front h.begun k.begun h.begins.is_trace k.begins.is_trace fronts in
-    h.trace_is ∙ ap (λ (b : Option ATrace). unwrap_or b (record { clients = 0; records = [] })) same ∙ sym k.trace_is
+    h.trace_is ∙ ap (λ (b : Option ATrace). unwrap_or b (record { format = One; clients = 0; records = [] })) same ∙ sym k.trace_is
 
 -- ---- the answer and the text
 

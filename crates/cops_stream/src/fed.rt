@@ -3,7 +3,7 @@ ghost use Rattle.std.specs.Prelude.{◌≡◌};
 
 use cops_audit::Online;
 use cops_trace::Sink;
-use cops_types::{Memory, OpView};
+use cops_types::{Format, Memory, OpView};
 use std::alloc::Global;
 
 /// An auditor of a trace.
@@ -31,7 +31,7 @@ impl Sink for Fed {
 
     ghost took = { WasFed };
 
-    fn begin(alloc: Global, clients: u16) -> Result<Fed, Memory> {
+    fn begin(_format: Format, alloc: Global, clients: u16) -> Result<Fed, Memory> {
         let online = Online::new(alloc, clients)?;
         Ok(Fed { online })
     }

@@ -2,9 +2,7 @@
 use Rattle.std.specs.Prelude.{◌≡◌, ℕ, ◌<◌, ◌≤◌, ◌⊎◌, List, [], length, slice_get, slice_index_or, Option, None, Some}
 use Rattle.cops_types.specs.declared.refusal.Refusal.{Refusal}
 use Rattle.cops_types.specs.declared.refusal.Refusal.TheVariants.{Memory, ClockExhausted, ContextFull}
-use Rattle.cops_types.specs.Histories.{Sessions}
-use Rattle.cops_types.specs.declared.op.Op.{Op}
-use Rattle.cops_types.specs.declared.op.Op.TheVariants.{Put as Wrote, Got, Missed}
+use Rattle.cops_types.specs.Histories.{Sessions, Operation, write, read, missed}
 use Rattle.cops_node.specs.declared.outcome.Outcome.TheVariants.{Refused}
 use Rattle.cops_core.specs.declared.event.Event.{Event}
 use Rattle.cops_core.specs.declared.event.Event.TheVariants.{Put as PutBy, Get as GetBy}
@@ -16,16 +14,16 @@ use Rattle.cops_tie.specs.declared.outcome.ClientOutcome.{ClientOutcome}
 use Rattle.cops_tie.specs.declared.outcome.ClientOutcome.TheVariants.{Done, Stopped}
 
 -- a script's operation was seen so: a put of its key and value, at whatever version; a get of its key, whatever it returned
-abbrev pub IsSeenAs : ScriptOp → Op → Type 0
-IsSeenAs (Put key value) (Wrote k v version) = (k ≡ key) × (v ≡ value)
-IsSeenAs (Get key) (Got k v version) = k ≡ key
-IsSeenAs (Get key) (Missed k) = k ≡ key
+abbrev pub IsSeenAs : ScriptOp → Operation → Type 0
+IsSeenAs (Put key value) (write k content version) = (k ≡ key) × (content ≡ Some value)
+IsSeenAs (Get key) (read k content version) = k ≡ key
+IsSeenAs (Get key) (missed k) = k ≡ key
 IsSeenAs _ _ = ⊥
 
 -- the session has one operation for each of a front of the script, each seen so, in order
-pub record IsFrontOf (script : List ScriptOp) (session : List Op) : Type 0 where
+pub record IsFrontOf (script : List ScriptOp) (session : List Operation) : Type 0 where
   pub few : length session ≤ length script
-  pub each : (n : ℕ) (d : ScriptOp) (e : Op) → n < length session → IsSeenAs (slice_index_or script n d) (slice_index_or session n e)
+  pub each : (n : ℕ) (d : ScriptOp) (e : Operation) → n < length session → IsSeenAs (slice_index_or script n d) (slice_index_or session n e)
 
 -- the world's event that a client's operation is
 abbrev pub event_for : ℕ → ScriptOp → Event
@@ -42,7 +40,7 @@ abbrev pub IsStop : Setting → World → ℕ → Option ScriptOp → Refusal �
 IsStop s w client next refused = (refused ≡ Memory) ⊎ (((refused ≡ ClockExhausted) ⊎ (refused ≡ ContextFull)) × RefusesNext s w client next refused)
 
 -- a client that is done has the session of its whole script, and one that stopped that of a front of it
-abbrev pub IsOutcome : Setting → World → ℕ → List ScriptOp → List Op → ClientOutcome → Type 0
+abbrev pub IsOutcome : Setting → World → ℕ → List ScriptOp → List Operation → ClientOutcome → Type 0
 IsOutcome s w client script session Done = IsFrontOf script session × (length session ≡ length script)
 IsOutcome s w client script session (Stopped refused) = IsFrontOf script session × IsStop s w client (slice_get script (length session)) refused
 

@@ -3,9 +3,10 @@ use Rattle.std.proofs.Common.{◌≡◌, ◌<◌, ◌≤◌, ◌+◌, ◌-◌, �
 use Rattle.std.specs.Prelude.{IfOk, IfErr, IsTrue}
 use Rattle.std.proofs.Math.Nat.{eq-or-lt_of_le}
 use Rattle.std.proofs.lemmas.List.{drop-drop, length-append, length-drop}
+use Rattle.cops_types.specs.declared.format.Format.{Format}
 use Rattle.cops_types.specs.declared.op.Op.{Op}
 use Rattle.cops_types.specs.declared.op_view.OpView.{OpView}
-use Rattle.cops_types.specs.OpViews.{viewed}
+use Rattle.cops_types.specs.OpViews.{op_viewed}
 use Rattle.cops_trace.specs.declared.ahead.RecordPlace.{RecordPlace}
 use Rattle.cops_trace.specs.declared.fault.TraceFault.{TraceFault}
 use Rattle.cops_trace.specs.declared.found.Found.TheVariants.{Gives}
@@ -32,8 +33,8 @@ take_whole {A = A} (x ∷ xs) (suc n) same = ap (λ (l : List A). x ∷ l) (take
 pub from_place : (bytes : List ℕ) (at : ℕ) → take (length bytes - at) (drop at bytes) ≡ drop at bytes
 from_place bytes at = take_whole (drop at bytes) (length bytes - at) (length-drop at bytes)
 
-pub none_seen : (bytes : List ℕ) → AreSeen bytes [] []
-none_seen bytes = record { few = omega arith; each = λ k d e less. absurd (omega (arith, less)) }
+pub none_seen : (format : Format) (bytes : List ℕ) → AreSeen format bytes [] []
+none_seen format bytes = record { few = omega arith; each = λ k d e less. absurd (omega (arith, less)) }
 
 get_at_end : {A : Type 0} (xs : List A) (x d : A) → get_or (xs ++ x ∷ []) (length xs) d ≡ x
 get_at_end [] x d = refl
@@ -44,24 +45,24 @@ get_before [] x d k less = absurd (omega (arith, less))
 get_before (y ∷ xs) x d zero less = refl
 get_before (y ∷ xs) x d (suc k) less = get_before xs x d k (omega (arith, less))
 
-pub seen_too : (bytes : List ℕ) (places : List RecordPlace) (ops : List OpView) (op : OpView) → AreSeen bytes places ops → AreSeen bytes places (ops ++ op ∷ [])
-seen_too bytes places ops op seen = record {
+pub seen_too : (format : Format) (bytes : List ℕ) (places : List RecordPlace) (ops : List OpView) (op : OpView) → AreSeen format bytes places ops → AreSeen format bytes places (ops ++ op ∷ [])
+seen_too format bytes places ops op seen = record {
   few = omega (arith, seen.few, length-append ops (op ∷ []));
-  each = λ k d e less. subst (IsSeenAt bytes (get_or places k d)) (sym (get_before ops op e k (omega (arith, less, seen.few)))) (seen.each k d e less);
+  each = λ k d e less. subst (IsSeenAt format bytes (get_or places k d)) (sym (get_before ops op e k (omega (arith, less, seen.few)))) (seen.each k d e less);
 }
 
-pub seen_next : (bytes : List ℕ) (places : List RecordPlace) (ops : List OpView) (place : RecordPlace) (op : OpView) → length places ≡ length ops → AreSeen bytes places ops → IsSeenAt bytes place op → AreSeen bytes (places ++ place ∷ []) (ops ++ op ∷ [])
-seen_next bytes places ops place op same seen here = record {
+pub seen_next : (format : Format) (bytes : List ℕ) (places : List RecordPlace) (ops : List OpView) (place : RecordPlace) (op : OpView) → length places ≡ length ops → AreSeen format bytes places ops → IsSeenAt format bytes place op → AreSeen format bytes (places ++ place ∷ []) (ops ++ op ∷ [])
+seen_next format bytes places ops place op same seen here = record {
   few = omega (arith, same, length-append ops (op ∷ []), length-append places (place ∷ []));
   each = λ k d e less. elim (eq-or-lt_of_le (let le : k ≤ length places = omega (arith, less, length-append places (place ∷ [])) in le)) [
     | inl end ↦
         let at_place : get_or (places ++ place ∷ []) k d ≡ place = ap (λ (n : ℕ). get_or (places ++ place ∷ []) n d) end ∙ get_at_end places place d in
         let at_op : get_or (ops ++ op ∷ []) k e ≡ op = ap (λ (n : ℕ). get_or (ops ++ op ∷ []) n e) (end ∙ same) ∙ get_at_end ops op e in
-        subst (λ (p : RecordPlace). IsSeenAt bytes p (get_or (ops ++ op ∷ []) k e)) (sym at_place) (subst (IsSeenAt bytes place) (sym at_op) here)
+        subst (λ (p : RecordPlace). IsSeenAt format bytes p (get_or (ops ++ op ∷ []) k e)) (sym at_place) (subst (IsSeenAt format bytes place) (sym at_op) here)
     | inr before ↦
         let at_place = get_before places place d k before in
         let at_op = get_before ops op e k (omega (arith, before, same)) in
-        subst (λ (p : RecordPlace). IsSeenAt bytes p (get_or (ops ++ op ∷ []) k e)) (sym at_place) (subst (IsSeenAt bytes (get_or places k d)) (sym at_op) (seen.each k d e before))
+        subst (λ (p : RecordPlace). IsSeenAt format bytes p (get_or (ops ++ op ∷ []) k e)) (sym at_place) (subst (IsSeenAt format bytes (get_or places k d)) (sym at_op) (seen.each k d e before))
   ];
 }
 
@@ -111,37 +112,37 @@ reach_next c at used rest client op stands reach =
     reach_after at used (Some c) item allowed reach (stands_used (Some (progress_from at c)) rest item used stands).2
 
 -- the record that was seen stands there
-pub seen_there : (c : ACounts) (at : ℕ) (bytes : List ℕ) (place : RecordPlace) (op : OpView) → IsSeenAt bytes place op
-    → record_found (progress_from at c) (record { client = place.client; op = viewed op }) place.index place.used ≡ Gives (Entry place.client (viewed op)) place.used
-    → Stands (Some (progress_from at c)) (drop place.at bytes) (Gives (Entry place.client (viewed op)) place.used)
+pub seen_there : (c : ACounts) (at : ℕ) (bytes : List ℕ) (place : RecordPlace) (op : OpView) → IsSeenAt c.format bytes place op
+    → record_found (progress_from at c) (record { client = place.client; index = place.index; op = op_viewed op }) place.used ≡ Gives (Entry place.client (op_viewed op)) place.used
+    → Stands (Some (progress_from at c)) (drop place.at bytes) (Gives (Entry place.client (op_viewed op)) place.used)
 seen_there c at bytes place op seen found =
     seen_stands (progress_from at c) (drop place.at bytes) (record { client = place.client; index = place.index; op = op; used = place.used }) seen found
 
 -- what was seen at the place that is come to
-module _ (c : ACounts) (at used : ℕ) (bytes : List ℕ) (places : List RecordPlace) (ops : List OpView) (seen : AreSeen bytes places ops) (k : ℕ) (less : k < length places) (place : RecordPlace) (is_place : place ≡ get_or places k place)
+module _ (c : ACounts) (at used : ℕ) (bytes : List ℕ) (places : List RecordPlace) (ops : List OpView) (seen : AreSeen c.format bytes places ops) (k : ℕ) (less : k < length places) (place : RecordPlace) (is_place : place ≡ get_or places k place)
     (op : OpView) (is_op : op ≡ get_or ops k op) (come : place.at ≡ used)
-    (found : (o : Op) (n : ℕ) → record_found (progress_from (at + used) c) (record { client = place.client; op = o }) place.index n ≡ Gives (Entry place.client o) n) where
-  pub stands_here : Stands (Some (progress_from (at + used) c)) (drop used bytes) (Gives (Entry place.client (viewed op)) place.used)
+    (found : (o : Op) (n : ℕ) → record_found (progress_from (at + used) c) (record { client = place.client; index = place.index; op = o }) n ≡ Gives (Entry place.client o) n) where
+  pub stands_here : Stands (Some (progress_from (at + used) c)) (drop used bytes) (Gives (Entry place.client (op_viewed op)) place.used)
   stands_here =
-      let here : IsSeenAt bytes place op = subst (λ (p : RecordPlace). IsSeenAt bytes p op) (sym is_place) (subst (IsSeenAt bytes (get_or places k place)) (sym is_op) (seen.each k place op less)) in
-      subst (λ (n : ℕ). Stands (Some (progress_from (at + used) c)) (drop n bytes) (Gives (Entry place.client (viewed op)) place.used)) come
-      (seen_there c (at + used) bytes place op here (found (viewed op) place.used))
+      let here : IsSeenAt c.format bytes place op = subst (λ (p : RecordPlace). IsSeenAt c.format bytes p op) (sym is_place) (subst (IsSeenAt c.format bytes (get_or places k place)) (sym is_op) (seen.each k place op less)) in
+      subst (λ (n : ℕ). Stands (Some (progress_from (at + used) c)) (drop n bytes) (Gives (Entry place.client (op_viewed op)) place.used)) come
+      (seen_there c (at + used) bytes place op here (found (op_viewed op) place.used))
 
   pub within_here : used ≤ length bytes → used + place.used ≤ length bytes
   within_here within =
-      let bounds = stands_used (Some (progress_from (at + used) c)) (drop used bytes) (Entry place.client (viewed op)) place.used stands_here in
+      let bounds = stands_used (Some (progress_from (at + used) c)) (drop used bytes) (Entry place.client (op_viewed op)) place.used stands_here in
       omega (arith, within, bounds.2, length-drop used bytes)
 
   pub reach_here : IsWithinReach (Some c) false (at + used) → IsWithinReach (Some (counted c place.client)) false (at + (used + place.used))
   reach_here reach =
-      let next = reach_next c (at + used) place.used (drop used bytes) place.client (viewed op) stands_here reach in
+      let next = reach_next c (at + used) place.used (drop used bytes) place.client (op_viewed op) stands_here reach in
       (next.0, omega (arith, next.1))
 
   pub goes_here : {S : Type 0} (took : S → ATrace → Type 0) (from : Option S) (old : Reading) (begun to : Option S) → GoesOn took from old begun (reading_at c (at + used) (drop used bytes))
-      → ((t : Option ATrace) → IsTakenAs took begun t → IsTakenAs took to (with_item (Entry place.client (viewed op)) t))
+      → ((t : Option ATrace) → IsTakenAs took begun t → IsTakenAs took to (with_item (Entry place.client (op_viewed op)) t))
       → GoesOn took from old to (reading_at (counted c place.client) (at + (used + place.used)) (drop (used + place.used) bytes))
   goes_here took from old begun to on takes =
-      let next = goes_next took from old begun to c (at + used) place.used (drop used bytes) place.client (viewed op) on stands_here takes in
+      let next = goes_next took from old begun to c (at + used) place.used (drop used bytes) place.client (op_viewed op) on stands_here takes in
       let sum : (at + used) + place.used ≡ at + (used + place.used) = omega arith in
       subst (λ (n : ℕ). GoesOn took from old to (reading_at (counted c place.client) n (drop (used + place.used) bytes))) sum
       (subst (λ (l : List ℕ). GoesOn took from old to (reading_at (counted c place.client) ((at + used) + place.used) l)) (drop-drop place.used used bytes) next)

@@ -5,24 +5,25 @@ use Rattle.std.specs.Cmp.Lexicographic.{pointwise}
 use Rattle.std.proofs.lemmas.Bool.Decides.{Decides-eqb}
 use Rattle.std.proofs.lemmas.Slice.Eq.{strip_prefix_is}
 use Rattle.std.proofs.lemmas.List.{length-append, append-nil, take_at, take-append-le}
+use Rattle.cops_types.specs.Histories.{Operation}
 use Rattle.cops_types.proofs.Devices.{appends_more}
+use Rattle.cops_types.specs.declared.format.Format.{Format}
 use Rattle.cops_types.specs.declared.format.Format.TheVariants.{One}
-use Rattle.cops_types.specs.declared.op.Op.{Op}
-use Rattle.cops_wire.specs.Message.{parts, spelled}
+use Rattle.cops_wire.specs.Message.{spelled}
+use Rattle.cops_wire.specs.Records.{record_message}
 use Rattle.cops_wire.specs.declared.message.Message.TheVariants.{TraceEnd}
-use Rattle.cops_wire.proofs.Codec.{spelling_bounds}
 use Rattle.cops_trace.specs.Counts.{ACounts, AreCountsOf, HasTurn, counted, nothing}
 use Rattle.cops_trace.specs.Kept.{grown}
 use Rattle.cops_trace.specs.Live.{Gains, HasBegun, IsCutBy, IsCutShort}
-use Rattle.cops_trace.specs.Text.{ATrace, IsOp, IsTrace, beginning, op_message, record_text, text}
+use Rattle.cops_trace.specs.Text.{ARecord, ATrace, IsOp, IsTrace, beginning, record_text, text}
 use Rattle.cops_trace.specs.Writing.{IsUnwritten, head_frame, more_written, record_frame}
 use Rattle.cops_trace.specs.declared.fault.WriteFault.{WriteFault}
 use Rattle.cops_trace.specs.declared.fault.WriteFault.TheVariants.{Memory, WriteFailed}
 use Rattle.cops_trace.specs.declared.live.LiveTrace.{LiveTrace}
-use Rattle.cops_trace.specs.declared.record.Record.{Record}
 use Rattle.cops_trace.proofs.Ends.{end_text}
 use Rattle.cops_trace.proofs.Growth.{IsTrace-grown, IsTrace-none, beginning-grown, beginning-none, with_records}
-use Rattle.cops_trace.proofs.Readings.{front_len, text_len}
+use Rattle.cops_trace.proofs.Items.{spelled_len}
+use Rattle.cops_trace.proofs.Readings.{end_legal, front_len, text_len}
 use Rattle.cops_trace.proofs.Underway.{counts_grown, counts_none}
 
 -- ---- what a writer gained
@@ -48,8 +49,7 @@ take_past (x ∷ xs) ys n =
 -- ---- a text that is cut
 
 end_there : (t : ATrace) → IsTrace t → 0 < length (end_text t)
-unfolding spelled
-end_there t h = let b = spelling_bounds One (parts (TraceEnd (length t.records))) (omega (arith, h.all), tt) in omega (arith, b.0)
+end_there t h = omega (arith, (spelled_len t.format (TraceEnd (length t.records)) (end_legal t h)).0)
 
 -- some first bytes of a frame that comes after these went out, fewer than all
 pub cut_in : (old mid new : Option (List ℕ)) (t : ATrace) (bytes frame rest : List ℕ) (count : ℕ) → IsTrace t → text t ≡ bytes ++ (frame ++ rest) → Appends old mid bytes
@@ -86,65 +86,65 @@ told old new before count cut = let long = text_len cut.trace cut.is_trace in om
 
 -- ---- the head
 
-rest_of_none : (clients : ℕ) → text (with_records clients []) ≡ head_frame clients ++ end_text (with_records clients [])
-rest_of_none clients = ap (λ (l : List ℕ). l ++ end_text (with_records clients [])) (beginning-none clients)
+rest_of_none : (format : Format) (clients : ℕ) → text (with_records format clients []) ≡ head_frame format clients ++ end_text (with_records format clients [])
+rest_of_none format clients = ap (λ (l : List ℕ). l ++ end_text (with_records format clients [])) (beginning-none format clients)
 
-pub new_begun : (old new : Option (List ℕ)) (clients : ℕ) → clients < 2 ^ 16 → Appends old new (head_frame clients)
-    → HasBegun old new (head_frame clients) (nothing clients) (more_written 0 (length (head_frame clients)))
-new_begun old new clients few first =
-    let t = with_records clients [] in
-    let h = IsTrace-none clients few in
+pub new_begun : (old new : Option (List ℕ)) (format : Format) (clients : ℕ) → clients < 2 ^ 16 → Appends old new (head_frame format clients)
+    → HasBegun old new (head_frame format clients) (nothing format clients) (more_written 0 (length (head_frame format clients)))
+new_begun old new format clients few first =
+    let t = with_records format clients [] in
+    let h = IsTrace-none format clients few in
     record {
       trace = t;
       is_trace = h;
-      counts = counts_none clients;
-      bytes_are = sym (beginning-none clients);
-      in_all = omega (arith, ap length (beginning-none clients), front_len (Some t) h);
+      counts = counts_none format clients;
+      bytes_are = sym (beginning-none format clients);
+      in_all = omega (arith, ap length (beginning-none format clients), front_len (Some t) h);
       appends = first;
     }
 
 -- nothing went out
 pub cut_none : (old : Option (List ℕ)) → IsCutShort old old 0
 cut_none old =
-    let t = with_records 0 [] in
-    let h = IsTrace-none 0 (omega arith) in
+    let t = with_records One 0 [] in
+    let h = IsTrace-none One 0 (omega arith) in
     record { trace = t; is_trace = h; fewer = omega (arith, length-append (beginning t) (end_text t), end_there t h); appends = appends_none old }
 
-pub new_cut : (old new : Option (List ℕ)) (clients : ℕ) (e : WriteFault) → clients < 2 ^ 16 → IsUnwritten (head_frame clients) 0 old new e → IsCutBy e old new
-new_cut old new clients Memory few k =
-    let t = with_records clients [] in
-    (0, record { trace = t; is_trace = IsTrace-none clients few; fewer = omega (arith, length-append (beginning t) (end_text t), end_there t (IsTrace-none clients few)); appends = kept_none old new k })
-new_cut old new clients (WriteFailed written) few u =
-    let t = with_records clients [] in
-    let cut = cut_in old old new t [] (head_frame clients) (end_text t) u.0 (IsTrace-none clients few) (rest_of_none clients) (appends_none old) u.3 u.1 in
+pub new_cut : (old new : Option (List ℕ)) (format : Format) (clients : ℕ) (e : WriteFault) → clients < 2 ^ 16 → IsUnwritten (head_frame format clients) 0 old new e → IsCutBy e old new
+new_cut old new format clients Memory few k =
+    let t = with_records format clients [] in
+    (0, record { trace = t; is_trace = IsTrace-none format clients few; fewer = omega (arith, length-append (beginning t) (end_text t), end_there t (IsTrace-none format clients few)); appends = kept_none old new k })
+new_cut old new format clients (WriteFailed written) few u =
+    let t = with_records format clients [] in
+    let cut = cut_in old old new t [] (head_frame format clients) (end_text t) u.0 (IsTrace-none format clients few) (rest_of_none format clients) (appends_none old) u.3 u.1 in
     subst (IsCutShort old new) (told old new 0 u.0 cut ∙ sym u.2) cut
 
 -- ---- a record
 
-may_grow : (t : ATrace) (c : ACounts) (client : ℕ) (op : Op) → IsTrace t → AreCountsOf t c → HasTurn c client → IsOp op → IsTrace (grown t (record { client = client; op = op }))
+may_grow : (t : ATrace) (c : ACounts) (client : ℕ) (op : Operation) → IsTrace t → AreCountsOf t c → HasTurn c client → IsOp c.format op → IsTrace (grown t (record { client = client; op = op }))
 may_grow t c client op h counts turn is =
-    IsTrace-grown t (record { client = client; op = op }) h (omega (arith, counts.clients, turn.0)) is (omega (arith, counts.next client, turn.1)) (omega (arith, counts.total, turn.2))
+    IsTrace-grown t (record { client = client; op = op }) h (omega (arith, counts.clients, turn.0)) (subst (λ (f : Format). IsOp f op) counts.format is) (omega (arith, counts.next client, turn.1)) (omega (arith, counts.total, turn.2))
 
-frame_is : (t : ATrace) (c : ACounts) (client : ℕ) (op : Op) → AreCountsOf t c → record_frame c client op ≡ record_text t.records (record { client = client; op = op })
-frame_is t c client op counts = ap (λ (i : ℕ). spelled (op_message client i op)) (counts.next client)
+frame_is : (t : ATrace) (c : ACounts) (client : ℕ) (op : Operation) → AreCountsOf t c → record_frame c client op ≡ record_text t.records (record { client = client; op = op })
+frame_is t c client op counts = ap (λ (i : ℕ). spelled (record_message client i op)) (counts.next client)
 
-grown_is : (t : ATrace) (c : ACounts) (bytes : List ℕ) (client : ℕ) (op : Op) → AreCountsOf t c → bytes ≡ beginning t → beginning (grown t (record { client = client; op = op })) ≡ bytes ++ record_frame c client op
+grown_is : (t : ATrace) (c : ACounts) (bytes : List ℕ) (client : ℕ) (op : Operation) → AreCountsOf t c → bytes ≡ beginning t → beginning (grown t (record { client = client; op = op })) ≡ bytes ++ record_frame c client op
 grown_is t c bytes client op counts is =
     beginning-grown t (record { client = client; op = op })
     ∙ ap (λ (l : List ℕ). beginning t ++ l) (sym (frame_is t c client op counts)) ∙ ap (λ (l : List ℕ). l ++ record_frame c client op) (sym is)
 
-pub add_gains : {W : Type 0} (old new : LiveTrace W) (r : Record) → HasTurn old.writer.counts r.client → new.writer.counts ≡ counted old.writer.counts r.client
+pub add_gains : {W : Type 0} (old new : LiveTrace W) (r : ARecord) → HasTurn old.writer.counts r.client → new.writer.counts ≡ counted old.writer.counts r.client
     → new.text.items ≡ old.text.items ++ record_frame old.writer.counts r.client r.op → Gains (r ∷ []) old new
 add_gains old new r turn counts longer t b = record {
   counts = subst (AreCountsOf (grown t r)) (sym counts) (counts_grown t old.writer.counts r b.counts turn.0);
   bytes_are = longer ∙ sym (grown_is t old.writer.counts old.text.items r.client r.op b.counts b.bytes_are);
 }
 
-pub add_begun : (old mid new : Option (List ℕ)) (bytes : List ℕ) (c : ACounts) (written client : ℕ) (op : Op) → HasBegun old mid bytes c written → HasTurn c client → IsOp op
+pub add_begun : (old mid new : Option (List ℕ)) (bytes : List ℕ) (c : ACounts) (written client : ℕ) (op : Operation) → HasBegun old mid bytes c written → HasTurn c client → IsOp c.format op
     → Appends mid new (record_frame c client op)
     → HasBegun old new (bytes ++ record_frame c client op) (counted c client) (more_written written (length (record_frame c client op)))
 add_begun old mid new bytes c written client op b turn is more =
-    let r : Record = record { client = client; op = op } in
+    let r : ARecord = record { client = client; op = op } in
     let h = may_grow b.trace c client op b.is_trace b.counts turn is in
     let same = grown_is b.trace c bytes client op b.counts b.bytes_are in
     record {
@@ -156,7 +156,7 @@ add_begun old mid new bytes c written client op b turn is more =
       appends = appends_more old mid new bytes (record_frame c client op) _ b.appends more refl;
     }
 
-pub add_cut : (old mid new : Option (List ℕ)) (bytes : List ℕ) (c : ACounts) (written client : ℕ) (op : Op) (e : WriteFault) → HasBegun old mid bytes c written → HasTurn c client → IsOp op
+pub add_cut : (old mid new : Option (List ℕ)) (bytes : List ℕ) (c : ACounts) (written client : ℕ) (op : Operation) (e : WriteFault) → HasBegun old mid bytes c written → HasTurn c client → IsOp c.format op
     → IsUnwritten (record_frame c client op) written mid new e → IsCutBy e old new
 add_cut old mid new bytes c written client op Memory b turn is k = cut_kept old mid new bytes c written b k
 add_cut old mid new bytes c written client op (WriteFailed all) b turn is u =

@@ -3,6 +3,7 @@ use Rattle.std.proofs.Common.{◌≡◌, ◌≢◌, ℕ, zero, suc, ◌+◌, ◌
 use Rattle.std.specs.Prelude.{◌⊎◌, IfSome, unwrap_or}
 use Rattle.std.specs.Io.KnownBytes.{Consumes, IsAtEnd}
 use Rattle.std.proofs.lemmas.List.{length-append, length-drop, append-nil}
+use Rattle.cops_types.specs.declared.format.Format.TheVariants.{One}
 use Rattle.cops_wire.specs.Answer.{IsBytes}
 use Rattle.cops_wire.specs.Message.{parts, spelled}
 use Rattle.cops_trace.specs.declared.fault.TraceFault.{TraceFault}
@@ -84,7 +85,7 @@ item_taken fed s i used true k o st = go s.begun i used k o.begins.is_trace st o
       omega (arith, place, st.used_is, length-append (beginning t) (end_text t)),
     )
     go None End used k is st parts place = absurd st.allowed
-    go b (Head clients) used k is st parts place = absurd cc
+    go b (Head format clients) used k is st parts place = absurd cc
     go b (Entry client op) used k is st parts place = absurd cc
 
 pub fed_item : (fed : List ℕ) (s : Stage) (i : Item) (used : ℕ) → Fed fed s → s.ended ≡ false → Stands (progress_in s) s.rest (Gives i used) → Fed fed (after i used s)
@@ -123,7 +124,7 @@ pub more_fails : (fed : List ℕ) (s : Stage) → Fed fed s → s.ended ≡ true
 more_fails fed s h ended some = record { no_cut = λ offset q. cc; device = λ q. cc; stays = λ more. fed_after_end fed s more h ended some }
 
 -- the head and the records before a cut
-pub fed_so_far : (fed : List ℕ) (s : Stage) → Fed fed s → s.ended ≡ false → IsSettled s → IsCutAfter fed (unwrap_or s.begun (record { clients = 0; records = [] })) s.at
+pub fed_so_far : (fed : List ℕ) (s : Stage) → Fed fed s → s.ended ≡ false → IsSettled s → IsCutAfter fed (unwrap_or s.begun (record { format = One; clients = 0; records = [] })) s.at
 fed_so_far fed s h going settled =
     let o = open_of fed s h going in
     let st : Stands (progress_in s) s.rest Waits = subst (λ (b : Bool). IsSettledAt b s) going settled in

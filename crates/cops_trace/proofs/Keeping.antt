@@ -4,15 +4,13 @@ use Rattle.std.specs.List.{AllByRecursion}
 use Rattle.std.proofs.Math.ListN.{set, length-set}
 use Rattle.std.proofs.lemmas.Bool.{eqb-false, eq-eqb}
 use Rattle.std.proofs.lemmas.List.{length-append, append-nil, length-replicate}
+use Rattle.cops_types.specs.declared.format.Format.{Format}
 use Rattle.cops_types.specs.declared.limits.TheConstants.{MAX_CLIENT_OPS, MAX_OPS}
-use Rattle.cops_types.specs.declared.op.Op.{Op}
-use Rattle.cops_types.specs.declared.op.Op.TheVariants.{Missed}
-use Rattle.cops_types.specs.Histories.{Sessions, with_op}
+use Rattle.cops_types.specs.Histories.{Sessions, with_op, Operation, missed}
 use Rattle.cops_types.specs.Counts.{count_of}
 use Rattle.cops_types.specs.Recorded as types
 use Rattle.cops_types.proofs.Sessions.{count-with_op, count-none}
-use Rattle.cops_trace.specs.declared.record.Record.{Record}
-use Rattle.cops_trace.specs.Text.{ATrace, IsTrace, IsOp, turn, sessions_after, sessions_of}
+use Rattle.cops_trace.specs.Text.{ARecord, ATrace, IsTrace, IsOp, turn, sessions_after, sessions_of}
 use Rattle.cops_trace.specs.Kept.{op_in, records_from, trace_of, IsKept, IsFull, grown}
 use Rattle.cops_trace.proofs.Lists.{same_or_other, turn-cons, times, times-append, times-cons, times-same}
 use Rattle.cops_trace.proofs.Growth.{IsTrace-grown, IsTrace-none, with_records}
@@ -20,10 +18,10 @@ use Rattle.cops_trace.proofs.Growth.{IsTrace-grown, IsTrace-none, with_records}
 -- ---- the sessions that records make
 
 -- each record's client is one of so many
-abbrev AreNamed : ℕ → List Record → Type 0
-AreNamed n rs = AllByRecursion (λ r. (r.client < n) × IsOp r.op) rs
+abbrev AreNamed : Format → ℕ → List ARecord → Type 0
+AreNamed format n rs = AllByRecursion (λ r. (r.client < n) × IsOp format r.op) rs
 
-session_len : (h : Sessions) (i c : ℕ) (op : Op) → i < length h → length (get_or (with_op h i op) c []) ≡ length (get_or h c []) + cond (eqb i c) 1 0
+session_len : (h : Sessions) (i c : ℕ) (op : Operation) → i < length h → length (get_or (with_op h i op) c []) ≡ length (get_or h c []) + cond (eqb i c) 1 0
 session_len h i c op inside =
     let s = get_or h i [] in
     elim (same_or_other i c) [
@@ -37,25 +35,25 @@ session_len h i c op inside =
           rw p (omega (arith, there))
     ]
 
-pub after_len : (n : ℕ) (h : Sessions) (rs : List Record) (c : ℕ) → length h ≡ n → AreNamed n rs → length (get_or (sessions_after h rs) c []) ≡ length (get_or h c []) + turn c rs
-after_len n h [] c width named = omega arith
-after_len n h (r ∷ rs) c width named =
+pub after_len : (format : Format) (n : ℕ) (h : Sessions) (rs : List ARecord) (c : ℕ) → length h ≡ n → AreNamed format n rs → length (get_or (sessions_after h rs) c []) ≡ length (get_or h c []) + turn c rs
+after_len format n h [] c width named = omega arith
+after_len format n h (r ∷ rs) c width named =
     let inside : r.client < length h = omega (arith, named.0.0) in
-    let ih = after_len n (with_op h r.client r.op) rs c (length-set h r.client _ ∙ width) named.1 in
+    let ih = after_len format n (with_op h r.client r.op) rs c (length-set h r.client _ ∙ width) named.1 in
     omega (arith, ih, session_len h r.client c r.op inside, turn-cons c r rs)
 
-pub after_count : (n : ℕ) (h : Sessions) (rs : List Record) → length h ≡ n → AreNamed n rs → count_of (sessions_after h rs) ≡ count_of h + length rs
-after_count n h [] width named = omega arith
-after_count n h (r ∷ rs) width named =
+pub after_count : (format : Format) (n : ℕ) (h : Sessions) (rs : List ARecord) → length h ≡ n → AreNamed format n rs → count_of (sessions_after h rs) ≡ count_of h + length rs
+after_count format n h [] width named = omega arith
+after_count format n h (r ∷ rs) width named =
     let inside : r.client < length h = omega (arith, named.0.0) in
-    let ih = after_count n (with_op h r.client r.op) rs (length-set h r.client _ ∙ width) named.1 in
+    let ih = after_count format n (with_op h r.client r.op) rs (length-set h r.client _ ∙ width) named.1 in
     omega (arith, ih, count-with_op h r.client r.op inside)
 
-pub after_push : (h : Sessions) (rs : List Record) (r : Record) → sessions_after h (rs ++ r ∷ []) ≡ with_op (sessions_after h rs) r.client r.op
+pub after_push : (h : Sessions) (rs : List ARecord) (r : ARecord) → sessions_after h (rs ++ r ∷ []) ≡ with_op (sessions_after h rs) r.client r.op
 after_push h [] r = refl
 after_push h (q ∷ rs) r = after_push (with_op h q.client q.op) rs r
 
-none : (n c : ℕ) → get_or (replicate {A = List Op} n []) c [] ≡ []
+none : (n c : ℕ) → get_or (replicate {A = List Operation} n []) c [] ≡ []
 none zero c = refl
 none (suc n) zero = refl
 none (suc n) (suc c) = none n c
@@ -63,10 +61,10 @@ none (suc n) (suc c) = none n c
 -- a session has as many operations as the client has records
 pub session_turn : (t : ATrace) (c : ℕ) → IsTrace t → length (get_or (sessions_of t) c []) ≡ turn c t.records
 session_turn t c h =
-    omega (arith, after_len t.clients (replicate t.clients []) t.records c (length-replicate t.clients []) h.named, ap length (none t.clients c))
+    omega (arith, after_len t.format t.clients (replicate t.clients []) t.records c (length-replicate t.clients []) h.named, ap length (none t.clients c))
 
 pub sessions_count : (t : ATrace) → IsTrace t → count_of (sessions_of t) ≡ length t.records
-sessions_count t h = omega (arith, after_count t.clients (replicate t.clients []) t.records (length-replicate t.clients []) h.named, count-none t.clients)
+sessions_count t h = omega (arith, after_count t.format t.clients (replicate t.clients []) t.records (length-replicate t.clients []) h.named, count-none t.clients)
 
 -- ---- the records that are kept
 
@@ -81,101 +79,101 @@ turn-records_from h d earlier (c ∷ cs) =
     ∙ ap (λ (n : ℕ). cond (eqb c d) 1 0 + n) (turn-records_from h d (earlier ++ c ∷ []) cs) ∙ sym (times-cons d c cs)
 
 pub records_push : (h : Sessions) (earlier cs : List ℕ) (c : ℕ) → records_from h earlier (cs ++ c ∷ []) ≡ records_from h earlier cs ++ record { client = c; op = op_in h c (times c (earlier ++ cs)) } ∷ []
-records_push h earlier [] c = ap (λ (e : List ℕ). let r : Record = record { client = c; op = op_in h c (times c e) } in r ∷ []) (sym (append-nil earlier))
+records_push h earlier [] c = ap (λ (e : List ℕ). let r : ARecord = record { client = c; op = op_in h c (times c e) } in r ∷ []) (sym (append-nil earlier))
 records_push h earlier (d ∷ cs) c =
-    let first : Record = record { client = d; op = op_in h d (times d earlier) } in
-    ap (λ (rs : List Record). first ∷ rs)
+    let first : ARecord = record { client = d; op = op_in h d (times d earlier) } in
+    ap (λ (rs : List ARecord). first ∷ rs)
     (records_push h (earlier ++ d ∷ []) cs c
-    ∙ ap (λ (e : List ℕ). let r : Record = record { client = c; op = op_in h c (times c e) } in records_from h (earlier ++ d ∷ []) cs ++ r ∷ []) (append_assoc earlier (d ∷ []) cs))
+    ∙ ap (λ (e : List ℕ). let r : ARecord = record { client = c; op = op_in h c (times c e) } in records_from h (earlier ++ d ∷ []) cs ++ r ∷ []) (append_assoc earlier (d ∷ []) cs))
 
-read_front : (s : List Op) (op : Op) (i : ℕ) → i < length s → get_or (s ++ op ∷ []) i (Missed []) ≡ get_or s i (Missed [])
+read_front : (s : List Operation) (op : Operation) (i : ℕ) → i < length s → get_or (s ++ op ∷ []) i (missed []) ≡ get_or s i (missed [])
 read_front [] op i lt = absurd (omega arith)
 read_front (x ∷ s) op zero lt = refl
 read_front (x ∷ s) op (suc i) lt = read_front s op i (omega arith)
 
-read_last : (s : List Op) (op : Op) → get_or (s ++ op ∷ []) (length s) (Missed []) ≡ op
+read_last : (s : List Operation) (op : Operation) → get_or (s ++ op ∷ []) (length s) (missed []) ≡ op
 read_last [] op = refl
 read_last (x ∷ s) op = read_last s op
 
 -- what was there is there
-op_stays : (h : Sessions) (c d i : ℕ) (op : Op) → c < length h → i < length (get_or h d []) → op_in (with_op h c op) d i ≡ op_in h d i
+op_stays : (h : Sessions) (c d i : ℕ) (op : Operation) → c < length h → i < length (get_or h d []) → op_in (with_op h c op) d i ≡ op_in h d i
 op_stays h c d i op inside there =
     let s = get_or h c [] in
     elim (same_or_other c d) [
       | inl p ↦
           let short : i < length s = subst (λ (x : ℕ). i < length (get_or h x [])) (sym p) there in
-          let here : get_or (get_or (set h c (s ++ op ∷ [])) c []) i (Missed []) ≡ get_or s i (Missed [])
-          = ap (λ (l : List Op). get_or l i (Missed [])) (get_or-set_same h c (s ++ op ∷ []) [] inside) ∙ read_front s op i short in
-          subst (λ (x : ℕ). get_or (get_or (set h c (s ++ op ∷ [])) x []) i (Missed []) ≡ get_or (get_or h x []) i (Missed [])) p here
+          let here : get_or (get_or (set h c (s ++ op ∷ [])) c []) i (missed []) ≡ get_or s i (missed [])
+          = ap (λ (l : List Operation). get_or l i (missed [])) (get_or-set_same h c (s ++ op ∷ []) [] inside) ∙ read_front s op i short in
+          subst (λ (x : ℕ). get_or (get_or (set h c (s ++ op ∷ [])) x []) i (missed []) ≡ get_or (get_or h x []) i (missed [])) p here
       | inr p ↦
           let other : d ≢ c = λ q. eqb-false _ _ p (sym q) in
-          ap (λ (l : List Op). get_or l i (Missed [])) (get_or-set_other h c d (s ++ op ∷ []) [] other)
+          ap (λ (l : List Operation). get_or l i (missed [])) (get_or-set_other h c d (s ++ op ∷ []) [] other)
     ]
 
-records_stay : (h : Sessions) (c : ℕ) (op : Op) (earlier cs : List ℕ) → c < length h → ((d : ℕ) → times d (earlier ++ cs) ≤ length (get_or h d []))
+records_stay : (h : Sessions) (c : ℕ) (op : Operation) (earlier cs : List ℕ) → c < length h → ((d : ℕ) → times d (earlier ++ cs) ≤ length (get_or h d []))
     → records_from (with_op h c op) earlier cs ≡ records_from h earlier cs
 records_stay h c op earlier [] inside bound = refl
 records_stay h c op earlier (d ∷ cs) inside bound =
     let there : times d earlier < length (get_or h d []) = omega (arith, bound d, times-append d earlier (d ∷ cs), times-same d cs) in
     let first : op_in (with_op h c op) d (times d earlier) ≡ op_in h d (times d earlier) = op_stays h c d (times d earlier) op inside there in
     let later = records_stay h c op (earlier ++ d ∷ []) cs inside (λ e. subst (λ (l : List ℕ). times e l ≤ length (get_or h e [])) (sym (append_assoc earlier (d ∷ []) cs)) (bound e)) in
-    let made : Op → List Record → List Record = λ o rs. record { client = d; op = o } ∷ rs in
-    ap (λ (o : Op). made o (records_from (with_op h c op) (earlier ++ d ∷ []) cs)) first ∙ ap (made (op_in h d (times d earlier))) later
+    let made : Operation → List ARecord → List ARecord = λ o rs. record { client = d; op = o } ∷ rs in
+    ap (λ (o : Operation). made o (records_from (with_op h c op) (earlier ++ d ∷ []) cs)) first ∙ ap (made (op_in h d (times d earlier))) later
 
 -- ---- the whole
 
-pub kept_len : (h : Sessions) (cs : List ℕ) (c : ℕ) → IsKept h cs → length (get_or h c []) ≡ times c cs
-kept_len h cs c k =
-    ap (λ (g : Sessions). length (get_or g c [])) k.sessions ∙ session_turn (trace_of h cs) c k.is_trace ∙ turn-records_from h c [] cs
+pub kept_len : (format : Format) (h : Sessions) (cs : List ℕ) (c : ℕ) → IsKept format h cs → length (get_or h c []) ≡ times c cs
+kept_len format h cs c k =
+    ap (λ (g : Sessions). length (get_or g c [])) k.sessions ∙ session_turn (trace_of format h cs) c k.is_trace ∙ turn-records_from h c [] cs
 
 -- one operation more
-pub trace_grown : (h : Sessions) (cs : List ℕ) (c : ℕ) (op : Op) → IsKept h cs → c < length h → trace_of (with_op h c op) (cs ++ c ∷ []) ≡ grown (trace_of h cs) (record { client = c; op = op })
-trace_grown h cs c op k inside =
+pub trace_grown : (format : Format) (h : Sessions) (cs : List ℕ) (c : ℕ) (op : Operation) → IsKept format h cs → c < length h → trace_of format (with_op h c op) (cs ++ c ∷ []) ≡ grown (trace_of format h cs) (record { client = c; op = op })
+trace_grown format h cs c op k inside =
     let g = with_op h c op in
     let s = get_or h c [] in
     let last : op_in g c (times c cs) ≡ op =
-    ap (λ (l : List Op). get_or l (times c cs) (Missed [])) (get_or-set_same h c (s ++ op ∷ []) [] inside)
-    ∙ ap (λ (n : ℕ). get_or (s ++ op ∷ []) n (Missed [])) (sym (kept_len h cs c k)) ∙ read_last s op in
-    let stay = records_stay h c op [] cs inside (λ d. omega (arith, kept_len h cs d k)) in
-    let made : List Record → Op → List Record = λ rs o. rs ++ record { client = c; op = o } ∷ [] in
+    ap (λ (l : List Operation). get_or l (times c cs) (missed [])) (get_or-set_same h c (s ++ op ∷ []) [] inside)
+    ∙ ap (λ (n : ℕ). get_or (s ++ op ∷ []) n (missed [])) (sym (kept_len format h cs c k)) ∙ read_last s op in
+    let stay = records_stay h c op [] cs inside (λ d. omega (arith, kept_len format h cs d k)) in
+    let made : List ARecord → Operation → List ARecord = λ rs o. rs ++ record { client = c; op = o } ∷ [] in
     let all : records_from g [] (cs ++ c ∷ []) ≡ made (records_from h [] cs) op =
-    records_push g [] cs c ∙ ap (λ (rs : List Record). made rs (op_in g c (times c cs))) stay ∙ ap (made (records_from h [] cs)) last in
-    ap (λ (n : ℕ). with_records n (records_from g [] (cs ++ c ∷ []))) (length-set h c (s ++ op ∷ [])) ∙ ap (with_records (length h)) all
+    records_push g [] cs c ∙ ap (λ (rs : List ARecord). made rs (op_in g c (times c cs))) stay ∙ ap (made (records_from h [] cs)) last in
+    ap (λ (n : ℕ). with_records format n (records_from g [] (cs ++ c ∷ []))) (length-set h c (s ++ op ∷ [])) ∙ ap (with_records format (length h)) all
 
-pub kept_grown : (h : Sessions) (cs : List ℕ) (c : ℕ) (op : Op) → IsKept h cs → c < length h → IsOp op → turn c (trace_of h cs).records < MAX_CLIENT_OPS → length (trace_of h cs).records < MAX_OPS
-    → IsKept (with_op h c op) (cs ++ c ∷ [])
-kept_grown h cs c op k inside is room all_room =
-    let r : Record = record { client = c; op = op } in
-    let t = trace_of h cs in
-    let same = trace_grown h cs c op k inside in
+pub kept_grown : (format : Format) (h : Sessions) (cs : List ℕ) (c : ℕ) (op : Operation) → IsKept format h cs → c < length h → IsOp format op → turn c (trace_of format h cs).records < MAX_CLIENT_OPS → length (trace_of format h cs).records < MAX_OPS
+    → IsKept format (with_op h c op) (cs ++ c ∷ [])
+kept_grown format h cs c op k inside is room all_room =
+    let r : ARecord = record { client = c; op = op } in
+    let t = trace_of format h cs in
+    let same = trace_grown format h cs c op k inside in
     record {
       is_trace = subst IsTrace (sym same) (IsTrace-grown t r k.is_trace inside is room all_room);
       sessions = ap (λ (g : Sessions). with_op g c op) k.sessions ∙ sym (after_push (replicate t.clients []) t.records r) ∙ ap sessions_of (sym same);
     }
 
-pub kept_none : (n : ℕ) → n < 2 ^ 16 → IsKept (replicate n []) []
-kept_none n h =
-    let width : length (replicate {A = List Op} n []) ≡ n = length-replicate n [] in
+pub kept_none : (format : Format) (n : ℕ) → n < 2 ^ 16 → IsKept format (replicate n []) []
+kept_none format n h =
+    let width : length (replicate {A = List Operation} n []) ≡ n = length-replicate n [] in
     record {
-      is_trace = IsTrace-none (length (replicate {A = List Op} n [])) (omega (arith, width));
-      sessions = ap (λ (m : ℕ). replicate {A = List Op} m []) (sym width);
+      is_trace = IsTrace-none format (length (replicate {A = List Operation} n [])) (omega (arith, width));
+      sessions = ap (λ (m : ℕ). replicate {A = List Operation} m []) (sym width);
     }
 
-pub kept_turn : (h : Sessions) (cs : List ℕ) (c : ℕ) → IsKept h cs → length (get_or h c []) ≡ turn c (trace_of h cs).records
-kept_turn h cs c k = ap (λ (g : Sessions). length (get_or g c [])) k.sessions ∙ session_turn (trace_of h cs) c k.is_trace
+pub kept_turn : (format : Format) (h : Sessions) (cs : List ℕ) (c : ℕ) → IsKept format h cs → length (get_or h c []) ≡ turn c (trace_of format h cs).records
+kept_turn format h cs c k = ap (λ (g : Sessions). length (get_or g c [])) k.sessions ∙ session_turn (trace_of format h cs) c k.is_trace
 
-pub kept_count : (h : Sessions) (cs : List ℕ) → IsKept h cs → count_of h ≡ length (trace_of h cs).records
-kept_count h cs k = ap count_of k.sessions ∙ sessions_count (trace_of h cs) k.is_trace
+pub kept_count : (format : Format) (h : Sessions) (cs : List ℕ) → IsKept format h cs → count_of h ≡ length (trace_of format h cs).records
+kept_count format h cs k = ap count_of k.sessions ∙ sessions_count (trace_of format h cs) k.is_trace
 
 -- the limits of the sessions are those of the trace
-pub kept_full : (h : Sessions) (cs : List ℕ) (c : ℕ) → IsKept h cs → types.IsFull h c ↔ IsFull (trace_of h cs) c
-kept_full h cs c k =
-    let turns = kept_turn h cs c k in
-    let all = kept_count h cs k in
+pub kept_full : (format : Format) (h : Sessions) (cs : List ℕ) (c : ℕ) → IsKept format h cs → types.IsFull h c ↔ IsFull (trace_of format h cs) c
+kept_full format h cs c k =
+    let turns = kept_turn format h cs c k in
+    let all = kept_count format h cs k in
     (λ full room. full (omega (arith, turns, room.0), omega (arith, all, room.1)), λ full room. full (omega (arith, turns, room.0), omega (arith, all, room.1)))
 
 -- the same of a client that is there
-pub kept_refused : (h : Sessions) (cs : List ℕ) (c : ℕ) (P : Type 0) → IsKept h cs → P ↔ ((c < length h) × types.IsFull h c) → P ↔ ((c < (trace_of h cs).clients) × IsFull (trace_of h cs) c)
-kept_refused h cs c P k both =
-    let full = kept_full h cs c k in
+pub kept_refused : (format : Format) (h : Sessions) (cs : List ℕ) (c : ℕ) (P : Type 0) → IsKept format h cs → P ↔ ((c < length h) × types.IsFull h c) → P ↔ ((c < (trace_of format h cs).clients) × IsFull (trace_of format h cs) c)
+kept_refused format h cs c P k both =
+    let full = kept_full format h cs c k in
     (λ p. let q = both.0 p in (q.0, full.0 q.1), λ q. both.1 (q.0, full.1 q.1))

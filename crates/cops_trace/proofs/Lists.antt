@@ -4,8 +4,7 @@ use Rattle.std.specs.Prelude.{count_by, ◌⊎◌}
 use Rattle.std.specs.List.{AllByRecursion}
 use Rattle.std.proofs.lemmas.Bool.{cases_Bool, cases_lt, eqb-true}
 use Rattle.std.proofs.lemmas.List.Sums.{sum_by-append, sum_by-cons}
-use Rattle.cops_trace.specs.declared.record.Record.{Record}
-use Rattle.cops_trace.specs.Text.{turn}
+use Rattle.cops_trace.specs.Text.{ARecord, turn}
 
 pub all_both : {X : Type 0} (P : X → Type 0) (xs ys : List X) → AllByRecursion P xs → AllByRecursion P ys → AllByRecursion P (xs ++ ys)
 all_both P [] ys h k = k
@@ -23,20 +22,20 @@ all_back P (x ∷ xs) ys h = all_back P xs ys h.1
 pub same_or_other : (a b : ℕ) → (a ≡ b) ⊎ (eqb a b ≡ false)
 same_or_other a b = elim (cases_Bool (eqb a b)) [ inl p ↦ inl (eqb-true _ _ p) | inr p ↦ inr p ]
 
-pub turn-append : (c : ℕ) (xs ys : List Record) → turn c (xs ++ ys) ≡ turn c xs + turn c ys
-turn-append c xs ys = sum_by-append (λ (r : Record). cond (eqb r.client c) 1 0) xs ys
+pub turn-append : (c : ℕ) (xs ys : List ARecord) → turn c (xs ++ ys) ≡ turn c xs + turn c ys
+turn-append c xs ys = sum_by-append (λ (r : ARecord). cond (eqb r.client c) 1 0) xs ys
 
-pub turn-cons : (c : ℕ) (r : Record) (rs : List Record) → turn c (r ∷ rs) ≡ cond (eqb r.client c) 1 0 + turn c rs
-turn-cons c r rs = sum_by-cons (λ (r : Record). cond (eqb r.client c) 1 0) r rs
+pub turn-cons : (c : ℕ) (r : ARecord) (rs : List ARecord) → turn c (r ∷ rs) ≡ cond (eqb r.client c) 1 0 + turn c rs
+turn-cons c r rs = sum_by-cons (λ (r : ARecord). cond (eqb r.client c) 1 0) r rs
 
 -- the client's turn is one more, and each other's stays
-pub turn-same : (rs : List Record) (r : Record) → turn r.client (rs ++ r ∷ []) ≡ turn r.client rs + 1
+pub turn-same : (rs : List ARecord) (r : ARecord) → turn r.client (rs ++ r ∷ []) ≡ turn r.client rs + 1
 turn-same rs r = turn-append r.client rs (r ∷ []) ∙ omega (arith, one r)
   where
-    one : (r : Record) → turn r.client (r ∷ []) ≡ 1
+    one : (r : ARecord) → turn r.client (r ∷ []) ≡ 1
     one r = grind arith
 
-pub turn-other : (rs : List Record) (r : Record) (c : ℕ) → eqb r.client c ≡ false → turn c (rs ++ r ∷ []) ≡ turn c rs
+pub turn-other : (rs : List ARecord) (r : ARecord) (c : ℕ) → eqb r.client c ≡ false → turn c (rs ++ r ∷ []) ≡ turn c rs
 turn-other rs r c h = turn-append c rs (r ∷ []) ∙ rw h (omega arith)
 
 -- the same of numbers

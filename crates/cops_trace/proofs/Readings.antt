@@ -1,33 +1,41 @@
 -- Bytes are one text, or have one first fault.
-use Rattle.std.proofs.Common.{◌≡◌, ◌≢◌, ℕ, suc, ◌+◌, ◌*◌, ◌<◌, ◌≤◌, false, cond, eqb, List, [], ◌∷◌, ◌++◌, length, Option, Some, None, Result, Ok, Err, refl, sym, ap, subst, ◌∙◌, append_assoc, arith, inl, inr, eq-eqb}
+use Rattle.std.proofs.Common.{◌≡◌, ◌≢◌, ℕ, suc, ◌+◌, ◌*◌, ◌^◌, ◌<◌, ◌≤◌, false, cond, eqb, List, [], ◌∷◌, ◌++◌, length, Option, Some, None, Result, Ok, Err, refl, sym, ap, subst, ◌∙◌, append_assoc, arith, inl, inr, eq-eqb}
 use Rattle.std.specs.Prelude.{IfSome}
 use Rattle.std.proofs.lemmas.Bool.{ne_eqb}
 use Rattle.std.proofs.lemmas.List.{length-append, append-nil}
+use Rattle.std.specs.List.{AllByRecursion}
+use Rattle.cops_types.specs.declared.op.Op.{Op}
+use Rattle.cops_types.specs.declared.op.Op.TheVariants.{Put, Got, Missed}
+use Rattle.cops_types.specs.Histories.{Operation, write, read, missed}
+use Rattle.cops_types.specs.Operations.{operation_of}
 use Rattle.cops_types.specs.declared.limits.TheConstants.{MAX_CLIENT_OPS, MAX_OPS}
+use Rattle.cops_types.specs.declared.format.Format.{Format}
 use Rattle.cops_types.specs.declared.format.Format.TheVariants.{One}
-use Rattle.cops_wire.specs.Legal.{IsLegalMessage}
+use Rattle.cops_wire.specs.Grammar.{grammar}
+use Rattle.cops_wire.specs.Legal.{IsMessage}
 use Rattle.cops_wire.specs.declared.message.Message.{Message}
 use Rattle.cops_wire.specs.declared.message.Message.TheVariants.{TraceEnd}
 use Rattle.cops_wire.specs.Answer.{IsBytes}
 use Rattle.cops_wire.proofs.Fields.{IsBytes-right}
 use Rattle.cops_wire.proofs.Codec.{one_message}
-use Rattle.cops_trace.specs.declared.record.Record.{Record}
 use Rattle.cops_trace.specs.declared.fault.TraceFault.{TraceFault}
 use Rattle.cops_trace.specs.declared.fault.TraceFault.TheVariants.{Memory, Cut, BytesAfterEnd}
 use Rattle.cops_trace.specs.declared.found.Item.{Item}
 use Rattle.cops_trace.specs.declared.found.Item.TheVariants.{Head, Op as Entry, End}
 use Rattle.cops_trace.specs.declared.found.Found.{Found}
 use Rattle.cops_trace.specs.declared.found.Found.TheVariants.{Gives, Waits, Fails}
-use Rattle.cops_wire.specs.Message.{spelled}
-use Rattle.cops_trace.specs.Text.{ATrace, IsTrace, IsOp, turn, records_text, beginning, text}
-use Rattle.cops_trace.proofs.Ends.{head_text, end_text}
-use Rattle.cops_trace.specs.Next.{Stands}
+use Rattle.cops_wire.specs.Message.{parts, spelled}
+use Rattle.cops_wire.specs.Records.{record_message}
+use Rattle.cops_trace.specs.Text.{ARecord, ATrace, IsTrace, IsOp, turn, record_text, records_text, beginning, text}
+use Rattle.cops_trace.proofs.Ends.{end_text}
+use Rattle.cops_trace.specs.Next.{Stands, format_next}
+use Rattle.cops_trace.specs.Writing.{head_frame}
 use Rattle.cops_trace.specs.Answer.{progress_of, progress_at, front, Begins, HasWrongFrame, IsCut, HasMore, HasFault, Says, Agrees}
 use Rattle.cops_trace.specs.Answer as answer
 use Rattle.cops_trace.specs.Parsing.{with_item, is_end}
 use Rattle.cops_trace.proofs.Lists.{all_back, turn-same}
 use Rattle.cops_trace.proofs.Growth.{with_records, IsTrace-front}
-use Rattle.cops_trace.proofs.Items.{item_message, Allows, one_item, stands_again, one_stands, op_legal, spelled_len}
+use Rattle.cops_trace.proofs.Items.{item_message, Allows, IsLegalItem, one_item, stands_again, one_stands, op_legal, spelled_in, spelled_len}
 
 -- ---- items in a row
 
@@ -38,7 +46,7 @@ items_text b (i ∷ is) = spelled (item_message (progress_at b) i) ++ items_text
 -- each may stand after those before it, and none is the end
 abbrev AllStand : Option ATrace → List Item → Type 0
 AllStand b [] = Unit {0}
-AllStand b (i ∷ is) = Allows (progress_at b) i × IsLegalMessage (item_message (progress_at b) i) × (is_end i ≡ false) × AllStand (with_item i b) is
+AllStand b (i ∷ is) = Allows (progress_at b) i × IsLegalItem (progress_at b) i × (is_end i ≡ false) × AllStand (with_item i b) is
 
 abbrev after_items : Option ATrace → List Item → Option ATrace
 after_items b [] = b
@@ -55,9 +63,9 @@ stands_not_last b i is a rest all e last =
     let here = stands_again (progress_at b) i more all.0 all.1 in
     last i (length (spelled m)) all.2 (subst (λ (x : List ℕ). Stands (progress_at b) x (Gives i (length (spelled m)))) (sym (e ∙ append_assoc (spelled m) (items_text (with_item i b) is) rest)) here)
 
-same_message : (m n : Message) (x y : List ℕ) → IsLegalMessage m → IsLegalMessage n → spelled m ++ x ≡ spelled n ++ y → (m ≡ n) × (x ≡ y)
-unfolding spelled
-same_message m n x y legal_m legal_n e = one_message One m n x y legal_m legal_n e
+pub same_message : (format : Format) (m n : Message) (x y : List ℕ) → IsMessage (grammar format) (parts m) → IsMessage (grammar format) (parts n) → spelled m ++ x ≡ spelled n ++ y → (m ≡ n) × (x ≡ y)
+same_message format m n x y legal_m legal_n e =
+    one_message format m n x y legal_m legal_n (ap (λ (l : List ℕ). l ++ x) (spelled_in format m legal_m) ∙ e ∙ ap (λ (l : List ℕ). l ++ y) (sym (spelled_in format n legal_n)))
 
 -- two ways to go on are one
 same_items : (b : Option ATrace) (is js : List Item) (x y : List ℕ) → AllStand b is → AllStand b js → IsLast (after_items b is) x → IsLast (after_items b js) y
@@ -70,7 +78,7 @@ same_items b (i ∷ is) (j ∷ js) x y h k s t e =
     let n = item_message (progress_at b) j in
     let split : spelled m ++ (items_text (with_item i b) is ++ x) ≡ spelled n ++ (items_text (with_item j b) js ++ y)
     = sym (append_assoc (spelled m) (items_text (with_item i b) is) x) ∙ e ∙ append_assoc (spelled n) (items_text (with_item j b) js) y in
-    let one = same_message m n _ _ h.1 k.1 split in
+    let one = same_message (format_next (progress_at b)) m n _ _ h.1 k.1 split in
     let item = one_item (progress_at b) i j h.0 k.0 one.0 in
     let all_j : AllStand (with_item i b) js = subst (λ (o : Item). AllStand (with_item o b) js) (sym item) k.3 in
     let last_j : IsLast (after_items (with_item i b) js) y = last_at b i j js y item t in
@@ -83,35 +91,65 @@ same_items b (i ∷ is) (j ∷ js) x y h k s t e =
 
 -- ---- the items of a front
 
-abbrev entries : List Record → List Item
+-- an operation that has a spelling is what some `Op` is
+op_of : Operation → Op
+op_of (write key (Some value) version) = Put key value version
+op_of (read key (Some value) version) = Got key value version
+op_of (write key None version) = Missed key
+op_of (read key None version) = Missed key
+op_of (missed key) = Missed key
+
+op_is : (format : Format) (op : Operation) → IsOp format op → op ≡ operation_of (op_of op)
+unfolding op_of
+op_is format (write key (Some value) version) h = refl
+op_is format (read key (Some value) version) h = refl
+op_is format (write key None version) h = absurd h
+op_is format (read key None version) h = absurd h
+op_is format (missed key) h = refl
+
+abbrev entries : List ARecord → List Item
 entries [] = []
-entries (r ∷ rs) = Entry r.client r.op ∷ entries rs
+entries (r ∷ rs) = Entry r.client (op_of r.op) ∷ entries rs
 
 abbrev items_of : Option ATrace → List Item
 items_of None = []
-items_of (Some t) = Head t.clients ∷ entries t.records
+items_of (Some t) = Head t.format t.clients ∷ entries t.records
 
-entries_stand : (c : ℕ) (earlier rs : List Record) → IsTrace (with_records c (earlier ++ rs)) → AllStand (Some (with_records c earlier)) (entries rs)
-entries_stand c earlier [] h = tt
-entries_stand c earlier (r ∷ rs) h =
-    let grouped : IsTrace (with_records c ((earlier ++ r ∷ []) ++ rs)) = subst (λ (l : List Record). IsTrace (with_records c l)) (sym (append_assoc earlier (r ∷ []) rs)) h in
-    let here = IsTrace-front c (earlier ++ r ∷ []) rs grouped in
-    let named = (all_back (λ (s : Record). (s.client < c) × IsOp s.op) earlier (r ∷ []) here.named).0 in
+entries_stand : (f : Format) (c : ℕ) (earlier rs : List ARecord) → IsTrace (with_records f c (earlier ++ rs)) → AllStand (Some (with_records f c earlier)) (entries rs)
+entries_stand f c earlier [] h = tt
+entries_stand f c earlier (r ∷ rs) h =
+    let grouped : IsTrace (with_records f c ((earlier ++ r ∷ []) ++ rs)) = subst (λ (l : List ARecord). IsTrace (with_records f c l)) (sym (append_assoc earlier (r ∷ []) rs)) h in
+    let here = IsTrace-front f c (earlier ++ r ∷ []) rs grouped in
+    let named = (all_back (λ (s : ARecord). (s.client < c) × IsOp f s.op) earlier (r ∷ []) here.named).0 in
     let same = turn-same earlier r in
     let each = here.each r.client in
     let long = length-append earlier (r ∷ []) in
     let all = here.all in
     let room : turn r.client earlier < MAX_CLIENT_OPS = omega (arith, same, each) in
     let all_room : length earlier < MAX_OPS = omega (arith, long, all) in
-    ((named.0, room, all_room), op_legal r.client (turn r.client earlier) r.op (omega (arith, h.clients, named.0)) (omega (arith, room)) named.1, refl, entries_stand c (earlier ++ r ∷ []) rs grouped)
+    subst (λ (o : Operation). ((r.client < c) × (turn r.client earlier < MAX_CLIENT_OPS) × (length earlier < MAX_OPS)) × IsMessage (grammar f) (parts (record_message r.client (turn r.client earlier) o)) × (false ≡ false) × AllStand (Some (with_records f c (earlier ++ record { client = r.client; op = o } ∷ []))) (entries rs)) (op_is f r.op named.1)
+    ((named.0, room, all_room), op_legal f r.client (turn r.client earlier) r.op (omega (arith, h.clients, named.0)) (omega (arith, room)) named.1, refl, entries_stand f c (earlier ++ r ∷ []) rs grouped)
 
-entries_text : (c : ℕ) (earlier rs : List Record) → items_text (Some (with_records c earlier)) (entries rs) ≡ records_text earlier rs
-entries_text c earlier [] = refl
-entries_text c earlier (r ∷ rs) = ap (λ (x : List ℕ). spelled (item_message (progress_at (Some (with_records c earlier))) (Entry r.client r.op)) ++ x) (entries_text c (earlier ++ r ∷ []) rs)
+abbrev AreNamed : Format → ℕ → List ARecord → Type 0
+AreNamed f c rs = AllByRecursion (λ (s : ARecord). (s.client < c) × IsOp f s.op) rs
 
-entries_after : (c : ℕ) (earlier rs : List Record) → after_items (Some (with_records c earlier)) (entries rs) ≡ Some (with_records c (earlier ++ rs))
-entries_after c earlier [] = ap (λ (l : List Record). Some (with_records c l)) (sym (append-nil earlier))
-entries_after c earlier (r ∷ rs) = entries_after c (earlier ++ r ∷ []) rs ∙ ap (λ (l : List Record). Some (with_records c l)) (append_assoc earlier (r ∷ []) rs)
+entries_text : (f : Format) (c : ℕ) (earlier rs : List ARecord) → AreNamed f c rs → items_text (Some (with_records f c earlier)) (entries rs) ≡ records_text earlier rs
+entries_text f c earlier [] named = refl
+entries_text f c earlier (r ∷ rs) named =
+    subst (λ (o : Operation). spelled (record_message r.client (turn r.client earlier) o) ++ items_text (Some (with_records f c (earlier ++ record { client = r.client; op = o } ∷ []))) (entries rs) ≡ records_text earlier (r ∷ rs)) (op_is f r.op named.0.1)
+    (ap (λ (x : List ℕ). record_text earlier r ++ x) (entries_text f c (earlier ++ r ∷ []) rs named.1))
+
+entries_after : (f : Format) (c : ℕ) (earlier rs : List ARecord) → AreNamed f c rs → after_items (Some (with_records f c earlier)) (entries rs) ≡ Some (with_records f c (earlier ++ rs))
+entries_after f c earlier [] named = ap (λ (l : List ARecord). Some (with_records f c l)) (sym (append-nil earlier))
+entries_after f c earlier (r ∷ rs) named =
+    subst (λ (o : Operation). after_items (Some (with_records f c (earlier ++ record { client = r.client; op = o } ∷ []))) (entries rs) ≡ Some (with_records f c (earlier ++ r ∷ rs))) (op_is f r.op named.0.1)
+    (entries_after f c (earlier ++ r ∷ []) rs named.1 ∙ ap (λ (l : List ARecord). Some (with_records f c l)) (append_assoc earlier (r ∷ []) rs))
+
+head_legal : (format : Format) (clients : ℕ) → clients < 2 ^ 16 → IsLegalItem None (Head format clients)
+head_legal One clients few = (omega arith, (few, tt))
+
+pub end_legal : (t : ATrace) → IsTrace t → IsLegalItem (Some (progress_of t)) End
+end_legal t h = (omega (arith, h.all), tt)
 
 -- the items of a front stand, are its text, and lead to it
 record Unfolds (b : Option ATrace) : Type 0 where
@@ -123,9 +161,9 @@ unfolds : (b : Option ATrace) → IfSome b IsTrace → Unfolds b
 unfolding beginning
 unfolds None h = record { all = tt; text_is = refl; after_is = refl }
 unfolds (Some t) h = record {
-  all = (tt, (omega arith, (h.clients, tt)), refl, entries_stand t.clients [] t.records h);
-  text_is = ap (λ (x : List ℕ). head_text t.clients ++ x) (sym (entries_text t.clients [] t.records));
-  after_is = entries_after t.clients [] t.records;
+  all = (tt, head_legal t.format t.clients h.clients, refl, entries_stand t.format t.clients [] t.records h);
+  text_is = ap (λ (x : List ℕ). head_frame t.format t.clients ++ x) (sym (entries_text t.format t.clients [] t.records h.named));
+  after_is = entries_after t.format t.clients [] t.records h.named;
 }
 
 -- ---- how long a text is
@@ -134,9 +172,9 @@ items_len : (b : Option ATrace) (is : List Item) → AllStand b is → length (i
 items_len b [] h = omega arith
 items_len b (i ∷ is) h =
     let m = spelled (item_message (progress_at b) i) in
-    omega (arith, length-append m (items_text (with_item i b) is), spelled_len (item_message (progress_at b) i) h.1, items_len (with_item i b) is h.3)
+    omega (arith, length-append m (items_text (with_item i b) is), (spelled_len (format_next (progress_at b)) (item_message (progress_at b) i) h.1).1, items_len (with_item i b) is h.3)
 
-length-entries : (rs : List Record) → length (entries rs) ≡ length rs
+length-entries : (rs : List ARecord) → length (entries rs) ≡ length rs
 length-entries [] = refl
 length-entries (r ∷ rs) = ap suc (length-entries rs)
 
@@ -150,11 +188,11 @@ front_len b h =
     omega (arith, ap length u.text_is, items_len None (items_of b) u.all, items_count b h)
 
 pub text_len : (t : ATrace) → IsTrace t → length (text t) ≤ 524352065544
-text_len t h = omega (arith, length-append (beginning t) (end_text t), front_len (Some t) h, spelled_len (TraceEnd (length t.records)) (omega (arith, h.all), tt))
+text_len t h = omega (arith, length-append (beginning t) (end_text t), front_len (Some t) h, (spelled_len t.format (TraceEnd (length t.records)) (end_legal t h)).1)
 
 -- two fronts of the same bytes, after which no head and no record stands, are one
-one_front : (bytes : List ℕ) (b c : Option ATrace) (x y : List ℕ) → Begins bytes b x → Begins bytes c y → IsLast b x → IsLast c y → (b ≡ c) × (x ≡ y)
-one_front bytes b c x y h k s t =
+pub fronts_one : (bytes : List ℕ) (b c : Option ATrace) (x y : List ℕ) → Begins bytes b x → Begins bytes c y → IsLast b x → IsLast c y → (b ≡ c) × (x ≡ y)
+fronts_one bytes b c x y h k s t =
     let ub = unfolds b h.is_trace in
     let uc = unfolds c k.is_trace in
     let split : items_text None (items_of b) ++ x ≡ items_text None (items_of c) ++ y =
@@ -193,12 +231,12 @@ rest_fits : (bytes : List ℕ) (b : Option ATrace) (rest : List ℕ) → IsBytes
 rest_fits bytes b rest fits h = IsBytes-right (front b) rest (subst IsBytes h.parts fits)
 
 not_other : (i : Item) (used n : ℕ) → is_end i ≡ false → Gives End n ≢ Gives i used
-not_other (Head clients) used n h e = cc
+not_other (Head format clients) used n h e = cc
 not_other (Entry client op) used n h e = cc
 not_other End used n h e = cc
 
 end_stands : (t : ATrace) (rest : List ℕ) → IsTrace t → Stands (Some (progress_of t)) (end_text t ++ rest) (Gives End (length (end_text t)))
-end_stands t rest h = stands_again (Some (progress_of t)) End rest tt (omega (arith, h.all), tt)
+end_stands t rest h = stands_again (Some (progress_of t)) End rest tt (end_legal t h)
 
 nonempty : (rest : List ℕ) → rest ≢ [] → length rest ≢ 0
 nonempty [] more e = more refl
@@ -255,7 +293,7 @@ settles bytes (Err e) fits (inr (inr h)) =
 
 one_settled : (bytes : List ℕ) (a b : Result ATrace TraceFault) → IsBytes bytes → Settles bytes a → Settles bytes b → a ≡ b
 one_settled bytes a b fits h k =
-    let one = one_front bytes h.begun k.begun h.rest k.rest h.begins k.begins h.last k.last in
+    let one = fronts_one bytes h.begun k.begun h.rest k.rest h.begins k.begins h.last k.last in
     let first : Stands (progress_at k.begun) h.rest h.found = subst (λ (o : Option ATrace). Stands (progress_at o) h.rest h.found) one.0 h.stands in
     let moved : Stands (progress_at k.begun) k.rest h.found = subst (λ (x : List ℕ). Stands (progress_at k.begun) x h.found) one.1 first in
     let found = one_stands (progress_at k.begun) k.rest h.found k.found (rest_fits bytes k.begun k.rest fits k.begins) moved k.stands in

@@ -4,25 +4,24 @@ use Rattle.std.proofs.lemmas.Bool.{eqb-false}
 use Rattle.std.specs.Prelude.{slice_get}
 use Rattle.std.specs.List.{AllByRecursion}
 use Rattle.std.proofs.Math.ListN.{set}
-use Rattle.cops_types.specs.declared.op.Op.{Op}
-use Rattle.cops_types.specs.declared.op.Op.TheVariants.{Missed}
-use Rattle.cops_types.specs.Histories.{Sessions, op_at}
-use Rattle.cops_trace.specs.declared.record.Record.{Record}
+use Rattle.cops_types.specs.declared.format.Format.{Format}
+use Rattle.cops_types.specs.Histories.{Sessions, op_at, Operation, missed}
 use Rattle.cops_wire.specs.Message.{spelled}
-use Rattle.cops_trace.specs.Text.{IsOp, records_text, op_message}
+use Rattle.cops_wire.specs.Records.{record_message}
+use Rattle.cops_trace.specs.Text.{ARecord, IsOp, records_text}
 use Rattle.cops_trace.specs.Kept.{op_in, records_from, IsKept}
 use Rattle.cops_trace.proofs.Lists.{same_or_other, times, times-cons, times-append, times-same}
 use Rattle.cops_trace.proofs.Growth.{records_text-push}
 use Rattle.cops_trace.proofs.Keeping.{kept_len, records_push, turn-records_from}
 
-client_named : (n : ℕ) (h : Sessions) (earlier cs : List ℕ) (i : ℕ) → AllByRecursion (λ r. (r.client < n) × IsOp r.op) (records_from h earlier cs) → i < length cs → get_or cs i 0 < n
-client_named n h earlier [] i named lt = absurd (omega arith)
-client_named n h earlier (c ∷ cs) zero named lt = named.0.0
-client_named n h earlier (c ∷ cs) (suc i) named lt = client_named n h (earlier ++ c ∷ []) cs i named.1 (omega arith)
+client_named : (format : Format) (n : ℕ) (h : Sessions) (earlier cs : List ℕ) (i : ℕ) → AllByRecursion (λ r. (r.client < n) × IsOp format r.op) (records_from h earlier cs) → i < length cs → get_or cs i 0 < n
+client_named format n h earlier [] i named lt = absurd (omega arith)
+client_named format n h earlier (c ∷ cs) zero named lt = named.0.0
+client_named format n h earlier (c ∷ cs) (suc i) named lt = client_named format n h (earlier ++ c ∷ []) cs i named.1 (omega arith)
 
 -- an arrival is of a client that is there
-pub client_inside : (h : Sessions) (cs : List ℕ) (i : ℕ) → IsKept h cs → i < length cs → get_or cs i 0 < length h
-client_inside h cs i k lt = client_named (length h) h [] cs i k.is_trace.named lt
+pub client_inside : (format : Format) (h : Sessions) (cs : List ℕ) (i : ℕ) → IsKept format h cs → i < length cs → get_or cs i 0 < length h
+client_inside format h cs i k lt = client_named format (length h) h [] cs i k.is_trace.named lt
 
 parted : (cs : List ℕ) (i : ℕ) → i < length cs → cs ≡ take i cs ++ get_or cs i 0 ∷ drop (suc i) cs
 parted [] i lt = absurd (omega arith)
@@ -30,15 +29,15 @@ parted (c ∷ cs) zero lt = refl
 parted (c ∷ cs) (suc i) lt = ap (λ l. c ∷ l) (parted cs i (omega arith))
 
 -- its client has an operation there
-pub turn_inside : (h : Sessions) (cs : List ℕ) (i : ℕ) → IsKept h cs → i < length cs → times (get_or cs i 0) (take i cs) < length (get_or h (get_or cs i 0) [])
-turn_inside h cs i k lt =
+pub turn_inside : (format : Format) (h : Sessions) (cs : List ℕ) (i : ℕ) → IsKept format h cs → i < length cs → times (get_or cs i 0) (take i cs) < length (get_or h (get_or cs i 0) [])
+turn_inside format h cs i k lt =
     let c = get_or cs i 0 in
-    omega (arith, kept_len h cs c k, ap (times c) (parted cs i lt), times-append c (take i cs) (c ∷ drop (suc i) cs), times-same c (drop (suc i) cs))
+    omega (arith, kept_len format h cs c k, ap (times c) (parted cs i lt), times-append c (take i cs) (c ∷ drop (suc i) cs), times-same c (drop (suc i) cs))
 
 pub op_there : (h : Sessions) (c n : ℕ) → n < length (get_or h c []) → slice_get (get_or h c []) n ≡ Some (op_in h c n)
 op_there h c n lt = got (get_or h c []) n lt
   where
-    got : (s : List Op) (n : ℕ) → n < length s → slice_get s n ≡ Some (get_or s n (Missed []))
+    got : (s : List Operation) (n : ℕ) → n < length s → slice_get s n ≡ Some (get_or s n (missed []))
     got [] n lt = absurd (omega arith)
     got (x ∷ s) zero lt = refl
     got (x ∷ s) (suc n) lt = got s n (omega arith)
@@ -62,20 +61,20 @@ turns_next turns cs i lt inside h c there =
     ]
 
 pub text_next : (h : Sessions) (cs : List ℕ) (i : ℕ) → i < length cs → let c = get_or cs i 0 in let n = times c (take i cs) in
-    records_text [] (records_from h [] (take (suc i) cs)) ≡ records_text [] (records_from h [] (take i cs)) ++ spelled (op_message c n (op_in h c n))
+    records_text [] (records_from h [] (take (suc i) cs)) ≡ records_text [] (records_from h [] (take i cs)) ++ spelled (record_message c n (op_in h c n))
 text_next h cs i lt =
     let c = get_or cs i 0 in
     let before = take i cs in
     let op = op_in h c (times c before) in
-    let r : Record = record { client = c; op = op } in
+    let r : ARecord = record { client = c; op = op } in
     ap (λ l. records_text [] (records_from h [] l)) (take-suc cs i 0 lt)
     ∙ ap (records_text []) (records_push h [] before c)
     ∙ records_text-push [] (records_from h [] before) r
-    ∙ ap (λ n. records_text [] (records_from h [] before) ++ spelled (op_message c n op)) (turn-records_from h c [] before)
+    ∙ ap (λ n. records_text [] (records_from h [] before) ++ spelled (record_message c n op)) (turn-records_from h c [] before)
 
-pub op_stands : (h : Sessions) (cs : List ℕ) (i : ℕ) → IsKept h cs → i < length cs → let c = get_or cs i 0 in let n = times c (take i cs) in
+pub op_stands : (format : Format) (h : Sessions) (cs : List ℕ) (i : ℕ) → IsKept format h cs → i < length cs → let c = get_or cs i 0 in let n = times c (take i cs) in
     op_at h (record { client = c; index = n }) ≡ Some (op_in h c n)
-op_stands h cs i k lt = op_there h (get_or cs i 0) (times (get_or cs i 0) (take i cs)) (turn_inside h cs i k lt)
+op_stands format h cs i k lt = op_there h (get_or cs i 0) (times (get_or cs i 0) (take i cs)) (turn_inside format h cs i k lt)
 
 -- what is read inside a list is there, whatever stands for its lack
 pub read_any : (xs : List ℕ) (i d e : ℕ) → i < length xs → get_or xs i d ≡ get_or xs i e
@@ -90,14 +89,14 @@ pub record IsArrival (h : Sessions) (cs turns : List ℕ) (at client index : ℕ
   pub index_is : index ≡ times client (take at cs)
   pub is_there : op_at h (record { client = client; index = index }) ≡ Some (op_in h client index)
 
-pub arrival : (h : Sessions) (cs turns : List ℕ) (at client index : ℕ) → IsKept h cs → at < length cs → length turns ≡ length h
+pub arrival : (format : Format) (h : Sessions) (cs turns : List ℕ) (at client index : ℕ) → IsKept format h cs → at < length cs → length turns ≡ length h
     → ((c : ℕ) → c < length turns → get_or turns c 0 ≡ times c (take at cs)) → client ≡ get_or cs at client → index ≡ get_or turns client index → IsArrival h cs turns at client index
-arrival h cs turns at client index k lt width counts c i =
+arrival format h cs turns at client index k lt width counts c i =
     let client_is : client ≡ get_or cs at 0 = c ∙ read_any cs at client 0 lt in
-    let inside : client < length turns = omega (arith, client_is, client_inside h cs at k lt, width) in
+    let inside : client < length turns = omega (arith, client_is, client_inside format h cs at k lt, width) in
     let index_is : index ≡ times client (take at cs) = i ∙ read_any turns client index 0 inside ∙ counts client inside in
     let stands : op_at h (record { client = client; index = times client (take at cs) }) ≡ Some (op_in h client (times client (take at cs)))
-    = subst (λ x. op_at h (record { client = x; index = times x (take at cs) }) ≡ Some (op_in h x (times x (take at cs)))) (sym client_is) (op_stands h cs at k lt) in
+    = subst (λ x. op_at h (record { client = x; index = times x (take at cs) }) ≡ Some (op_in h x (times x (take at cs)))) (sym client_is) (op_stands format h cs at k lt) in
     record {
       client_is = client_is;
       inside = inside;

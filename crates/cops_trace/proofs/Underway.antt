@@ -1,21 +1,25 @@
 -- What a reader of a trace's text keeps.
-use Rattle.std.proofs.Common.{◌≡◌, ℕ, zero, suc, ◌+◌, ◌<◌, ◌≤◌, Bool, true, false, List, [], ◌∷◌, ◌++◌, length, Option, Some, None, Ok, Err, refl, sym, ap, subst, ◌∙◌, arith, inl, inr, eq-eqb, get_or-set_same, get_or-set_other}
+use Rattle.std.proofs.Common.{◌≡◌, ℕ, zero, suc, ◌+◌, ◌*◌, ◌<◌, ◌≤◌, Bool, true, false, List, [], ◌∷◌, ◌++◌, length, Option, Some, None, Ok, Err, refl, sym, ap, subst, ◌∙◌, arith, inl, inr, eq-eqb, get_or-set_same, get_or-set_other}
 use Rattle.std.specs.Prelude.{◌⊎◌, option_map, unwrap_or}
 use Rattle.std.proofs.lemmas.List.{length-append, length-replicate, length-set}
+use Rattle.cops_types.specs.declared.format.Format.{Format}
+use Rattle.cops_types.specs.declared.format.Format.TheVariants.{One}
+use Rattle.cops_types.specs.declared.limits.TheConstants.{MAX_OPS}
+use Rattle.cops_types.specs.Format.{longest_body}
 use Rattle.cops_wire.specs.Answer.{IsBytes}
 use Rattle.cops_trace.specs.declared.fault.TraceFault.{TraceFault}
 use Rattle.cops_trace.specs.declared.fault.TraceFault.TheVariants.{Memory}
 use Rattle.cops_trace.specs.declared.found.Found.TheVariants.{Fails, Gives, Waits}
 use Rattle.cops_trace.specs.declared.found.Item.{Item}
 use Rattle.cops_trace.specs.declared.found.Item.TheVariants.{Head, Op as Entry, End}
-use Rattle.cops_trace.specs.declared.record.Record.{Record}
 use Rattle.cops_trace.specs.Answer.{IsCutAfter, TakesFrom}
 use Rattle.cops_trace.specs.Counts.{ACounts, AreCountsOf, counted, next_of, nothing, progress_from}
 use Rattle.cops_trace.specs.Kept.{grown}
-use Rattle.cops_trace.specs.Next.{Stands}
+use Rattle.cops_trace.specs.Next.{Stands, format_next}
+use Rattle.cops_types.specs.Operations.{operation_of}
 use Rattle.cops_trace.specs.Parsing.{FailsAt, FedInto, IsBegunAs, IsSettled, IsSettledAt, IsTakenAs, IsUnderway, ItemHasRoom, SettledInto, StepGives, StepsInto, Stops, stage_of, with_item}
 use Rattle.cops_trace.specs.Reading.{FailsIn, GivesNext, IsStoppedBy, IsWithinReach, ItemHasTurn, Reading, WaitsIn, counts_with, is_end, past, progress_so_far}
-use Rattle.cops_trace.specs.Text.{ATrace, turn}
+use Rattle.cops_trace.specs.Text.{ARecord, ATrace, turn}
 use Rattle.cops_trace.proofs.Feeding.{fed_more, fed_none, fed_so_far, fed_whole, none_settled, not_ended, step_fails, step_less, step_takes, step_waits}
 use Rattle.cops_trace.proofs.Founds.{item_room, item_turn, stands_after}
 use Rattle.cops_trace.proofs.Growth.{with_records}
@@ -31,24 +35,36 @@ stopped_more r piece (Some e) h = go r.ended h
     go false st = stands_still (progress_so_far r) r.rest piece (Fails e) (λ q. cc) st
     go true f = (nothing_before r.rest piece f.0, f.1)
 
+-- so many frames of a format are far fewer bytes than the greatest number
+frames_most : (format : Format) (frames at : ℕ) → frames ≤ MAX_OPS + 2 → at ≤ (4 + longest_body format) * frames → at ≤ 524352065544
+frames_most One frames at few h = omega (arith, few, h)
+
+frames_more : (format : Format) (frames next at used : ℕ) → next ≡ frames + 1 → at ≤ (4 + longest_body format) * frames → used ≤ 4 + longest_body format → at + used ≤ (4 + longest_body format) * next
+frames_more One frames next at used one h fits = omega (arith, one, h, fits)
+
 -- the place stays far below the greatest number
 pub within_reach : (c : Option ACounts) (e : Bool) (at : ℕ) → IsWithinReach c e at → at ≤ 524352065544
 within_reach None e at h = omega (arith, h.0)
-within_reach (Some c) false at h = omega (arith, h.0, h.1)
-within_reach (Some c) true at h = omega (arith, h.0, h.1)
+within_reach (Some c) false at h = frames_most c.format (c.total + 1) at (omega (arith, h.0)) h.1
+within_reach (Some c) true at h = frames_most c.format (c.total + 2) at (omega (arith, h.0)) h.1
 
 -- and is within reach after an item
-pub reach_after : (at used : ℕ) (c : Option ACounts) (i : Item) → Allows (option_map (progress_from at) c) i → IsWithinReach c false at → used ≤ 32772 → IsWithinReach (counts_with i c) (is_end i) (at + used)
-reach_after at used None (Head clients) allowed h fits = (omega arith, omega (arith, h.0, fits))
+pub reach_after : (at used : ℕ) (c : Option ACounts) (i : Item) → let p = option_map (progress_from at) c in Allows p i → IsWithinReach c false at → used ≤ 4 + longest_body (format_next p) → IsWithinReach (counts_with i c) (is_end i) (at + used)
+reach_after at used None (Head One clients) allowed h fits = (omega arith, omega (arith, h.0, fits))
 reach_after at used None (Entry client op) allowed h fits = absurd allowed
 reach_after at used None End allowed h fits = absurd allowed
-reach_after at used (Some c) (Head clients) allowed h fits = absurd allowed
-reach_after at used (Some c) (Entry client op) allowed h fits = (omega (arith, allowed.2), omega (arith, h.1, fits))
-reach_after at used (Some c) End allowed h fits = (h.0, omega (arith, h.1, fits))
+reach_after at used (Some c) (Head format clients) allowed h fits = absurd allowed
+reach_after at used (Some c) (Entry client op) allowed h fits = (omega (arith, allowed.2), frames_more c.format (c.total + 1) (c.total + 1 + 1) at used refl h.1 fits)
+reach_after at used (Some c) End allowed h fits = (h.0, frames_more c.format (c.total + 1) (c.total + 2) at used (omega arith) h.1 fits)
 
 -- what stands in a reading stands in the same one
 pub stands_too : (r old : Reading) (i : Item) (used : ℕ) → r ≡ old → Stands (progress_so_far old) old.rest (Gives i used) → Stands (progress_so_far r) r.rest (Gives i used)
 stands_too r old i used same s = subst (λ (x : Reading). Stands (progress_so_far x) x.rest (Gives i used)) (sym same) s
+
+-- a fault that stands at the front of the rest is kept
+pub stopped_here : (r old : Reading) (kept : Option TraceFault) (e : TraceFault) → r ≡ old → r.ended ≡ false → Stands (progress_so_far old) old.rest (Fails e) → FailsIn r.ended (record r { fault = kept }) e
+stopped_here r old kept e same going s =
+    subst (λ (b : Bool). FailsIn b (record r { fault = kept }) e) (sym going) (subst (λ (x : Reading). Stands (progress_so_far x) x.rest (Fails e)) (sym same) s)
 
 -- where no fault was answered none has to stand there
 pub stopped_none : (r : Reading) (f : Option TraceFault) → f ≡ None → IsStoppedBy r f
@@ -56,16 +72,17 @@ stopped_none r f none = subst (λ (x : Option TraceFault). IsStoppedBy r x) (sym
 
 -- ---- a trace and its counts
 
-nothing_there : (n i : ℕ) → next_of (nothing n) i ≡ 0
-nothing_there zero i = refl
-nothing_there (suc n) zero = refl
-nothing_there (suc n) (suc i) = nothing_there n i
+nothing_there : (format : Format) (n i : ℕ) → next_of (nothing format n) i ≡ 0
+nothing_there format zero i = refl
+nothing_there format (suc n) zero = refl
+nothing_there format (suc n) (suc i) = nothing_there format n i
 
-pub counts_none : (clients : ℕ) → AreCountsOf (with_records clients []) (nothing clients)
-counts_none clients = record { clients = length-replicate clients 0; next = nothing_there clients; total = refl }
+pub counts_none : (format : Format) (clients : ℕ) → AreCountsOf (with_records format clients []) (nothing format clients)
+counts_none format clients = record { format = refl; clients = length-replicate clients 0; next = nothing_there format clients; total = refl }
 
-pub counts_grown : (t : ATrace) (c : ACounts) (r : Record) → AreCountsOf t c → r.client < length c.next → AreCountsOf (grown t r) (counted c r.client)
+pub counts_grown : (t : ATrace) (c : ACounts) (r : ARecord) → AreCountsOf t c → r.client < length c.next → AreCountsOf (grown t r) (counted c r.client)
 counts_grown t c r h inside = record {
+  format = h.format;
   clients = length-set c.next r.client (next_of c r.client + 1) ∙ h.clients;
   next = λ d. elim (same_or_other r.client d) [
     | inl p ↦ subst (λ (n : ℕ). next_of (counted c r.client) n ≡ turn n (t.records ++ r ∷ [])) p
@@ -77,9 +94,9 @@ counts_grown t c r h inside = record {
 
 -- after an item the counts are still the trace's
 pub begun_after : (b : Option ATrace) (c : Option ACounts) (i : Item) → IsBegunAs b c → ItemHasTurn i c → IsBegunAs (with_item i b) (counts_with i c)
-begun_after b c (Head clients) h turn = counts_none clients
+begun_after b c (Head format clients) h turn = counts_none format clients
 begun_after None None (Entry client op) h turn = absurd turn
-begun_after (Some t) (Some c) (Entry client op) h turn = counts_grown t c (record { client = client; op = op }) h turn.0
+begun_after (Some t) (Some c) (Entry client op) h turn = counts_grown t c (record { client = client; op = operation_of op }) h turn.0
 begun_after None (Some c) (Entry client op) h turn = absurd h
 begun_after (Some t) None (Entry client op) h turn = absurd h
 begun_after b c End h turn = h
@@ -220,12 +237,12 @@ module _ {S : Type 0} (took : S → ATrace → Type 0) where
       let u = h.into.underway in
       let t = taken_as begun sink u.trace same u.taken in
       let cut = fed_so_far fed (stage_of u.trace r) h.into.stage going h.settled in
-      record { bytes_fit = h.into.stage.fits; trace = t.0; took_it = t.2; begins = subst (λ (b : Option ATrace). IsCutAfter fed (unwrap_or b (record { clients = 0; records = [] })) r.at) t.1 cut }
+      record { bytes_fit = h.into.stage.fits; trace = t.0; took_it = t.2; begins = subst (λ (b : Option ATrace). IsCutAfter fed (unwrap_or b (record { format = One; clients = 0; records = [] })) r.at) t.1 cut }
 
   -- or nothing, where the head was cut
-  pub closed_none : (fed : List ℕ) (begun : Option S) (r : Reading) (sink : S) → begun ≡ None → took sink (record { clients = 0; records = [] }) → SettledInto took fed begun r → TakesFrom took fed (record { sink = sink; cut = Some r.at })
+  pub closed_none : (fed : List ℕ) (begun : Option S) (r : Reading) (sink : S) → begun ≡ None → took sink (record { format = One; clients = 0; records = [] }) → SettledInto took fed begun r → TakesFrom took fed (record { sink = sink; cut = Some r.at })
   closed_none fed begun r sink none fresh h =
       let u = h.into.underway in
       let nothing = none_taken begun u.trace none u.taken in
       let cut = fed_so_far fed (stage_of u.trace r) h.into.stage (not_ended fed (stage_of u.trace r) h.into.stage nothing) h.settled in
-      record { bytes_fit = h.into.stage.fits; trace = record { clients = 0; records = [] }; took_it = fresh; begins = subst (λ (b : Option ATrace). IsCutAfter fed (unwrap_or b (record { clients = 0; records = [] })) r.at) nothing cut }
+      record { bytes_fit = h.into.stage.fits; trace = record { format = One; clients = 0; records = [] }; took_it = fresh; begins = subst (λ (b : Option ATrace). IsCutAfter fed (unwrap_or b (record { format = One; clients = 0; records = [] })) r.at) nothing cut }

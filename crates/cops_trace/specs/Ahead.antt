@@ -1,6 +1,6 @@
 -- Records that are seen ahead, where their bytes lie.
 use Rattle.std.specs.Prelude.{◌<◌, ◌≤◌, ℕ, List, length, drop, slice_index_or, Option, Some, None, Ok, false}
-use Rattle.cops_types.specs.declared.format.Format.TheVariants.{One}
+use Rattle.cops_types.specs.declared.format.Format.{Format}
 use Rattle.cops_types.specs.declared.op_view.OpView.{OpView}
 use Rattle.cops_types.specs.OpViews.{viewed}
 use Rattle.cops_wire.specs.Answer.{IsAnswer}
@@ -13,14 +13,14 @@ use Rattle.cops_trace.specs.Parsing.{FedInto, IsUnderway}
 use Rattle.cops_trace.specs.Reading.{Reading}
 use Rattle.cops_trace.specs.Text.{ATrace}
 
--- the record of this operation stands at its place in the bytes
-abbrev pub IsSeenAt : List ℕ → RecordPlace → OpView → Type 0
-IsSeenAt bytes place op = IsAnswer (grammar One) (drop place.at bytes) (Ok (parts (record_message place.client place.index (viewed op)), place.used))
+-- the record of this operation stands at its place in the bytes, in this format
+abbrev pub IsSeenAt : Format → List ℕ → RecordPlace → OpView → Type 0
+IsSeenAt format bytes place op = IsAnswer (grammar format) (drop place.at bytes) (Ok (parts (record_message place.client place.index (viewed op)), place.used))
 
 -- each of them does
-pub record AreSeen (bytes : List ℕ) (places : List RecordPlace) (ops : List OpView) : Type 0 where
+pub record AreSeen (format : Format) (bytes : List ℕ) (places : List RecordPlace) (ops : List OpView) : Type 0 where
   pub few : length places ≤ length ops
-  pub each : (k : ℕ) (d : RecordPlace) (e : OpView) → k < length places → IsSeenAt bytes (slice_index_or places k d) (slice_index_or ops k e)
+  pub each : (k : ℕ) (d : RecordPlace) (e : OpView) → k < length places → IsSeenAt format bytes (slice_index_or places k d) (slice_index_or ops k e)
 
 -- a reader that has come so far, and has these bytes before it
 abbrev pub reading_at : ACounts → ℕ → List ℕ → Reading

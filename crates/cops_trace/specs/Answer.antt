@@ -1,5 +1,6 @@
 -- What a trace's bytes are: the text of a trace, or a text with a first fault.
 use Rattle.std.specs.Prelude.{◌≡◌, ◌≢◌, ℕ, ◌⊎◌, List, [], ◌++◌, length, Option, Some, None, IfSome, Result, Ok, Err, option_map, unwrap_or}
+use Rattle.cops_types.specs.declared.format.Format.TheVariants.{One}
 use Rattle.cops_trace.specs.declared.fault.TraceFault.{TraceFault}
 use Rattle.cops_trace.specs.declared.fault.TraceFault.TheVariants.{Memory, ReadFailed, Cut, BytesAfterEnd}
 use Rattle.cops_trace.specs.declared.found.Found.TheVariants.{Waits, Fails}
@@ -12,6 +13,7 @@ use Rattle.cops_trace.specs.Next.{Progress, Stands}
 -- how far a text has come with the head and the records of a trace
 abbrev pub progress_of : ATrace → Progress
 progress_of t = record {
+  format = t.format;
   clients = t.clients;
   turn = λ client. turn client t.records;
   total = length t.records;
@@ -54,7 +56,7 @@ pub record IsCutAfter (bytes : List ℕ) (t : ATrace) (offset : ℕ) : Type 0 wh
   pub begins : Begins bytes begun rest
   pub stands : Stands (progress_at begun) rest Waits
   pub place : offset ≡ length (front begun)
-  pub trace_is : t ≡ unwrap_or begun (record { clients = 0; records = [] })
+  pub trace_is : t ≡ unwrap_or begun (record { format = One; clients = 0; records = [] })
 
 -- there are bytes after a whole text
 pub record HasMore (bytes : List ℕ) (e : TraceFault) : Type 0 where

@@ -1,17 +1,19 @@
 -- How many records a trace's text has so far, which is all that is to be known of them for what may come next.
 use Rattle.std.specs.Prelude.{◌≡◌, ℕ, ◌+◌, ◌<◌, List, length, replicate, slice_index_or, slice_set}
+use Rattle.cops_types.specs.declared.format.Format.{Format}
 use Rattle.cops_types.specs.declared.limits.TheConstants.{MAX_CLIENT_OPS, MAX_OPS}
 use Rattle.cops_trace.specs.Text.{ATrace, turn}
 use Rattle.cops_trace.specs.Next.{Progress}
 
--- the index of each client's next record, and how many records there are in all
+-- the format that the head names, the index of each client's next record, and how many records there are in all
 pub record ACounts : Type 0 where
+  pub format : Format
   pub next : List ℕ
   pub total : ℕ
 
 -- no record of any of so many clients
-abbrev pub nothing : ℕ → ACounts
-nothing clients = record { next = replicate clients 0; total = 0 }
+abbrev pub nothing : Format → ℕ → ACounts
+nothing format clients = record { format = format; next = replicate clients 0; total = 0 }
 
 -- the index of a client's next record
 abbrev pub next_of : ACounts → ℕ → ℕ
@@ -19,7 +21,7 @@ next_of c client = slice_index_or c.next client 0
 
 -- with one record of a client more
 abbrev pub counted : ACounts → ℕ → ACounts
-counted c client = record { next = slice_set c.next client (next_of c client + 1); total = c.total + 1 }
+counted c client = record { format = c.format; next = slice_set c.next client (next_of c client + 1); total = c.total + 1 }
 
 -- the client is there, and may have one record more
 abbrev pub HasTurn : ACounts → ℕ → Type 0
@@ -27,10 +29,11 @@ HasTurn c client = (client < length c.next) × (next_of c client < MAX_CLIENT_OP
 
 -- how far a text has come with these counts that stands at this place
 abbrev pub progress_from : ℕ → ACounts → Progress
-progress_from at c = record { clients = length c.next; turn = next_of c; total = c.total; at = at }
+progress_from at c = record { format = c.format; clients = length c.next; turn = next_of c; total = c.total; at = at }
 
 -- they are the counts of a trace
 pub record AreCountsOf (t : ATrace) (c : ACounts) : Type 0 where
+  pub format : c.format ≡ t.format
   pub clients : length c.next ≡ t.clients
   pub next : (client : ℕ) → next_of c client ≡ turn client t.records
   pub total : c.total ≡ length t.records

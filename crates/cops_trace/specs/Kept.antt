@@ -1,33 +1,31 @@
 -- How a trace is kept: the sessions, and the clients in order of arrival.
 use Rattle.std.specs.Prelude.{◌≡◌, ℕ, ◌<◌, ◌==◌, List, [], ◌∷◌, ◌++◌, length, count_by, slice_index_or}
+use Rattle.cops_types.specs.declared.format.Format.{Format}
 use Rattle.cops_types.specs.declared.limits.TheConstants.{MAX_CLIENT_OPS, MAX_OPS}
-use Rattle.cops_types.specs.declared.op.Op.{Op}
-use Rattle.cops_types.specs.declared.op.Op.TheVariants.{Missed}
-use Rattle.cops_types.specs.Histories.{Sessions}
-use Rattle.cops_trace.specs.declared.record.Record.{Record}
-use Rattle.cops_trace.specs.Text.{ATrace, IsTrace, sessions_of, turn}
+use Rattle.cops_types.specs.Histories.{Sessions, Operation, missed}
+use Rattle.cops_trace.specs.Text.{ARecord, ATrace, IsTrace, sessions_of, turn}
 
 -- the operation with this index in the client's session, which is there
-abbrev pub op_in : Sessions → ℕ → ℕ → Op
-op_in h client index = slice_index_or (slice_index_or h client []) index (Missed [])
+abbrev pub op_in : Sessions → ℕ → ℕ → Operation
+op_in h client index = slice_index_or (slice_index_or h client []) index (missed [])
 
 -- the records of these arrivals, after earlier ones: each client's operations in their order
-abbrev pub records_from : Sessions → List ℕ → List ℕ → List Record
+abbrev pub records_from : Sessions → List ℕ → List ℕ → List ARecord
 records_from h earlier [] = []
 records_from h earlier (c ∷ cs) = record { client = c; op = op_in h c (count_by (λ d. d == c) earlier) } ∷ records_from h (earlier ++ c ∷ []) cs
 
--- the trace that is kept so
-abbrev pub trace_of : Sessions → List ℕ → ATrace
-trace_of h arrivals = record { clients = length h; records = records_from h [] arrivals }
+-- the trace of a format that is kept so
+abbrev pub trace_of : Format → Sessions → List ℕ → ATrace
+trace_of format h arrivals = record { format = format; clients = length h; records = records_from h [] arrivals }
 
 -- it is a trace, and the sessions are those that it records
-pub record IsKept (h : Sessions) (arrivals : List ℕ) : Type 0 where
-  pub is_trace : IsTrace (trace_of h arrivals)
-  pub sessions : h ≡ sessions_of (trace_of h arrivals)
+pub record IsKept (format : Format) (h : Sessions) (arrivals : List ℕ) : Type 0 where
+  pub is_trace : IsTrace (trace_of format h arrivals)
+  pub sessions : h ≡ sessions_of (trace_of format h arrivals)
 
 -- the trace with one record more
-abbrev pub grown : ATrace → Record → ATrace
-grown t r = record { clients = t.clients; records = t.records ++ r ∷ [] }
+abbrev pub grown : ATrace → ARecord → ATrace
+grown t r = record { format = t.format; clients = t.clients; records = t.records ++ r ∷ [] }
 
 -- the client, or the trace, has the most operations that it may have
 abbrev pub IsFull : ATrace → ℕ → Type 0

@@ -4,13 +4,12 @@ use Rattle.std.specs.Io.KnownBytes.{Appends}
 use Rattle.cops_types.specs.Counted.{failures, inner}
 use Rattle.cops_types.specs.Failures.{Failed}
 use Rattle.cops_trace.specs.Counts.{ACounts, AreCountsOf}
-use Rattle.cops_trace.specs.Text.{ATrace, IsTrace, beginning, text}
+use Rattle.cops_trace.specs.Text.{ARecord, ATrace, IsTrace, beginning, text}
 use Rattle.cops_trace.specs.declared.fault.FinishFault.{FinishFault}
 use Rattle.cops_trace.specs.declared.fault.FinishFault.TheVariants.{WriteFailed as Stopped}
 use Rattle.cops_trace.specs.declared.fault.WriteFault.{WriteFault}
 use Rattle.cops_trace.specs.declared.fault.WriteFault.TheVariants.{Memory, WriteFailed}
 use Rattle.cops_trace.specs.declared.live.LiveTrace.{LiveTrace}
-use Rattle.cops_trace.specs.declared.record.Record.{Record}
 
 -- these bytes, head and records of some trace of which these are the counts, went out, and so many bytes in all
 pub record HasBegun (old new : Option (List ℕ)) (bytes : List ℕ) (c : ACounts) (written : ℕ) : Type 0 where
@@ -32,8 +31,8 @@ pub record IsBegun {W : Type 0} (t : ATrace) (l : LiveTrace W) : Type 0 where
   pub bytes_are : l.text.items ≡ beginning t
 
 -- it has these records more, in their order
-abbrev pub Gains : {W : Type 0} → List Record → LiveTrace W → LiveTrace W → Type 0
-Gains records old new = (t : ATrace) → IsBegun t old → IsBegun (record { clients = t.clients; records = t.records ++ records }) new
+abbrev pub Gains : {W : Type 0} → List ARecord → LiveTrace W → LiveTrace W → Type 0
+Gains records old new = (t : ATrace) → IsBegun t old → IsBegun (record { format = t.format; clients = t.clients; records = t.records ++ records }) new
 
 -- the first so many bytes of some trace's text went out, fewer than all
 pub record IsCutShort (old new : Option (List ℕ)) (written : ℕ) : Type 0 where

@@ -1,5 +1,6 @@
 -- What is kept while a trace's text comes in pieces.
 use Rattle.std.specs.Prelude.{◌≡◌, ◌≢◌, ℕ, ◌+◌, ◌⊎◌, Bool, true, false, List, [], ◌++◌, length, drop, Option, Some, None, Result, Ok, Err, option_map}
+use Rattle.cops_types.specs.Operations.{operation_of}
 use Rattle.cops_wire.specs.Answer.{IsBytes}
 use Rattle.cops_trace.specs.declared.fault.TraceFault.{TraceFault}
 use Rattle.cops_trace.specs.declared.fault.TraceFault.TheVariants.{Memory, ReadFailed, Cut, BytesAfterEnd}
@@ -16,7 +17,7 @@ pub use Rattle.cops_trace.specs.Reading.{is_end}
 
 -- how far a text has come that stands at this place
 abbrev pub progress_with : ℕ → ATrace → Progress
-progress_with at t = record { clients = t.clients; turn = λ client. turn client t.records; total = length t.records; at = at }
+progress_with at t = record { format = t.format; clients = t.clients; turn = λ client. turn client t.records; total = length t.records; at = at }
 
 -- what was read: the head with the records so far, how many bytes that was, whether the end came, and the bytes
 -- that are left
@@ -31,8 +32,8 @@ progress_in s = option_map (progress_with s.at) s.begun
 
 -- the trace with an item more
 abbrev pub with_item : Item → Option ATrace → Option ATrace
-with_item (Head clients) begun = Some (record { clients = clients; records = [] })
-with_item (Entry client op) begun = option_map (λ t. grown t (record { client = client; op = op })) begun
+with_item (Head format clients) begun = Some (record { format = format; clients = clients; records = [] })
+with_item (Entry client op) begun = option_map (λ t. grown t (record { client = client; op = operation_of op })) begun
 with_item End begun = begun
 
 -- the stage after an item of this many bytes
@@ -41,7 +42,7 @@ after item used s = record { begun = with_item item s.begun; at = s.at + used; e
 
 -- there is room for a record's operation in the trace that was begun
 abbrev pub ItemHasRoom : Item → Option ATrace → Type 0
-ItemHasRoom (Head clients) begun = Unit {0}
+ItemHasRoom (Head format clients) begun = Unit {0}
 ItemHasRoom (Entry client op) None = ⊥
 ItemHasRoom (Entry client op) (Some t) = MayGrow t client
 ItemHasRoom End begun = Unit {0}

@@ -1,7 +1,8 @@
 -- What a reader of a trace's text keeps while the text comes in pieces, and what it gives next.
 use Rattle.std.specs.Prelude.{◌≡◌, ◌≢◌, ℕ, ◌+◌, ◌*◌, ◌≤◌, ◌⊎◌, Bool, true, false, List, [], ◌∷◌, drop, Option, Some, None, Result, Ok, Err, option_map}
-use Rattle.cops_types.specs.declared.limits.TheConstants.{MAX_BODY, MAX_OPS}
-use Rattle.cops_types.specs.declared.format.Format.TheVariants.{One}
+use Rattle.cops_types.specs.declared.format.Format.{Format}
+use Rattle.cops_types.specs.declared.limits.TheConstants.{MAX_OPS}
+use Rattle.cops_types.specs.Format.{longest_body}
 use Rattle.cops_wire.specs.Answer.{BeginsWithTaking}
 use Rattle.cops_wire.specs.Grammar.{grammar}
 use Rattle.cops_trace.specs.declared.fault.TraceFault.{TraceFault}
@@ -10,7 +11,7 @@ use Rattle.cops_trace.specs.declared.found.Item.{Item}
 use Rattle.cops_trace.specs.declared.found.Item.TheVariants.{Head, Op as Entry, End}
 use Rattle.cops_trace.specs.declared.found.Found.TheVariants.{Gives, Waits, Fails}
 use Rattle.cops_trace.specs.Counts.{ACounts, HasTurn, counted, nothing, progress_from}
-use Rattle.cops_trace.specs.Next.{Progress, Stands}
+use Rattle.cops_trace.specs.Next.{Progress, Stands, format_next}
 
 -- the counts of the items that were given out, once there was a head; how many bytes those were, and whether the end was among
 -- them; the bytes that no item was taken from; and the fault that was answered
@@ -27,20 +28,20 @@ progress_so_far r = option_map (progress_from r.at) r.counts
 
 -- the counts with an item more
 abbrev pub counts_with : Item → Option ACounts → Option ACounts
-counts_with (Head clients) counts = Some (nothing clients)
+counts_with (Head format clients) counts = Some (nothing format clients)
 counts_with (Entry client op) counts = option_map (λ c. counted c client) counts
 counts_with End counts = counts
 
 -- a record's client may have one more
 abbrev pub ItemHasTurn : Item → Option ACounts → Type 0
-ItemHasTurn (Head clients) counts = Unit {0}
+ItemHasTurn (Head format clients) counts = Unit {0}
 ItemHasTurn (Entry client op) None = ⊥
 ItemHasTurn (Entry client op) (Some c) = HasTurn c client
 ItemHasTurn End counts = Unit {0}
 
 -- the item is the end
 abbrev pub is_end : Item → Bool
-is_end (Head clients) = false
+is_end (Head format clients) = false
 is_end (Entry client op) = false
 is_end End = true
 
@@ -61,7 +62,7 @@ FailsIn true r e = (r.rest ≢ []) × (e ≡ BytesAfterEnd r.at)
 -- what comes next takes memory: a key, a value or dependencies in the frame at the front of the rest, or a head, whose clients are counted
 abbrev pub TakesMemory : Reading → Type 0
 TakesMemory r = (r.fault ≡ None) × (r.ended ≡ false)
-    × (BeginsWithTaking (grammar One) r.rest ⊎ ((clients used : ℕ) × Stands (progress_so_far r) r.rest (Gives (Head clients) used)))
+    × (BeginsWithTaking (grammar (format_next (progress_so_far r))) r.rest ⊎ ((format : Format) × (clients used : ℕ) × Stands (progress_so_far r) r.rest (Gives (Head format clients) used)))
 
 -- What is given next: the item that may stand at the front of the rest; nothing, which changes nothing; or the fault that
 -- stands there, which is kept. An allocation fails only where what comes next takes memory, and then nothing changes.
@@ -89,5 +90,5 @@ IsStoppedBy r (Some e) = FailsIn r.ended r e
 -- the place is at most as far as so many frames reach
 abbrev pub IsWithinReach : Option ACounts → Bool → ℕ → Type 0
 IsWithinReach None ended at = (at ≡ 0) × (ended ≡ false)
-IsWithinReach (Some c) false at = (c.total ≤ MAX_OPS) × (at ≤ (4 + MAX_BODY) * (c.total + 1))
-IsWithinReach (Some c) true at = (c.total ≤ MAX_OPS) × (at ≤ (4 + MAX_BODY) * (c.total + 2))
+IsWithinReach (Some c) false at = (c.total ≤ MAX_OPS) × (at ≤ (4 + longest_body c.format) * (c.total + 1))
+IsWithinReach (Some c) true at = (c.total ≤ MAX_OPS) × (at ≤ (4 + longest_body c.format) * (c.total + 2))

@@ -1,21 +1,23 @@
 -- What a writer of a trace's text writes, a frame at a time.
 use Rattle.std.specs.Prelude.{◌≡◌, ℕ, ◌+◌, ◌<◌, List, length, min, take, Option}
 use Rattle.std.specs.Io.KnownBytes.{Appends, Keeps}
-use Rattle.cops_types.specs.declared.op.Op.{Op}
+use Rattle.cops_types.specs.declared.format.Format.{Format}
+use Rattle.cops_types.specs.Format.{number_of}
+use Rattle.cops_types.specs.Histories.{Operation}
 use Rattle.cops_wire.specs.Message.{spelled}
+use Rattle.cops_wire.specs.Records.{record_message}
 use Rattle.cops_wire.specs.declared.message.Message.TheVariants.{TraceEnd, TraceHead}
 use Rattle.cops_trace.specs.Counts.{ACounts, next_of}
-use Rattle.cops_trace.specs.Text.{op_message}
 use Rattle.cops_trace.specs.declared.fault.WriteFault.{WriteFault}
 use Rattle.cops_trace.specs.declared.fault.WriteFault.TheVariants.{Memory, WriteFailed}
 
--- the head of so many clients
-abbrev pub head_frame : ℕ → List ℕ
-head_frame clients = spelled (TraceHead 1 clients)
+-- the head of a format and so many clients
+abbrev pub head_frame : Format → ℕ → List ℕ
+head_frame format clients = spelled (TraceHead (number_of format) clients)
 
 -- the next record of a client
-abbrev pub record_frame : ACounts → ℕ → Op → List ℕ
-record_frame c client op = spelled (op_message client (next_of c client) op)
+abbrev pub record_frame : ACounts → ℕ → Operation → List ℕ
+record_frame c client op = spelled (record_message client (next_of c client) op)
 
 -- the end, which counts the records
 abbrev pub end_frame : ACounts → List ℕ

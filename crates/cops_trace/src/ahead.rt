@@ -8,7 +8,7 @@ use crate::counts::Counts;
 use crate::finding::record_fault;
 use crate::parser::push;
 use crate::sink::Sink;
-use cops_types::{Memory, OpView};
+use cops_types::{Format, Memory, OpView};
 use cops_wire::record_at;
 use std::alloc::Global;
 
@@ -32,10 +32,10 @@ pub(crate) struct Ahead<'a> {
     pub(crate) ops: Vec<OpView<'a>>,
 }
 
-/// Sees the records at the front of some bytes, as many as a sink is told of: fewer where memory is refused.
-pub(crate) fn see_ahead<'a>(alloc: Global, bytes: &'a [u8]) -> Ahead<'a>
+/// Sees the records of a format at the front of some bytes, as many as a sink is told of: fewer where memory is refused.
+pub(crate) fn see_ahead<'a>(format: Format, alloc: Global, bytes: &'a [u8]) -> Ahead<'a>
     ensures bytes { result.bytes.now ≡ bytes.now }
-    ensures seen { AreSeen bytes.now result.places.items result.ops.items }
+    ensures seen { AreSeen format bytes.now result.places.items result.ops.items }
 {
     let mut places = Vec::new(alloc);
     let mut ops = Vec::new(alloc);
@@ -43,7 +43,7 @@ pub(crate) fn see_ahead<'a>(alloc: Global, bytes: &'a [u8]) -> Ahead<'a>
     let _ = ops.reserve(TOGETHER);
     let mut at = 0;
     for _ in 0..TOGETHER {
-        let Some(record) = record_at(alloc, &bytes[at..]) else {
+        let Some(record) = record_at(format, alloc, &bytes[at..]) else {
             break;
         };
         let place = RecordPlace {
@@ -70,7 +70,7 @@ pub(crate) fn take_ahead<S: Sink>(
     at: u64,
     ahead: &Ahead<'_>,
 ) -> Result<usize, Memory>
-    requires seen { AreSeen ahead.now.bytes.now ahead.now.places.items ahead.now.ops.items }
+    requires seen { AreSeen counts.old.format ahead.now.bytes.now ahead.now.places.items ahead.now.ops.items }
     requires underway { IsUnderway S.took begun.old (reading_at counts.old at ahead.now.bytes.now) }
     requires reach { IsWithinReach (Some counts.old) false at }
     ensures within { IfOk result (λ used. used ≤ length ahead.now.bytes.now) }

@@ -1,13 +1,14 @@
 //! How many records a trace has so far.
 ghost use Rattle.std.specs.Prelude.{◌≡◌};
 
-use cops_types::{MAX_CLIENT_OPS, MAX_OPS, Memory};
+use cops_types::{Format, MAX_CLIENT_OPS, MAX_OPS, Memory};
 use std::alloc::Global;
 use std::marker::Model;
 
-/// The index of each client's next record, and how many records there are in all.
+/// The format that the head names, the index of each client's next record, and how many records there are in all.
 #[derive(Debug, Drop)]
 pub(crate) struct Counts {
+    format: Format,
     next: Vec<u32>,
     total: u32,
 }
@@ -18,7 +19,7 @@ impl Model for Counts {
 
     ghost Value = { ACounts };
 
-    ghost view = { λ c. record { next = c.next.items; total = c.total } };
+    ghost view = { λ c. record { format = c.format; next = c.next.items; total = c.total } };
 
     ghost invariant = { λ c. length c.next.items < 2 ^ 16 };
 }
@@ -28,11 +29,22 @@ impl Counts {
     ghost use Rattle.cops_trace.specs.Counts.{HasTurn, counted, next_of, nothing};
 
     /// No record of any of so many clients.
-    pub(crate) fn new(alloc: Global, clients: u16) -> Result<Counts, Memory>
-        ensures { IfOk result (λ counts. counts ≡ nothing clients) }
+    pub(crate) fn new(format: Format, alloc: Global, clients: u16) -> Result<Counts, Memory>
+        ensures { IfOk result (λ counts. counts ≡ nothing format clients) }
     {
         let next = vec![in alloc; 0u32; usize::from(clients)]?;
-        Ok(Counts { next, total: 0 })
+        Ok(Counts {
+            format,
+            next,
+            total: 0,
+        })
+    }
+
+    /// The format that the head names.
+    pub(crate) fn format(&self) -> Format
+        ensures { result ≡ self.now.format }
+    {
+        self.format
     }
 
     /// How many clients there are.

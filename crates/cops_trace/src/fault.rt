@@ -15,7 +15,7 @@ pub enum TraceFault {
     /// 1: the first frame is no head.
     #[error("no head at {offset}")]
     NoHead { offset: u64 },
-    /// 2: the head's format is not 1.
+    /// 2: the head names no format.
     #[error("bad format at {offset}")]
     BadFormat { offset: u64 },
     /// 3: a record's client is not below the head's number of clients.

@@ -1,17 +1,16 @@
 //! What stands next in a trace's text.
 ghost use Rattle.std.specs.Prelude.{◌≡◌, ◌≢◌, ◌<◌, ◌≤◌, ◌^◌, ◌+◌, ℕ, length, None, Some, IfOk, IfNone, IfSome, OnErr};
 ghost use Rattle.cops_types.specs.declared.op.Op.{Op as AnOp};
-ghost use Rattle.cops_trace.specs.Next.{Stands, unread, first_message, later_message, record_found, end_found};
+ghost use Rattle.cops_trace.specs.Next.{Stands, format_next, unread, first_message, later_message, record_found, end_found};
 ghost use Rattle.cops_trace.specs.Counts.{progress_from};
-ghost use Rattle.cops_types.specs.OpViews.{viewed};
 ghost use Rattle.cops_wire.specs.Answer.{BeginsWithTaking};
 ghost use Rattle.cops_wire.specs.Grammar.{grammar};
 
 use crate::counts::Counts;
 use crate::fault::TraceFault;
 use crate::found::{Found, Item};
-use cops_types::{Format, MAX_CLIENT_OPS, MAX_OPS, Memory, Op};
-use cops_wire::{Message, WireFault, decode};
+use cops_types::{Format, MAX_CLIENT_OPS, MAX_OPS, Memory};
+use cops_wire::{Message, TraceRecord, WireFault, decode_in, record_of_message};
 use std::alloc::Global;
 
 /// A frame at this place that is no message: it is waited for, or a fault stands there.
@@ -36,12 +35,14 @@ fn first_message(message: &Message, used: usize) -> Found
     ensures { result ≡ first_message message.now used }
 {
     match message {
-        Message::TraceHead { format: 1, clients } => {
-            let clients = *clients;
-            let item = Item::Head { clients };
-            Found::Gives { item, used }
-        }
-        Message::TraceHead { .. } => Found::Fails(TraceFault::BadFormat { offset: 0 }),
+        Message::TraceHead { format, clients } => match Format::of_number(*format) {
+            Some(format) => {
+                let clients = *clients;
+                let item = Item::Head { format, clients };
+                Found::Gives { item, used }
+            }
+            None => Found::Fails(TraceFault::BadFormat { offset: 0 }),
+        },
         _ => Found::Fails(TraceFault::NoHead { offset: 0 }),
     }
 }
@@ -49,9 +50,9 @@ fn first_message(message: &Message, used: usize) -> Found
 /// What stands at the front of a text.
 pub(crate) fn first_found(alloc: Global, bytes: &[u8]) -> Result<Found, Memory>
     ensures found { IfOk result (Stands None bytes.now) }
-    ensures memory { OnErr result (BeginsWithTaking (grammar Format.One) bytes.now) }
+    ensures memory { OnErr result (BeginsWithTaking (grammar (format_next None)) bytes.now) }
 {
-    match decode(alloc, bytes) {
+    match decode_in(Format::One, alloc, bytes) {
         Ok(decoded) => {
             let found = first_message(&decoded.message, decoded.used);
             drop(decoded);
@@ -64,8 +65,8 @@ pub(crate) fn first_found(alloc: Global, bytes: &[u8]) -> Result<Found, Memory>
 /// The fault of a client's record with this index after those that were counted, if it has one.
 #[inline(always)]
 pub(crate) fn record_fault(counts: &Counts, at: u64, client: u16, index: u32) -> Option<TraceFault>
-    ensures none { IfNone result ((op : AnOp) (used : ℕ) → record_found (progress_from at counts.now) (record { client = client; op = op }) index used ≡ Found.Gives (Item.Op client op) used) }
-    ensures some { IfSome result (λ fault. (op : AnOp) (used : ℕ) → record_found (progress_from at counts.now) (record { client = client; op = op }) index used ≡ Found.Fails fault) }
+    ensures none { IfNone result ((op : AnOp) (used : ℕ) → record_found (progress_from at counts.now) (record { client = client; index = index; op = op }) used ≡ Found.Gives (Item.Op client op) used) }
+    ensures some { IfSome result (λ fault. (op : AnOp) (used : ℕ) → record_found (progress_from at counts.now) (record { client = client; index = index; op = op }) used ≡ Found.Fails fault) }
 {
     let next = counts.next(client);
     if client >= counts.clients() {
@@ -81,10 +82,11 @@ pub(crate) fn record_fault(counts: &Counts, at: u64, client: u16, index: u32) ->
     }
 }
 
-/// A record with this index after those that were counted, with a frame of this many bytes at this place.
-fn record_found(counts: &Counts, at: u64, client: u16, op: Op, index: u32, used: usize) -> Found
-    ensures { result ≡ record_found (progress_from at counts.now) (record { client = client; op = op }) index used }
+/// A record after those that were counted, with a frame of this many bytes at this place.
+fn record_found(counts: &Counts, at: u64, entry: TraceRecord, used: usize) -> Found
+    ensures { result ≡ record_found (progress_from at counts.now) entry used }
 {
+    let TraceRecord { client, index, op } = entry;
     match record_fault(counts, at, client, index) {
         Some(fault) => {
             drop(op);
@@ -114,43 +116,11 @@ fn later_message(counts: &Counts, at: u64, message: Message, used: usize) -> Fou
     ensures { result ≡ later_message (progress_from at counts.now) message used }
 {
     match message {
-        Message::TracePut {
-            client,
-            index,
-            key,
-            value,
-            version,
-        } => {
-            let op = Op::Put {
-                key,
-                value,
-                version,
-            };
-            record_found(counts, at, client, op, index, used)
-        }
-        Message::TraceGot {
-            client,
-            index,
-            key,
-            value,
-            version,
-        } => {
-            let op = Op::Got {
-                key,
-                value,
-                version,
-            };
-            record_found(counts, at, client, op, index, used)
-        }
-        Message::TraceMissed { client, index, key } => {
-            let op = Op::Missed { key };
-            record_found(counts, at, client, op, index, used)
-        }
         Message::TraceEnd { ops } => end_found(counts, at, ops, used),
-        other => {
-            drop(other);
-            Found::Fails(TraceFault::NotARecord { offset: at })
-        }
+        other => match record_of_message(other) {
+            Some(entry) => record_found(counts, at, entry, used),
+            None => Found::Fails(TraceFault::NotARecord { offset: at }),
+        },
     }
 }
 
@@ -163,9 +133,9 @@ pub(crate) fn later_found(
 ) -> Result<Found, Memory>
     requires { at < 2 ^ 63 }
     ensures found { IfOk result (Stands (Some (progress_from at counts.now)) rest.now) }
-    ensures memory { OnErr result (BeginsWithTaking (grammar Format.One) rest.now) }
+    ensures memory { OnErr result (BeginsWithTaking (grammar counts.now.format) rest.now) }
 {
-    match decode(alloc, rest) {
+    match decode_in(counts.format(), alloc, rest) {
         Ok(decoded) => Ok(later_message(counts, at, decoded.message, decoded.used)),
         Err(fault) => unread(at, fault),
     }

@@ -1,11 +1,11 @@
 use crate::fault::TraceFault;
-use cops_types::Op;
+use cops_types::{Format, Op};
 
 /// An item of a trace's text.
 #[derive(Debug, Drop)]
 pub enum Item {
-    /// The head, with the number of clients.
-    Head { clients: u16 },
+    /// The head, with the format that it names and the number of clients.
+    Head { format: Format, clients: u16 },
     /// A record: the next operation of a client.
     Op { client: u16, op: Op },
     /// The end.

@@ -31,9 +31,9 @@ impl<W: Write> LiveTrace<W> {
     ghost use Rattle.cops_types.specs.Counted.{failures, inner};
     ghost use Rattle.cops_trace.specs.Counts.{HasTurn};
     ghost use Rattle.cops_trace.specs.Live.{Gains, HasBegun, IsCutBy, IsCutShort, IsEndedBy, IsFrontOf, IsHeardBy, IsLeftBy, IsLive};
-    ghost use Rattle.cops_trace.specs.Text.{text};
+    ghost use Rattle.cops_trace.specs.Text.{record_of, text};
 
-    /// Writes the head of so many clients. Where it is not written, the writer comes back.
+    /// Writes the head of the first format and so many clients. Where it is not written, the writer comes back.
     pub fn new(alloc: Global, writer: Counted<W>, clients: u16) -> Result<Self, Unwritten<W>>
         ensures begun { IfOk result (λ l. l.begun.value ≡ writer) }
         ensures live { IfOk result (IsLive W.contents) }
@@ -91,7 +91,7 @@ impl<W: Write> LiveTrace<W> {
         requires turn { HasTurn self.writer.counts next.now.client }
         ensures begun { IfOk result (λ l. l.begun ≡ self.begun) }
         ensures live { IfOk result (IsLive W.contents) }
-        ensures gains { IfOk result (Gains (next.now ∷ []) self) }
+        ensures gains { IfOk result (Gains (record_of next.now ∷ []) self) }
         ensures err { IfErr result (λ u. IsCutBy u.fault (W.contents (inner self.begun.value)) (W.contents (inner u.writer))) }
         ensures heard { IfErr result (λ u. IsHeardBy u.fault (failures self.begun.value) (failures u.writer)) }
     {

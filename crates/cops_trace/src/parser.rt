@@ -2,13 +2,13 @@
 ghost use Rattle.std.specs.Prelude.{◌≡◌, Option, OnOk};
 ghost use Rattle.cops_trace.specs.Parsing.{IsTakenAs, ItemHasRoom, with_item};
 ghost use Rattle.cops_trace.specs.Text.{ATrace};
-ghost use Rattle.cops_types.specs.OpViews.{viewed};
+ghost use Rattle.cops_types.specs.OpViews.{op_viewed};
 
 use crate::fault::TraceFault;
 use crate::found::Item;
 use crate::reader::TraceReader;
 use crate::sink::{Sink, Taken};
-use cops_types::{Memory, OpView};
+use cops_types::{Format, Memory, OpView};
 use std::alloc::Global;
 
 /// What was read of a text: what took the head and the records so far, and the bytes that no item was taken from.
@@ -110,7 +110,7 @@ impl<S: Sink> Parser<S> {
                 cut: Some(at),
             }),
             None => {
-                let sink = S::begin(alloc, 0)?;
+                let sink = S::begin(Format::One, alloc, 0)?;
                 Ok(Taken {
                     sink,
                     cut: Some(at),
@@ -128,7 +128,7 @@ fn take<S: Sink>(alloc: Global, begun: &mut Option<S>, item: Item) -> Result<(),
     ensures { (t : Option ATrace) → IsTakenAs S.took begun.old t → OnOk result (IsTakenAs S.took begun.new (with_item item t)) }
 {
     match item {
-        Item::Head { clients } => begin(alloc, begun, clients),
+        Item::Head { format, clients } => begin(format, alloc, begun, clients),
         Item::Op { client, op } => push(begun, client, &op.as_view()),
         Item::End => Ok(()),
     }
@@ -138,11 +138,16 @@ fn take<S: Sink>(alloc: Global, begun: &mut Option<S>, item: Item) -> Result<(),
 /// wherever one may be begun.
 #[cold]
 #[inline(never)]
-fn begin<S: Sink>(alloc: Global, begun: &mut Option<S>, clients: u16) -> Result<(), Memory>
-    requires { (t : Option ATrace) × IsTakenAs S.took begun.old t × ItemHasRoom (Item.Head clients) t }
-    ensures { (t : Option ATrace) → IsTakenAs S.took begun.old t → OnOk result (IsTakenAs S.took begun.new (with_item (Item.Head clients) t)) }
+fn begin<S: Sink>(
+    format: Format,
+    alloc: Global,
+    begun: &mut Option<S>,
+    clients: u16,
+) -> Result<(), Memory>
+    requires { (t : Option ATrace) × IsTakenAs S.took begun.old t × ItemHasRoom (Item.Head format clients) t }
+    ensures { (t : Option ATrace) → IsTakenAs S.took begun.old t → OnOk result (IsTakenAs S.took begun.new (with_item (Item.Head format clients) t)) }
 {
-    let sink = S::begin(alloc, clients)?;
+    let sink = S::begin(format, alloc, clients)?;
     drop(begun.replace(sink));
     Ok(())
 }
@@ -165,8 +170,8 @@ pub(crate) fn push<S: Sink>(
     client: u16,
     op: &OpView<'_>,
 ) -> Result<(), Memory>
-    requires { (t : Option ATrace) × IsTakenAs S.took begun.old t × ItemHasRoom (Item.Op client (viewed op.now)) t }
-    ensures { (t : Option ATrace) → IsTakenAs S.took begun.old t → OnOk result (IsTakenAs S.took begun.new (with_item (Item.Op client (viewed op.now)) t)) }
+    requires { (t : Option ATrace) × IsTakenAs S.took begun.old t × ItemHasRoom (Item.Op client (op_viewed op.now)) t }
+    ensures { (t : Option ATrace) → IsTakenAs S.took begun.old t → OnOk result (IsTakenAs S.took begun.new (with_item (Item.Op client (op_viewed op.now)) t)) }
 {
     match begun {
         Some(sink) => sink.take(client, op),

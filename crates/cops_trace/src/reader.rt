@@ -1,5 +1,6 @@
 //! The items of a trace's text that comes in pieces.
 ghost use Rattle.std.specs.Prelude.{◌≡◌, ℕ, OnErr, OnOk};
+ghost use Rattle.cops_types.specs.declared.format.Format.{Format as AFormat};
 ghost use Rattle.cops_trace.specs.Reading.{ItemHasTurn, counts_with, is_end};
 
 use crate::ahead::{see_ahead, take_ahead};
@@ -9,7 +10,7 @@ use crate::finding::{first_found, later_found};
 use crate::found::{Found, Item};
 use crate::parser::foresee;
 use crate::sink::Sink;
-use cops_types::{Format, Memory};
+use cops_types::Memory;
 use cops_wire::Buffer;
 use std::alloc::Global;
 use std::marker::Model;
@@ -41,7 +42,7 @@ impl Model for TraceReader {
 impl TraceReader {
     ghost use Rattle.std.specs.Prelude.{◌≡◌, ◌<◌, ◌≤◌, ◌++◌, [], None, false, true, length, IfOk, IfSome, IsTrue, OnErr, OnOk, Err};
     ghost use Rattle.cops_trace.specs.Ahead.{GoesOn};
-    ghost use Rattle.cops_trace.specs.Next.{Stands};
+    ghost use Rattle.cops_trace.specs.Next.{Stands, format_next};
     ghost use Rattle.cops_trace.specs.Reading.{GivesNext, closing, progress_so_far};
     ghost use Rattle.cops_trace.specs.Parsing.{IsUnderway};
     ghost use Rattle.cops_wire.specs.Answer.{BeginsWithTaking};
@@ -116,7 +117,7 @@ impl TraceReader {
     /// What stands at the front of the rest, before the end.
     fn found(&self) -> Result<Found, Memory>
         ensures found { IfOk result (Stands (progress_so_far self.now) self.now.rest) }
-        ensures memory { OnErr result (BeginsWithTaking (grammar Format.One) self.now.rest) }
+        ensures memory { OnErr result (BeginsWithTaking (grammar (format_next (progress_so_far self.now))) self.now.rest) }
     {
         let rest = self.buffer.rest();
         match &self.counts {
@@ -140,7 +141,7 @@ impl TraceReader {
         let Some(counts) = &mut self.counts else {
             return Ok(false);
         };
-        let ahead = see_ahead(self.alloc, self.buffer.rest());
+        let ahead = see_ahead(counts.format(), self.alloc, self.buffer.rest());
         foresee(begun, &ahead.ops);
         let taken = take_ahead(begun, counts, self.at, &ahead);
         drop(ahead);
@@ -211,11 +212,11 @@ fn count(alloc: Global, counts: &mut Option<Counts>, item: &Item) -> Result<(), 
     requires { ItemHasTurn item.now counts.old }
     ensures ok { OnOk result (counts.new ≡ counts_with item.now counts.old) }
     ensures err { OnErr result (counts.new ≡ counts.old) }
-    ensures head { OnErr result ((clients : ℕ) × (item.now ≡ Item.Head clients)) }
+    ensures head { OnErr result ((format : AFormat) × (clients : ℕ) × (item.now ≡ Item.Head format clients)) }
 {
     match item {
-        Item::Head { clients } => {
-            let begun = Counts::new(alloc, *clients)?;
+        Item::Head { format, clients } => {
+            let begun = Counts::new(*format, alloc, *clients)?;
             drop(counts.replace(begun));
         }
         Item::Op { client, .. } => match counts {

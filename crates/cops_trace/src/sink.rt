@@ -2,7 +2,7 @@
 ghost use Rattle.std.specs.Prelude.{◌≡◌};
 
 use crate::trace::Trace;
-use cops_types::{Memory, OpView, TypeFault};
+use cops_types::{Format, Memory, OpView, TypeFault};
 use std::alloc::Global;
 
 /// What takes the head of a trace and then its records, one after the other.
@@ -15,9 +15,9 @@ pub trait Sink: Drop {
     /// Whether it took the head and the records of this trace, and no more.
     ghost took: { Self → ATrace → Type 0 };
 
-    /// Takes a head of so many clients.
-    fn begin(alloc: Global, clients: u16) -> Result<Self, Memory>
-        ensures { IfOk result (λ sink. took sink (record { clients = clients; records = [] })) };
+    /// Takes a head of a format and so many clients.
+    fn begin(format: Format, alloc: Global, clients: u16) -> Result<Self, Memory>
+        ensures { IfOk result (λ sink. took sink (record { format = format; clients = clients; records = [] })) };
 
     /// Takes a record: a client's next operation, which is seen where its bytes lie.
     fn take(&mut self, client: u16, op: &OpView<'_>) -> Result<(), Memory>
@@ -43,8 +43,8 @@ pub struct Taken<S: Drop> {
 impl Sink for Trace {
     ghost took = { λ trace t. trace ≡ t };
 
-    fn begin(alloc: Global, clients: u16) -> Result<Trace, Memory> {
-        Trace::new(alloc, clients)
+    fn begin(format: Format, alloc: Global, clients: u16) -> Result<Trace, Memory> {
+        Trace::new_in(format, alloc, clients)
     }
 
     fn take(&mut self, client: u16, op: &OpView<'_>) -> Result<(), Memory> {

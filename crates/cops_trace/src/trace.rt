@@ -2,13 +2,12 @@ ghost use Rattle.std.specs.Prelude.{◌≡◌, ◌++◌, IfOk, OnOk};
 ghost use Rattle.cops_types.specs.declared.format.Format.TheVariants.{One};
 ghost use Rattle.cops_types.specs.OpRefs.{seen};
 ghost use Rattle.cops_types.specs.OpViews.{viewed};
-ghost use Rattle.cops_wire.specs.Grammar.{grammar};
-ghost use Rattle.cops_wire.specs.Legal.{IsMessage};
-ghost use Rattle.cops_wire.specs.Message.{parts, spelled};
-ghost use Rattle.cops_trace.specs.Text.{IsOp, op_message};
+ghost use Rattle.cops_wire.specs.Message.{spelled};
+ghost use Rattle.cops_wire.specs.Records.{record_message};
+ghost use Rattle.cops_trace.specs.Text.{IsOp};
 
-use cops_types::{History, Memory, Op, OpName, OpRef, OpView, TypeFault};
-use cops_wire::{Message, encode};
+use cops_types::{Format, History, Memory, Op, OpName, OpRef, OpView, TypeFault};
+use cops_wire::{encode, record_message};
 use std::alloc::Global;
 use std::marker::Model;
 
@@ -16,6 +15,7 @@ use std::marker::Model;
 /// all.
 #[derive(Debug, Drop)]
 pub struct Trace {
+    format: Format,
     history: History,
     arrivals: Vec<u16>,
 }
@@ -26,9 +26,9 @@ impl Model for Trace {
 
     ghost Value = { ATrace };
 
-    ghost view = { λ t. trace_of t.history.sessions t.arrivals.items };
+    ghost view = { λ t. trace_of t.format t.history.sessions t.arrivals.items };
 
-    ghost invariant = { λ t. IsKept t.history.sessions t.arrivals.items };
+    ghost invariant = { λ t. IsKept t.format t.history.sessions t.arrivals.items };
 }
 
 impl Trace {
@@ -37,22 +37,38 @@ impl Trace {
     ghost use Rattle.cops_trace.specs.Text.{IsTrace, sessions_of, turn, records_text};
     ghost use Rattle.cops_trace.specs.Kept.{grown, IsFull};
     ghost use Rattle.cops_types.specs.OpViews.{viewed};
+    ghost use Rattle.cops_types.specs.Operations.{operation_of};
 
-    /// A trace of so many clients, without operations.
+    /// A trace of the first format and of so many clients, without operations.
     pub fn new(alloc: Global, clients: u16) -> Result<Self, Memory>
-        ensures { IfOk result (λ trace. trace ≡ record { clients = clients; records = [] }) }
+        ensures { IfOk result (λ trace. trace ≡ record { format = One; clients = clients; records = [] }) }
+    {
+        Trace::new_in(Format::One, alloc, clients)
+    }
+
+    /// A trace of a format and of so many clients, without operations.
+    pub(crate) fn new_in(format: Format, alloc: Global, clients: u16) -> Result<Self, Memory>
+        ensures { IfOk result (λ trace. trace ≡ record { format = format; clients = clients; records = [] }) }
     {
         let history = History::new(alloc, clients)?;
         Ok(Trace {
+            format,
             history,
             arrivals: Vec::new(alloc),
         })
     }
 
+    /// The format.
+    pub(crate) fn format(&self) -> Format
+        ensures { result ≡ self.now.format }
+    {
+        self.format
+    }
+
     /// Adds an operation: `UnknownClient` where there is no such client, then `TooManyOps` where the client has
     /// 1,000,000 operations or there are 16,000,000. A fault changes nothing.
     pub fn push(&mut self, client: u16, op: Op) -> Result<(), TypeFault>
-        ensures ok { OnOk result (self.new ≡ grown self.old (record { client = client; op = op })) }
+        ensures ok { OnOk result (self.new ≡ grown self.old (record { client = client; op = operation_of op })) }
         ensures err { OnErr result (self.new ≡ self.old) }
         ensures unknown { IsErrOf result TypeFault.UnknownClient ↔ (self.old.clients ≤ client) }
         ensures too_many { IsErrOf result TypeFault.TooManyOps ↔ (client < self.old.clients × IsFull self.old client) }
@@ -170,50 +186,17 @@ pub(crate) fn append_record(
     op: &OpRef<'_>,
     out: &mut Vec<u8>,
 ) -> Result<(), Memory>
-    ensures { OnOk result (out.new.items ≡ out.old.items ++ spelled (op_message client index (seen op.now))) }
+    ensures { OnOk result (out.new.items ≡ out.old.items ++ spelled (record_message client index (seen op.now))) }
 {
-    let message = message(client, index, op)?;
+    let message = record_message(client, index, op.to_op()?);
     let appended = encode(&message, out);
     drop(message);
     appended
 }
 
-/// An operation's record, with this index in the client's session.
-fn message(client: u16, index: u32, op: &OpRef<'_>) -> Result<Message, Memory>
-    ensures value { IfOk result (λ m. m ≡ op_message client index (seen op.now)) }
-    ensures legal { IsMessage (grammar One) (parts (op_message client index (seen op.now))) }
-{
-    legal(op);
-    match op.to_op()? {
-        Op::Put {
-            key,
-            value,
-            version,
-        } => Ok(Message::TracePut {
-            client,
-            index,
-            key,
-            value,
-            version,
-        }),
-        Op::Got {
-            key,
-            value,
-            version,
-        } => Ok(Message::TraceGot {
-            client,
-            index,
-            key,
-            value,
-            version,
-        }),
-        Op::Missed { key } => Ok(Message::TraceMissed { client, index, key }),
-    }
-}
-
-/// An operation has a spelling: its key, value and version are within their ranges.
+/// An operation has an encoding in the first format: its key, value and version are within their ranges.
 pub(crate) fn legal(op: &OpRef<'_>)
-    ensures { IsOp (seen op.now) }
+    ensures { IsOp One (seen op.now) }
 {
     match op {
         OpRef::Put {
@@ -238,7 +221,7 @@ pub(crate) fn legal(op: &OpRef<'_>)
 
 /// The same of an operation that is seen.
 fn legal_view(op: &OpView<'_>)
-    ensures { IsOp (viewed op.now) }
+    ensures { IsOp One (viewed op.now) }
 {
     match op {
         OpView::Put {

@@ -2,8 +2,8 @@
 use crate::counts::Counts;
 use crate::fault::WriteFault;
 use crate::trace::append_record;
-use crate::writing::{FORMAT, append};
-use cops_types::{Counted, Op, write_text};
+use crate::writing::append;
+use cops_types::{Counted, Format, Op, write_text};
 use cops_wire::Message;
 use std::alloc::Global;
 use std::io::Write;
@@ -30,25 +30,25 @@ impl<W: Write> TraceWriter<W> {
     ghost use Rattle.std.specs.Prelude.{◌≡◌, ◌≢◌, ◌↔◌, IfErr, IfOk, IsErrOf, IsTrue, OnErr, OnOk, length};
     ghost use Rattle.std.specs.Io.KnownBytes.{Appends};
     ghost use Rattle.cops_types.specs.Failures.{Failed};
+    ghost use Rattle.cops_types.specs.Operations.{operation_of};
     ghost use Rattle.cops_types.specs.Counted.{failures, inner};
     ghost use Rattle.cops_types.specs.declared.format.Format.TheVariants.{One};
-    ghost use Rattle.cops_wire.specs.Grammar.{grammar};
-    ghost use Rattle.cops_wire.specs.Legal.{IsMessage};
-    ghost use Rattle.cops_wire.specs.Message.{parts, spelled};
+    ghost use Rattle.cops_wire.specs.Legal.{IsLegalMessage};
+    ghost use Rattle.cops_wire.specs.Message.{spelled};
     ghost use Rattle.cops_trace.specs.Counts.{HasTurn, counted, nothing};
     ghost use Rattle.cops_trace.specs.Writing.{IsUnwritten, end_frame, head_frame, more_written, record_frame};
 
-    /// Writes the head of so many clients. Where it is not written, the writer comes back.
+    /// Writes the head of the first format and so many clients. Where it is not written, the writer comes back.
     pub fn new(alloc: Global, writer: Counted<W>, clients: u16) -> Result<Self, Unwritten<W>>
-        ensures ok { IfOk result (λ w. Appends (W.contents (inner writer)) (W.contents (inner w.writer)) (head_frame clients)) }
-        ensures counts { IfOk result (λ w. (w.counts ≡ nothing clients) × (w.written ≡ more_written 0 (length (head_frame clients)))) }
+        ensures ok { IfOk result (λ w. Appends (W.contents (inner writer)) (W.contents (inner w.writer)) (head_frame One clients)) }
+        ensures counts { IfOk result (λ w. (w.counts ≡ nothing One clients) × (w.written ≡ more_written 0 (length (head_frame One clients)))) }
         ensures failed { IfErr result (λ u. u.fault ≢ WriteFault.Memory → Failed (failures writer) (failures u.writer)) }
         ensures heard { IfOk result (λ w. failures w.writer ≡ failures writer) }
         ensures quiet { IfErr result (λ u. u.fault ≡ WriteFault.Memory → failures u.writer ≡ failures writer) }
-        ensures frame { IfOk result (λ w. w.frame.items ≡ head_frame clients) }
-        ensures err { IfErr result (λ u. IsUnwritten (head_frame clients) 0 (W.contents (inner writer)) (W.contents (inner u.writer)) u.fault) }
+        ensures frame { IfOk result (λ w. w.frame.items ≡ head_frame One clients) }
+        ensures err { IfErr result (λ u. IsUnwritten (head_frame One clients) 0 (W.contents (inner writer)) (W.contents (inner u.writer)) u.fault) }
     {
-        let Ok(counts) = Counts::new(alloc, clients) else {
+        let Ok(counts) = Counts::new(Format::One, alloc, clients) else {
             let fault = WriteFault::Memory;
             return Err(Unwritten { writer, fault });
         };
@@ -59,7 +59,7 @@ impl<W: Write> TraceWriter<W> {
             frame: Vec::new(alloc),
         };
         let head = Message::TraceHead {
-            format: FORMAT,
+            format: begun.counts.format().number(),
             clients,
         };
         match begun.write(head) {
@@ -72,14 +72,14 @@ impl<W: Write> TraceWriter<W> {
     /// have all.
     pub fn op(&mut self, client: u16, op: &Op) -> Result<(), WriteFault>
         requires { HasTurn self.old.counts client }
-        ensures ok { OnOk result (Appends (W.contents (inner self.old.writer)) (W.contents (inner self.new.writer)) (record_frame self.old.counts client op.now)) }
+        ensures ok { OnOk result (Appends (W.contents (inner self.old.writer)) (W.contents (inner self.new.writer)) (record_frame self.old.counts client (operation_of op.now))) }
         ensures counts { OnOk result (self.new.counts ≡ counted self.old.counts client) }
-        ensures written { OnOk result (self.new.written ≡ more_written self.old.written (length (record_frame self.old.counts client op.now))) }
-        ensures err { IfErr result (IsUnwritten (record_frame self.old.counts client op.now) self.old.written (W.contents (inner self.old.writer)) (W.contents (inner self.new.writer))) }
+        ensures written { OnOk result (self.new.written ≡ more_written self.old.written (length (record_frame self.old.counts client (operation_of op.now)))) }
+        ensures err { IfErr result (IsUnwritten (record_frame self.old.counts client (operation_of op.now)) self.old.written (W.contents (inner self.old.writer)) (W.contents (inner self.new.writer))) }
         ensures failed { IfErr result (λ e. e ≢ WriteFault.Memory → Failed (failures self.old.writer) (failures self.new.writer)) }
         ensures heard { OnOk result (failures self.new.writer ≡ failures self.old.writer) }
         ensures quiet { IsErrOf result WriteFault.Memory → failures self.new.writer ≡ failures self.old.writer }
-        ensures frame { OnOk result (self.new.frame.items ≡ record_frame self.old.counts client op.now) }
+        ensures frame { OnOk result (self.new.frame.items ≡ record_frame self.old.counts client (operation_of op.now)) }
     {
         self.frame.clear();
         let index = self.counts.next(client);
@@ -147,7 +147,7 @@ impl<W: Write> TraceWriter<W> {
 
     /// Writes the frame of a legal message.
     fn write(&mut self, message: Message) -> Result<(), WriteFault>
-        requires { IsMessage (grammar One) (parts message) }
+        requires { IsLegalMessage message }
         ensures ok { OnOk result (Appends (W.contents (inner self.old.writer)) (W.contents (inner self.new.writer)) (spelled message)) }
         ensures err { IfErr result (IsUnwritten (spelled message) self.old.written (W.contents (inner self.old.writer)) (W.contents (inner self.new.writer))) }
         ensures written { OnOk result (self.new.written ≡ more_written self.old.written (length (spelled message))) }

@@ -1,9 +1,7 @@
 ghost use Rattle.std.specs.Prelude.{◌≡◌, ◌≢◌, ◌≤◌, ◌<◌, ◌++◌, ℕ, length, take, OnOk, IfOk, IfErr, IsErrOf};
 ghost use Rattle.std.specs.Io.KnownBytes.{Appends, Keeps};
-ghost use Rattle.cops_wire.specs.Grammar.{grammar};
-ghost use Rattle.cops_wire.specs.Legal.{IsMessage};
-ghost use Rattle.cops_wire.specs.Message.{parts, spelled};
-ghost use Rattle.cops_types.specs.declared.format.Format.TheVariants.{One};
+ghost use Rattle.cops_wire.specs.Legal.{IsLegalMessage};
+ghost use Rattle.cops_wire.specs.Message.{spelled};
 ghost use Rattle.cops_trace.specs.Text.{text};
 ghost use Rattle.cops_types.specs.Failures.{Failed};
 ghost use Rattle.cops_types.specs.Counted.{failures, inner};
@@ -15,12 +13,9 @@ use cops_wire::{Message, encode};
 use std::alloc::Global;
 use std::io::Write;
 
-/// The number of the format that is written.
-pub(crate) const FORMAT: u16 = 1;
-
 /// Appends the frame of a legal message.
 pub(crate) fn append(message: Message, out: &mut Vec<u8>) -> Result<(), Memory>
-    requires { IsMessage (grammar One) (parts message) }
+    requires { IsLegalMessage message }
     ensures { OnOk result (out.new.items ≡ out.old.items ++ spelled message) }
 {
     let appended = encode(&message, out);
@@ -34,7 +29,7 @@ pub(crate) fn text_of(alloc: Global, trace: &Trace) -> Result<Vec<u8>, Memory>
 {
     let mut out = Vec::new(alloc);
     let head = Message::TraceHead {
-        format: FORMAT,
+        format: trace.format().number(),
         clients: trace.clients(),
     };
     append(head, &mut out)?;

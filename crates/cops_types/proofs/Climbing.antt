@@ -5,11 +5,9 @@ use Rattle.std.proofs.Math.Nat.{eq-or-lt_of_le}
 use Rattle.std.proofs.lemmas.Bool.{cases_eq, cases_lt}
 use Rattle.std.proofs.lemmas.List.{length-replicate}
 use Rattle.std.proofs.lemmas.Option.{slice_get_within}
-use Rattle.cops_types.specs.declared.op.Op.{Op}
-use Rattle.cops_types.specs.declared.op.Op.TheVariants.{Put, Got, Missed}
 use Rattle.cops_types.specs.declared.op.OpName.{OpName}
 use Rattle.cops_types.specs.declared.heights.Heights.{Heights}
-use Rattle.cops_types.specs.Histories.{Sessions, op_at, with_op, PutsVersion}
+use Rattle.cops_types.specs.Histories.{Sessions, op_at, with_op, PutsVersion, Operation, write, read, missed}
 use Rattle.cops_types.specs.Faults.{HasVersion, IsNotAbove, IsNotBelow}
 use Rattle.cops_types.specs.Heights.{AreSessionHeights, HasNotAbove, IsHeight, IsSessionAbove}
 use Rattle.cops_types.specs.Verdicts.{AllAbove}
@@ -19,32 +17,32 @@ same_name : (a b : OpName) → a.client ≡ b.client → a.index ≡ b.index →
 same_name a b c i = λ j. record { client = c j; index = i j }
 
 one_version : (h : Sessions) (p : OpName) (v w : ℕ) → PutsVersion h p v → PutsVersion h p w → v ≡ w
-one_version h p v w first second = let at : Some (Put first.0 first.1 v) ≡ Some (Put second.0 second.1 w) = sym first.2 ∙ second.2 in cc
+one_version h p v w first second = let at : Some (write first.0 first.1 v) ≡ Some (write second.0 second.1 w) = sym first.2 ∙ second.2 in cc
 
 -- an operation has one version
 pub one_has : (h : Sessions) (n : OpName) (v w : ℕ) → HasVersion h n v → HasVersion h n w → v ≡ w
-one_has h n v w (inl a) (inl b) = let e : Some (Put a.0 a.1 v) ≡ Some (Put b.0 b.1 w) = sym a.2 ∙ b.2 in cc
-one_has h n v w (inl a) (inr b) = let e : Some (Put a.0 a.1 v) ≡ Some (Got b.0 b.1 w) = sym a.2 ∙ b.2 in cc
-one_has h n v w (inr a) (inl b) = let e : Some (Got a.0 a.1 v) ≡ Some (Put b.0 b.1 w) = sym a.2 ∙ b.2 in cc
-one_has h n v w (inr a) (inr b) = let e : Some (Got a.0 a.1 v) ≡ Some (Got b.0 b.1 w) = sym a.2 ∙ b.2 in cc
+one_has h n v w (inl a) (inl b) = let e : Some (write a.0 a.1 v) ≡ Some (write b.0 b.1 w) = sym a.2 ∙ b.2 in cc
+one_has h n v w (inl a) (inr b) = let e : Some (write a.0 a.1 v) ≡ Some (read b.0 b.1 w) = sym a.2 ∙ b.2 in cc
+one_has h n v w (inr a) (inl b) = let e : Some (read a.0 a.1 v) ≡ Some (write b.0 b.1 w) = sym a.2 ∙ b.2 in cc
+one_has h n v w (inr a) (inr b) = let e : Some (read a.0 a.1 v) ≡ Some (read b.0 b.1 w) = sym a.2 ∙ b.2 in cc
 
-missed_has : (h : Sessions) (n : OpName) (k : List ℕ) (v : ℕ) → op_at h n ≡ Some (Missed k) → ¬ HasVersion h n v
-missed_has h n k v missed (inl a) = let e : Some (Missed k) ≡ Some (Put a.0 a.1 v) = sym missed ∙ a.2 in cc
-missed_has h n k v missed (inr a) = let e : Some (Missed k) ≡ Some (Got a.0 a.1 v) = sym missed ∙ a.2 in cc
+missed_has : (h : Sessions) (n : OpName) (k : List ℕ) (v : ℕ) → op_at h n ≡ Some (missed k) → ¬ HasVersion h n v
+missed_has h n k v nothing (inl a) = let e : Some (missed k) ≡ Some (write a.0 a.1 v) = sym nothing ∙ a.2 in cc
+missed_has h n k v nothing (inr a) = let e : Some (missed k) ≡ Some (read a.0 a.1 v) = sym nothing ∙ a.2 in cc
 
 none_has : (h : Sessions) (n : OpName) (v : ℕ) → op_at h n ≡ None → ¬ HasVersion h n v
-none_has h n v none (inl a) = let e : None ≡ Some (Put a.0 a.1 v) = sym none ∙ a.2 in cc
-none_has h n v none (inr a) = let e : None ≡ Some (Got a.0 a.1 v) = sym none ∙ a.2 in cc
+none_has h n v none (inl a) = let e : None ≡ Some (write a.0 a.1 v) = sym none ∙ a.2 in cc
+none_has h n v none (inr a) = let e : None ≡ Some (read a.0 a.1 v) = sym none ∙ a.2 in cc
 
 -- what an operation has, if anything
 has_cases : (h : Sessions) (n : OpName) → ((v : ℕ) × HasVersion h n v) ⊎ ((v : ℕ) → ¬ HasVersion h n v)
 has_cases h n = by_op (op_at h n) refl
   where
-    by_op : (o : Option Op) → op_at h n ≡ o → ((v : ℕ) × HasVersion h n v) ⊎ ((v : ℕ) → ¬ HasVersion h n v)
+    by_op : (o : Option Operation) → op_at h n ≡ o → ((v : ℕ) × HasVersion h n v) ⊎ ((v : ℕ) → ¬ HasVersion h n v)
     by_op None at = inr (λ v. none_has h n v at)
-    by_op (Some (Put k x v)) at = inl (v, inl (k, x, at))
-    by_op (Some (Got k x v)) at = inl (v, inr (k, x, at))
-    by_op (Some (Missed k)) at = inr (λ v. missed_has h n k v at)
+    by_op (Some (write k x v)) at = inl (v, inl (k, x, at))
+    by_op (Some (read k x v)) at = inl (v, inr (k, x, at))
+    by_op (Some (missed k)) at = inr (λ v. missed_has h n k v at)
 
 -- where an operation of its session makes a put faulty, the first one is found
 module _ (h : Sessions) (name : OpName) (own : ℕ) (put : PutsVersion h name own) where
@@ -124,8 +122,8 @@ height_next h client i height number was is has = record {
 }
 
 -- one more operation of a client
-module _ (h : Sessions) (client : ℕ) (op : Op) (inside : client < length h) where
-  abbrev own : List Op
+module _ (h : Sessions) (client : ℕ) (op : Operation) (inside : client < length h) where
+  abbrev own : List Operation
   own = slice_index_or h client []
 
   abbrev longer : Sessions
@@ -137,38 +135,38 @@ module _ (h : Sessions) (client : ℕ) (op : Op) (inside : client < length h) wh
   others_same : (c : ℕ) → c ≢ client → slice_index_or longer c [] ≡ slice_index_or h c []
   others_same c differs = get_or-set_other h client c (own ++ op ∷ []) [] differs
 
-  pub op_kept : (n : OpName) (x : Op) → op_at h n ≡ Some x → op_at longer n ≡ Some x
+  pub op_kept : (n : OpName) (x : Operation) → op_at h n ≡ Some x → op_at longer n ≡ Some x
   op_kept n x at = elim (cases_eq n.client client) [
     | inl same ↦
         let e : slice_index_or longer n.client [] ≡ slice_index_or h n.client [] ++ op ∷ [] = ap (λ (c : ℕ). slice_index_or longer c []) same ∙ own_longer ∙ ap (λ (c : ℕ). slice_index_or h c [] ++ op ∷ []) (sym same) in
-        ap (λ (s : List Op). slice_get s n.index) e ∙ stays_left (slice_index_or h n.client []) (op ∷ []) n.index x at
-    | inr differs ↦ ap (λ (s : List Op). slice_get s n.index) (others_same n.client differs) ∙ at
+        ap (λ (s : List Operation). slice_get s n.index) e ∙ stays_left (slice_index_or h n.client []) (op ∷ []) n.index x at
+    | inr differs ↦ ap (λ (s : List Operation). slice_get s n.index) (others_same n.client differs) ∙ at
   ]
 
-  op_was : (n : OpName) (x : Op) → op_at longer n ≡ Some x → (op_at h n ≡ Some x) ⊎ ((n.client ≡ client) × (n.index ≡ length own) × (op ≡ x))
+  op_was : (n : OpName) (x : Operation) → op_at longer n ≡ Some x → (op_at h n ≡ Some x) ⊎ ((n.client ≡ client) × (n.index ≡ length own) × (op ≡ x))
   op_was n x at = elim (cases_eq n.client client) [
     | inl same ↦
         let e : slice_index_or longer n.client [] ≡ own ++ op ∷ [] = ap (λ (c : ℕ). slice_index_or longer c []) same ∙ own_longer in
-        elim (slice_get-end own op n.index x (ap (λ (s : List Op). slice_get s n.index) (sym e) ∙ at)) [
+        elim (slice_get-end own op n.index x (ap (λ (s : List Operation). slice_get s n.index) (sym e) ∙ at)) [
           | inl old ↦ inl (ap (λ (c : ℕ). slice_get (slice_index_or h c []) n.index) same ∙ old)
           | inr new ↦ inr (same, new.0, new.1)
         ]
-    | inr differs ↦ inl (ap (λ (s : List Op). slice_get s n.index) (sym (others_same n.client differs)) ∙ at)
+    | inr differs ↦ inl (ap (λ (s : List Operation). slice_get s n.index) (sym (others_same n.client differs)) ∙ at)
   ]
 
   abbrev last : OpName
   last = record { client = client; index = length own }
 
   last_there : op_at longer last ≡ Some op
-  last_there = ap (λ (s : List Op). slice_get s (length own)) own_longer ∙ end_of own op
+  last_there = ap (λ (s : List Operation). slice_get s (length own)) own_longer ∙ end_of own op
 
   has_kept : (n : OpName) (v : ℕ) → HasVersion h n v → HasVersion longer n v
-  has_kept n v (inl a) = inl (a.0, a.1, op_kept n (Put a.0 a.1 v) a.2)
-  has_kept n v (inr a) = inr (a.0, a.1, op_kept n (Got a.0 a.1 v) a.2)
+  has_kept n v (inl a) = inl (a.0, a.1, op_kept n (write a.0 a.1 v) a.2)
+  has_kept n v (inr a) = inr (a.0, a.1, op_kept n (read a.0 a.1 v) a.2)
 
   has_was : (n : OpName) (v : ℕ) → HasVersion longer n v → HasVersion h n v ⊎ ((n.client ≡ client) × (n.index ≡ length own))
-  has_was n v (inl a) = elim (op_was n (Put a.0 a.1 v) a.2) [ inl old ↦ inl (inl (a.0, a.1, old)) | inr new ↦ inr (new.0, new.1) ]
-  has_was n v (inr a) = elim (op_was n (Got a.0 a.1 v) a.2) [ inl old ↦ inl (inr (a.0, a.1, old)) | inr new ↦ inr (new.0, new.1) ]
+  has_was n v (inl a) = elim (op_was n (write a.0 a.1 v) a.2) [ inl old ↦ inl (inl (a.0, a.1, old)) | inr new ↦ inr (new.0, new.1) ]
+  has_was n v (inr a) = elim (op_was n (read a.0 a.1 v) a.2) [ inl old ↦ inl (inr (a.0, a.1, old)) | inr new ↦ inr (new.0, new.1) ]
 
   -- the heights that the sessions had
   height_kept : (c count height : ℕ) → count ≤ length (slice_index_or h c []) → IsHeight h c count height → IsHeight longer c count height
@@ -190,12 +188,12 @@ module _ (h : Sessions) (client : ℕ) (op : Op) (inside : client < length h) wh
   below_was : (e n : OpName) → IsNotBelow longer e n → IsNotBelow h e n ⊎ ((n.client ≡ client) × (n.index ≡ length own))
   below_was e n f =
       let put = f.put in
-      elim (op_was n (Put put.0 put.1 f.own) put.2) [
+      elim (op_was n (write put.0 put.1 f.own) put.2) [
         | inr new ↦ inr (new.0, new.1)
         | inl old ↦ elim (has_was e f.version f.has) [
           | inl had ↦ inl (record { version = f.version; own = f.own; put = (put.0, put.1, old); has = had; same_client = f.same_client; before = f.before; not_below = f.not_below })
           | inr last ↦
-              let within : n.index < length (slice_index_or h n.client []) = slice_get_within (slice_index_or h n.client []) n.index (Put put.0 put.1 f.own) old in
+              let within : n.index < length (slice_index_or h n.client []) = slice_get_within (slice_index_or h n.client []) n.index (write put.0 put.1 f.own) old in
               let e' : length (slice_index_or h n.client []) ≡ length own = ap (λ (k : ℕ). length (slice_index_or h k [])) (sym f.same_client ∙ last.0) in
               absurd (omega (arith, within, e', f.before, last.1))
         ]
@@ -204,7 +202,7 @@ module _ (h : Sessions) (client : ℕ) (op : Op) (inside : client < length h) wh
   below_kept : (e n : OpName) → IsNotBelow h e n → IsNotBelow longer e n
   below_kept e n f =
       let put = f.put in
-      record { version = f.version; own = f.own; put = (put.0, put.1, op_kept n (Put put.0 put.1 f.own) put.2); has = has_kept e f.version f.has; same_client = f.same_client; before = f.before; not_below = f.not_below }
+      record { version = f.version; own = f.own; put = (put.0, put.1, op_kept n (write put.0 put.1 f.own) put.2); has = has_kept e f.version f.has; same_client = f.same_client; before = f.before; not_below = f.not_below }
 
   module _ (old : Heights) (was : AreSessionHeights h old) where
     abbrev before_last : ℕ
@@ -278,7 +276,7 @@ module _ (h : Sessions) (client : ℕ) (op : Op) (inside : client < length h) wh
   pub still_not_above : (name earlier : OpName) → IsNotAbove h name earlier → (n : OpName) × (e : OpName) × IsNotAbove longer n e
   still_not_above name earlier f = let found = first_below longer earlier name (below_kept earlier name f.is_not_below) in (name, found.0, found.1)
 
-module _ (h : Sessions) (client : ℕ) (op : Op) (inside : client < length h) (old new : Heights) (was : AreSessionHeights h old) where
+module _ (h : Sessions) (client : ℕ) (op : Operation) (inside : client < length h) (old new : Heights) (was : AreSessionHeights h old) where
   abbrev grown : Sessions
   grown = with_op h client op
 
@@ -315,10 +313,10 @@ module _ (h : Sessions) (client : ℕ) (op : Op) (inside : client < length h) (o
   flag_own : new.rise.items ≡ slice_set old.rise.items client false → slice_index_or new.rise.items client false ≡ false
   flag_own e = ap (λ (l : List Bool). slice_index_or l client false) e ∙ get_or-set_same old.rise.items client false false (omega (arith, inside, was.flags))
 
-  pub took_low : (v : ℕ) (key value : List ℕ) → op ≡ Put key value v → 0 < v → v ≤ own_height → new.sessions.items ≡ old.sessions.items → new.rise.items ≡ slice_set old.rise.items client false → new.are_above ≡ false
+  pub took_low : (v : ℕ) (key : List ℕ) (content : Option (List ℕ)) → op ≡ write key content v → 0 < v → v ≤ own_height → new.sessions.items ≡ old.sessions.items → new.rise.items ≡ slice_set old.rise.items client false → new.are_above ≡ false
       → AreSessionHeights (with_op h client op) new
-  took_low v key value e some low same flag not =
-      let put : PutsVersion grown newest v = (key, value, last_there h client op inside ∙ ap (λ (x : Op). Some x) e) in
+  took_low v key content e some low same flag not =
+      let put : PutsVersion grown newest v = (key, content, last_there h client op inside ∙ ap (λ (x : Operation). Some x) e) in
       record {
         clients = clients_longer (ap length same);
         each = heights_more h client op inside old was v (λ w has. one_has grown newest v w (inl put) has) (inr (inl put)) new.sessions.items (ap length same)
@@ -336,10 +334,10 @@ module _ (h : Sessions) (client : ℕ) (op : Op) (inside : client < length h) (o
         not_above = λ _. let found = falls h client op inside old was v put some low in (found.0, found.1, found.3);
       }
 
-  pub took_high : (v : ℕ) (key value : List ℕ) → op ≡ Put key value v → own_height < v → new.sessions.items ≡ slice_set old.sessions.items client v → new.rise.items ≡ old.rise.items → new.are_above ≡ old.are_above
+  pub took_high : (v : ℕ) (key : List ℕ) (content : Option (List ℕ)) → op ≡ write key content v → own_height < v → new.sessions.items ≡ slice_set old.sessions.items client v → new.rise.items ≡ old.rise.items → new.are_above ≡ old.are_above
       → AreSessionHeights (with_op h client op) new
-  took_high v key value e high same flag kept =
-      let put : PutsVersion grown newest v = (key, value, last_there h client op inside ∙ ap (λ (x : Op). Some x) e) in
+  took_high v key content e high same flag kept =
+      let put : PutsVersion grown newest v = (key, content, last_there h client op inside ∙ ap (λ (x : Operation). Some x) e) in
       record {
         clients = clients_longer (same_set v same);
         each = heights_more h client op inside old was v (λ w has. one_has grown newest v w (inl put) has) (inr (inl put)) new.sessions.items (same_set v same)
@@ -351,38 +349,38 @@ module _ (h : Sessions) (client : ℕ) (op : Op) (inside : client < length h) (o
         not_above = λ f. let last = was.not_above (sym kept ∙ f) in still_not_above h client op inside last.0 last.1 last.2;
       }
 
-  pub took_got : (v : ℕ) (key value : List ℕ) → op ≡ Got key value v → new.sessions.items ≡ slice_set old.sessions.items client (max own_height v) → new.rise.items ≡ old.rise.items → new.are_above ≡ old.are_above
+  pub took_got : (v : ℕ) (key : List ℕ) (content : Option (List ℕ)) → op ≡ read key content v → new.sessions.items ≡ slice_set old.sessions.items client (max own_height v) → new.rise.items ≡ old.rise.items → new.are_above ≡ old.are_above
       → AreSessionHeights (with_op h client op) new
-  took_got v key value e same flag kept =
-      let at : op_at grown newest ≡ Some (Got key value v) = last_there h client op inside ∙ ap (λ (x : Op). Some x) e in
+  took_got v key content e same flag kept =
+      let at : op_at grown newest ≡ Some (read key content v) = last_there h client op inside ∙ ap (λ (x : Operation). Some x) e in
       record {
         clients = clients_longer (same_set (max own_height v) same);
-        each = heights_more h client op inside old was v (λ w has. one_has grown newest v w (inr (key, value, at)) has) (inr (inr (key, value, at))) new.sessions.items (same_set (max own_height v) same)
+        each = heights_more h client op inside old was v (λ w has. one_has grown newest v w (inr (key, content, at)) has) (inr (inr (key, content, at))) new.sessions.items (same_set (max own_height v) same)
             (own_set (max own_height v) same) (others_set (max own_height v) same);
         flags = flags_longer (ap length flag);
-        session_above = λ c t. session_still_above h client op inside old was (λ w other. let bad : Some (Put other.0 other.1 w) ≡ Some (Got key value v) = sym other.2 ∙ at in absurd cc) c (was.session_above c (flag_same flag c ∙ t));
+        session_above = λ c t. session_still_above h client op inside old was (λ w other. let bad : Some (write other.0 other.1 w) ≡ Some (read key content v) = sym other.2 ∙ at in absurd cc) c (was.session_above c (flag_same flag c ∙ t));
         session_not_above = λ c small f. session_still_not_above h client op inside c (was.session_not_above c (was_there c small) (flag_same flag c ∙ f));
-        above = λ t. still_above h client op inside old was (λ w other. let bad : Some (Put other.0 other.1 w) ≡ Some (Got key value v) = sym other.2 ∙ at in absurd cc) (was.above (sym kept ∙ t));
+        above = λ t. still_above h client op inside old was (λ w other. let bad : Some (write other.0 other.1 w) ≡ Some (read key content v) = sym other.2 ∙ at in absurd cc) (was.above (sym kept ∙ t));
         not_above = λ f. let last = was.not_above (sym kept ∙ f) in still_not_above h client op inside last.0 last.1 last.2;
       }
 
-  pub took_missed : (key : List ℕ) → op ≡ Missed key → new.sessions.items ≡ old.sessions.items → new.rise.items ≡ old.rise.items → new.are_above ≡ old.are_above
+  pub took_missed : (key : List ℕ) → op ≡ missed key → new.sessions.items ≡ old.sessions.items → new.rise.items ≡ old.rise.items → new.are_above ≡ old.are_above
       → AreSessionHeights (with_op h client op) new
   took_missed key e same flag kept =
-      let at : op_at grown newest ≡ Some (Missed key) = last_there h client op inside ∙ ap (λ (x : Op). Some x) e in
+      let at : op_at grown newest ≡ Some (missed key) = last_there h client op inside ∙ ap (λ (x : Operation). Some x) e in
       record {
         clients = clients_longer (ap length same);
         each = heights_more h client op inside old was 0 (λ w has. absurd (missed_has grown newest key w at has)) (inl refl) new.sessions.items (ap length same)
             (ap (λ (l : List ℕ). slice_index_or l client 0) same ∙ (let m : own_height ≡ max own_height 0 = omega arith in m)) (λ c differs. ap (λ (l : List ℕ). slice_index_or l c 0) same);
         flags = flags_longer (ap length flag);
-        session_above = λ c t. session_still_above h client op inside old was (λ w other. let bad : Some (Put other.0 other.1 w) ≡ Some (Missed key) = sym other.2 ∙ at in absurd cc) c (was.session_above c (flag_same flag c ∙ t));
+        session_above = λ c t. session_still_above h client op inside old was (λ w other. let bad : Some (write other.0 other.1 w) ≡ Some (missed key) = sym other.2 ∙ at in absurd cc) c (was.session_above c (flag_same flag c ∙ t));
         session_not_above = λ c small f. session_still_not_above h client op inside c (was.session_not_above c (was_there c small) (flag_same flag c ∙ f));
-        above = λ t. still_above h client op inside old was (λ w other. let bad : Some (Put other.0 other.1 w) ≡ Some (Missed key) = sym other.2 ∙ at in absurd cc) (was.above (sym kept ∙ t));
+        above = λ t. still_above h client op inside old was (λ w other. let bad : Some (write other.0 other.1 w) ≡ Some (missed key) = sym other.2 ∙ at in absurd cc) (was.above (sym kept ∙ t));
         not_above = λ f. let last = was.not_above (sym kept ∙ f) in still_not_above h client op inside last.0 last.1 last.2;
       }
 
 -- sessions without operations
-empty_session : (clients client : ℕ) → slice_index_or (replicate clients (let none : List Op = [] in none)) client [] ≡ []
+empty_session : (clients client : ℕ) → slice_index_or (replicate clients (let none : List Operation = [] in none)) client [] ≡ []
 empty_session zero client = refl
 empty_session (suc clients) zero = refl
 empty_session (suc clients) (suc client) = empty_session clients client
@@ -392,8 +390,8 @@ zero_height zero client = refl
 zero_height (suc clients) zero = refl
 zero_height (suc clients) (suc client) = zero_height clients client
 
-nothing_there : (clients : ℕ) (n : OpName) (x : Op) → ¬ (op_at (replicate clients []) n ≡ Some x)
-nothing_there clients n x at = let e : None ≡ Some x = sym (ap (λ (s : List Op). slice_get s n.index) (empty_session clients n.client)) ∙ at in cc
+nothing_there : (clients : ℕ) (n : OpName) (x : Operation) → ¬ (op_at (replicate clients []) n ≡ Some x)
+nothing_there clients n x at = let e : None ≡ Some x = sym (ap (λ (s : List Operation). slice_get s n.index) (empty_session clients n.client)) ∙ at in cc
 
 all_rise : (clients client : ℕ) → client < clients → slice_index_or (replicate clients true) client false ≡ true
 all_rise zero client small = absurd (omega (arith, small))
@@ -403,19 +401,19 @@ all_rise (suc clients) (suc client) small = all_rise clients client (omega (arit
 pub no_heights : (clients : ℕ) (heights : Heights) → heights.sessions.items ≡ replicate clients 0 → heights.rise.items ≡ replicate clients true → heights.are_above ≡ true
     → AreSessionHeights (replicate clients []) heights
 no_heights clients heights are rise above = record {
-  clients = ap length are ∙ length-replicate clients 0 ∙ sym (length-replicate {A = List Op} clients []);
+  clients = ap length are ∙ length-replicate clients 0 ∙ sym (length-replicate {A = List Operation} clients []);
   each = λ client small.
-      let len : length (slice_index_or (replicate clients (let none : List Op = [] in none)) client []) ≡ 0 = ap length (empty_session clients client) in
+      let len : length (slice_index_or (replicate clients (let none : List Operation = [] in none)) client []) ≡ 0 = ap length (empty_session clients client) in
       let low : slice_index_or heights.sessions.items client 0 ≡ 0 = ap (λ (l : List ℕ). slice_index_or l client 0) are ∙ zero_height clients client in
       subst (λ (k : ℕ). IsHeight (replicate clients []) client k (slice_index_or heights.sessions.items client 0)) (sym len)
       (subst (IsHeight (replicate clients []) client 0) (sym low) (height_none (replicate clients []) client));
-  flags = ap length rise ∙ length-replicate clients true ∙ sym (length-replicate {A = List Op} clients []);
-  session_above = λ client t name earlier of f. let put = f.is_not_below.put in nothing_there clients name (Put put.0 put.1 f.is_not_below.own) put.2;
+  flags = ap length rise ∙ length-replicate clients true ∙ sym (length-replicate {A = List Operation} clients []);
+  session_above = λ client t name earlier of f. let put = f.is_not_below.put in nothing_there clients name (write put.0 put.1 f.is_not_below.own) put.2;
   session_not_above = λ client small f.
       let up : slice_index_or heights.rise.items client false ≡ true =
-      ap (λ (l : List Bool). slice_index_or l client false) rise ∙ all_rise clients client (omega (arith, small, length-replicate {A = List Op} clients [])) in
+      ap (λ (l : List Bool). slice_index_or l client false) rise ∙ all_rise clients client (omega (arith, small, length-replicate {A = List Operation} clients [])) in
       let bad : true ≡ false = sym up ∙ f in absurd cc;
-  above = λ t name earlier f. let put = f.is_not_below.put in nothing_there clients name (Put put.0 put.1 f.is_not_below.own) put.2;
+  above = λ t name earlier f. let put = f.is_not_below.put in nothing_there clients name (write put.0 put.1 f.is_not_below.own) put.2;
   not_above = λ f. let e : true ≡ false = sym above ∙ f in cc;
 }
 

@@ -4,13 +4,12 @@ use Rattle.std.proofs.Math.ListN.{set, length-set}
 use Rattle.std.proofs.lemmas.List.{length-replicate, length-map}
 use Rattle.std.proofs.lemmas.List.Sums.{sum_by-set, sum_by-cons}
 use Rattle.std.proofs.lemmas.List.Folds.{sum_by-replicate}
-use Rattle.cops_types.specs.declared.op.Op.{Op}
 use Rattle.cops_types.specs.declared.entry.Entry.{Entry}
 use Rattle.cops_types.specs.Counts.{count_of, is_put, put_count}
 use Rattle.cops_types.specs.Entries.{EntryLists, KeptEntries, KeepsEntries, GainsEntry, IsSound, AreSound, told, told_by, key_number_of, puts_in}
 use Rattle.cops_types.specs.declared.entry.Entry.TheVariants.{Put, Got, Sourced, Missed}
 use Rattle.cops_types.specs.Lists.{item_at, with_item}
-use Rattle.cops_types.specs.Histories.{Sessions, with_op}
+use Rattle.cops_types.specs.Histories.{Sessions, with_op, Operation}
 use Rattle.cops_types.specs.Heights.{AreSessionHeights}
 use Rattle.cops_types.specs.declared.heights.Heights.{Heights}
 use Rattle.cops_types.specs.Keeping.{IsKept, flag_count}
@@ -135,7 +134,7 @@ module _ (k k' : KeptKeys) (e e' : KeptEntries) (heights : Heights) (reserved : 
 
 -- ---- one more operation
 
-module _ (k k' : KeptKeys) (e e' : KeptEntries) (heights : Heights) (reserved : List Bool) (reservations len client : ℕ) (entry : Entry) (op : Op) (inside : client < length e.all) (kept : IsKept k e heights reserved reservations len)
+module _ (k k' : KeptKeys) (e e' : KeptEntries) (heights : Heights) (reserved : List Bool) (reservations len client : ℕ) (entry : Entry) (op : Operation) (inside : client < length e.all) (kept : IsKept k e heights reserved reservations len)
     (gains : GainsKey k k') (fits : IsSound k'.keys e.all entry) (is : told k'.keys e.all entry ≡ op) (all : e'.all ≡ with_item e.all client entry) (more : GainsEntry entry e e') where
   pub put_told : told_by k'.keys e'.all ≡ with_op (told_by k.keys e.all) client op
   put_told = ap (told_by k'.keys) all ∙ told_by-with_item k.keys k'.keys gains.places e.all client entry inside kept.sound fits op is
@@ -167,7 +166,7 @@ module _ (k k' : KeptKeys) (e e' : KeptEntries) (heights : Heights) (reserved : 
       record {
         limits = subst IsWithinLimits (sym put_told) (within_with_op h client op (there, session, most) kept.limits);
         count = omega (arith, kept.count, ap count_of put_told, count-with_op h client op there);
-        counted = omega (arith, more.names, kept.counted, puts-with_op h client op there, ap put_count put_told, puts-told k'.keys e.all entry, ap (λ (o : Op). flag_count (is_put o)) is);
+        counted = omega (arith, more.names, kept.counted, puts-with_op h client op there, ap put_count put_told, puts-told k'.keys e.all entry, ap (λ (o : Operation). flag_count (is_put o)) is);
         sound = subst (AreSound k'.keys) (sym all) (sound-with_item k.keys k'.keys gains.places e.all client entry inside kept.sound fits);
         distinct = gains.distinct;
         few = omega (arith, gains.few, kept.few);

@@ -9,3 +9,4 @@ mod Joining
 pub mod Climbing
 pub mod Holding
 pub mod Devices
+pub mod Formats

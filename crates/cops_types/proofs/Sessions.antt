@@ -7,10 +7,8 @@ use Rattle.std.proofs.lemmas.Bool.{cases_Bool, eqb-true, eqb-false}
 use Rattle.std.proofs.lemmas.List.{map-set, get_or-map, length-append, length-replicate, length-map}
 use Rattle.std.proofs.lemmas.List.Sums.{count_by-le-length, sum_by-cons, sum_by-set}
 use Rattle.std.proofs.lemmas.List.Folds.{sum_by-replicate}
-use Rattle.cops_types.specs.declared.op.Op.{Op}
-use Rattle.cops_types.specs.declared.op.Op.TheVariants.{Put, Got, Missed}
 use Rattle.cops_types.specs.Lists.{with_item}
-use Rattle.cops_types.specs.Histories.{Sessions, with_op}
+use Rattle.cops_types.specs.Histories.{Sessions, with_op, Operation, write, read, missed}
 use Rattle.cops_types.specs.Recorded.{IsWithinLimits}
 use Rattle.cops_types.specs.Counts.{count_of, is_put, put_count}
 use Rattle.cops_types.specs.Keeping.{flag_count}
@@ -24,13 +22,13 @@ none_of (suc n) zero = refl
 none_of (suc n) (suc c) = none_of n c
 
 pub count-none : (n : ℕ) → count_of (replicate n []) ≡ 0
-count-none n = omega (arith, sum_by-replicate (length {A = Op}) n [])
+count-none n = omega (arith, sum_by-replicate (length {A = Operation}) n [])
 
 -- so many empty sessions
 pub none_within : (n : ℕ) → n ≤ 65535 → IsWithinLimits (replicate n [])
 none_within n le = record {
-  clients = omega (arith, length-replicate {A = List Op} n []);
-  each = λ c. omega (arith, ap length (none_of {X = Op} n c));
+  clients = omega (arith, length-replicate {A = List Operation} n []);
+  each = λ c. omega (arith, ap length (none_of {X = Operation} n c));
   all = omega (arith, count-none n);
 }
 
@@ -38,21 +36,21 @@ none_within n le = record {
 pub at_or_other : (i c : ℕ) → (i ≡ c) ⊎ (c ≢ i)
 at_or_other i c = elim (cases_Bool (eqb i c)) [ inl p ↦ inl (eqb-true _ _ p) | inr p ↦ inr (λ q. eqb-false _ _ p (sym q)) ]
 
-pub count-with_op : (h : Sessions) (i : ℕ) (op : Op) → i < length h → count_of (with_op h i op) ≡ count_of h + 1
+pub count-with_op : (h : Sessions) (i : ℕ) (op : Operation) → i < length h → count_of (with_op h i op) ≡ count_of h + 1
 count-with_op h i op inside =
     let s = get_or h i [] in
     omega (arith, sum_by-set length h i (s ++ op ∷ []) [] inside, length-append s (op ∷ []))
 
 -- one operation more of a session
-count-push : (s : List Op) (op : Op) → count_by is_put (s ++ op ∷ []) ≡ count_by is_put s + flag_count (is_put op)
-count-push [] (Put key value version) = refl
-count-push [] (Got key value version) = refl
-count-push [] (Missed key) = refl
+count-push : (s : List Operation) (op : Operation) → count_by is_put (s ++ op ∷ []) ≡ count_by is_put s + flag_count (is_put op)
+count-push [] (write key content version) = refl
+count-push [] (read key content version) = refl
+count-push [] (missed key) = refl
 count-push (x ∷ s) op =
-    let f : Op → ℕ = λ y. cond (is_put y) 1 0 in
+    let f : Operation → ℕ = λ y. cond (is_put y) 1 0 in
     omega (arith, sum_by-cons f x (s ++ op ∷ []), sum_by-cons f x s, count-push s op)
 
-pub puts-with_op : (h : Sessions) (i : ℕ) (op : Op) → i < length h → put_count (with_op h i op) ≡ put_count h + flag_count (is_put op)
+pub puts-with_op : (h : Sessions) (i : ℕ) (op : Operation) → i < length h → put_count (with_op h i op) ≡ put_count h + flag_count (is_put op)
 puts-with_op h i op inside =
     let s = get_or h i [] in
     omega (arith, sum_by-set (count_by is_put) h i (s ++ op ∷ []) [] inside, count-push s op)
@@ -65,7 +63,7 @@ pub puts-le : (h : Sessions) → put_count h ≤ count_of h
 puts-le [] = omega arith
 puts-le (s ∷ h) = omega (arith, sum_by-cons (count_by is_put) s h, sum_by-cons length s h, count_by-le-length is_put s, puts-le h)
 
-pub within_with_op : (h : Sessions) (i : ℕ) (op : Op) → ((i < length h) × (length (get_or h i []) < 1000000) × (count_of h < 16000000)) → IsWithinLimits h → IsWithinLimits (with_op h i op)
+pub within_with_op : (h : Sessions) (i : ℕ) (op : Operation) → ((i < length h) × (length (get_or h i []) < 1000000) × (count_of h < 16000000)) → IsWithinLimits h → IsWithinLimits (with_op h i op)
 within_with_op h i op ok w =
     let s = get_or h i [] in
     let inside = ok.0 in

@@ -3,8 +3,6 @@ use Rattle.std.proofs.Common.{◌≡◌, ◌<◌, ℕ, List, [], length, map, ge
 use Rattle.std.specs.Prelude.{◌⊎◌, ◌≢◌, IfSome, IfNone}
 use Rattle.std.specs.Option.{option_map}
 use Rattle.std.proofs.lemmas.Option.{slice_get-get_or, slice_get-map}
-use Rattle.cops_types.specs.declared.op.Op.{Op}
-use Rattle.cops_types.specs.declared.op.Op.TheVariants.{Put as PutOp, Got as GotOp, Missed as MissedOp}
 use Rattle.cops_types.specs.declared.op.OpName.{OpName}
 use Rattle.cops_types.specs.declared.entry.Entry.{Entry}
 use Rattle.cops_types.specs.declared.entry.EntryRef.{EntryRef}
@@ -14,7 +12,7 @@ use Rattle.cops_types.specs.declared.value.Value.{Value}
 use Rattle.cops_types.specs.declared.version.Version.{Version}
 use Rattle.cops_types.specs.declared.entry.Entry.TheVariants.{Put, Got, Sourced, Missed}
 use Rattle.cops_types.specs.Lists.{item_at, number_at}
-use Rattle.cops_types.specs.Histories.{IsNamed, Puts, PutsVersion, SourceStep, op_at}
+use Rattle.cops_types.specs.Histories.{IsNamed, Puts, PutsVersion, SourceStep, op_at, Operation, write, read, missed}
 use Rattle.cops_types.specs.Operations.{GetsVersion, key_of}
 use Rattle.cops_types.specs.Entries.{EntryLists, AreSound, IsSound, ListsEntries, referred, value_in, value_put, told, told_by, key_number_of}
 use Rattle.cops_types.specs.declared.versioned_put.VersionedPut.{VersionedPut}
@@ -34,7 +32,7 @@ module _ (keys : List (List ℕ)) (all : EntryLists) (name : OpName) where
   none_told none = ap (option_map (told keys all)) none ∙ sym (op_at-told keys all name)
 
   -- where an entry is, the operation is that it stands for
-  pub told_as : (e : Entry) (op : Op) → Some e ≡ item_at all name → told keys all e ≡ op → Some op ≡ op_at (told_by keys all) name
+  pub told_as : (e : Entry) (op : Operation) → Some e ≡ item_at all name → told keys all e ≡ op → Some op ≡ op_at (told_by keys all) name
   told_as e op at is = ap Some (sym is) ∙ ap (option_map (told keys all)) at ∙ sym (op_at-told keys all name)
 
   -- its key has the entry's number
@@ -75,8 +73,8 @@ module _ (keys : List (List ℕ)) (all : EntryLists) (name : OpName) where
 
 -- an entry that names its source stands for a get of what that put wrote
 module _ (keys : List (List ℕ)) (all : EntryLists) (put : NumberedPut) (number : ℕ) (value : List ℕ) (version : ℕ) (at : item_at all put.name ≡ Some (Put number value version)) where
-  pub named_told : (key : List ℕ) → get_or keys number [] ≡ key → told keys all (Sourced number put version) ≡ GotOp key value version
-  named_told key is = λ j. GotOp (is j) (ap value_in at j) version
+  pub named_told : (key : List ℕ) → get_or keys number [] ≡ key → told keys all (Sourced number put version) ≡ read key (Some value) version
+  named_told key is = λ j. read (is j) (Some (ap value_in at j)) version
 
   pub named_sound : AreSound keys all → IsSound keys all (Sourced number put version)
   named_sound sound = record {
@@ -86,7 +84,7 @@ module _ (keys : List (List ℕ)) (all : EntryLists) (put : NumberedPut) (number
 
 -- an entry that stands for a put of the key of that number
 put_entry : (keys : List (List ℕ)) (all : EntryLists) (key : ℕ) (value : List ℕ) (version : ℕ) → AreDistinct keys → key < length keys
-    → (found : Option Entry) → ((e : Entry) → found ≡ Some e → key_number_of e < length keys) → option_map (told keys all) found ≡ Some (PutOp (get_or keys key []) value version) → found ≡ Some (Put key value version)
+    → (found : Option Entry) → ((e : Entry) → found ≡ Some e → key_number_of e < length keys) → option_map (told keys all) found ≡ Some (write (get_or keys key []) (Some value) version) → found ≡ Some (Put key value version)
 put_entry keys all key value version distinct inside None numbered is = cc
 put_entry keys all key value version distinct inside (Some (Put k v w)) numbered is =
     let same : get_or keys k [] ≡ get_or keys key [] = cc in
@@ -98,12 +96,12 @@ put_entry keys all key value version distinct inside (Some (Got k v w)) numbered
 put_entry keys all key value version distinct inside (Some (Sourced k p w)) numbered is = cc
 put_entry keys all key value version distinct inside (Some (Missed k)) numbered is = cc
 
-module _ (keys : List (List ℕ)) (all : EntryLists) (put got : OpName) (key : ℕ) (value : List ℕ) (version : ℕ) (was_got : Some (GotOp (get_or keys key []) value version) ≡ op_at (told_by keys all) got) where
+module _ (keys : List (List ℕ)) (all : EntryLists) (put got : OpName) (key : ℕ) (value : List ℕ) (version : ℕ) (was_got : Some (read (get_or keys key []) (Some value) version) ≡ op_at (told_by keys all) got) where
   -- a put of that key, value and version is the get's source
   pub source_there : item_at all put ≡ Some (Put key value version) → SourceStep (told_by keys all) put got
   source_there at = record {
     key = get_or keys key [];
-    value = value;
+    content = Some value;
     version = version;
     put = op_at-told keys all put ∙ ap (option_map (told keys all)) at;
     got = sym was_got;
@@ -112,8 +110,8 @@ module _ (keys : List (List ℕ)) (all : EntryLists) (put got : OpName) (key : �
   -- and the source is such a put
   pub source_found : AreSound keys all → AreDistinct keys → key < length keys → SourceStep (told_by keys all) put got → item_at all put ≡ Some (Put key value version)
   source_found sound distinct inside s =
-      let same : Some (GotOp s.key s.value s.version) ≡ Some (GotOp (get_or keys key []) value version) = sym s.got ∙ sym was_got in
-      let as_put : Some (PutOp s.key s.value s.version) ≡ Some (PutOp (get_or keys key []) value version) = cc in
+      let same : Some (read s.key s.content s.version) ≡ Some (read (get_or keys key []) (Some value) version) = sym s.got ∙ sym was_got in
+      let as_put : Some (write s.key s.content s.version) ≡ Some (write (get_or keys key []) (Some value) version) = cc in
       put_entry keys all key value version distinct inside (item_at all put) (λ e at. (sound put e at).key) (sym (op_at-told keys all put) ∙ s.put ∙ as_put)
 
 -- a put or a get that found nothing has no source
@@ -121,8 +119,8 @@ pub no_source : (keys : List (List ℕ)) (all : EntryLists) (put got : OpName) (
     → ((key : ℕ) × (value : List ℕ) × (version : ℕ) × (e ≡ Put key value version)) ⊎ ((key : ℕ) × (e ≡ Missed key)) → SourceStep (told_by keys all) put got → ⊥
 no_source keys all put got e at is s =
     elim is [
-      | inl p ↦ let both = told_as keys all got e (PutOp (get_or keys p.0 []) p.1 p.2) at (ap (told keys all) p.3) ∙ s.got in cc
-      | inr p ↦ let both = told_as keys all got e (MissedOp (get_or keys p.0 [])) at (ap (told keys all) p.1) ∙ s.got in cc
+      | inl p ↦ let both = told_as keys all got e (write (get_or keys p.0 []) (Some p.1) p.2) at (ap (told keys all) p.3) ∙ s.got in cc
+      | inr p ↦ let both = told_as keys all got e (missed (get_or keys p.0 [])) at (ap (told keys all) p.1) ∙ s.got in cc
     ]
 
 -- the same of what is referred to
@@ -135,19 +133,19 @@ no_source_there keys all put got e at is =
     ])
 
 -- what stands for a put is a put's entry
-entry_of_put : (keys : List (List ℕ)) (all : EntryLists) (found : Option Entry) (key value : List ℕ) (version : ℕ) → option_map (told keys all) found ≡ Some (PutOp key value version)
+entry_of_put : (keys : List (List ℕ)) (all : EntryLists) (found : Option Entry) (key : List ℕ) (content : Option (List ℕ)) (version : ℕ) → option_map (told keys all) found ≡ Some (write key content version)
     → (number : ℕ) × (own : List ℕ) × (found ≡ Some (Put number own version))
-entry_of_put keys all None key value version is = cc
-entry_of_put keys all (Some (Put k v w)) key value version is = let same : w ≡ version = cc in (k, v, ap (λ (n : ℕ). Some (Put k v n)) same)
-entry_of_put keys all (Some (Got k v w)) key value version is = cc
-entry_of_put keys all (Some (Sourced k p w)) key value version is = cc
-entry_of_put keys all (Some (Missed k)) key value version is = cc
+entry_of_put keys all None key content version is = cc
+entry_of_put keys all (Some (Put k v w)) key content version is = let same : w ≡ version = cc in (k, v, ap (λ (n : ℕ). Some (Put k v n)) same)
+entry_of_put keys all (Some (Got k v w)) key content version is = cc
+entry_of_put keys all (Some (Sourced k p w)) key content version is = cc
+entry_of_put keys all (Some (Missed k)) key content version is = cc
 
 -- all entries of puts are all puts
 pub all_puts : (keys : List (List ℕ)) (all : EntryLists) (puts : List VersionedPut) → ListsEntries all puts → AreAllPuts (told_by keys all) puts
 all_puts keys all puts lists = record {
   members = λ p. (
-    (λ there. let e = (lists.members p).0 there in (get_or keys e.0 [], e.1, op_at-told keys all p.name ∙ ap (option_map (told keys all)) e.2)),
+    (λ there. let e = (lists.members p).0 there in (get_or keys e.0 [], Some e.1, op_at-told keys all p.name ∙ ap (option_map (told keys all)) e.2)),
     (λ put. (lists.members p).1 (entry_of_put keys all (item_at all p.name) put.0 put.1 p.version (sym (op_at-told keys all p.name) ∙ put.2))),
   );
   once = lists.once;
@@ -163,14 +161,14 @@ names_sources keys all sound names got (Some n) named =
     let version = named.3 in
     let at = named.4 in
     let entry = Sourced key (record { name = put; number = n }) version in
-    let was_got = told_as keys all got entry (GotOp (get_or keys key []) (value_put all put) version) (sym at) refl in
+    let was_got = told_as keys all got entry (read (get_or keys key []) (Some (value_put all put)) version) (sym at) refl in
     (put, named.1, source_there keys all put got key (value_put all put) version was_got (sound got entry at).source)
 names_sources keys all sound names got None named = tt
 
 module _ (keys : List (List ℕ)) (all : EntryLists) (name : OpName) where
   -- where there is a put's entry, there is a put
   pub puts_of : (number : Option ℕ) → IfSome number (λ _. (key version : ℕ) × (value : List ℕ) × (item_at all name ≡ Some (Put key value version))) → IfSome number (λ _. Puts (told_by keys all) name)
-  puts_of (Some n) put = (put.1, (get_or keys put.0 [], put.2, op_at-told keys all name ∙ ap (option_map (told keys all)) put.3))
+  puts_of (Some n) put = (put.1, (get_or keys put.0 [], Some put.2, op_at-told keys all name ∙ ap (option_map (told keys all)) put.3))
   puts_of None put = tt
 
   -- and where there is none, there is none
@@ -204,7 +202,7 @@ module _ (keys : List (List ℕ)) (all : EntryLists) (sound : AreSound keys all)
 
 module _ (keys : List (List ℕ)) (all : EntryLists) (gets : List Entry) where
   abbrev pub IsOpen : OpName → ℕ → Type 0
-  IsOpen got n = (op : Op) × (slice_get (map (told keys all) gets) n ≡ Some op) × (op_at (told_by keys all) got ≡ Some op)
+  IsOpen got n = (op : Operation) × (slice_get (map (told keys all) gets) n ≡ Some op) × (op_at (told_by keys all) got ≡ Some op)
 
   -- the one of a number is an entry's
   pub numbers_open : (got : OpName) (number : Option ℕ)
@@ -237,7 +235,7 @@ module _ (keys : List (List ℕ)) (all : EntryLists) (gets : List Entry) where
   ]
 
 -- an entry is there where an operation is
-named_entry : (keys : List (List ℕ)) (all : EntryLists) (o : Option Entry) (op : Op) → option_map (told keys all) o ≡ Some op → (entry : Entry) × (o ≡ Some entry)
+named_entry : (keys : List (List ℕ)) (all : EntryLists) (o : Option Entry) (op : Operation) → option_map (told keys all) o ≡ Some op → (entry : Entry) × (o ≡ Some entry)
 named_entry keys all None op is = cc
 named_entry keys all (Some entry) op is = (entry, refl)
 

@@ -5,13 +5,11 @@ use Rattle.std.specs.Option.{option_map}
 use Rattle.std.proofs.Math.ListN.{set, get_or-map}
 use Rattle.std.proofs.lemmas.List.{map-set, map-append, length-map}
 use Rattle.std.proofs.lemmas.Option.{slice_get-map, get_or_from_slice_get, slice_get_within}
-use Rattle.cops_types.specs.declared.op.Op.{Op}
-use Rattle.cops_types.specs.declared.op.Op.TheVariants.{Put as PutOp, Got as GotOp, Missed as MissedOp}
 use Rattle.cops_types.specs.declared.op.OpName.{OpName}
 use Rattle.cops_types.specs.declared.entry.Entry.{Entry}
 use Rattle.cops_types.specs.declared.entry.Entry.TheVariants.{Put, Got, Sourced, Missed}
 use Rattle.cops_types.specs.Lists.{item_at, with_item}
-use Rattle.cops_types.specs.Histories.{Sessions, op_at, with_op}
+use Rattle.cops_types.specs.Histories.{Sessions, op_at, with_op, Operation, write, read, missed}
 use Rattle.cops_types.specs.Entries.{EntryLists, HasSource, IsSound, AreSound, told, told_by, value_in, value_put}
 use Rattle.cops_types.specs.KeySets.{KeepsPlaces}
 use Rattle.cops_types.specs.Recorded.{IsWithinLimits}
@@ -71,10 +69,10 @@ module _ (keys new : List (List ℕ)) (places : KeepsPlaces keys new) (all : Ent
 
   -- an entry stands for the same operation
   told-same : (e : Entry) → IsSound keys all e → told new (with_item all client entry) e ≡ told keys all e
-  told-same (Put key value version) s = ap (λ (k : List ℕ). PutOp k value version) (places.same key s.key)
-  told-same (Got key value version) s = ap (λ (k : List ℕ). GotOp k value version) (places.same key s.key)
-  told-same (Sourced key put version) s = λ j. GotOp (places.same key s.key j) (value-same put.name key version s.source j) version
-  told-same (Missed key) s = ap (λ (k : List ℕ). MissedOp k) (places.same key s.key)
+  told-same (Put key value version) s = ap (λ (k : List ℕ). write k (Some value) version) (places.same key s.key)
+  told-same (Got key value version) s = ap (λ (k : List ℕ). read k (Some value) version) (places.same key s.key)
+  told-same (Sourced key put version) s = λ j. read (places.same key s.key j) (Some (value-same put.name key version s.source j)) version
+  told-same (Missed key) s = ap (λ (k : List ℕ). missed k) (places.same key s.key)
 
   source-same : (e : Entry) → HasSource all e → HasSource (with_item all client entry) e
   source-same (Put key value version) s = tt
@@ -99,7 +97,7 @@ module _ (keys new : List (List ℕ)) (places : KeepsPlaces keys new) (all : Ent
       let f = told new (with_item all client entry) in
       let s = get_or all client [] in
       map-set (map f) all client (s ++ entry ∷ [])
-      ∙ ap (set (map (map f) all) client) (map-append f s (entry ∷ []) ∙ ap (λ (l : List Op). l ++ f entry ∷ []) (sym (get_or-map (map f) all client [])))
+      ∙ ap (set (map (map f) all) client) (map-append f s (entry ∷ []) ∙ ap (λ (l : List Operation). l ++ f entry ∷ []) (sym (get_or-map (map f) all client [])))
       ∙ ap (λ (h : Sessions). with_op h client (f entry)) (told_by-same sound)
 
 same_places : (keys : List (List ℕ)) → KeepsPlaces keys keys
@@ -107,7 +105,7 @@ same_places keys = record { longer = omega arith; same = λ i inside. refl }
 
 module _ (keys new : List (List ℕ)) (places : KeepsPlaces keys new) (all : EntryLists) (client : ℕ) (entry : Entry) (inside : client < length all) (sound : AreSound keys all) (fits : IsSound new all entry) where
   -- the history gains an operation
-  pub told_by-with_item : (op : Op) → told new all entry ≡ op → told_by new (with_item all client entry) ≡ with_op (told_by keys all) client op
+  pub told_by-with_item : (op : Operation) → told new all entry ≡ op → told_by new (with_item all client entry) ≡ with_op (told_by keys all) client op
   told_by-with_item op is =
       told_by-more keys new places all client entry inside sound
       ∙ ap (with_op (told_by keys all) client) (told-same new new (same_places new) all client entry inside entry fits ∙ is)
@@ -124,7 +122,7 @@ module _ (keys new : List (List ℕ)) (places : KeepsPlaces keys new) (all : Ent
 
 pub op_at-told : (keys : List (List ℕ)) (all : EntryLists) (name : OpName) → op_at (told_by keys all) name ≡ option_map (told keys all) (item_at all name)
 op_at-told keys all name =
-    ap (λ (s : List Op). slice_get s name.index) (get_or-map (map (told keys all)) all name.client [])
+    ap (λ (s : List Operation). slice_get s name.index) (get_or-map (map (told keys all)) all name.client [])
     ∙ slice_get-map (told keys all) (get_or all name.client []) name.index
 
 pub length-told : (keys : List (List ℕ)) (all : EntryLists) (client : ℕ) → length (get_or (told_by keys all) client []) ≡ length (get_or all client [])

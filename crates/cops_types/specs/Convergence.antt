@@ -1,5 +1,5 @@
 -- Causal convergence: a causal order and an arbitration by which each get returns the last put that it can know of.
-use Rattle.std.specs.Prelude.{◌≡◌, ◌≢◌, ◌<◌, ◌↔◌, ℕ, List, Some, slice_get, Contains}
+use Rattle.std.specs.Prelude.{◌≡◌, ◌≢◌, ◌<◌, ◌↔◌, ℕ, List, Option, Some, slice_get, Contains}
 use Rattle.cops_types.specs.declared.op.OpName.{OpName}
 use Rattle.cops_types.specs.Histories.{Sessions, IsGot, IsMissed, Puts, PutsKey, SessionStep, SourceStep}
 
@@ -40,7 +40,7 @@ pub record ReturnsLast (h : Sessions) (order : Order) (arbitration : List OpName
 
 -- each get returns the last put on its key before it, or nothing where there is none
 pub record Explains (h : Sessions) (order : Order) (arbitration : List OpName) : Type 0 where
-  pub got : (got : OpName) (key value : List ℕ) (version : ℕ) → IsGot h got key value version → ReturnsLast h order arbitration got key
+  pub got : (got : OpName) (key : List ℕ) (content : Option (List ℕ)) (version : ℕ) → IsGot h got key content version → ReturnsLast h order arbitration got key
   pub missed : (got q : OpName) (key : List ℕ) (version : ℕ) → IsMissed h got key → PutsKey h q key version → ¬ Precedes order q got
 
 -- convergent with this arbitration

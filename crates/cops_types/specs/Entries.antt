@@ -4,12 +4,10 @@ use Rattle.cops_types.specs.declared.entry.Entry.{Entry}
 use Rattle.cops_types.specs.declared.entry.Entry.TheVariants.{Put, Got, Sourced, Missed}
 use Rattle.cops_types.specs.declared.entry.EntryRef.{EntryRef}
 use Rattle.cops_types.specs.declared.entry.EntryRef.TheVariants.{Put as PutRef, Got as GotRef, Sourced as SourcedRef, Missed as MissedRef}
-use Rattle.cops_types.specs.declared.op.Op.{Op}
-use Rattle.cops_types.specs.declared.op.Op.TheVariants.{Put as PutOp, Got as GotOp, Missed as MissedOp}
 use Rattle.cops_types.specs.declared.op.OpName.{OpName}
 use Rattle.cops_types.specs.declared.versioned_put.VersionedPut.{VersionedPut}
 use Rattle.cops_types.specs.Lists.{item_at, number_at}
-use Rattle.cops_types.specs.Histories.{Sessions}
+use Rattle.cops_types.specs.Histories.{Sessions, Operation, write, read, missed}
 
 -- the entries of each client, in their order
 abbrev pub EntryLists : Type 0
@@ -43,11 +41,11 @@ abbrev pub value_put : EntryLists → OpName → List ℕ
 value_put all put = value_in (item_at all put)
 
 -- the operation that an entry stands for
-abbrev pub told : List (List ℕ) → EntryLists → Entry → Op
-told keys all (Put key value version) = PutOp (slice_index_or keys key []) value version
-told keys all (Got key value version) = GotOp (slice_index_or keys key []) value version
-told keys all (Sourced key put version) = GotOp (slice_index_or keys key []) (value_put all put.name) version
-told keys all (Missed key) = MissedOp (slice_index_or keys key [])
+abbrev pub told : List (List ℕ) → EntryLists → Entry → Operation
+told keys all (Put key value version) = write (slice_index_or keys key []) (Some value) version
+told keys all (Got key value version) = read (slice_index_or keys key []) (Some value) version
+told keys all (Sourced key put version) = read (slice_index_or keys key []) (Some (value_put all put.name)) version
+told keys all (Missed key) = missed (slice_index_or keys key [])
 
 -- the history that the entries stand for
 abbrev pub told_by : List (List ℕ) → EntryLists → Sessions

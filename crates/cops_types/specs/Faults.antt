@@ -1,5 +1,5 @@
 -- The four classes of faults.
-use Rattle.std.specs.Prelude.{◌≡◌, ◌<◌, ◌≤◌, ◌⊎◌, ◌↔◌, ℕ, List, Contains, AllPairs}
+use Rattle.std.specs.Prelude.{◌≡◌, ◌<◌, ◌≤◌, ◌⊎◌, ◌↔◌, ℕ, List, Option, Contains, AllPairs}
 use Rattle.cops_types.specs.declared.op.OpName.{OpName}
 use Rattle.cops_types.specs.Histories.{Sessions, IsGot, IsMissed, PutsKey, PutsVersion, SourceStep}
 use Rattle.cops_types.specs.Past.{Past}
@@ -7,14 +7,14 @@ use Rattle.cops_types.specs.Past.{Past}
 -- a get that no put is the source of
 pub record HasNoSource (h : Sessions) (name : OpName) : Type 0 where
   pub key : List ℕ
-  pub value : List ℕ
+  pub content : Option (List ℕ)
   pub version : ℕ
-  pub got : IsGot h name key value version
+  pub got : IsGot h name key content version
   pub none : (put : OpName) → ¬ SourceStep h put name
 
 -- a put or a get with this version
 abbrev pub HasVersion : Sessions → OpName → ℕ → Type 0
-HasVersion h name version = PutsVersion h name version ⊎ ((key value : List ℕ) × IsGot h name key value version)
+HasVersion h name version = PutsVersion h name version ⊎ ((key : List ℕ) × (content : Option (List ℕ)) × IsGot h name key content version)
 
 -- an earlier put or get of its session has a version that is not below the put's own
 pub record IsNotBelow (h : Sessions) (earlier name : OpName) : Type 0 where
@@ -36,7 +36,7 @@ pub record IsNewer (h : Sessions) (name newer : OpName) (version : ℕ) : Type 0
   pub key : List ℕ
   pub put : PutsKey h newer key version
   pub past : Past h newer name
-  pub returned : ((value : List ℕ) × (old : ℕ) × IsGot h name key value old × (old < version)) ⊎ IsMissed h name key
+  pub returned : ((content : Option (List ℕ)) × (old : ℕ) × IsGot h name key content old × (old < version)) ⊎ IsMissed h name key
 
 -- the newest put on the key in the past is newer than what was returned
 pub record IsStale (h : Sessions) (name newer : OpName) : Type 0 where

@@ -1,41 +1,46 @@
 -- Histories, the names of operations, and the steps from one operation to another.
 use Rattle.std.specs.Prelude.{◌≡◌, ◌<◌, ℕ, List, [], ◌∷◌, ◌++◌, Option, Some, slice_get, slice_index_or, slice_set}
-use Rattle.cops_types.specs.declared.op.Op.{Op}
-use Rattle.cops_types.specs.declared.op.Op.TheVariants.{Put, Got, Missed}
 use Rattle.cops_types.specs.declared.op.OpName.{OpName}
+
+-- What a client did, and what it was told, whichever requests it made: a put of this content, which was given this version; a get that returned this content, and
+-- the version of the put that wrote it; or a get that found nothing. Where there is no content, there is no value.
+pub data Operation : Type 0 where
+  write : List ℕ → Option (List ℕ) → ℕ → Operation
+  read : List ℕ → Option (List ℕ) → ℕ → Operation
+  missed : List ℕ → Operation
 
 -- the operations of each client, in their order
 abbrev pub Sessions : Type 0
-Sessions = List (List Op)
+Sessions = List (List Operation)
 
 -- the operation of that name, if there is one
-abbrev pub op_at : Sessions → OpName → Option Op
+abbrev pub op_at : Sessions → OpName → Option Operation
 op_at h name = slice_get (slice_index_or h name.client []) name.index
 
 -- the client's session with one more operation
-abbrev pub with_op : Sessions → ℕ → Op → Sessions
+abbrev pub with_op : Sessions → ℕ → Operation → Sessions
 with_op h client op = slice_set h client (slice_index_or h client [] ++ op ∷ [])
 
 -- an operation has that name
 abbrev pub IsNamed : Sessions → OpName → Type 0
-IsNamed h name = (op : Op) × (op_at h name ≡ Some op)
+IsNamed h name = (op : Operation) × (op_at h name ≡ Some op)
 
-abbrev pub IsPut : Sessions → OpName → List ℕ → List ℕ → ℕ → Type 0
-IsPut h name key value version = op_at h name ≡ Some (Put key value version)
+abbrev pub IsPut : Sessions → OpName → List ℕ → Option (List ℕ) → ℕ → Type 0
+IsPut h name key content version = op_at h name ≡ Some (write key content version)
 
-abbrev pub IsGot : Sessions → OpName → List ℕ → List ℕ → ℕ → Type 0
-IsGot h name key value version = op_at h name ≡ Some (Got key value version)
+abbrev pub IsGot : Sessions → OpName → List ℕ → Option (List ℕ) → ℕ → Type 0
+IsGot h name key content version = op_at h name ≡ Some (read key content version)
 
 abbrev pub IsMissed : Sessions → OpName → List ℕ → Type 0
-IsMissed h name key = op_at h name ≡ Some (Missed key)
+IsMissed h name key = op_at h name ≡ Some (missed key)
 
 -- a put bears this version
 abbrev pub PutsVersion : Sessions → OpName → ℕ → Type 0
-PutsVersion h name version = (key value : List ℕ) × IsPut h name key value version
+PutsVersion h name version = (key : List ℕ) × (content : Option (List ℕ)) × IsPut h name key content version
 
 -- a put on this key
 abbrev pub PutsKey : Sessions → OpName → List ℕ → ℕ → Type 0
-PutsKey h name key version = (value : List ℕ) × IsPut h name key value version
+PutsKey h name key version = (content : Option (List ℕ)) × IsPut h name key content version
 
 -- a put
 abbrev pub Puts : Sessions → OpName → Type 0
@@ -47,10 +52,10 @@ pub record SessionStep (h : Sessions) (from to : OpName) : Type 0 where
   pub earlier : from.index < to.index
   pub is_there : IsNamed h to
 
--- from a put to a get that returned its key, value and version
+-- from a put to a get that returned its key, content and version
 pub record SourceStep (h : Sessions) (from to : OpName) : Type 0 where
   pub key : List ℕ
-  pub value : List ℕ
+  pub content : Option (List ℕ)
   pub version : ℕ
-  pub put : IsPut h from key value version
-  pub got : IsGot h to key value version
+  pub put : IsPut h from key content version
+  pub got : IsGot h to key content version

@@ -1,16 +1,21 @@
--- What an operation is on, and what a get returned.
-use Rattle.std.specs.Prelude.{ℕ, List}
-use Rattle.cops_types.specs.Histories.{Sessions, IsGot}
+-- The operation that an `Op` is, what it is on, and what a get returned.
+use Rattle.std.specs.Prelude.{ℕ, List, Option, Some}
+use Rattle.cops_types.specs.Histories.{Sessions, Operation, write, read, missed, IsGot}
 use Rattle.cops_types.specs.declared.op.Op.{Op}
 use Rattle.cops_types.specs.declared.op.Op.TheVariants.{Put, Got, Missed}
 use Rattle.cops_types.specs.declared.op.OpName.{OpName}
 
+abbrev pub operation_of : Op → Operation
+operation_of (Put key value version) = write key (Some value) version
+operation_of (Got key value version) = read key (Some value) version
+operation_of (Missed key) = missed key
+
 -- the key that an operation is on
-abbrev pub key_of : Op → List ℕ
-key_of (Put key value version) = key
-key_of (Got key value version) = key
-key_of (Missed key) = key
+abbrev pub key_of : Operation → List ℕ
+key_of (write key content version) = key
+key_of (read key content version) = key
+key_of (missed key) = key
 
 -- a get returned this version
 abbrev pub GetsVersion : Sessions → OpName → ℕ → Type 0
-GetsVersion h name version = (key value : List ℕ) × IsGot h name key value version
+GetsVersion h name version = (key : List ℕ) × (content : Option (List ℕ)) × IsGot h name key content version

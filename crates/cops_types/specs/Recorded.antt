@@ -1,9 +1,8 @@
 -- What a history holds.
 use Rattle.std.specs.Prelude.{◌≡◌, ℕ, ◌<◌, ◌≤◌, List, [], length, slice_index_or, slice_get, Option, Some, Bool, true, false}
 use Rattle.cops_types.specs.declared.limits.TheConstants.{MAX_CLIENT_OPS, MAX_CLIENTS, MAX_OPS}
-use Rattle.cops_types.specs.declared.op.Op.{Op}
 use Rattle.cops_types.specs.declared.op.OpName.{OpName}
-use Rattle.cops_types.specs.Histories.{Sessions, IsNamed, op_at}
+use Rattle.cops_types.specs.Histories.{Sessions, IsNamed, Operation, op_at}
 use Rattle.cops_types.specs.Counts.{count_of}
 use Rattle.cops_types.specs.Lists.{number_at}
 
@@ -14,7 +13,7 @@ pub record Recorded : Type 0 where
   pub room : List Bool
   pub keys : List (List ℕ)
   pub puts : List OpName
-  pub gets : List Op
+  pub gets : List Operation
   pub get_numbers : List (List (Option ℕ))
 
 -- the client has no room by the limits: 1,000,000 operations of a client, 16,000,000 of all
@@ -44,4 +43,4 @@ KeepsOpen old new = (name : OpName) → IsNamed old.sessions name → number_at 
 
 -- the get of that name is the open one of that number
 abbrev pub IsOpenAt : Recorded → ℕ → OpName → Type 0
-IsOpenAt r number got = (op : Op) × (slice_get r.gets number ≡ Some op) × (op_at r.sessions got ≡ Some op)
+IsOpenAt r number got = (op : Operation) × (slice_get r.gets number ≡ Some op) × (op_at r.sessions got ≡ Some op)

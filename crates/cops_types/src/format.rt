@@ -1,5 +1,5 @@
 ghost use Rattle.std.specs.Prelude.{◌≡◌};
-ghost use Rattle.cops_types.specs.Format.{most_value, most_deps, longest_body};
+ghost use Rattle.cops_types.specs.Format.{format_of_number, number_of, most_value, most_deps, longest_body};
 
 use crate::limits::{MAX_BODY, MAX_DEPS, MAX_VALUE};
 
@@ -11,6 +11,25 @@ pub enum Format {
 }
 
 impl Format {
+    /// The number that names the format: 1.
+    pub fn number(self) -> u16
+        ensures { result ≡ number_of self }
+    {
+        match self {
+            Format::One => 1,
+        }
+    }
+
+    /// The format that a number names, if it names one.
+    pub fn of_number(number: u16) -> Option<Format>
+        ensures { result ≡ format_of_number number }
+    {
+        match number {
+            1 => Some(Format::One),
+            _ => None,
+        }
+    }
+
     /// The most bytes that a value has.
     pub fn most_value(self) -> usize
         ensures { result ≡ most_value self }

@@ -1,8 +1,7 @@
 ghost use Rattle.std.specs.Prelude.{◌≡◌, ◌<◌, ℕ, List, [], false, IfOk, length, replicate, slice_index_or};
-ghost use Rattle.cops_types.specs.declared.op.Op.{Op as AnOp};
 ghost use Rattle.cops_types.specs.Entries.{EntryLists, told};
 ghost use Rattle.cops_types.specs.Heights.{AreSessionHeights};
-ghost use Rattle.cops_types.specs.Histories.{Sessions, with_op};
+ghost use Rattle.cops_types.specs.Histories.{Sessions, Operation, with_op};
 
 use crate::entry::Entry;
 use std::alloc::{AllocError, Global};
@@ -50,7 +49,7 @@ impl Heights {
     pub(crate) fn take_in(&mut self, client: u16, entry: &Entry)
         requires height { client < length self.old.sessions.items }
         requires flag { client < length self.old.rise.items }
-        ensures { (keys : List (List ℕ)) (all : EntryLists) (h : Sessions) (op : AnOp) → told keys all entry.now ≡ op
+        ensures { (keys : List (List ℕ)) (all : EntryLists) (h : Sessions) (op : Operation) → told keys all entry.now ≡ op
             → AreSessionHeights h self.old → AreSessionHeights (with_op h client op) self.new }
     {
         let height = self.sessions[client as usize];

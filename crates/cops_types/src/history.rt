@@ -4,9 +4,9 @@ ghost use Rattle.cops_types.specs.declared.entry.Entry.TheVariants.{Put};
 ghost use Rattle.cops_types.specs.Entries.{AreSound, HasSource, IsNumbered, IsSound, key_number_of, told};
 ghost use Rattle.cops_types.specs.Lists.{item_at};
 ghost use Rattle.cops_types.specs.KeySets.{AreDistinct, GainsKey};
-ghost use Rattle.cops_types.specs.Operations.{key_of};
+ghost use Rattle.cops_types.specs.Histories.{read};
+ghost use Rattle.cops_types.specs.Operations.{key_of, operation_of};
 ghost use Rattle.cops_types.specs.OpViews.{viewed};
-ghost use Rattle.cops_types.specs.declared.op.Op.TheVariants.{Got};
 
 use crate::entries::Entries;
 use crate::entry::{Entry, EntryRef, NumberedPut};
@@ -65,7 +65,7 @@ impl History {
     ghost use Rattle.std.specs.Option.{option_map, option_and_then};
     ghost use Rattle.cops_types.specs.Histories.{Puts, PutsVersion, SourceStep, op_at, with_op};
     ghost use Rattle.cops_types.specs.declared.op.OpName.{OpName};
-    ghost use Rattle.cops_types.specs.Operations.{GetsVersion, key_of};
+    ghost use Rattle.cops_types.specs.Operations.{GetsVersion, key_of, operation_of};
     ghost use Rattle.cops_types.specs.OpRefs.{seen};
     ghost use Rattle.cops_types.specs.OpViews.{viewed};
     ghost use Rattle.cops_types.specs.Counts.{count_of, put_count};
@@ -118,7 +118,7 @@ impl History {
     /// client has 1,000,000 operations or there are 16,000,000. A fault changes nothing.
     #[inline(always)]
     pub fn push(&mut self, client: u16, op: Op) -> Result<(), TypeFault>
-        ensures ok { OnOk result (self.new.sessions ≡ with_op self.old.sessions client op) }
+        ensures ok { OnOk result (self.new.sessions ≡ with_op self.old.sessions client (operation_of op)) }
         ensures err { OnErr result (self.new.sessions ≡ self.old.sessions) }
         ensures others { (c : ℕ) → c ≢ client → HasRoom self.old c → HasRoom self.new c }
         ensures unknown { IsErrOf result TypeFault.UnknownClient ↔ (length self.old.sessions ≤ client) }
@@ -214,7 +214,7 @@ impl History {
         requires session { length (slice_index_or self.old.sessions client []) < MAX_CLIENT_OPS }
         requires all { count_of self.old.sessions < MAX_OPS }
         requires room { HasRoom self.old client }
-        ensures ok { self.new.sessions ≡ with_op self.old.sessions client op }
+        ensures ok { self.new.sessions ≡ with_op self.old.sessions client (operation_of op) }
         ensures open { KeepsOpen self.old self.new }
         ensures others { (c : ℕ) → c ≢ client → HasRoom self.old c → HasRoom self.new c }
     {
@@ -490,7 +490,7 @@ fn entry_of(keys: &mut KeySet, foresight: &mut Foresight, entries: &Entries, op:
     requires distinct { AreDistinct keys.old.keys }
     requires few { length keys.old.keys < MAX_OPS }
     requires room { 0 < keys.old.spare }
-    ensures told { told keys.new.keys entries.now.all result ≡ op }
+    ensures told { told keys.new.keys entries.now.all result ≡ operation_of op }
     ensures sound { IsSound keys.new.keys entries.now.all result }
     ensures numbered { IsNumbered entries.now.names result }
     ensures gains { GainsKey keys.old keys.new }
@@ -591,7 +591,7 @@ fn got_entry(
     value: Value,
     version: Version,
 ) -> Entry
-    ensures told { (keys : List (List ℕ)) → told keys entries.now.all result ≡ Got (slice_index_or keys key []) value version }
+    ensures told { (keys : List (List ℕ)) → told keys entries.now.all result ≡ read (slice_index_or keys key []) (Some value) version }
     ensures key { key_number_of result ≡ key }
     ensures source { HasSource entries.now.all result }
     ensures numbered { IsNumbered entries.now.names result }
@@ -617,7 +617,7 @@ fn known_got_entry(
     value: &ValueView<'_>,
     version: Version,
 ) -> Result<Entry, Memory>
-    ensures told { IfOk result (λ entry. (keys : List (List ℕ)) → told keys entries.now.all entry ≡ Got (slice_index_or keys key []) value.now version) }
+    ensures told { IfOk result (λ entry. (keys : List (List ℕ)) → told keys entries.now.all entry ≡ read (slice_index_or keys key []) (Some value.now) version) }
     ensures key { IfOk result (λ entry. key_number_of entry ≡ key) }
     ensures source { IfOk result (HasSource entries.now.all) }
     ensures numbered { IfOk result (IsNumbered entries.now.names) }

@@ -62,11 +62,11 @@ impl Op {
     ghost use Rattle.std.specs.Prelude.{◌≡◌};
     ghost use Rattle.cops_types.specs.OpRefs.{seen};
     ghost use Rattle.cops_types.specs.OpViews.{viewed};
-    ghost use Rattle.cops_types.specs.Operations.{key_of};
+    ghost use Rattle.cops_types.specs.Operations.{key_of, operation_of};
 
     /// The operation, seen where it lies.
     pub fn as_ref(&self) -> OpRef<'_>
-        ensures { seen result ≡ self.now }
+        ensures { seen result ≡ operation_of self.now }
     {
         match self {
             Op::Put {
@@ -93,7 +93,7 @@ impl Op {
 
     /// The key that it is on, seen where its bytes lie.
     pub fn as_key_view(&self) -> KeyView<'_>
-        ensures { result ≡ key_of self.now }
+        ensures { result ≡ key_of (operation_of self.now) }
     {
         match self {
             Op::Put { key, .. } | Op::Got { key, .. } | Op::Missed { key } => key.as_view(),
@@ -102,7 +102,7 @@ impl Op {
 
     /// The operation, seen as bytes where they lie.
     pub fn as_view(&self) -> OpView<'_>
-        ensures { viewed result ≡ self.now }
+        ensures { viewed result ≡ operation_of self.now }
     {
         match self {
             Op::Put {

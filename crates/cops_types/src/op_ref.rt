@@ -1,5 +1,6 @@
 ghost use Rattle.std.specs.Prelude.{◌≡◌, ◌↔◌, IfOk, IsTrue};
 ghost use Rattle.cops_types.specs.OpRefs.{seen};
+ghost use Rattle.cops_types.specs.Operations.{operation_of};
 
 use crate::key::Key;
 use crate::op::Op;
@@ -31,7 +32,7 @@ pub enum OpRef<'a> {
 impl OpRef<'_> {
     /// A copy of the operation.
     pub fn to_op(&self) -> Result<Op, AllocError>
-        ensures { IfOk result (λ op. op ≡ seen self.now) }
+        ensures { IfOk result (λ op. operation_of op ≡ seen self.now) }
     {
         match self {
             OpRef::Put {

@@ -18,9 +18,9 @@ pub struct SessionRef<'a> {
 
 impl<'a> Model for SessionRef<'a> {
     ghost use Rattle.std.specs.Prelude.{List, [], slice_index_or};
-    ghost use Rattle.cops_types.specs.declared.op.Op.{Op};
+    ghost use Rattle.cops_types.specs.Histories.{Operation};
 
-    ghost Value = { List Op };
+    ghost Value = { List Operation };
 
     ghost view = { λ s. slice_index_or s.history.now.sessions s.client [] };
 }

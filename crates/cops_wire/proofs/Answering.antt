@@ -5,7 +5,7 @@ use Rattle.cops_types.specs.declared.format.Format.{Format}
 use Rattle.cops_types.specs.declared.format.Format.TheVariants.{One}
 use Rattle.cops_types.specs.Format.{most_deps, longest_body}
 use Rattle.cops_wire.specs.declared.fault.WireFault.{WireFault}
-use Rattle.cops_wire.specs.declared.fault.WireFault.TheVariants.{Memory, Short, BadLength, UnknownKind, BadField, TrailingBytes}
+use Rattle.cops_wire.specs.declared.fault.WireFault.TheVariants.{Memory}
 use Rattle.cops_wire.specs.declared.reading.ReadFault.TheVariants as faults
 use Rattle.cops_wire.specs.declared.decoding.Decoded.{Decoded}
 use Rattle.cops_wire.specs.Field.{Field, spelled_all}
@@ -46,11 +46,7 @@ left_within g kind bytes left fits e = known_left (fields_of g kind) bytes left 
 Answers-weaker : (r : Result Decoded WireFault) (P Q : Result (Parts × ℕ) WireFault → Type 0) → Answers r P → ((a : Result (Parts × ℕ) WireFault) → P a → Q a) → Answers r Q
 Answers-weaker (Ok d) P Q h k = k _ h
 Answers-weaker (Err Memory) P Q h k = tt
-Answers-weaker (Err Short) P Q h k = k _ h
-Answers-weaker (Err BadLength) P Q h k = k _ h
-Answers-weaker (Err UnknownKind) P Q h k = k _ h
-Answers-weaker (Err (BadField offset)) P Q h k = k _ h
-Answers-weaker (Err TrailingBytes) P Q h k = k _ h
+Answers-weaker (Err _) P Q h k = k _ h
 
 pub answers : (g : Grammar) (bytes : List ℕ) (r : Result Decoded WireFault) → IsBytes bytes → Answers r (λ a. a ≡ frame_at g bytes) → Answers r (IsAnswer g bytes)
 answers g bytes r fits h = Answers-weaker r (λ a. a ≡ frame_at g bytes) (IsAnswer g bytes) h (λ a e. subst (IsAnswer g bytes) (sym e) (frame_answers g bytes fits))

@@ -9,3 +9,4 @@ pub mod Codec
 pub mod Stopping
 pub mod Taking
 pub mod InARow
+pub mod Records

@@ -52,26 +52,7 @@ message_of p =
 
 back : (m : Message) → message_of (parts m) ≡ m
 back (Hello profile client) = refl
-back (HelloOk dc nodes) = refl
-back (Put seq key value) = refl
-back (Get seq key) = refl
-back (PutDone seq version) = refl
-back (Got seq value version) = refl
-back (Missed seq) = refl
-back (Refused seq code) = refl
-back (PutAfter key value version deps) = refl
-back (DepCheck seq key version) = refl
-back (DepYes seq) = refl
-back (DepWait seq) = refl
-back (Status seq node) = refl
-back (StatusIs seq clock keys settled held) = refl
-back Bye = refl
-back ByeOk = refl
-back (TraceHead format clients) = refl
-back (TracePut client index key value version) = refl
-back (TraceGot client index key value version) = refl
-back (TraceMissed client index key) = refl
-back (TraceEnd ops) = refl
+back _ = refl
 
 pub parts-same : (m n : Message) → parts m ≡ parts n → m ≡ n
 parts-same m n e = sym (back m) ∙ ap message_of e ∙ back n

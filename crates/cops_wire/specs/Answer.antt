@@ -135,11 +135,7 @@ IsFromFields (Err _) = ⊥
 abbrev pub Answers : Result Decoded WireFault → (Result (Parts × ℕ) WireFault → Type 0) → Type 0
 Answers (Ok d) P = P (Ok (parts d.message, d.used))
 Answers (Err Memory) P = Unit {0}
-Answers (Err Short) P = P (Err Short)
-Answers (Err BadLength) P = P (Err BadLength)
-Answers (Err UnknownKind) P = P (Err UnknownKind)
-Answers (Err (BadField offset)) P = P (Err (BadField offset))
-Answers (Err TrailingBytes) P = P (Err TrailingBytes)
+Answers (Err fault) P = P (Err fault)
 
 -- a bad field's place is within a frame whose body has at most so many bytes, behind the kind's byte
 abbrev pub IsPlacedWithin : ℕ → WireFault → Type 0

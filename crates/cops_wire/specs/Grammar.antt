@@ -1,6 +1,7 @@
 -- The grammar of a format: its kinds of messages with their fields, and how long a frame's body may be.
 use Rattle.std.specs.Prelude.{ℕ, ◌==◌, if◌then◌else◌, List, [], ◌∷◌, ◌++◌, length, Option, Some, None, unwrap_or}
 use Rattle.cops_types.specs.declared.format.Format.{Format}
+use Rattle.cops_types.specs.declared.format.Format.TheVariants.{One}
 use Rattle.cops_types.specs.Format.{most_value, most_deps, longest_body}
 use Rattle.cops_wire.specs.Field.{Field, Content, u8, u16, u32, u64, number, number_in, string, version, pairs, key, spelled_number, spelled_all}
 
@@ -44,6 +45,10 @@ grammar format = record {
       ∷ [];
   longest = longest_body format;
 }
+
+-- the grammar of format 1
+abbrev pub grammar_one : Grammar
+grammar_one = grammar One
 
 -- the fields of the first row of a kind
 abbrev pub row_of : ℕ → List (ℕ × List Field) → Option (List Field)

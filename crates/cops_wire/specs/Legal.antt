@@ -1,11 +1,10 @@
 -- What is legal in a field, and in a message.
 use Rattle.std.specs.Prelude.{ℕ, ◌<◌, ◌≤◌, ◌^◌, ◌*◌, List, [], ◌∷◌, length, MatchOption}
 use Rattle.std.specs.Int.{byte_len}
-use Rattle.cops_types.specs.declared.format.Format.TheVariants.{One}
 use Rattle.cops_types.specs.Deps.{ArePairs}
 use Rattle.cops_types.specs.Version.{IsVersion}
 use Rattle.cops_wire.specs.Field.{Size, u16, width, Field, Content, number, number_in, string, version, pairs, of_number, of_bytes, of_pairs}
-use Rattle.cops_wire.specs.Grammar.{Grammar, Parts, fields_of, grammar}
+use Rattle.cops_wire.specs.Grammar.{Grammar, Parts, fields_of, grammar_one}
 use Rattle.cops_wire.specs.Message.{parts}
 use Rattle.cops_wire.specs.declared.message.Message.{Message}
 
@@ -34,4 +33,4 @@ IsMessage g p = MatchOption (fields_of g p.kind) ⊥ (λ fields. AllLegal fields
 
 -- what stands in a message is legal in format 1
 abbrev pub IsLegalMessage : Message → Type 0
-IsLegalMessage m = IsMessage (grammar One) (parts m)
+IsLegalMessage m = IsMessage grammar_one (parts m)

@@ -3,8 +3,7 @@ use Rattle.std.specs.Prelude.{ℕ, List, [], ◌∷◌}
 use Rattle.cops_wire.specs.declared.message.Message.{Message}
 use Rattle.cops_wire.specs.declared.message.Message.TheVariants.{Hello, HelloOk, Put, Get, PutDone, Got, Missed, Refused, PutAfter, DepCheck, DepYes, DepWait, Status, StatusIs, Bye, ByeOk, TraceHead, TracePut, TraceGot, TraceMissed, TraceEnd}
 use Rattle.cops_wire.specs.Field.{of_number, of_bytes, of_pairs}
-use Rattle.cops_types.specs.declared.format.Format.TheVariants.{One}
-use Rattle.cops_wire.specs.Grammar.{Parts, grammar, spelling}
+use Rattle.cops_wire.specs.Grammar.{Parts, grammar_one, spelling}
 
 abbrev pub parts : Message → Parts
 parts (Hello profile client) = record { kind = 1; contents = of_number profile ∷ of_number client ∷ [] }
@@ -31,4 +30,4 @@ parts (TraceEnd ops) = record { kind = 21; contents = of_number ops ∷ [] }
 
 -- the bytes of a message of format 1
 unfoldable pub spelled : Message → List ℕ
-spelled m = spelling (grammar One) (parts m)
+spelled m = spelling grammar_one (parts m)

@@ -3,7 +3,7 @@ ghost use Rattle.std.specs.Prelude.{◌≡◌, ◌<◌, ◌≤◌, ◌+◌, ℕ,
 ghost use Rattle.cops_types.specs.Format.{longest_body};
 ghost use Rattle.cops_types.specs.declared.limits.TheConstants.{MAX_BODY};
 ghost use Rattle.cops_wire.specs.declared.fault.WireFault.{WireFault};
-ghost use Rattle.cops_wire.specs.Grammar.{grammar, Parts};
+ghost use Rattle.cops_wire.specs.Grammar.{grammar, grammar_one, Parts};
 ghost use Rattle.cops_wire.specs.Answer.{IsAnswer, Answers, BeginsWithTaking, IsPlacedWithin, length_at};
 ghost use Rattle.cops_wire.specs.Reading.{HasNoBody, body_at, body_takes, frame_at};
 
@@ -23,10 +23,10 @@ pub struct Decoded {
 /// The message of format 1 at the front: `decode_in` at `Format::One`. As there, memory runs out only at a field that
 /// takes it.
 pub fn decode(alloc: Global, bytes: &[u8]) -> Result<Decoded, WireFault>
-    ensures answer { Answers result (IsAnswer (grammar Format.One) bytes.now) }
-    ensures only { (a : Result (Parts × ℕ) WireFault) → IsAnswer (grammar Format.One) bytes.now a → Answers result (λ b. b ≡ a) }
-    ensures reading { Answers result (λ a. a ≡ frame_at (grammar Format.One) bytes.now) }
-    ensures memory { result ≡ Err WireFault.Memory → BeginsWithTaking (grammar Format.One) bytes.now }
+    ensures answer { Answers result (IsAnswer grammar_one bytes.now) }
+    ensures only { (a : Result (Parts × ℕ) WireFault) → IsAnswer grammar_one bytes.now a → Answers result (λ b. b ≡ a) }
+    ensures reading { Answers result (λ a. a ≡ frame_at grammar_one bytes.now) }
+    ensures memory { result ≡ Err WireFault.Memory → BeginsWithTaking grammar_one bytes.now }
     ensures used { IfOk result (λ decoded. (4 < decoded.used) × (decoded.used ≤ length bytes.now) × (decoded.used ≤ 4 + MAX_BODY)) }
     ensures offset { IfErr result (IsPlacedWithin MAX_BODY) }
 {

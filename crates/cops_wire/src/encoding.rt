@@ -1,7 +1,7 @@
 //! The one spelling of a message.
 ghost use Rattle.std.specs.Prelude.{◌≡◌, ◌++◌, length, OnOk, OnErr};
-ghost use Rattle.cops_wire.specs.Grammar.{grammar, body, spelling};
-ghost use Rattle.cops_wire.specs.Legal.{IsMessage};
+ghost use Rattle.cops_wire.specs.Grammar.{grammar_one, body, spelling};
+ghost use Rattle.cops_wire.specs.Legal.{IsLegalMessage};
 ghost use Rattle.cops_wire.specs.Message.{parts};
 ghost use Rattle.cops_wire.specs.Kind.{kind_of};
 ghost use Rattle.cops_wire.specs.Replicated.{put_after};
@@ -9,7 +9,7 @@ ghost use Rattle.cops_wire.specs.Replicated.{put_after};
 use crate::field::{self, FieldRef, as_written};
 use crate::message::Message;
 use crate::table::kinds;
-use cops_types::{Format, Memory, PutRecord};
+use cops_types::{Memory, PutRecord};
 
 /// The number of a message's kind, 1 to 21.
 pub fn kind(message: &Message) -> u8
@@ -27,7 +27,7 @@ pub fn kind(message: &Message) -> u8
 
 /// How many bytes a message's body has, which is 4 fewer than its frame.
 pub fn body_len(message: &Message) -> usize
-    ensures { result ≡ length (body (grammar Format.One) (parts message.now)) }
+    ensures { result ≡ length (body grammar_one (parts message.now)) }
 {
     macro_rules! len {
         ($message:ident; $($group:ident { $($number:literal => $name:ident { $($field:ident: $type:ident($($arg:literal),*)),* }),* })*) => {
@@ -41,8 +41,8 @@ pub fn body_len(message: &Message) -> usize
 
 /// Appends the frame of a legal message, its one spelling, or where memory runs out nothing.
 pub fn encode(message: &Message, out: &mut Vec<u8>) -> Result<(), Memory>
-    requires { IsMessage (grammar Format.One) (parts message.now) }
-    ensures ok { OnOk result (out.new.items ≡ out.old.items ++ spelling (grammar Format.One) (parts message.now)) }
+    requires { IsLegalMessage message.now }
+    ensures ok { OnOk result (out.new.items ≡ out.old.items ++ spelling grammar_one (parts message.now)) }
     ensures err { OnErr result (out.new.items ≡ out.old.items) }
 {
     macro_rules! append {
@@ -58,8 +58,8 @@ pub fn encode(message: &Message, out: &mut Vec<u8>) -> Result<(), Memory>
 /// Appends the frame of the message that replicates a put, which is always legal, or where memory runs out nothing. It
 /// is what `encode` appends for that message, without a copy of the put.
 pub fn encode_put_after(put: &PutRecord, out: &mut Vec<u8>) -> Result<(), Memory>
-    ensures legal { IsMessage (grammar Format.One) (parts (put_after put.now)) }
-    ensures ok { OnOk result (out.new.items ≡ out.old.items ++ spelling (grammar Format.One) (parts (put_after put.now))) }
+    ensures legal { IsLegalMessage (put_after put.now) }
+    ensures ok { OnOk result (out.new.items ≡ out.old.items ++ spelling grammar_one (parts (put_after put.now))) }
     ensures err { OnErr result (out.new.items ≡ out.old.items) }
 {
     let fields = [

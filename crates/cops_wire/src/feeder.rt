@@ -2,7 +2,7 @@
 ghost use Rattle.std.specs.Prelude.{◌≡◌};
 
 use crate::buffer::Buffer;
-use crate::decoding::decode;
+use crate::decoding::decode_in;
 use crate::fault::WireFault;
 use crate::message::Message;
 use cops_types::{Format, Memory};
@@ -13,18 +13,20 @@ use std::marker::Model;
 #[derive(Debug, Drop)]
 pub struct Feeder {
     alloc: Global,
+    format: Format,
     buffer: Buffer,
     fault: Option<WireFault>,
 }
 
 impl Model for Feeder {
+    ghost use Rattle.cops_wire.specs.Grammar.{grammar};
     ghost use Rattle.cops_wire.specs.Feeding.{Fed, IsStoppedBy};
 
     ghost Value = { Fed };
 
-    ghost view = { λ f. record { rest = f.buffer; fault = f.fault } };
+    ghost view = { λ f. record { format = f.format; rest = f.buffer; fault = f.fault } };
 
-    ghost invariant = { λ f. IsStoppedBy f.buffer f.fault };
+    ghost invariant = { λ f. IsStoppedBy (grammar f.format) f.buffer f.fault };
 }
 
 impl Feeder {
@@ -35,10 +37,11 @@ impl Feeder {
 
     /// A feeder that was given nothing.
     pub fn new(alloc: Global) -> Self
-        ensures { result ≡ record { rest = []; fault = None } }
+        ensures { result ≡ record { format = Format.One; rest = []; fault = None } }
     {
         Feeder {
             alloc,
+            format: Format::One,
             buffer: Buffer::new(alloc),
             fault: None,
         }
@@ -46,7 +49,7 @@ impl Feeder {
 
     /// Appends a piece to the rest.
     pub fn feed(&mut self, piece: &[u8]) -> Result<(), Memory>
-        ensures ok { OnOk result (self.new ≡ record { rest = self.old.rest ++ piece.now; fault = self.old.fault }) }
+        ensures ok { OnOk result (self.new ≡ record self.old { rest = self.old.rest ++ piece.now }) }
         ensures err { OnErr result (self.new ≡ self.old) }
     {
         self.buffer.feed(piece)?;
@@ -59,12 +62,12 @@ impl Feeder {
     pub fn next(&mut self) -> Result<Option<Message>, WireFault>
         ensures next { IsNext self.old result self.new }
         ensures again { IfSome self.old.fault (λ fault. result ≡ Err fault) }
-        ensures waits { (result ≡ Ok None) ↔ IsShort (grammar Format.One) self.old.rest }
+        ensures waits { (result ≡ Ok None) ↔ IsShort (grammar self.old.format) self.old.rest }
     {
         if let Some(fault) = self.fault {
             return Err(fault);
         }
-        match decode(self.alloc, self.buffer.rest()) {
+        match decode_in(self.format, self.alloc, self.buffer.rest()) {
             Ok(decoded) => {
                 self.buffer.take(decoded.used);
                 Ok(Some(decoded.message))

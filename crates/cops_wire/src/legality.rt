@@ -1,7 +1,7 @@
 //! Whether a message is one of a format.
 ghost use Rattle.std.specs.Prelude.{◌↔◌, IsTrue};
 ghost use Rattle.cops_wire.specs.Grammar.{grammar};
-ghost use Rattle.cops_wire.specs.Legal.{IsMessage};
+ghost use Rattle.cops_wire.specs.Legal.{IsLegalMessage, IsMessage};
 ghost use Rattle.cops_wire.specs.Message.{parts};
 
 use crate::limits::Limits;
@@ -11,7 +11,7 @@ use cops_types::Format;
 
 /// Whether each field is within its range in format 1.
 pub fn legal(message: &Message) -> bool
-    ensures { IsTrue result ↔ IsMessage (grammar Format.One) (parts message.now) }
+    ensures { IsTrue result ↔ IsLegalMessage message.now }
 {
     legal_in(Format::One, message)
 }

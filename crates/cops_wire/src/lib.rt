@@ -26,6 +26,7 @@ mod limits;
 mod message;
 mod put;
 mod reading;
+mod record;
 mod record_view;
 mod showing;
 mod table;
@@ -41,5 +42,6 @@ pub use laws::{
 };
 pub use legality::{legal, legal_in};
 pub use message::Message;
+pub use record::{TraceRecord, record_message, record_of_message};
 pub use record_view::{RecordView, record_at};
 pub use showing::{show, show_bytes};

@@ -1,10 +1,10 @@
 //! The fields of a message, from the front of what is left of its body.
-ghost use Rattle.std.specs.Prelude.{◌≡◌, ◌<◌, ◌≤◌, length, take, drop, IfOk};
+ghost use Rattle.std.specs.Prelude.{◌≡◌, ◌≤◌, length, take, drop, IfOk};
 ghost use Rattle.cops_wire.specs.Field.{u8, u16, u32, u64, key};
 ghost use Rattle.cops_types.specs.declared.limits.TheConstants.{MAX_KEY};
 ghost use Rattle.cops_types.specs.Format.{most_value, most_deps};
 ghost use Rattle.cops_wire.specs.Grammar.{grammar, value, deps};
-ghost use Rattle.cops_wire.specs.Kind.{kind_of};
+ghost use Rattle.cops_wire.specs.Kind.{IsOneOf, kind_of};
 ghost use Rattle.cops_wire.specs.Reading.{GivesField, GivesNumber, GivesContents, number_at, number_in_at, string_at, version_at, pair_at, pairs_at, deps_at, GivesPart};
 
 use crate::message::Message;
@@ -46,12 +46,29 @@ impl<T: Drop> From<AllocFailed<T>> for ReadFault {
     }
 }
 
-/// A match on the kind, which reads the fields from left to right.
+/// The numbers of the kinds of a group.
+macro_rules! numbers {
+    (; $($number:literal => $name:ident { $($fields:tt)* }),*) => {
+        &[$($number),*]
+    };
+}
+
+const SESSION: &[u8] = kinds!(group session numbers);
+
+const OPERATION: &[u8] = kinds!(group operation numbers);
+
+const REPLICATION: &[u8] = kinds!(group replication numbers);
+
+const TRACE: &[u8] = kinds!(group trace numbers);
+
+const RECORD: &[u8] = kinds!(group record numbers);
+
+/// A match on the kind, which is one of the group's, that reads the fields from left to right.
 macro_rules! read {
     ($kind:ident $rest:ident; $($number:literal => $name:ident { $($field:ident: $type:ident($($arg:literal),*)),* }),*) => {
         match $kind {
             $($number => return Ok(Message::$name { $($field: taken!($rest.$type($($arg),*))),* }),)*
-            _ => return Err(ReadFault::UnknownKind),
+            _ => unreachable!(),
         }
     };
 }
@@ -289,114 +306,25 @@ impl<'a> Rest<'a> {
         }
     }
 
-    /// The message of this kind whose fields stand at the front.
+    /// The message of this kind whose fields stand at the front, as the method of the kind's group reads it.
     pub(crate) fn message(&mut self, kind: u8) -> Result<Message, ReadFault>
         ensures contents { GivesContents (grammar self.old.format) kind self.old.bytes.now result self.new.bytes.now }
         ensures kind { IfOk result (λ m. kind_of m ≡ kind) }
     {
-        if kind < 17 {
-            return self.cluster_message(kind);
+        macro_rules! by_group {
+            ($rest:ident, $kind:ident; $($group:ident { $($number:literal => $name:ident { $($fields:tt)* }),* })*) => {
+                match $kind {
+                    $($($number)|* => $rest.$group($kind),)*
+                    _ => Err(ReadFault::UnknownKind),
+                }
+            };
         }
-        if kind < 18 {
-            return self.trace_head_message(kind);
-        }
-        if kind < 19 {
-            return self.trace_put_message(kind);
-        }
-        if kind < 20 {
-            return self.trace_got_message(kind);
-        }
-        self.trace_end_message(kind)
-    }
-
-    /// The same for what is sent, and not for what a trace holds.
-    fn cluster_message(&mut self, kind: u8) -> Result<Message, ReadFault>
-        requires { kind < 17 }
-        ensures contents { GivesContents (grammar self.old.format) kind self.old.bytes.now result self.new.bytes.now }
-        ensures kind { IfOk result (λ m. kind_of m ≡ kind) }
-    {
-        if kind < 3 {
-            return self.greeting_message(kind);
-        }
-        if kind < 5 {
-            return self.asking_message(kind);
-        }
-        if kind < 7 {
-            return self.found_message(kind);
-        }
-        if kind < 9 {
-            return self.refused_message(kind);
-        }
-        if kind < 10 {
-            return self.put_after_message(kind);
-        }
-        if kind < 13 {
-            return self.checking_message(kind);
-        }
-        self.session_message(kind)
-    }
-
-    fn greeting_message(&mut self, kind: u8) -> Result<Message, ReadFault>
-        requires { kind < 3 }
-        ensures contents { GivesContents (grammar self.old.format) kind self.old.bytes.now result self.new.bytes.now }
-        ensures kind { IfOk result (λ m. kind_of m ≡ kind) }
-    {
         let rest = self;
-        kinds!(group greeting read kind rest)
+        kinds!(by_group rest, kind)
     }
 
-    fn asking_message(&mut self, kind: u8) -> Result<Message, ReadFault>
-        requires from { 3 ≤ kind }
-        requires to { kind < 5 }
-        ensures contents { GivesContents (grammar self.old.format) kind self.old.bytes.now result self.new.bytes.now }
-        ensures kind { IfOk result (λ m. kind_of m ≡ kind) }
-    {
-        let rest = self;
-        kinds!(group asking read kind rest)
-    }
-
-    fn found_message(&mut self, kind: u8) -> Result<Message, ReadFault>
-        requires from { 5 ≤ kind }
-        requires to { kind < 7 }
-        ensures contents { GivesContents (grammar self.old.format) kind self.old.bytes.now result self.new.bytes.now }
-        ensures kind { IfOk result (λ m. kind_of m ≡ kind) }
-    {
-        let rest = self;
-        kinds!(group found read kind rest)
-    }
-
-    fn refused_message(&mut self, kind: u8) -> Result<Message, ReadFault>
-        requires from { 7 ≤ kind }
-        requires to { kind < 9 }
-        ensures contents { GivesContents (grammar self.old.format) kind self.old.bytes.now result self.new.bytes.now }
-        ensures kind { IfOk result (λ m. kind_of m ≡ kind) }
-    {
-        let rest = self;
-        kinds!(group refused read kind rest)
-    }
-
-    fn put_after_message(&mut self, kind: u8) -> Result<Message, ReadFault>
-        requires { kind ≡ 9 }
-        ensures contents { GivesContents (grammar self.old.format) kind self.old.bytes.now result self.new.bytes.now }
-        ensures kind { IfOk result (λ m. kind_of m ≡ kind) }
-    {
-        let rest = self;
-        kinds!(group put_after read kind rest)
-    }
-
-    fn checking_message(&mut self, kind: u8) -> Result<Message, ReadFault>
-        requires from { 10 ≤ kind }
-        requires to { kind < 13 }
-        ensures contents { GivesContents (grammar self.old.format) kind self.old.bytes.now result self.new.bytes.now }
-        ensures kind { IfOk result (λ m. kind_of m ≡ kind) }
-    {
-        let rest = self;
-        kinds!(group checking read kind rest)
-    }
-
-    fn session_message(&mut self, kind: u8) -> Result<Message, ReadFault>
-        requires from { 13 ≤ kind }
-        requires to { kind < 17 }
+    fn session(&mut self, kind: u8) -> Result<Message, ReadFault>
+        requires { IsOneOf SESSION.now kind }
         ensures contents { GivesContents (grammar self.old.format) kind self.old.bytes.now result self.new.bytes.now }
         ensures kind { IfOk result (λ m. kind_of m ≡ kind) }
     {
@@ -404,39 +332,39 @@ impl<'a> Rest<'a> {
         kinds!(group session read kind rest)
     }
 
-    fn trace_head_message(&mut self, kind: u8) -> Result<Message, ReadFault>
-        requires { kind ≡ 17 }
+    fn operation(&mut self, kind: u8) -> Result<Message, ReadFault>
+        requires { IsOneOf OPERATION.now kind }
         ensures contents { GivesContents (grammar self.old.format) kind self.old.bytes.now result self.new.bytes.now }
         ensures kind { IfOk result (λ m. kind_of m ≡ kind) }
     {
         let rest = self;
-        kinds!(group trace_head read kind rest)
+        kinds!(group operation read kind rest)
     }
 
-    fn trace_put_message(&mut self, kind: u8) -> Result<Message, ReadFault>
-        requires { kind ≡ 18 }
+    fn replication(&mut self, kind: u8) -> Result<Message, ReadFault>
+        requires { IsOneOf REPLICATION.now kind }
         ensures contents { GivesContents (grammar self.old.format) kind self.old.bytes.now result self.new.bytes.now }
         ensures kind { IfOk result (λ m. kind_of m ≡ kind) }
     {
         let rest = self;
-        kinds!(group trace_put read kind rest)
+        kinds!(group replication read kind rest)
     }
 
-    fn trace_got_message(&mut self, kind: u8) -> Result<Message, ReadFault>
-        requires { kind ≡ 19 }
+    fn trace(&mut self, kind: u8) -> Result<Message, ReadFault>
+        requires { IsOneOf TRACE.now kind }
         ensures contents { GivesContents (grammar self.old.format) kind self.old.bytes.now result self.new.bytes.now }
         ensures kind { IfOk result (λ m. kind_of m ≡ kind) }
     {
         let rest = self;
-        kinds!(group trace_got read kind rest)
+        kinds!(group trace read kind rest)
     }
 
-    fn trace_end_message(&mut self, kind: u8) -> Result<Message, ReadFault>
-        requires { 20 ≤ kind }
+    fn record(&mut self, kind: u8) -> Result<Message, ReadFault>
+        requires { IsOneOf RECORD.now kind }
         ensures contents { GivesContents (grammar self.old.format) kind self.old.bytes.now result self.new.bytes.now }
         ensures kind { IfOk result (λ m. kind_of m ≡ kind) }
     {
         let rest = self;
-        kinds!(group trace_end read kind rest)
+        kinds!(group record read kind rest)
     }
 }

@@ -120,14 +120,14 @@ fn record_in<'a>(format: Format, alloc: Global, text: &'a [u8]) -> Option<Record
     }
 }
 
-/// The record of a trace of format 1 at the front of some bytes. It takes no memory. There is none where something else
-/// stands there, nothing whole, or a frame with a fault, which `decode` tells.
+/// The record of a trace of a format at the front of some bytes. It takes no memory. There is none where something else
+/// stands there, nothing whole, or a frame with a fault, which `decode_in` tells.
 #[inline(always)]
-pub fn record_at<'a>(alloc: Global, bytes: &'a [u8]) -> Option<RecordView<'a>>
-    ensures { IfSome result (λ r. IsAnswer (grammar Format.One) bytes.now (Ok (parts (seen_message r), r.used))) }
+pub fn record_at<'a>(format: Format, alloc: Global, bytes: &'a [u8]) -> Option<RecordView<'a>>
+    ensures { IfSome result (λ r. IsAnswer (grammar format) bytes.now (Ok (parts (seen_message r), r.used))) }
 {
-    match whole_body(Format::One, bytes) {
-        Ok(text) => record_in(Format::One, alloc, text),
+    match whole_body(format, bytes) {
+        Ok(text) => record_in(format, alloc, text),
         Err(_) => None,
     }
 }

@@ -5,10 +5,9 @@ ghost use Rattle.cops_wire.specs.Kind.{kind_of};
 ghost use Rattle.cops_wire.specs.Shown.{shown, is_plain, byte_text, bytes_text, pair_text, deps_text};
 ghost use Rattle.cops_wire.specs.Lines.{field_text, named_text, fields_text};
 
-use crate::encoding::kind;
 use crate::field::{FieldRef, as_written};
 use crate::message::Message;
-use crate::table::{group, kinds};
+use crate::table::kinds;
 use cops_types::{Dep, Deps, Memory};
 use std::alloc::{AllocError, Global};
 
@@ -32,126 +31,18 @@ pub fn show(alloc: Global, message: &Message, out: &mut Vec<u8>) -> Result<(), M
     Ok(())
 }
 
-/// The line of a message of one group of the table.
-macro_rules! text {
-    ($alloc:ident $message:ident; $($number:literal => $name:ident { $($field:ident: $type:ident($($arg:literal),*)),* }),*) => {
-        match $message {
-            $(Message::$name { $($field),* } => line($alloc, stringify!($name), &[$(Named { name: stringify!($field), field: as_written!($type $field) }),*]),)*
-            _ => unreachable!(),
-        }
-    };
-}
-
 /// That line.
 fn line_of(alloc: Global, message: &Message) -> Result<String, AllocError>
     ensures { IfOk result (λ text. string_bytes text ≡ shown message.now) }
 {
-    let kind = kind(message);
-    if kind < 3 {
-        greeting_line(alloc, message)
-    } else if kind < 5 {
-        asking_line(alloc, message)
-    } else if kind < 7 {
-        found_line(alloc, message)
-    } else if kind < 9 {
-        refused_line(alloc, message)
-    } else if kind < 10 {
-        put_after_line(alloc, message)
-    } else if kind < 13 {
-        checking_line(alloc, message)
-    } else if kind < 17 {
-        session_line(alloc, message)
-    } else if kind < 18 {
-        trace_head_line(alloc, message)
-    } else if kind < 19 {
-        trace_put_line(alloc, message)
-    } else if kind < 20 {
-        trace_got_line(alloc, message)
-    } else {
-        trace_end_line(alloc, message)
+    macro_rules! text {
+        ($alloc:ident, $message:ident; $($group:ident { $($number:literal => $name:ident { $($field:ident: $type:ident($($arg:literal),*)),* }),* })*) => {
+            match $message {
+                $($(Message::$name { $($field),* } => line($alloc, stringify!($name), &[$(Named { name: stringify!($field), field: as_written!($type $field) }),*]),)*)*
+            }
+        };
     }
-}
-
-fn greeting_line(alloc: Global, message: &Message) -> Result<String, AllocError>
-    requires { kind_of message.now < 3 }
-    ensures { IfOk result (λ text. string_bytes text ≡ shown message.now) }
-{
-    kinds!(group greeting text alloc message)
-}
-
-fn asking_line(alloc: Global, message: &Message) -> Result<String, AllocError>
-    requires from { 3 ≤ kind_of message.now }
-    requires to { kind_of message.now < 5 }
-    ensures { IfOk result (λ text. string_bytes text ≡ shown message.now) }
-{
-    kinds!(group asking text alloc message)
-}
-
-fn found_line(alloc: Global, message: &Message) -> Result<String, AllocError>
-    requires from { 5 ≤ kind_of message.now }
-    requires to { kind_of message.now < 7 }
-    ensures { IfOk result (λ text. string_bytes text ≡ shown message.now) }
-{
-    kinds!(group found text alloc message)
-}
-
-fn refused_line(alloc: Global, message: &Message) -> Result<String, AllocError>
-    requires from { 7 ≤ kind_of message.now }
-    requires to { kind_of message.now < 9 }
-    ensures { IfOk result (λ text. string_bytes text ≡ shown message.now) }
-{
-    kinds!(group refused text alloc message)
-}
-
-fn put_after_line(alloc: Global, message: &Message) -> Result<String, AllocError>
-    requires { kind_of message.now ≡ 9 }
-    ensures { IfOk result (λ text. string_bytes text ≡ shown message.now) }
-{
-    kinds!(group put_after text alloc message)
-}
-
-fn checking_line(alloc: Global, message: &Message) -> Result<String, AllocError>
-    requires from { 10 ≤ kind_of message.now }
-    requires to { kind_of message.now < 13 }
-    ensures { IfOk result (λ text. string_bytes text ≡ shown message.now) }
-{
-    kinds!(group checking text alloc message)
-}
-
-fn session_line(alloc: Global, message: &Message) -> Result<String, AllocError>
-    requires from { 13 ≤ kind_of message.now }
-    requires to { kind_of message.now < 17 }
-    ensures { IfOk result (λ text. string_bytes text ≡ shown message.now) }
-{
-    kinds!(group session text alloc message)
-}
-
-fn trace_head_line(alloc: Global, message: &Message) -> Result<String, AllocError>
-    requires { kind_of message.now ≡ 17 }
-    ensures { IfOk result (λ text. string_bytes text ≡ shown message.now) }
-{
-    kinds!(group trace_head text alloc message)
-}
-
-fn trace_put_line(alloc: Global, message: &Message) -> Result<String, AllocError>
-    requires { kind_of message.now ≡ 18 }
-    ensures { IfOk result (λ text. string_bytes text ≡ shown message.now) }
-{
-    kinds!(group trace_put text alloc message)
-}
-
-fn trace_got_line(alloc: Global, message: &Message) -> Result<String, AllocError>
-    requires { kind_of message.now ≡ 19 }
-    ensures { IfOk result (λ text. string_bytes text ≡ shown message.now) }
-{
-    kinds!(group trace_got text alloc message)
-}
-
-fn trace_end_line(alloc: Global, message: &Message) -> Result<String, AllocError>
-    requires { 20 ≤ kind_of message.now }
-    ensures { IfOk result (λ text. string_bytes text ≡ shown message.now) }
-{
-    kinds!(group trace_end text alloc message)
+    kinds!(text alloc, message)
 }
 
 /// A kind's name, and then the fields.

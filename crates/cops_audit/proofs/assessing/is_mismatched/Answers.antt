@@ -5,7 +5,7 @@ use Rattle.cops_audit.proofs.Places.{place_of_put, put_at}
 use Rattle.cops_audit.proofs.assessing.is_mismatched.Goals as goal
 
 pub returns-in_default : goal.returns-in_default
-returns-in_default c = let f = c.requires.sourceless in absurd (c.in_default.ensures.none f.version (f.key, f.value, f.got))
+returns-in_default c = let f = c.requires.sourceless in absurd (c.in_default.ensures.none f.version (f.key, f.content, f.got))
 
 pub returns-in-Some-place_of-clause-mismatched : goal.returns-in-Some-place_of-clause-mismatched
 returns-in-Some-place_of-clause-mismatched c = λ e.

@@ -2,7 +2,7 @@ use Rattle.std.proofs.Common.{◌≡◌, ◌≤◌, ℕ, List, Some, get_or, sli
 use Rattle.std.proofs.Math.ListN.{length-set}
 use Rattle.std.proofs.Math.Nat.{eq-or-lt_of_le}
 use Rattle.std.specs.Option.{option_map}
-use Rattle.cops_types.specs.declared.op.Op.TheVariants.{Put}
+use Rattle.cops_types.specs.Histories.{write}
 use Rattle.cops_types.specs.Operations.{key_of}
 use Rattle.cops_audit.specs.Keys.{OnKey}
 use Rattle.cops_audit.proofs.Linking.{on_key, same_key, written}
@@ -22,7 +22,7 @@ loop-told-init c = record {
 pub number_of-requires : goal.number_of-requires
 number_of-requires c =
     let own = (c.requires.table.table.members c.index-table-place.result).0 (get_or c.args.places.now c.loop-told.told-index 0, c.if-place-table.true, sym c.index-table-place.is) in
-    (Put own.0 own.1 c.index-table-place.result.version, own.2)
+    (write own.0 own.1 c.index-table-place.result.version, own.2)
 
 pub loop-told-preserved : goal.loop-told-preserved
 loop-told-preserved c =

@@ -1,7 +1,7 @@
 use Rattle.std.proofs.Common.{◌<◌, [], length, arith, sym, subst, ap, take_all}
 use Rattle.std.proofs.lemmas.List.Sums.{sum_by_more, sum_by_more_le}
 use Rattle.std.specs.Prelude.{sum_by}
-use Rattle.cops_types.specs.declared.op.Op.{Op}
+use Rattle.cops_types.specs.Histories.{Operation}
 use Rattle.cops_audit.specs.Names.{ListsBefore}
 use Rattle.cops_audit.proofs.Listing.{next_session, all_before, none_before}
 use Rattle.cops_audit.proofs.names.set_names.Goals as goal
@@ -22,7 +22,7 @@ push_session-requires-clause-room c =
       c.loop-client.invariant.capacity,
       c.requires,
       c.loop-client.names.ok.0,
-      sum_by_more_le (length {A = Op}) h c.loop-client.client [] (let less : c.loop-client.client < length h = omega arith in less),
+      sum_by_more_le (length {A = Operation}) h c.loop-client.client [] (let less : c.loop-client.client < length h = omega arith in less),
     )
 
 pub loop-client-preserved : goal.loop-client-preserved
@@ -34,7 +34,7 @@ loop-client-preserved c =
         arith,
         c.push_session.ensures.count,
         c.loop-client.invariant.count,
-        sum_by_more (length {A = Op}) h c.loop-client.client [] (let less : c.loop-client.client < length h = omega arith in less),
+        sum_by_more (length {A = Operation}) h c.loop-client.client [] (let less : c.loop-client.client < length h = omega arith in less),
       );
       capacity = omega (arith, c.push_session.ensures.capacity, c.loop-client.invariant.capacity);
     }
@@ -44,4 +44,4 @@ returns-clause-names c = all_before c.args.history.now.sessions c.loop-client.cl
 
 pub returns-clause-count : goal.returns-clause-count
 returns-clause-count c =
-    omega (arith, c.loop-client.invariant.count, ap (sum_by (length {A = Op})) (take_all c.loop-client.client c.args.history.now.sessions (omega arith)))
+    omega (arith, c.loop-client.invariant.count, ap (sum_by (length {A = Operation})) (take_all c.loop-client.client c.args.history.now.sessions (omega arith)))

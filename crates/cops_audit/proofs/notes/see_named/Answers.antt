@@ -9,10 +9,10 @@ returns-in-Some c =
     let table = c.args.table.now in
     let put = c.in-Some.ensures.0 in
     let source = c.in-Some.ensures.2 in
-    let at = stands_put c.args.history.now.sessions table c.requires.table.table put source.version (source.key, source.value, source.put) in
+    let at = stands_put c.args.history.now.sessions table c.requires.table.table put source.version (source.key, source.content, source.put) in
     let found : Some c.in_ok-place.place ≡ Some at.0 = c.in_ok-place.ensures ∙ c.requires.places.tell at.0 c.in-Some.number put source.version at.1 c.in-Some.ensures.1 in
     let same : at.0 ≡ c.in_ok-place.place = cc in
-    (put, source.version, subst (λ (k : ℕ). StandsAt table k put source.version) same at.1, (source.key, source.value, source.got), source)
+    (put, source.version, subst (λ (k : ℕ). StandsAt table k put source.version) same at.1, (source.key, source.content, source.got), source)
 
 pub returns-in-Some-put_number : goal.returns-in-Some-put_number
 returns-in-Some-put_number c =

@@ -22,7 +22,7 @@ returns-else-is_source c =
     let gets = subst (GetsVersion h c.args.got) (ap (λ (p : VersionedPut). p.version) (sym c.index-table-place.is)) (c.requires.version put) in (
       record {
         key = gets.0;
-        value = gets.1;
+        content = gets.1;
         version = put.version;
         got = gets.2;
         none = λ other s.

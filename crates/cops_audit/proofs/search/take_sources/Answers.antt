@@ -9,7 +9,7 @@ use Rattle.cops_audit.proofs.Searching.{takes_nothing, takes_on, none_before, no
 use Rattle.cops_audit.proofs.search.take_sources.Goals as goal
 
 pub returns-in_default-clause-sources : goal.returns-in_default-clause-sources
-returns-in_default-clause-sources c = λ put s. absurd (c.in_default.ensures.none s.version (s.key, s.value, s.got))
+returns-in_default-clause-sources c = λ put s. absurd (c.in_default.ensures.none s.version (s.key, s.content, s.got))
 
 pub loop-place-init : goal.loop-place-init
 loop-place-init c = record {

@@ -1,6 +1,6 @@
 use Rattle.std.proofs.Common.{◌<◌, [], length, slice_index_or, arith, refl}
 use Rattle.std.proofs.lemmas.List.Sums.{sum_by_more_le}
-use Rattle.cops_types.specs.declared.op.Op.{Op}
+use Rattle.cops_types.specs.Histories.{Operation}
 use Rattle.cops_audit.proofs.Gathering.{skip_before, push_before, session_gathered}
 use Rattle.cops_audit.proofs.window.push_session_suspects.Goals as goal
 use Rattle.cops_audit.proofs.window.push_session_suspects.Goals.{in-Some+in_ok-push, in_default}
@@ -45,5 +45,5 @@ returns-in_err-push-clause-succeeds c = λ room.
       c.loop-index-test.true,
       c.session_len-index-end.ensures.count,
       c.loop-index.suspects.ok.0,
-      sum_by_more_le (length {A = Op}) c.args.history.now.sessions c.args.client [] c.requires.client,
+      sum_by_more_le (length {A = Operation}) c.args.history.now.sessions c.args.client [] c.requires.client,
     ))

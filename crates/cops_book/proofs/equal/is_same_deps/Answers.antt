@@ -1,4 +1,4 @@
-use Rattle.std.proofs.Common.{◌≡◌, true, sym, ap, ap₂, ◌∙◌}
+use Rattle.std.proofs.Common.{◌≡◌, sym, ap, ap₂, ◌∙◌}
 use Rattle.std.specs.Cmp.Lexicographic.{pointwise}
 use Rattle.cops_types.specs.Dep.{is_same_dep}
 use Rattle.cops_book.proofs.Same.{pointwise_true, pointwise_refl, same_pair_true, same_pair_refl}

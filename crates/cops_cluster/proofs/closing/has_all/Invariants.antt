@@ -1,4 +1,4 @@
-use Rattle.std.proofs.Common.{◌≡◌, ◌<◌, ℕ, true, take, length}
+use Rattle.std.proofs.Common.{◌≡◌, ◌<◌, ℕ, true, take}
 use Rattle.std.specs.Prelude.{slice_index_or, vec_len}
 use Rattle.std.specs.List.{list_any}
 use Rattle.cops_cluster.specs.declared.share.Share.{Share}

@@ -1,10 +1,8 @@
-use Rattle.std.proofs.Common.{◌≡◌, ◌<◌, ℕ, List, [], ◌++◌, length, take, refl, ap, subst, ◌∙◌, ◌||◌, inr}
+use Rattle.std.proofs.Common.{◌≡◌, ◌<◌, ℕ, List, [], length, take, refl, ap, subst, ◌∙◌, ◌||◌, inr}
 use Rattle.std.specs.Io.KnownBytes.{Appends}
 use Rattle.cops_types.specs.Counted.{inner}
-use Rattle.cops_types.specs.declared.format.Format.TheVariants.{One}
-use Rattle.cops_wire.specs.Grammar.{grammar, spelling}
-use Rattle.cops_wire.specs.Message.{parts, spelled}
-use Rattle.cops_net.proofs.Spellings.{spelled_is, spelled_some}
+use Rattle.cops_wire.specs.Message.{spelled}
+use Rattle.cops_net.proofs.Spellings.{appended_to_none, spelled_some}
 use Rattle.cops_net.proofs.Readings.{appends_none}
 use Rattle.cops_net.proofs.serving.write_reply.Goals as goal
 
@@ -14,8 +12,7 @@ returns-in_default-clause-answered g c = λ message gained t. ([], appends_none 
 pub returns-in-Ok-write_text-clause-answered : goal.returns-in-Ok-write_text-clause-answered
 returns-in-Ok-write_text-clause-answered g c =
     let reply = c.args.reply.now in
-    let written : c.deref.result.now ≡ spelled reply =
-    c.deref.ensures.value ∙ c.in-Ok.ensures.ok ∙ ap (λ (x : List ℕ). x ++ spelling (grammar One) (parts reply)) c.clear.ensures.items ∙ spelled_is reply in
+    let written : c.deref.result.now ≡ spelled reply = c.deref.ensures.value ∙ appended_to_none reply _ _ c.clear.ensures.items c.in-Ok.ensures.ok in
     λ message gained t. (
       spelled reply,
       subst (λ (x : List ℕ). Appends (g.W.Write.contents (inner c.args.writer.now)) (g.W.Write.contents (inner c.write_text.new.writer)) x) written c.in-Ok-write_text.ensures.ok,
@@ -25,8 +22,7 @@ returns-in-Ok-write_text-clause-answered g c =
 pub returns-in-Err-clause-answered : goal.returns-in-Err-clause-answered
 returns-in-Err-clause-answered g c =
     let reply = c.args.reply.now in
-    let written : c.deref.result.now ≡ spelled reply =
-    c.deref.ensures.value ∙ c.in-Ok.ensures.ok ∙ ap (λ (x : List ℕ). x ++ spelling (grammar One) (parts reply)) c.clear.ensures.items ∙ spelled_is reply in
+    let written : c.deref.result.now ≡ spelled reply = c.deref.ensures.value ∙ appended_to_none reply _ _ c.clear.ensures.items c.in-Ok.ensures.ok in
     let n = c.in-Err.field-0 in
     let part : Appends (g.W.Write.contents (inner c.args.writer.now)) (g.W.Write.contents (inner c.write_text.new.writer)) (take n (spelled reply)) =
     subst (λ (x : List ℕ). Appends (g.W.Write.contents (inner c.args.writer.now)) (g.W.Write.contents (inner c.write_text.new.writer)) (take n x)) written c.in-Err.ensures.err in

@@ -1,6 +1,6 @@
 use Rattle.std.proofs.Common.{◌≡◌, ℕ, ◌<◌, ◌∙◌, List, [], Bool, true, false, length, slice_index_or, refl, sym, ap, subst, arith, below_more}
 use Rattle.std.proofs.lemmas.List.{get_or_default}
-use Rattle.cops_types.specs.declared.op.Op.{Op}
+use Rattle.cops_types.specs.Histories.{Operation}
 use Rattle.cops_core.specs.Opened.{AWorld}
 use Rattle.cops_core.specs.declared.script.ScriptOp.{ScriptOp}
 use Rattle.cops_core.specs.declared.script.ScriptedClient.{ScriptedClient}
@@ -10,12 +10,12 @@ use Rattle.cops_tie.specs.Outcomes.{IsOutcome}
 use Rattle.cops_tie.proofs.ending.are_outcomes.Goals as goal
 
 -- the same of a world, a script, a session and an outcome that are the same
-moved : (a b : AWorld) (i : ℕ) (script other : List ScriptOp) (session seen : List Op) (o p : ClientOutcome) → a ≡ b → script ≡ other → session ≡ seen → o ≡ p
+moved : (a b : AWorld) (i : ℕ) (script other : List ScriptOp) (session seen : List Operation) (o p : ClientOutcome) → a ≡ b → script ≡ other → session ≡ seen → o ≡ p
     → IsOutcome a.setting a.world i script session o → IsOutcome b.setting b.world i other seen p
 moved a b i script other session seen o p e f g h at =
     subst (λ (k : AWorld). IsOutcome k.setting k.world i other seen p) e
     (subst (λ (x : List ScriptOp). IsOutcome a.setting a.world i x seen p) f
-    (subst (λ (x : List Op). IsOutcome a.setting a.world i script x p) g
+    (subst (λ (x : List Operation). IsOutcome a.setting a.world i script x p) g
     (subst (λ (x : ClientOutcome). IsOutcome a.setting a.world i script session x) h at)))
 
 true_is_false : (b : Bool) → b ≡ true → b ≡ false → ⊥

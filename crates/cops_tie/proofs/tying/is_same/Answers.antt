@@ -1,7 +1,6 @@
 use Rattle.std.proofs.Common.{◌≡◌, ◌<◌, ◌+◌, ℕ, suc, List, [], ◌∷◌, Bool, true, false, length, slice_index_or, ltb, refl, ap₂, subst, arith}
 use Rattle.std.proofs.lemmas.Bool.{ltb-true, ltb-false}
-use Rattle.cops_types.specs.declared.op.Op.{Op}
-use Rattle.cops_types.specs.Histories.{Sessions}
+use Rattle.cops_types.specs.Histories.{Sessions, Operation}
 use Rattle.cops_tie.proofs.tying.is_same.Goals as goal
 
 abbrev SameAt : Sessions → Sessions → ℕ → Type 0
@@ -18,7 +17,7 @@ all_same : (one other : Sessions) → length one ≡ length other → ((k : ℕ)
 all_same [] [] e h = refl
 all_same [] (y ∷ ys) e h = absurd (omega (arith, e))
 all_same (x ∷ xs) [] e h = absurd (omega (arith, e))
-all_same (x ∷ xs) (y ∷ ys) e h = ap₂ (λ (a : List Op) (b : Sessions). a ∷ b) (h 0 (omega arith)) (all_same xs ys (omega (arith, e)) (λ k less. h (suc k) (omega (arith, less))))
+all_same (x ∷ xs) (y ∷ ys) e h = ap₂ (λ (a : List Operation) (b : Sessions). a ∷ b) (h 0 (omega arith)) (all_same xs ys (omega (arith, e)) (λ k less. h (suc k) (omega (arith, less))))
 
 pub loop-client-preserved : goal.loop-client-preserved
 loop-client-preserved c = one_more c.args.one.now.sessions c.args.other.now.sessions c.loop-client.client c.loop-client.invariant (c.is_same_session.ensures.0 c.if-not-is_same_session.false)

@@ -6,5 +6,5 @@ abbrev pub invariant-loop : goal.invariant-loop
 invariant-loop l = record {
   within : l.at ≤ length l.bytes;
   same : length l.places.items ≡ length l.ops.items;
-  seen : AreSeen l.bytes l.places.items l.ops.items;
+  seen : AreSeen l.format l.bytes l.places.items l.ops.items;
 }

@@ -1,7 +1,7 @@
 use Rattle.std.proofs.Common.{◌≡◌, ◌<◌, ◌+◌, ◌++◌, ◌∷◌, [], ℕ, List, length, length-append, map, arith, ap, sym, subst, slice_index_or}
 use Rattle.std.proofs.lemmas.List.{length-map}
 use Rattle.std.proofs.lemmas.List.Sums.{sum_by_more}
-use Rattle.cops_types.specs.declared.op.Op.{Op}
+use Rattle.cops_types.specs.Histories.{Operation}
 use Rattle.cops_audit.specs.declared.notes.Note.{Note}
 use Rattle.cops_audit.specs.Notes.{IsSessionNoted, span_of}
 use Rattle.cops_audit.proofs.Flattening.{noted_more, sessions_more, within_more}
@@ -26,7 +26,7 @@ loop-client-preserved c =
     record {
       within = within_more notes session spans from to starts ends l.within;
       count = omega (arith, l.count, length-append spans (record { from = from; to = to } ∷ []));
-      total = omega (arith, l.total, length-append notes session, noted.whole, sum_by_more (length {A = Op}) h k [] less);
+      total = omega (arith, l.total, length-append notes session, noted.whole, sum_by_more (length {A = Operation}) h k [] less);
       noted = subst (λ (ls : List (List Note)). (i : ℕ) → i < k + 1 → IsSessionNoted h c.args.table.now i (slice_index_or ls i [])) (sym (sessions_more notes session spans from to starts ends l.within))
           (noted_more h c.args.table.now (map (span_of notes) spans) session k (omega (arith, l.count, length-map spans (span_of notes))) noted l.noted);
       note_room = omega (arith, l.note_room, c.push_session.ensures.capacity);

@@ -1,6 +1,6 @@
 use Rattle.std.proofs.Common.{ℕ, List, [], length, ap, sym, ◌∙◌, arith}
 use Rattle.std.proofs.lemmas.List.{length-replicate}
-use Rattle.cops_types.specs.declared.op.Op.{Op}
+use Rattle.cops_types.specs.Histories.{Operation}
 use Rattle.cops_audit.proofs.Growing.{count_empty}
 use Rattle.cops_audit.proofs.room.Room.new.Goals as goal
 
@@ -23,6 +23,6 @@ returns-clause-ready c =
         newest = omega arith;
       };
       enough = omega (arith, none);
-      counts = ap length fresh.counts ∙ length-replicate {A = ℕ} n 0 ∙ sym (length-replicate {A = List Op} n []);
+      counts = ap length fresh.counts ∙ length-replicate {A = ℕ} n 0 ∙ sym (length-replicate {A = List Operation} n []);
       empty = fresh.pending;
     }

@@ -7,6 +7,8 @@ use Rattle.cops_cluster.specs.declared.share.Made.{Made}
 use Rattle.cops_cluster.specs.declared.share.Share.{Share}
 use Rattle.cops_cluster.specs.Close.{AllReplay, made_by, made_in, told}
 use Rattle.cops_cluster.specs.Differences.{IsLeastDifference}
+use Rattle.cops_cluster.specs.HandedBack.{HandsBack}
+use Rattle.cops_cluster.specs.declared.closing.CloseFault.TheVariants.{NotKept}
 use Rattle.cops_cluster.proofs.cluster.Cluster.ended_in.Goals as goal
 
 pub returns-in-Ok-clause-replays : goal.returns-in-Ok-clause-replays
@@ -25,7 +27,8 @@ least_of_lists p q lists books all shares callers o t places same told_same some
 
 pub returns-in-Ok-Some-clause-back : goal.returns-in-Ok-Some-clause-back
 returns-in-Ok-Some-clause-back c =
-    let is : c.from-places.result ≡ length c.args.self.place.splits + 1 = c.from-places.ensures ∙ c.nodes.ensures.count in (
+    let is : c.from-places.result ≡ length c.args.self.place.splits + 1 = c.from-places.ensures ∙ c.nodes.ensures.count in
+    let back : HandsBack c.args.self c.args.shares (NotKept c.in-Ok-Some.ticket) = (
       c.requires.all,
       record {
         books = c.listed.result.items;
@@ -33,4 +36,5 @@ returns-in-Ok-Some-clause-back c =
         replays = subst (λ (p : ℕ). AllReplay p c.listed.result.items) is c.listed.ensures.replays;
         least = least_of_lists _ _ c.listed.result.items _ _ _ _ _ c.in-Ok-Some.ticket is c.deref.ensures.value c.deref-2.ensures.value c.in-Ok-Some.field-0-is c.listed.ensures.made c.in-Ok-Some.ensures.some;
       },
-    )
+    ) in
+    subst (HandsBack c.args.self c.args.shares) (sym c.not_kept.ensures) back

@@ -1,6 +1,5 @@
-use Rattle.std.proofs.Common.{◌≡◌, [], ◌∷◌, ◌++◌, slice_set, sym, ap, ◌∙◌}
-use Rattle.cops_types.specs.declared.op.Op.TheVariants.{Put as Wrote}
-use Rattle.cops_types.specs.Histories.{with_op}
+use Rattle.std.proofs.Common.{[], ◌∷◌, ◌++◌, slice_set, sym, ap, ◌∙◌, Some}
+use Rattle.cops_types.specs.Histories.{with_op, write}
 use Rattle.cops_node.specs.declared.outcome.Outcome.TheVariants.{PutDone}
 use Rattle.cops_core.specs.World.{sent}
 use Rattle.cops_core.specs.contracts.state.State.{the_view}
@@ -49,7 +48,7 @@ returns-in-PutDone-clause-ok c =
     let kept = c.in_ok-copies.ensures in
     let issued = c.keep_put.ensures.issued ∙ (λ i. c.reserve.ensures.same i ++ record { key = (kept i).issued.key; value = (kept i).issued.value; version = version; deps = (kept i).issued.deps } ∷ []) in
     let contexts = c.keep_put.ensures.context ∙ (λ i. slice_set w.contexts client (record { key = (kept i).pair_key; version = version } ∷ [])) in
-    let sessions = c.keep_put.ensures.session ∙ (λ i. with_op (c.in_default.ensures.same i) client (Wrote (kept i).op_key (kept i).op_value version)) in
+    let sessions = c.keep_put.ensures.session ∙ (λ i. with_op (c.in_default.ensures.same i) client (write (kept i).op_key (Some (kept i).op_value) version)) in
     puts_at a c.args.key.now c.args.value.now c.home.result c.primary-place.result (PutDone version) c.node-node.result.now c.put.new.self c.in_ok-own.own (made c.keep_put.new.issued.puts c.keep_put.new.contexts.pairs c.keep_put.new.history.sessions)
     c.home.ensures c.primary-place.ensures.count c.node-node.ensures.value c.in_ok-own.ensures c.in-PutDone.ensures.happens
     (λ i. made (issued i) (contexts i) (sessions i))

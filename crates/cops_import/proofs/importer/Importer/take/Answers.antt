@@ -1,5 +1,6 @@
 use Rattle.std.proofs.Common.{◌≡◌, ◌<◌, ◌≤◌, [], ◌∷◌, ◌++◌, ap, arith, length, sym, ◌∙◌, refl, rules}
 use Rattle.std.specs.Prelude.{List, ℕ}
+use Rattle.cops_types.specs.Operations.{operation_of}
 use Rattle.cops_trace.specs.Counts.{HasTurn}
 use Rattle.cops_import.specs.Lines.{names_of}
 use Rattle.cops_import.specs.Names.{number_of, with_name}
@@ -36,12 +37,12 @@ pub returns-in-Ok-op-clause-ok : goal.returns-in-Ok-op-clause-ok
 returns-in-Ok-op-clause-ok g c = λ from tolds h.
     let told : Told = record { name = c.args.name; op = c.args.op.now } in
     let turn : HasTurn c.args.self.now.writer.counts c.in-Ok.client = search rules in
-    let wrote = written_more g.W.Write.contents from (trace_to c.args.self.now.clients tolds) c.args.self.now.writer c.op.new.self c.in-Ok.client c.args.op.now h.wrote turn c.requires
+    let wrote = written_more g.W.Write.contents from (trace_to c.args.self.now.clients tolds) c.args.self.now.writer c.op.new.self c.in-Ok.client (operation_of c.args.op.now) h.wrote turn c.requires
     c.in-Ok-op.ensures.ok c.in-Ok-op.ensures.counts c.in-Ok-op.ensures.written c.in-Ok-op.ensures.heard in
     taken_more g.W.Write.contents from tolds told c.args.self.now _ c.in-Ok.client h refl c.in-Ok.ensures.names c.saturating_add-self.ensures c.in-Ok.ensures.number turn wrote
 
 pub returns-in-Err-clause-err : goal.returns-in-Err-clause-err
 returns-in-Err-clause-err g c = λ from tolds h.
     let turn : HasTurn c.args.self.now.writer.counts c.in-Ok.client = search rules in
-    rw c.from-in-Err.ensures (left_refused g.W.Write.contents from (trace_to c.args.self.now.clients tolds) c.args.self.now.writer c.op.new.self c.in-Ok.client c.args.op.now c.in-Err.fault h.wrote turn c.requires
+    rw c.from-in-Err.ensures (left_refused g.W.Write.contents from (trace_to c.args.self.now.clients tolds) c.args.self.now.writer c.op.new.self c.in-Ok.client (operation_of c.args.op.now) c.in-Err.fault h.wrote turn c.requires
     c.in-Err.ensures.err c.in-Err.ensures.failed)

@@ -1,8 +1,9 @@
 use Rattle.std.proofs.Common.{◌≡◌, ◌+◌, Bool, false, Option, None, sym, ap, ◌∙◌, subst, arith}
 use Rattle.std.specs.Prelude.{option_map}
 use Rattle.cops_trace.specs.Counts.{ACounts, progress_from}
+use Rattle.cops_trace.specs.Next.{format_next}
 use Rattle.cops_trace.specs.Reading.{IsWithinReach, Reading, counts_with, is_end}
-use Rattle.cops_trace.proofs.Items.{given, stands_used}
+use Rattle.cops_trace.proofs.Items.{frame_most, given, stands_used}
 use Rattle.cops_trace.proofs.Underway.{reach_after, stands_too, stopped_none, within_reach}
 use Rattle.cops_trace.proofs.reader.TraceReader.give.Goals as goal
 
@@ -11,7 +12,7 @@ overflow_add-self c =
     let inside = c.self.inside in
     let st = stands_too _ _ c.args.item c.args.used c.self.view_is c.requires.stands in
     let used = stands_used (option_map (progress_from inside.at) inside.counts) inside.buffer c.args.item c.args.used st in
-    omega (arith, within_reach inside.counts inside.ended inside.at c.self.invariant.0, used.2)
+    omega (arith, within_reach inside.counts inside.ended inside.at c.self.invariant.0, used.2, frame_most (format_next (option_map (progress_from inside.at) inside.counts)))
 
 pub take-requires : goal.take-requires
 take-requires c =

@@ -8,7 +8,7 @@ abbrev pub invariant-loop-at : goal.invariant-loop-at
 invariant-loop-at l =
     let h = l.self-inside.history.sessions in
     let cs = l.self-inside.arrivals.items in
-    IsKept h cs
+    IsKept l.self-inside.format h cs
     × (length l.turns.items ≡ length h)
     × ((c : ℕ) → c < length l.turns.items → get_or l.turns.items c 0 ≡ times c (take l.at cs))
     × (l.out.items ≡ l.fn.out.items ++ records_text [] (records_from h [] (take l.at cs)))

@@ -1,6 +1,6 @@
-use Rattle.std.proofs.Common.{◌≡◌, ℕ, List, [], max, refl, sym, ap, ◌∙◌, inl, inr, arith, slice_index_or, slice_set}
+use Rattle.std.proofs.Common.{◌≡◌, ℕ, List, [], Option, Some, max, refl, sym, ap, ◌∙◌, inl, inr, arith, slice_index_or, slice_set}
 use Rattle.std.specs.Prelude.{◌⊎◌}
-use Rattle.cops_types.specs.declared.op.Op.TheVariants.{Got as GotOp}
+use Rattle.cops_types.specs.Histories.{read}
 use Rattle.cops_types.specs.declared.entry.Entry.{Entry}
 use Rattle.cops_types.specs.declared.entry.Entry.TheVariants.{Put, Got, Sourced}
 use Rattle.cops_types.specs.declared.entry.NumberedPut.{NumberedPut}
@@ -23,9 +23,9 @@ returns-in-Missed c = λ keys all h op is was. took_missed h c.args.client op (o
 
 -- a get stands for a get, whether its put is named or not
 as_got : (keys : List (List ℕ)) (all : EntryLists) (e : Entry) (v : ℕ) → ((k : ℕ) × (x : List ℕ) × (e ≡ Got k x v)) ⊎ ((k : ℕ) × (put : NumberedPut) × (e ≡ Sourced k put v))
-    → (key value : List ℕ) × (told keys all e ≡ GotOp key value v)
-as_got keys all e v (inl g) = (slice_index_or keys g.0 [], g.1, ap (told keys all) g.2)
-as_got keys all e v (inr g) = (slice_index_or keys g.0 [], value_put all g.1.name, ap (told keys all) g.2)
+    → (key : List ℕ) × (content : Option (List ℕ)) × (told keys all e ≡ read key content v)
+as_got keys all e v (inl g) = (slice_index_or keys g.0 [], Some g.1, ap (told keys all) g.2)
+as_got keys all e v (inr g) = (slice_index_or keys g.0 [], Some (value_put all g.1.name), ap (told keys all) g.2)
 
 pub returns-in-Got : goal.returns-in-Got
 returns-in-Got c = λ keys all h op is was.

@@ -1,5 +1,5 @@
-use Rattle.std.proofs.Common.{[], get_or, ◌≡◌, ap, ◌∙◌, subst, sym}
-use Rattle.cops_types.specs.declared.op.Op.TheVariants.{Put as PutOp, Got as GotOp, Missed as MissedOp}
+use Rattle.std.proofs.Common.{[], Some, get_or, ◌≡◌, ap, ◌∙◌, subst, sym}
+use Rattle.cops_types.specs.Histories.{write, read, missed}
 use Rattle.cops_types.specs.Entries.{HasValue, told, key_number_of, referred, value_put}
 use Rattle.cops_types.proofs.Sources.{none_told, told_as}
 use Rattle.cops_types.proofs.Telling.{limit_at}
@@ -14,7 +14,7 @@ returns-in-Put-clause-operation c =
     let keys = c.self.inside.keys.keys in
     let all = c.self.inside.entries.all in
     let key = sym (c.key-key.ensures ∙ ap (λ n. get_or keys n []) (c.key.ensures ∙ ap (λ e. key_number_of (referred e)) c.in-Put.is)) in
-    rw (← c.self.view_is) (told_as keys all c.args.name (referred c.in_ok-entry.entry) (PutOp c.key-key.result.now c.in-Put.value.now c.in-Put.version.now) c.in_ok-entry.ensures.entry (ap (λ e. told keys all (referred e)) c.in-Put.is ∙ (λ j. PutOp (key j) c.in-Put.value.now c.in-Put.version.now)))
+    rw (← c.self.view_is) (told_as keys all c.args.name (referred c.in_ok-entry.entry) (write c.key-key.result.now (Some c.in-Put.value.now) c.in-Put.version.now) c.in_ok-entry.ensures.entry (ap (λ e. told keys all (referred e)) c.in-Put.is ∙ (λ j. write (key j) (Some c.in-Put.value.now) c.in-Put.version.now)))
 
 pub returns-in-Put-clause-limit : goal.returns-in-Put-clause-limit
 returns-in-Put-clause-limit c = limit_at c.self.inside.keys.keys c.self.inside.entries.all c.args.name (referred c.in_ok-entry.entry) c.self.invariant.limits (sym c.in_ok-entry.ensures.entry)
@@ -24,7 +24,7 @@ returns-in-Got-clause-operation c =
     let keys = c.self.inside.keys.keys in
     let all = c.self.inside.entries.all in
     let key = sym (c.key-key.ensures ∙ ap (λ n. get_or keys n []) (c.key.ensures ∙ ap (λ e. key_number_of (referred e)) c.in-Got.is)) in
-    rw (← c.self.view_is) (told_as keys all c.args.name (referred c.in_ok-entry.entry) (GotOp c.key-key.result.now c.in-Got.value.now c.in-Got.version.now) c.in_ok-entry.ensures.entry (ap (λ e. told keys all (referred e)) c.in-Got.is ∙ (λ j. GotOp (key j) c.in-Got.value.now c.in-Got.version.now)))
+    rw (← c.self.view_is) (told_as keys all c.args.name (referred c.in_ok-entry.entry) (read c.key-key.result.now (Some c.in-Got.value.now) c.in-Got.version.now) c.in_ok-entry.ensures.entry (ap (λ e. told keys all (referred e)) c.in-Got.is ∙ (λ j. read (key j) (Some c.in-Got.value.now) c.in-Got.version.now)))
 
 pub returns-in-Got-clause-limit : goal.returns-in-Got-clause-limit
 returns-in-Got-clause-limit c = limit_at c.self.inside.keys.keys c.self.inside.entries.all c.args.name (referred c.in_ok-entry.entry) c.self.invariant.limits (sym c.in_ok-entry.ensures.entry)
@@ -35,7 +35,7 @@ returns-in-Sourced-clause-operation c =
     let all = c.self.inside.entries.all in
     let key = sym (c.key-key.ensures ∙ ap (λ n. get_or keys n []) (c.key.ensures ∙ ap (λ e. key_number_of (referred e)) c.in-Sourced.is)) in
     let value : c.in-Sourced.value.now ≡ value_put all c.in-Sourced.put.name = subst (HasValue all) c.in-Sourced.is c.in_ok-entry.ensures.value in
-    rw (← c.self.view_is) (told_as keys all c.args.name (referred c.in_ok-entry.entry) (GotOp c.key-key.result.now c.in-Sourced.value.now c.in-Sourced.version.now) c.in_ok-entry.ensures.entry (ap (λ e. told keys all (referred e)) c.in-Sourced.is ∙ (λ j. GotOp (key j) (sym value j) c.in-Sourced.version.now)))
+    rw (← c.self.view_is) (told_as keys all c.args.name (referred c.in_ok-entry.entry) (read c.key-key.result.now (Some c.in-Sourced.value.now) c.in-Sourced.version.now) c.in_ok-entry.ensures.entry (ap (λ e. told keys all (referred e)) c.in-Sourced.is ∙ (λ j. read (key j) (Some (sym value j)) c.in-Sourced.version.now)))
 
 pub returns-in-Sourced-clause-limit : goal.returns-in-Sourced-clause-limit
 returns-in-Sourced-clause-limit c = limit_at c.self.inside.keys.keys c.self.inside.entries.all c.args.name (referred c.in_ok-entry.entry) c.self.invariant.limits (sym c.in_ok-entry.ensures.entry)
@@ -45,7 +45,7 @@ returns-in-Missed-clause-operation c =
     let keys = c.self.inside.keys.keys in
     let all = c.self.inside.entries.all in
     let key = sym (c.key-key.ensures ∙ ap (λ n. get_or keys n []) (c.key.ensures ∙ ap (λ e. key_number_of (referred e)) c.in-Missed.is)) in
-    rw (← c.self.view_is) (told_as keys all c.args.name (referred c.in_ok-entry.entry) (MissedOp c.key-key.result.now) c.in_ok-entry.ensures.entry (ap (λ e. told keys all (referred e)) c.in-Missed.is ∙ (ap MissedOp key)))
+    rw (← c.self.view_is) (told_as keys all c.args.name (referred c.in_ok-entry.entry) (missed c.key-key.result.now) c.in_ok-entry.ensures.entry (ap (λ e. told keys all (referred e)) c.in-Missed.is ∙ (ap missed key)))
 
 pub returns-in-Missed-clause-limit : goal.returns-in-Missed-clause-limit
 returns-in-Missed-clause-limit c = limit_at c.self.inside.keys.keys c.self.inside.entries.all c.args.name (referred c.in_ok-entry.entry) c.self.invariant.limits (sym c.in_ok-entry.ensures.entry)

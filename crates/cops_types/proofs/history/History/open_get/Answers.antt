@@ -1,8 +1,8 @@
 use Rattle.std.proofs.Common.{Some, sym, ap, ◌∙◌}
 use Rattle.std.proofs.lemmas.Option.{slice_get-map}
 use Rattle.std.specs.Option.{option_map}
+use Rattle.cops_types.specs.Histories.{read}
 use Rattle.cops_types.specs.declared.entry.Entry.TheVariants.{Got}
-use Rattle.cops_types.specs.declared.op.Op.TheVariants.{Got as GotOp}
 use Rattle.cops_types.specs.Entries.{told}
 use Rattle.cops_types.proofs.history.History.open_get.Goals as goal
 
@@ -15,4 +15,4 @@ pub returns : goal.returns
 returns c =
     let tell = told c.self.inside.keys.keys c.self.inside.entries.all in
     let got = c.in_ok-got.got.now in
-    rw (← c.self.view_is) (ap (λ k. Some (GotOp k got.value got.version)) c.key.ensures ∙ ap (option_map tell) c.in_ok-got.ensures ∙ sym (slice_get-map tell c.self.inside.entries.gets c.args.number))
+    rw (← c.self.view_is) (ap (λ k. Some (read k (Some got.value) got.version)) c.key.ensures ∙ ap (option_map tell) c.in_ok-got.ensures ∙ sym (slice_get-map tell c.self.inside.entries.gets c.args.number))

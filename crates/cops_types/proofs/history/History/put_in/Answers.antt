@@ -1,5 +1,6 @@
 use Rattle.std.proofs.Common.{◌<◌, length, map, arith}
 use Rattle.std.proofs.lemmas.List.{length-map}
+use Rattle.cops_types.specs.Operations.{operation_of}
 use Rattle.cops_types.specs.Entries.{told, told_by}
 use Rattle.cops_types.proofs.Holding.{put_told, put_kept}
 use Rattle.cops_types.proofs.Sources.{operations_keep}
@@ -10,9 +11,9 @@ invariant_of-self c =
     let all = c.self.inside.entries.all in
     let inside : c.args.client < length all = omega (arith, rw (← c.self.view_is) at c.requires.inside, length-map all (map (told c.self.inside.keys.keys all))) in
     let made = c.entry_of-entry.ensures in
-    put_kept c.self.inside.keys c.entry_of-entry.new.keys c.self.inside.entries c.push.new.self c.self.inside.heights c.self.inside.reserved.items c.self.inside.reservations c.self.inside.len c.args.client c.entry_of-entry.result c.args.op
+    put_kept c.self.inside.keys c.entry_of-entry.new.keys c.self.inside.entries c.push.new.self c.self.inside.heights c.self.inside.reserved.items c.self.inside.reservations c.self.inside.len c.args.client c.entry_of-entry.result (operation_of c.args.op)
     inside c.self.invariant made.gains made.sound made.told c.push.ensures.all c.push.ensures.gains
-    c.take_in.new.self (c.take_in.ensures c.entry_of-entry.new.keys.keys all (told_by c.self.inside.keys.keys all) c.args.op made.told) (rw (← c.self.view_is) at c.requires.room) c.push.ensures.others
+    c.take_in.new.self (c.take_in.ensures c.entry_of-entry.new.keys.keys all (told_by c.self.inside.keys.keys all) (operation_of c.args.op) made.told) (rw (← c.self.view_is) at c.requires.room) c.push.ensures.others
     (rw (← c.self.view_is) at c.requires.session) (rw (← c.self.view_is) at c.requires.all)
 
 pub returns-clause-ok : goal.returns-clause-ok
@@ -20,7 +21,7 @@ returns-clause-ok c =
     let all = c.self.inside.entries.all in
     let inside : c.args.client < length all = omega (arith, rw (← c.self.view_is) at c.requires.inside, length-map all (map (told c.self.inside.keys.keys all))) in
     let made = c.entry_of-entry.ensures in
-    rw (← c.self.view_is) (put_told c.self.inside.keys c.entry_of-entry.new.keys c.self.inside.entries c.push.new.self c.self.inside.heights c.self.inside.reserved.items c.self.inside.reservations c.self.inside.len c.args.client c.entry_of-entry.result c.args.op
+    rw (← c.self.view_is) (put_told c.self.inside.keys c.entry_of-entry.new.keys c.self.inside.entries c.push.new.self c.self.inside.heights c.self.inside.reserved.items c.self.inside.reservations c.self.inside.len c.args.client c.entry_of-entry.result (operation_of c.args.op)
     inside c.self.invariant made.gains made.sound made.told c.push.ensures.all c.push.ensures.gains)
 
 pub returns-clause-open : goal.returns-clause-open

@@ -1,5 +1,4 @@
-use Rattle.std.proofs.Common.{◌≡◌, ◌+◌, List, [], ◌∷◌, drop, length, slice_index_or, refl, arith, ap}
-use Rattle.cops_types.specs.declared.op.Op.{Op}
+use Rattle.std.proofs.Common.{[], length, slice_index_or, arith, ap}
 use Rattle.cops_types.specs.OpRefs.{seen}
 use Rattle.cops_types.proofs.Sessioning.{left_next, left_none}
 use Rattle.cops_types.proofs.session_ref.OperationsIterator.next.Goals as goal
