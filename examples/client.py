@@ -4,13 +4,15 @@
 usage: client.py PORT < MESSAGES
 
 Each line is one of
-    hello CLIENT
+    hello CLIENT [PROFILE]
     put KEY VALUE
+    delete KEY
     get KEY
     check KEY VERSION
     status PLACE
     bye
-where VERSION is CLOCK.NODE. A key has no spaces; a value is the rest of its line, and may have some. In a value that comes back a byte
+where VERSION is CLOCK.NODE. PROFILE is the number of the format that the cluster speaks: 1, which has no deletions and stands where none
+is named, or 2. A key has no spaces; a value is the rest of its line, and may have some. In a value that comes back a byte
 that is no UTF-8 stands as \\xHH. A line that is none of these is answered on standard error, and the next one is read. The end of the
 lines ends the session, as `bye` does. docs/FORMATS.md describes the bytes.
 
@@ -26,15 +28,18 @@ from write_trace import frame, key, value, version
 
 HELLO, HELLO_OK, PUT, GET, PUT_DONE, GOT, MISSED, REFUSED = 1, 2, 3, 4, 5, 6, 7, 8
 DEP_CHECK, DEP_YES, DEP_WAIT, STATUS, STATUS_IS, BYE, BYE_OK = 10, 11, 12, 13, 14, 15, 16
+DEL, DELETED, GONE = 22, 23, 24
 MAX_BODY = 32_768
 
 ENDED = "the session has ended"
 NO_FRONT_DOOR = "what answers there is no front door of cops serve"
+VERSIONED = {PUT_DONE: "done", DELETED: "deleted", GONE: "gone"}
 REPLIES = {MISSED: "missed", DEP_YES: "yes", DEP_WAIT: "wait", BYE_OK: "bye"}
 
 USAGES = {
-    "hello": "hello CLIENT",
+    "hello": "hello CLIENT [PROFILE]",
     "put": "put KEY VALUE",
+    "delete": "delete KEY",
     "get": "get KEY",
     "check": "check KEY VERSION",
     "status": "status PLACE",
@@ -83,18 +88,28 @@ def checked(text):
     return text
 
 
+def counts_of(kind):
+    """How many words may stand behind a message's name: those in brackets may be missing."""
+    words = USAGES[kind].split()[1:]
+    return range(sum(not word.startswith("[") for word in words), len(words) + 1)
+
+
 def message(words, number):
     """The frame of one line's message, with this number of the asker's."""
     kind, *rest = words
     if kind not in USAGES:
         raise NotAMessage(f"there is no message {kind!a}: the messages are {', '.join(USAGES.values())}")
-    if len(rest) != len(USAGES[kind].split()) - 1:
+    if len(rest) not in counts_of(kind):
         raise NotAMessage(f"the message is written {USAGES[kind]}")
     seq = struct.pack(">I", number)
     if kind == "hello":
-        return frame(HELLO, struct.pack(">HH", 1, whole(rest[0], 65535, "a client")))
+        client = whole(rest[0], 65535, "a client")
+        profile = whole(rest[1], 65535, "a profile") if rest[1:] else 1
+        return frame(HELLO, struct.pack(">HH", profile, client))
     if kind == "put":
         return frame(PUT, seq + key(sized(rest[0], 1, 64, "a key")) + value(sized(rest[1], 0, 4096, "a value")))
+    if kind == "delete":
+        return frame(DEL, seq + key(sized(rest[0], 1, 64, "a key")))
     if kind == "get":
         return frame(GET, seq + key(sized(rest[0], 1, 64, "a key")))
     if kind == "check":
@@ -114,8 +129,8 @@ def reply_text(body):
     kind, fields = body[0], body[5:]
     if kind == HELLO_OK:
         return f"hello from data centre {body[1]}, {body[2]} nodes"
-    if kind == PUT_DONE:
-        return f"done {version_text(fields)}"
+    if kind in VERSIONED:
+        return f"{VERSIONED[kind]} {version_text(fields)}"
     if kind == GOT:
         length = struct.unpack(">H", fields[:2])[0]
         return f"got {fields[2:2 + length].decode(errors='backslashreplace')} {version_text(fields[2 + length:])}"

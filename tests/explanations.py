@@ -44,7 +44,25 @@ PLACES = [
         "clients 2\n0 put x 1 1.0\n1 put x 2 2.1\n0 got x 2 2.1\n0 put y 3 3.0\n1 got y 3 3.0\n1 got x 1 1.0\n",
         "look at: (1,2), which returned an older put; the newer put (1,0) is its client's own",
     ),
+    # (a deletion is the newer put, its client's own or another's, and a get found an older deletion)
+    ("clients 1 format 2\n0 put x 1 1.0\n0 del x 2.0\n0 got x 1 1.0\n", "look at: (0,2), which returned an older put; the newer put (0,1) is its client's own"),
+    ("clients 1 format 2\n0 del x 1.0\n0 missed x\n", "look at: (0,1), which returned nothing; the newer put (0,0) is its client's own"),
+    (
+        "clients 2 format 2\n0 put x 1 1.0\n0 del x 2.0\n1 gone x 2.0\n1 got x 1 1.0\n",
+        "look at: (1,1), which returned an older put; its client knew of the newer put by (1,0)",
+    ),
+    (
+        "clients 2 format 2\n0 del x 1.0\n0 put x 2 2.0\n1 got x 2 2.0\n1 gone x 1.0\n",
+        "look at: (1,1), which returned an older deletion; its client knew of the newer put by (1,0)",
+    ),
+    (
+        "clients 2 format 2\n0 del x 1.0\n0 del x 2.0\n1 gone x 2.0\n1 gone x 1.0\n",
+        "look at: (1,1), which returned an older deletion; its client knew of the newer put by (1,0)",
+    ),
 ]
+
+# The same with a deletion in place of the newer photo, as its paragraph tells it.
+DELETED_PHOTO = PHOTO.replace("clients 3", "clients 3 format 2").replace("put photo new", "del photo").replace("got photo new", "gone photo")
 
 
 def explained(data, *words):
@@ -73,14 +91,17 @@ client 2 got photo=old at 1.0, though it had to know of the newer put (0,1)
 should have returned: (0,1) client 0 put photo=new at 2.0, or a newer put
 look at: (2,1), which returned an older put; its client knew of the newer put by (2,0)
 """.split("\n")
-    status, lines = explained(lines_of(PHOTO))
-    check("the whole paragraph", (status, lines[: len(wanted) - 1], len(lines)), ((1, b""), wanted[:-1], len(wanted) + 2))
+    of_deletion = [line.replace("client 0 put photo=new", "client 0 deleted photo").replace("got photo=new", "found a deletion of photo") for line in wanted]
+    for name, text, told in (("the whole paragraph", PHOTO, wanted), ("the whole paragraph of a deletion", DELETED_PHOTO, of_deletion)):
+        status, lines = explained(lines_of(text))
+        check(name, (status, lines[: len(told) - 1], len(lines)), ((1, b""), told[:-1], len(told) + 2))
 
 
 def place_of(paragraph):
     """Where to look by the chain that stands in a paragraph."""
     op = re.search(r"stale (\(\d+,\d+\))", paragraph)[1]
-    returned = "nothing" if re.search(r"client \d+ got nothing at [^\n]*, though it", paragraph) else "an older put"
+    found = re.search(r"client \d+ (got nothing at|found a deletion of|got) [^\n]*, though it", paragraph)[1]
+    returned = {"got nothing at": "nothing", "found a deletion of": "an older deletion", "got": "an older put"}[found]
     chain = re.findall(r"^(\((\d+),\d+\)) client", paragraph, re.MULTILINE)
     by = chain[0][0]
     for (_, before), (name, client) in zip(chain, chain[1:]):
@@ -90,26 +111,29 @@ def place_of(paragraph):
 
 
 def generated(seed):
-    """A trace in which gets return what any earlier put of their key had put, or nothing: many are stale, and no other class has a fault."""
-    pick = random.Random(seed)
-    clients, clock, puts, known, lines = pick.randrange(1, 6), 0, {}, {}, []
+    """A trace in which gets return what any earlier put of their key had put, or nothing: many are stale, and no other class has a fault. In every second
+    one, of format 2, a third of the puts are deletions."""
+    pick, number = random.Random(seed), 1 + seed % 2
+    clients, clock, puts, known, deleted, lines = pick.randrange(1, 6), 0, {}, {}, set(), []
     for _ in range(60):
         client, key = pick.randrange(clients), pick.choice("xyz")
         if pick.random() < 0.4:
             clock += 1
             puts.setdefault(key, []).append(clock)
-            lines.append(f"{client} put {key} {clock} {clock}.{client}")
             known[clock] = client
+            if number == 2 and pick.random() < 0.33:
+                deleted.add(clock)
+            lines.append(f"{client} del {key} {clock}.{client}" if clock in deleted else f"{client} put {key} {clock} {clock}.{client}")
         elif key in puts and pick.random() < 0.9:
             of = pick.choice(puts[key][-3:])
-            lines.append(f"{client} got {key} {of} {of}.{known[of]}")
+            lines.append(f"{client} gone {key} {of}.{known[of]}" if of in deleted else f"{client} got {key} {of} {of}.{known[of]}")
         else:
             lines.append(f"{client} missed {key}")
-    return trace([f"clients {clients}", *lines])
+    return trace([f"clients {clients} format {number}", *lines])
 
 
 def generated_places():
-    stale = 0
+    stale = older_deletions = 0
     for seed in range(40):
         status, lines = explained(generated(seed), "--all")
         paragraphs = ("\n".join(lines)).split("\n\n")[1:]
@@ -118,7 +142,9 @@ def generated_places():
             check(f"where to look, generated {seed} {op}", re.findall(r"^look at: .*$", paragraph, re.MULTILINE), [place])
         check(f"no class comes after stale gets, {seed}", "not looked for" in "\n".join(lines), False)
         stale += len(paragraphs)
+        older_deletions += sum("returned an older deletion" in paragraph for paragraph in paragraphs)
     check("there are stale gets", stale > 100, True)
+    check("some of them found an older deletion", older_deletions > 20, True)
 
 
 def later_classes():
@@ -129,7 +155,7 @@ def later_classes():
             check(f"{name} {words}: what was not looked for", (status, lines[-3:]), ((1, b""), ["", line, ""]))
             check(f"{name} {words}: it is said once", sum("not looked for" in it for it in lines), 1)
     for words in ([], ["--all"], ["--fault", "9"]):
-        for data in (example("stale.trace"), example("stale_missed.trace")):
+        for data in (example("stale.trace"), example("stale_missed.trace"), example("stale_deleted.trace")):
             check(f"a stale get {words}", "not looked for" in "\n".join(explained(data, *words)[1]), False)
     check("an accepted trace", explained(example("put_and_get.trace")), ((0, b""), ["accepted: 2 operations, 1 puts", ""]))
     check("no trace", explained(example("stale.trace")[:-1]), ((2, b""), ["faulty: cut at 129", ""]))
@@ -143,6 +169,8 @@ def counts():
         ("clients 1\n0 put y 1 1.0\n0 put y 1 1.0\n", "refused: 2 operations, 2 puts, 2 faults"),
     ):
         check(f"first line: {line}", explained(lines_of(text))[1][0], line)
+    text = "clients 1 format 2\n0 del x 1.0\n0 gone x 2.0\n"
+    check("first line: a deletion is a put", explained(lines_of(text))[1][0], "refused: 2 operations, 1 put, 1 fault")
     many = "clients 1\n0 put x 1 1.0\n" + "0 missed x\n" * 22
     check("more than the first", explained(lines_of(many))[1][-2], "and 2 more: --all explains every fault, --fault N the fault of that number")
     check("no such fault", explained(lines_of(many), "--fault", "23")[1], ["refused: 23 operations, 1 put, 22 faults", "", "there is no fault 23", ""])

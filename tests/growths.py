@@ -54,10 +54,13 @@ def works():
         explained = file.read()
     program = os.path.join(ROOT, "crates", "cops", "out", "cops")
     own = [os.path.join(WORKS, "out", "cops_works"), "growths", example("newer_put_elsewhere.json"), data("events.lines"), example("stale.trace"), data("stale.lines")]
+    # (what is said of the stale get is the same where the newer put is a deletion)
+    deletions = [*own[:2], example("deleted_elsewhere.json"), data("deleted.lines"), example("stale_deleted.trace"), data("stale.lines")]
     imported = b"client 0 writer\nclient 1 reader\nimported: 2 operations, 2 clients\n"
     ran = b"client 0 done\nclient 1 done\naccepted: 4 operations, 2 puts\n"
     return [
         Work("works", own, (0, b"as wanted\n"), (1,)),
+        Work("works with deletions", deletions, (0, b"as wanted\n"), (1,)),
         Work("audit", [program, "audit", example("stale.trace")], (1, report)),
         Work("audit by two workers", [program, "audit", example("stale.trace"), "--workers", "2"], (1, report)),
         Work("audit so far", [program, "audit", example("stale.trace"), "--so-far"], (1, report)),

@@ -6,15 +6,24 @@ the operations as they come, so that the two have nothing in common but the defi
 import glob
 import os
 import random
+import re
 from collections import Counter, namedtuple
 from concurrent.futures import ThreadPoolExecutor
 
 from traces import ROOT, check, cops, row, status_of, trace
+from write_trace import TRACE_END, frame
 
+# A deletion is a put without a value, and a get that found one returned none.
 Operation = namedtuple("Operation", "kind key value version")
-HISTORIES = 2000
+PUTS, GETS = ("put", "del"), ("got", "gone")
+HISTORIES = 4000
+CUTS = 400
+FORMATS = (1, 2)
 WORKERS = ("1", "2", "3", "64")
 LEAST_OF_A_KIND = 20
+
+# The end of a trace has as many bytes whatever it counts.
+TRACE_ENDED = frame(TRACE_END, bytes(4))
 
 
 def history_of(lines):
@@ -22,26 +31,26 @@ def history_of(lines):
     words = [line.split() for line in lines if line.strip() and not line.startswith("#")]
     history, lengths = {}, Counter()
     for client, kind, key, *rest in words[1:]:
-        value, version = rest if rest else (None, None)
-        number = tuple(map(int, version.split("."))) if version else None
-        history[int(client), lengths[client]] = Operation(kind, key, value, number)
+        value = rest[0] if len(rest) == 2 else None
+        version = tuple(map(int, rest[-1].split("."))) if rest else None
+        history[int(client), lengths[client]] = Operation(kind, key, value, version)
         lengths[client] += 1
     return history
 
 
-def of_kind(history, kind):
-    return [name for name in sorted(history) if history[name].kind == kind]
+def of_kind(history, *kinds):
+    return [name for name in sorted(history) if history[name].kind in kinds]
 
 
 def sources(history, get):
-    """The puts that have the key, the value and the version that a get returned."""
-    return [put for put in of_kind(history, "put") if history[put][1:] == history[get][1:]]
+    """The puts that have the key, the value or none, and the version that a get returned."""
+    return [put for put in of_kind(history, *PUTS) if history[put][1:] == history[get][1:]]
 
 
 def steps(history):
     """The pairs of names of which the second is a session step or a source step on from the first."""
     session = {(a, b) for a in history for b in history if a[0] == b[0] and a[1] < b[1]}
-    return session | {(put, get) for get in of_kind(history, "got") for put in sources(history, get)}
+    return session | {(put, get) for get in of_kind(history, *GETS) for put in sources(history, get)}
 
 
 def closure(pairs):
@@ -54,18 +63,18 @@ def closure(pairs):
 
 
 def doubled(history):
-    puts = of_kind(history, "put")
+    puts = of_kind(history, *PUTS)
     return [a for a in puts if any(a != b and history[a].version == history[b].version for b in puts)]
 
 
 def without_source(history):
-    return [get for get in of_kind(history, "got") if not sources(history, get)]
+    return [get for get in of_kind(history, *GETS) if not sources(history, get)]
 
 
 def not_above(history):
     """Each put that is not above an earlier put or get of its session, with the first of these."""
     found = []
-    for put in of_kind(history, "put"):
+    for put in of_kind(history, *PUTS):
         before = [a for a in sorted(history) if a[0] == put[0] and a[1] < put[1] and history[a].kind != "missed"]
         higher = [a for a in before if not history[a].version < history[put].version]
         found += [(put, higher[0])] if higher else []
@@ -75,8 +84,8 @@ def not_above(history):
 def stale(history):
     """Each get that has in its past a put on its key that is newer than what it returned, with the newest of these."""
     past, found = closure(steps(history)), []
-    for get in sorted(of_kind(history, "got") + of_kind(history, "missed")):
-        known = [put for put in of_kind(history, "put") if (put, get) in past and history[put].key == history[get].key]
+    for get in of_kind(history, *GETS, "missed"):
+        known = [put for put in of_kind(history, *PUTS) if (put, get) in past and history[put].key == history[get].key]
         newer = [put for put in known if history[get].kind == "missed" or history[put].version > history[get].version]
         found += [(get, max(newer, key=lambda put: history[put].version))] if newer else []
     return found
@@ -93,7 +102,7 @@ def chain(history, first, last):
 def converges(history):
     """Whether the past is a causal order that explains each get, with the version order as the arbitration."""
     past = closure(steps(history))
-    puts = sorted(of_kind(history, "put"), key=lambda put: history[put].version)
+    puts = sorted(of_kind(history, *PUTS), key=lambda put: history[put].version)
     if any(a == b for a, b in past) or any((b, a) in past for at, a in enumerate(puts) for b in puts[at:]):
         return False
 
@@ -103,7 +112,7 @@ def converges(history):
             return not known
         return any(all(puts.index(put) <= puts.index(source) for put in known) for source in sources(history, get))
 
-    return all(explained(name) for name in history if history[name].kind != "put")
+    return all(explained(name) for name in history if history[name].kind not in PUTS)
 
 
 def name_text(name):
@@ -142,10 +151,19 @@ def fault_lines(history):
 
 def report(history):
     """The text of the audit of a history."""
-    faults, size = fault_lines(history), f"{len(history)} operations, {len(of_kind(history, 'put'))} puts"
+    faults, size = fault_lines(history), f"{len(history)} operations, {len(of_kind(history, *PUTS))} puts"
     if not faults:
         return f"accepted: {size}\n"
     return "".join(line + "\n" for line in [f"refused: {size}, {len(faults)} faults", *faults])
+
+
+def said_so_far(history):
+    """What is said of the records of a trace that is cut: only a get whose version no put bears may be mended by what follows."""
+    versions = [history[put].version for put in of_kind(history, *PUTS)]
+    waiting = [get for get in without_source(history) if history[get].version not in versions]
+    if doubled(history) or not_above(history) or stale(history) or len(waiting) < len(without_source(history)):
+        return "refused"
+    return f"waiting {len(waiting)}" if waiting else "clean"
 
 
 def kind_of(text):
@@ -156,59 +174,110 @@ def kind_of(text):
     return "stale, returned nothing" if " returned nothing, " in line else line.split(" (")[0]
 
 
+def tells_of_deletions(history, text):
+    """Whether an accepted history has a get that found a deletion, or a fault's line names a deletion or such a get before its chain."""
+    if text.startswith("accepted: "):
+        return bool(of_kind(history, "gone"))
+    named = "".join(line.split(", chain ")[0] for line in text.split("\n")[1:])
+    names = [tuple(map(int, found)) for found in re.findall(r"\((\d+),(\d+)\)", named)]
+    return any(history[name].kind in ("del", "gone") for name in names)
+
+
 KINDS = ("accepted", "doubled", "no source", "not above", "stale", "stale, returned nothing")
 
 
-def some_put(pick, time):
-    """Mostly at a version above all that were given."""
-    clock = pick.randint(1, 8) if pick.random() < 0.08 else time
-    return "put", pick.choice("xy"), str(pick.randrange(2)), f"{clock}.{pick.choice((0, 1, 64))}"
+def some_put(pick, time, number):
+    """A put, or a third of the time where the format has deletions a deletion; mostly at a version above all that were given."""
+    clock = pick.randint(1, 8) if pick.random() < 0.12 else time
+    key, version = pick.choice("xy"), f"{clock}.{pick.choice((0, 1, 64))}"
+    if number == 2 and pick.random() < 0.33:
+        return "del", key, version
+    return "put", key, str(pick.randrange(2)), version
 
 
-def some_operation(pick, puts, time):
-    """A put, or a get: mostly of what was put, half of these of the newest, and rarely of any key and value."""
+def get_of(put):
+    """The get that returned what was put, or found that deletion."""
+    return "gone" if put[0] == "del" else "got", *put[1:]
+
+
+def some_operation(pick, puts, time, number):
+    """A put or a deletion, or a get: mostly of what was put, half of these of the newest, and rarely of any key and value or deletion."""
     dice = pick.random()
     if dice < 0.4 or not puts:
-        puts.append(some_put(pick, time))
+        puts.append(some_put(pick, time, number))
         return puts[-1]
     if dice < 0.48:
         return "missed", pick.choice("xyz")
     seen = puts[-1] if pick.random() < 0.5 else pick.choice(puts)
     if dice < 0.52:
-        return "got", pick.choice("xy"), str(pick.randrange(2)), pick.choice((seen[3], "9.0"))
-    return "got", *seen[1:]
+        key, version = pick.choice("xy"), pick.choice((seen[-1], "9.0"))
+        return ("gone", key, version) if number == 2 and pick.random() < 0.5 else ("got", key, str(pick.randrange(2)), version)
+    return get_of(seen)
 
 
-def some_lines(seed):
-    """The lines of a history of at most four clients and twelve operations, its sessions mixed anyhow."""
+def some_lines(seed, number):
+    """The lines of a history of a format, of at most four clients and twelve operations, its sessions mixed anyhow."""
     pick = random.Random(seed)
     clients, puts = pick.randint(1, 4), []
     sessions = [[] for _ in range(clients)]
     for time in range(1, 1 + pick.randrange(13)):
-        pick.choice(sessions).append(some_operation(pick, puts, time))
+        pick.choice(sessions).append(some_operation(pick, puts, time, number))
     order = [client for client, session in enumerate(sessions) for _ in session]
     pick.shuffle(order)
-    return [f"clients {clients}"] + [" ".join([str(client), *sessions[client].pop(0)]) for client in order]
+    return [f"clients {clients} format {number}"] + [" ".join([str(client), *sessions[client].pop(0)]) for client in order]
+
+
+def format_of(seed):
+    """Histories of the formats come in turn."""
+    return FORMATS[seed % len(FORMATS)]
 
 
 def random_histories():
-    """The program says of many small histories what the plain auditor says, and each kind of verdict comes often."""
-    met, made = Counter(), [some_lines(seed) for seed in range(HISTORIES)]
+    """The program says of many small histories what the plain auditor says, and each kind of verdict comes often, also of deletions."""
+    met, made = Counter(), [some_lines(seed, format_of(seed)) for seed in range(HISTORIES)]
 
     def audited(seed):
-        return cops("audit", "-", "--workers", WORKERS[seed % len(WORKERS)], stdin=trace(made[seed]))
+        workers = WORKERS[seed // len(FORMATS) % len(WORKERS)]
+        return cops("audit", "-", "--workers", workers, stdin=trace(made[seed]))
 
     with ThreadPoolExecutor(os.cpu_count() or 2) as pool:
         answers = list(pool.map(audited, range(HISTORIES)))
     for seed, (lines, answer) in enumerate(zip(made, answers)):
         history = history_of(lines)
         text = report(history)
-        met[kind_of(text)] += 1
+        met[format_of(seed), kind_of(text)] += 1
+        met["of deletions", kind_of(text)] += tells_of_deletions(history, text)
         check(f"a small history, {seed}", answer, (status_of(text), text.encode(), b""))
         wanted = not doubled(history) and converges(history)
         check(f"its verdict by the definition, {seed}", kind_of(text) == "accepted", wanted)
-    for kind in KINDS:
-        check(f"small histories that are {kind}: {met[kind]}", met[kind] >= LEAST_OF_A_KIND, True)
+    for which in (*FORMATS, "of deletions"):
+        for kind in KINDS:
+            check(f"small histories that are {kind}, {which}: {met[which, kind]}", met[which, kind] >= LEAST_OF_A_KIND, True)
+
+
+def cut_anywhere(seed):
+    """The front of the text of a small history, where the last whole record in it ends, and the lines up to that."""
+    lines = some_lines(seed, format_of(seed))
+    text = trace(lines)
+    length = random.Random(seed).randrange(len(text))
+    ends = [0] + [len(trace(lines[:count])) - len(TRACE_ENDED) for count in range(1, len(lines) + 1)]
+    whole = max(count for count, end in enumerate(ends) if end <= length)
+    return text[:length], ends[whole], lines[:whole]
+
+
+def random_cuts():
+    """The program says so far of many small histories that are cut anywhere what the plain auditor says, and all that it may say comes."""
+    met, made = Counter(), [cut_anywhere(seed) for seed in range(CUTS)]
+    with ThreadPoolExecutor(os.cpu_count() or 2) as pool:
+        answers = list(pool.map(lambda cut: cops("audit", "-", "--so-far", stdin=cut[0]), made))
+    for seed, ((_, end, lines), answer) in enumerate(zip(made, answers)):
+        said = said_so_far(history_of(lines))
+        met[format_of(seed), said.split()[0]] += 1
+        wanted = (1 if said == "refused" else 0, f"cut at {end}\nso far: {said}\n".encode(), b"")
+        check(f"a small history that is cut, {seed}", answer, wanted)
+    for number in FORMATS:
+        for said in ("clean", "waiting", "refused"):
+            check(f"small histories that are so far {said}, format {number}: {met[number, said]}", met[number, said] > 0, True)
 
 
 def rows():

@@ -11,9 +11,10 @@ from concurrent.futures import ThreadPoolExecutor
 
 from traces import check, ran, trace
 
-WORLDS, EVENTS, LEAST_OF_A_KIND = 300, 200, 20
+WORLDS, EVENTS, LEAST_OF_A_KIND = 2000, 200, 20
 MOST_PAIRS = 256
 NO_CLIENT, NO_DATA_CENTRE, NEVER_SENT, NOT_HELD, NO_SUCH_DEP, NOT_ASKED, DEPS_OPEN, CONTEXT_FULL = 3, 10, 4, 5, 6, 7, 8, 2
+FORMATS = (1, 2)
 
 
 class Node:
@@ -31,13 +32,18 @@ class Node:
 
 
 class World:
-    """All nodes, the issued puts, the answers yes, and of each client its data centre, its context and what it saw."""
+    """The format, all nodes, the issued puts and deletions, the answers yes, and of each client its data centre, its context and what it saw.
+    A deletion is a put whose value is None."""
 
-    def __init__(self, data_centres, splits, homes):
-        self.data_centres, self.splits, self.homes = data_centres, [split.encode() for split in splits], homes
+    def __init__(self, data_centres, splits, homes, number=1):
+        self.format, self.data_centres, self.splits, self.homes = number, data_centres, [split.encode() for split in splits], homes
         self.nodes = defaultdict(Node)
         self.issued, self.values, self.yes = {}, {}, set()
-        self.contexts, self.seen = [[] for _ in homes], [f"clients {len(homes)}"]
+        self.contexts, self.seen = [[] for _ in homes], [f"clients {len(homes)} format {number}"]
+
+    def answer(self, name, of):
+        """The outcome of an event of this name."""
+        return getattr(self, "delete" if name == "del" else name)(*of)
 
     def number(self, dc, key):
         return 64 * dc + sum(split <= key.encode() for split in self.splits)
@@ -46,10 +52,16 @@ class World:
         return self.nodes[self.number(dc, key)]
 
     def saw(self, client, kind, key, version=None):
-        rest = [self.values[version], text_of(version)] if version else []
-        self.seen.append(" ".join([str(client), kind, key, *rest]))
+        value = [self.values[version]] if version and self.values[version] is not None else []
+        self.seen.append(" ".join([str(client), kind, key, *value, *([text_of(version)] if version else [])]))
 
     def put(self, client, key, value):
+        return self.write(client, key, value, "put", "done")
+
+    def delete(self, client, key):
+        return self.write(client, key, None, "del", "deleted")
+
+    def write(self, client, key, value, kind, told):
         if client >= len(self.homes):
             return f"refused {NO_CLIENT}"
         number, deps = self.number(self.homes[client], key), self.contexts[client]
@@ -58,8 +70,8 @@ class World:
         self.issued[version], self.values[version] = (key, deps), value
         node.settle(key, version)
         self.contexts[client] = [(key, version)]
-        self.saw(client, "put", key, version)
-        return f"done {text_of(version)}"
+        self.saw(client, kind, key, version)
+        return f"{told} {text_of(version)}"
 
     def get(self, client, key):
         if client >= len(self.homes):
@@ -67,12 +79,13 @@ class World:
         if len(self.contexts[client]) == MOST_PAIRS:
             return f"refused {CONTEXT_FULL}"
         version = self.node(self.homes[client], key).shown(key)
-        self.saw(client, "got" if version else "missed", key, version)
+        kind = "missed" if not version else "gone" if self.values[version] is None else "got"
+        self.saw(client, kind, key, version)
         if not version:
-            return "missed"
+            return kind
         if (key, version) not in self.contexts[client]:
             self.contexts[client] = [*self.contexts[client], (key, version)]
-        return f"got {text_of(version)}"
+        return f"{kind} {text_of(version)}"
 
     def deliver(self, dc, version):
         if dc >= self.data_centres:
@@ -139,7 +152,8 @@ def some_event(pick, world, keys):
     held = [(number // 64, version) for number, node in world.nodes.items() for version in node.held]
     dice = pick.random()
     if dice < 0.15:
-        return "put", client, key, f"v{len(world.issued)}"
+        deletes = world.format == 2 and pick.random() < 0.4
+        return ("del", client, key) if deletes else ("put", client, key, f"v{len(world.issued)}")
     if dice < 0.35:
         return "get", client, key
     if dice < 0.5 or not held:
@@ -157,30 +171,33 @@ def some_event(pick, world, keys):
 
 
 def some_world(seed):
-    """A scenario of random events, the lines that it is to print, and what its clients saw."""
+    """A scenario of random events of a format, the lines that it is to print, and what its clients saw."""
     pick = random.Random(seed)
     data_centres, splits = pick.randint(1, 4), sorted(pick.sample(["b", "k2", "m", "é"], pick.randrange(4)))
-    world = World(data_centres, splits, [pick.randrange(data_centres) for _ in range(pick.randint(1, 6))])
+    world = World(data_centres, splits, [pick.randrange(data_centres) for _ in range(pick.randint(1, 6))], FORMATS[seed % len(FORMATS)])
     keys, events, outcomes = ["a", "b", "k1", "k2", "z", "éa"], [], []
     for _ in range(EVENTS):
         name, *of = some_event(pick, world, keys)
-        outcomes.append(getattr(world, name)(*of))
+        outcomes.append(world.answer(name, of))
         events.append({name: [text_of(it) if isinstance(it, tuple) else it for it in of]})
     return scenario_of(world, events), outcomes, world.seen
 
 
 def scenario_of(world, events):
+    """The scenario file. It names its format; of format 1, which stands where none is named, only where the clients are odd in number."""
     splits = [split.decode() for split in world.splits]
     clients = [{"at": home} for home in world.homes]
-    return json.dumps({"data_centres": world.data_centres, "splits": splits, "clients": clients, "events": events}).encode()
+    named = {"format": world.format} if world.format == 2 or len(world.homes) % 2 else {}
+    return json.dumps({**named, "data_centres": world.data_centres, "splits": splits, "clients": clients, "events": events}).encode()
 
 
-def full_context():
-    """One client puts 300 keys, and another gets them: at 256 pairs its gets are refused, and it may put."""
-    world, events = World(1, [], [0, 0]), []
-    events += [{"put": [0, f"k{n}", "1"]} for n in range(300)] + [{"get": [1, f"k{n}"]} for n in range(300)]
+def full_context(number):
+    """One client puts 300 keys, and in format 2 deletes every third; another gets them: at 256 pairs its gets are refused, and it may put."""
+    world, events = World(1, [], [0, 0], number), []
+    writes = [{"del": [0, f"k{n}"]} if number == 2 and n % 3 == 0 else {"put": [0, f"k{n}", "1"]} for n in range(300)]
+    events += writes + [{"get": [1, f"k{n}"]} for n in range(300)]
     events += [{"put": [1, "k0", "2"]}, {"get": [1, "k299"]}]
-    outcomes = [getattr(world, name)(*of) for event in events for name, of in event.items()]
+    outcomes = [world.answer(name, of) for event in events for name, of in event.items()]
     return scenario_of(world, events), outcomes, world.seen
 
 
@@ -190,17 +207,17 @@ def kind_of(outcome):
 
 def random_worlds():
     """The program prints of many lists of random events what the plain cluster answers, and records what its clients saw."""
-    made, met = [full_context(), *map(some_world, range(WORLDS))], Counter()
+    made, met = [*map(full_context, FORMATS), *map(some_world, range(WORLDS))], Counter()
     with ThreadPoolExecutor(os.cpu_count() or 2) as pool:
         answers = list(pool.map(ran, (scenario for scenario, _, _ in made)))
     for seed, ((_, outcomes, seen), (answer, recorded)) in enumerate(zip(made, answers)):
-        puts = sum(line.split()[1] == "put" for line in seen[1:])
+        puts = sum(line.split()[1] in ("put", "del") for line in seen[1:])
         report = f"accepted: {len(seen) - 1} operations, {puts} puts\n"
         lines = "".join(f"{n} {outcome}\n" for n, outcome in enumerate(outcomes)) + report
         check(f"a small world, {seed}", answer, (0, lines.encode(), b""))
         check(f"its trace, {seed}", recorded, trace(seen))
         met.update(map(kind_of, outcomes))
     refusals = (NO_CLIENT, NO_DATA_CENTRE, NEVER_SENT, NOT_HELD, NO_SUCH_DEP, NOT_ASKED, DEPS_OPEN, CONTEXT_FULL)
-    kinds = ["done", "got", "missed", "held", "repeat", "yes", "wait", "marked", "settled", *(f"refused {code}" for code in refusals)]
+    kinds = ["done", "deleted", "got", "gone", "missed", "held", "repeat", "yes", "wait", "marked", "settled", *(f"refused {code}" for code in refusals)]
     for kind in kinds:
         check(f"outcomes that are {kind}: {met[kind]}", met[kind] >= LEAST_OF_A_KIND, True)

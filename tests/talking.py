@@ -15,23 +15,28 @@ from traces import ROOT, check, ended  # noqa: E402
 
 CLIENT = os.path.join(ROOT, "examples", "client.py")
 SCENARIO = b'{"data_centres":1,"clients":[{"at":0}]}'
+WITH_DELETIONS = b'{"format":2,"data_centres":1,"clients":[{"at":0}]}'
 USAGE = b"client: usage: client.py PORT < MESSAGES, with a port of 1 to 65535\n"
 
 # For how many seconds a test waits.
 PATIENCE = 60
 
+MESSAGES = b"hello CLIENT [PROFILE], put KEY VALUE, delete KEY, get KEY, check KEY VERSION, status PLACE, bye"
+
 # Lines that are no messages, and what is said of each.
 WRONG = [
-    (b"foo", b"there is no message 'foo': the messages are hello CLIENT, put KEY VALUE, get KEY, check KEY VERSION, status PLACE, bye"),
-    (b"\xff", b"there is no message '\\udcff': the messages are hello CLIENT, put KEY VALUE, get KEY, check KEY VERSION, status PLACE, bye"),
-    (b"PUT x 1", b"there is no message 'PUT': the messages are hello CLIENT, put KEY VALUE, get KEY, check KEY VERSION, status PLACE, bye"),
-    (b"hello", b"the message is written hello CLIENT"),
-    (b"hello 0 1", b"the message is written hello CLIENT"),
+    (b"foo", b"there is no message 'foo': the messages are " + MESSAGES),
+    (b"\xff", b"there is no message '\\udcff': the messages are " + MESSAGES),
+    (b"PUT x 1", b"there is no message 'PUT': the messages are " + MESSAGES),
+    (b"hello", b"the message is written hello CLIENT [PROFILE]"),
+    (b"hello 0 1 2", b"the message is written hello CLIENT [PROFILE]"),
     (b"hello x", b"a client is a whole number of at most 65535"),
     (b"hello -1", b"a client is a whole number of at most 65535"),
     (b"hello 65536", b"a client is a whole number of at most 65535"),
     (b"hello " + b"9" * 5000, b"a client is a whole number of at most 65535"),
     ("hello ١".encode(), b"a client is a whole number of at most 65535"),
+    (b"hello 0 x", b"a profile is a whole number of at most 65535"),
+    (b"hello 0 65536", b"a profile is a whole number of at most 65535"),
     (b"put", b"the message is written put KEY VALUE"),
     (b"put x", b"the message is written put KEY VALUE"),
     (b"put x ", b"the message is written put KEY VALUE"),
@@ -39,6 +44,10 @@ WRONG = [
     (b"put x " + b"v" * 4097, b"a value has 0 to 4096 bytes"),
     (b"put x \xff", b"a value is UTF-8"),
     (b"put \xff 1", b"a key is UTF-8"),
+    (b"delete", b"the message is written delete KEY"),
+    (b"delete a b", b"the message is written delete KEY"),
+    (b"delete " + b"k" * 65, b"a key has 1 to 64 bytes"),
+    (b"del x", b"there is no message 'del': the messages are " + MESSAGES),
     (b"get", b"the message is written get KEY"),
     (b"get a b", b"the message is written get KEY"),
     (b"get " + "ü".encode() * 33, b"a key has 1 to 64 bytes"),
@@ -73,11 +82,11 @@ def client(*words, typed=b"", stdin=None, stdout=subprocess.PIPE):
 class Server:
     """A `cops serve` of so many sessions."""
 
-    def __init__(self, sessions):
+    def __init__(self, sessions, scenario=SCENARIO):
         self.port = str(free_port())
         command = [os.path.join(ROOT, "cops"), "serve", self.port, "-", "--sessions", str(sessions)]
         self.process = subprocess.Popen(command, stdin=subprocess.PIPE, stdout=subprocess.PIPE, stderr=subprocess.PIPE)
-        self.process.stdin.write(SCENARIO)
+        self.process.stdin.write(scenario)
         self.process.stdin.close()
 
     def client(self, typed, **more):
@@ -115,6 +124,26 @@ def sessions():
     check("the report", server.ended(), (0, b"accepted: 10 operations, 5 puts\n", b""))
 
 
+def deletions():
+    """A cluster of format 2 has deletions, and one of format 1 ends a session in which one is sent, as format 2 does before its greeting."""
+    server = Server(4, WITH_DELETIONS)
+    typed = b"hello 0\nhello 0 2\nput x 1\ndelete x\nget x\nput x \ndelete y\nget y\nget z\ncheck x 2.0\nbye\n"
+    told = b"refused 17\nhello from data centre 0, 1 nodes\ndone 1.0\ndeleted 2.0\ngone 2.0\ndeleted 3.0\ngone 3.0\nmissed\nyes\nbye\n"
+    wrong = b"client: line 6: the message is written put KEY VALUE\n"
+    check("a session with deletions", server.client(typed), (1, told, wrong))
+    check("a deletion before a greeting", server.client(b"delete x\nget x\n")[1:], (b"the session has ended\n", b""))
+    check("a deletion behind a refused greeting", server.client(b"hello 0 1\ndelete x\n")[1:], (b"refused 17\nthe session has ended\n", b""))
+    typed = b"hello 0 2\nput y 2\nget y\nget x\nbye\n"
+    told = b"hello from data centre 0, 1 nodes\ndone 4.0\ngot 2 4.0\ngone 2.0\nbye\n"
+    check("a session after them", server.client(typed), (0, told, b""))
+    check("the report of deletions", server.ended(), (0, b"accepted: 9 operations, 4 puts\n", b""))
+    server = Server(2)
+    told = b"refused 17\nhello from data centre 0, 1 nodes\ndone 1.0\nthe session has ended\n"
+    check("a deletion in format 1", server.client(b"hello 0 2\nhello 0\nput x 1\ndelete x\nget x\n"), (1, told, b""))
+    check("a session behind it", server.client(b"hello 0\nget x\nbye\n"), (0, b"hello from data centre 0, 1 nodes\ngot 1 1.0\nbye\n", b""))
+    check("the report of format 1", server.ended(), (0, b"accepted: 2 operations, 1 puts\n", b""))
+
+
 def words():
     for given in ([], ["x"], ["0"], ["65536"], ["-1"], ["7070", "x"], [""], ["7" * 5000], ["\u0661"]):
         check(f"usage of {str(given)[:20]}", client(*given), (2, b"", USAGE))
@@ -150,6 +179,7 @@ def other_servers():
 
 
 sessions()
+deletions()
 words()
 other_servers()
 sys.exit(ended())

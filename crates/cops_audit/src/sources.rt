@@ -1,8 +1,7 @@
-ghost use Rattle.std.specs.Prelude.{◌≡◌, ◌↔◌, ℕ, List, [], false, Option, Some, IfOk, IfSome, IsTrue, AllPairs, slice_get};
-ghost use Rattle.cops_types.specs.Histories.{Operation, write, read};
+ghost use Rattle.std.specs.Prelude.{◌≡◌, ◌↔◌, [], false, Some, IfOk, IfSome, IsTrue, AllPairs, slice_get};
+ghost use Rattle.cops_types.specs.Histories.{Operation};
 ghost use Rattle.cops_types.specs.declared.op.OpName.{OpName};
 ghost use Rattle.cops_types.specs.Faults.{HasNoSource, IsBefore};
-ghost use Rattle.cops_types.specs.OpRefs.{seen};
 ghost use Rattle.cops_audit.specs.Names.{ListsAmong};
 ghost use Rattle.cops_audit.specs.Placing.{AreSources, IsSourcePlace};
 ghost use Rattle.cops_audit.specs.Tables.{IsVersionTable};
@@ -35,27 +34,6 @@ impl Sources {
     }
 }
 
-/// Whether the one is a put, and the other a get that returned it: its key, its value and its version.
-fn is_returned(put: &OpRef, got: &OpRef) -> bool
-    ensures { IsTrue result → (key : List ℕ) × (content : Option (List ℕ)) × (version : ℕ) × (seen put.now ≡ write key content version) × (seen got.now ≡ read key content version) }
-{
-    match (put, got) {
-        (
-            OpRef::Put {
-                key,
-                value,
-                version,
-            },
-            OpRef::Got {
-                key: got_key,
-                value: got_value,
-                version: got_version,
-            },
-        ) if **version == **got_version => key.is(got_key) && value.is(got_value),
-        _ => false,
-    }
-}
-
 /// The place of the source of the open get of that number, if it has one.
 fn source_place(
     history: &History,
@@ -73,7 +51,7 @@ fn source_place(
     let hint = stretches.hint(table, *version);
     let place = hinted_place(table, hint, *version)?;
     let put = history.op(table[place].name)?;
-    if is_returned(&put, &got) {
+    if put.is_source_of(&got) {
         return Some(place as u32);
     }
     None

@@ -55,6 +55,28 @@ fn puts_have_numbers(rt: HostRuntime) -> Result<(), Fail> {
     Ok(())
 }
 
+/// A deletion has its number among the puts, and is what a get returned that found it.
+#[test]
+fn a_deletion_has_a_number(rt: HostRuntime) -> Result<(), Fail> {
+    let entries = [
+        (0, Did::Put(b'x', 1, 1, 0)),
+        (1, Did::Del(b'x', 2, 64)),
+        (2, Did::Gone(b'x', 2, 64)),
+    ];
+    let history = history(rt.alloc(), 3, &entries)?;
+    let names = listed(rt.alloc(), &history);
+    let (numbers, source, count) = (
+        numbers(&history),
+        history.source_number(name(2, 0)),
+        history.puts(),
+    );
+    drop(history);
+    assert!(rt; names?.as_slice() == [name(0, 0), name(1, 0)].as_slice());
+    assert!(rt; numbers == [Some(0), Some(1), None, None]);
+    assert!(rt; source == Some(1) && count == 2);
+    Ok(())
+}
+
 /// How many operations workers share by so many threads, and the puts among them whose versions other puts bear.
 fn shared<R: Threads + Sync>(
     rt: &R,
@@ -77,12 +99,14 @@ fn puts_beside_names(rt: HostRuntime) -> Result<(), Fail> {
         (1, Did::Put(b'x', 2, 1, 64)),
         (1, Did::Missed(b'y')),
         (2, Did::Put(b'y', 3, 2, 0)),
+        (2, Did::Del(b'y', 1, 64)),
     ];
+    let wanted = [name(0, 0), name(1, 0), name(2, 0), name(2, 1)];
     let history = history(rt.alloc(), 3, &entries)?;
     for threads in [1, 2, 4] {
         let (count, doubled) = shared(&rt, rt.alloc(), &history, threads)?;
-        assert!(rt; count == 4);
-        assert!(rt; doubled.as_slice() == [name(0, 0), name(2, 0)].as_slice());
+        assert!(rt; count == 5);
+        assert!(rt; doubled.as_slice() == wanted.as_slice());
     }
     Ok(())
 }
@@ -97,14 +121,50 @@ fn is_stale(verdict: Verdict, fault: Stale) -> bool {
     is_stale
 }
 
+/// The newer put may be a deletion.
 #[test]
 fn a_refused_history(rt: HostRuntime) -> Result<(), Fail> {
     let fault = Stale {
         op: name(1, 1),
         newer: name(0, 1),
     };
-    let verdict = judged(rt.alloc(), 2, &STALE)?;
-    assert!(rt; is_stale(verdict, fault));
+    for entries in [&STALE, &STALE_BELOW_A_DELETION] {
+        let verdict = judged(rt.alloc(), 2, entries)?;
+        assert!(rt; is_stale(verdict, fault));
+    }
+    Ok(())
+}
+
+/// The first four operations of a client that put, deleted and put again, and of one that got the last put, and then
+/// what that one did last.
+fn ending_with(last: Did) -> [(u16, Did); 5] {
+    let mut entries = STALE_BELOW_A_DELETION;
+    entries[4] = (1, last);
+    entries
+}
+
+/// Whether the get that such a history ends with has no source.
+fn ends_without_source(alloc: Global, last: Did) -> Result<bool, Fail> {
+    let history = history(alloc, 2, &ending_with(last))?;
+    let is_sourceless = is_sourceless(alloc, &history, name(1, 1));
+    drop(history);
+    is_sourceless
+}
+
+/// A get that found a deletion has it as its source, and no put of a value; a get of a value has no deletion.
+#[test]
+fn gets_behind_a_deletion(rt: HostRuntime) -> Result<(), Fail> {
+    let entries = ending_with(Did::Gone(b'x', 2, 0));
+    let verdict = judged(rt.alloc(), 2, &entries)?;
+    assert!(rt; accepts(verdict, &[name(0, 0), name(0, 1), name(0, 2)]));
+    for (last, wanted) in [
+        (Did::Gone(b'x', 2, 0), false),
+        (Did::Gone(b'x', 1, 0), true),
+        (Did::Gone(b'y', 2, 0), true),
+        (Did::Got(b'x', 1, 2, 0), true),
+    ] {
+        assert!(rt; ends_without_source(rt.alloc(), last)? == wanted);
+    }
     Ok(())
 }
 
@@ -239,6 +299,19 @@ fn past_in_a_cycle(rt: HostRuntime) -> Result<(), Fail> {
     for op in [name(2, 0), name(2, 1), name(3, 0)] {
         assert!(rt; has_past(rt.alloc(), 3, &entries, op, &[])?, "{op}");
     }
+    Ok(())
+}
+
+/// A deletion that a get found is in its past, with what its client did before.
+#[test]
+fn past_through_a_deletion(rt: HostRuntime) -> Result<(), Fail> {
+    let entries = [
+        (0, Did::Put(b'y', 1, 1, 0)),
+        (0, Did::Del(b'x', 2, 0)),
+        (1, Did::Gone(b'x', 2, 0)),
+        (1, Did::Missed(b'z')),
+    ];
+    assert!(rt; has_past(rt.alloc(), 2, &entries, name(1, 1), &[(0, 2), (1, 1)])?);
     Ok(())
 }
 

@@ -16,6 +16,14 @@ const DOUBLED: [(u16, Did); 5] = [
     (2, Did::Put(b'x', 3, 1, 0)),
 ];
 
+/// A get that found a deletion, of a version that a put of a value has, and the other way round.
+const SOURCELESS: [(u16, Did); 4] = [
+    (0, Did::Put(b'x', 1, 1, 0)),
+    (0, Did::Del(b'x', 2, 0)),
+    (1, Did::Gone(b'x', 1, 0)),
+    (2, Did::Got(b'x', 1, 2, 0)),
+];
+
 /// Whether so many workers give this verdict.
 fn gives<R: Threads + Wait + Sync + AllocGlobal, G: Gate>(
     rt: &R,
@@ -55,8 +63,13 @@ fn answer<R: Threads + Wait + Sync + AllocGlobal, G: Gate>(
 }
 
 #[test]
-fn two_workers_say_what_one_does(rt: HostRuntime) -> Result<(), Fail> {
+fn workers_say_what_one_does(rt: HostRuntime) -> Result<(), Fail> {
     assert!(rt; answer(&rt, &OpenGate, 2, &STALE)? == Ok(true));
+    for workers in [1, 2, 64] {
+        for entries in [&STALE_BELOW_A_DELETION[..], &SOURCELESS[..]] {
+            assert!(rt; answer(&rt, &OpenGate, workers, entries)? == Ok(true));
+        }
+    }
     Ok(())
 }
 

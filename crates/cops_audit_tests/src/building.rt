@@ -10,6 +10,10 @@ pub enum Did {
     Put(u8, u8, u64, u16),
     Got(u8, u8, u64, u16),
     Missed(u8),
+    /// A deletion: a key, and a version's clock and node.
+    Del(u8, u64, u16),
+    /// A get that found a deletion.
+    Gone(u8, u64, u16),
 }
 
 /// One get is stale: the second of client 1, whose past has the put of x at 2.
@@ -21,11 +25,28 @@ pub const STALE: [(u16, Did); 5] = [
     (1, Did::Got(b'x', 1, 1, 0)),
 ];
 
+/// The same in format 2, where the put of x at 2 is a deletion.
+pub const STALE_BELOW_A_DELETION: [(u16, Did); 5] = [
+    (0, Did::Put(b'x', 1, 1, 0)),
+    (0, Did::Del(b'x', 2, 0)),
+    (0, Did::Put(b'y', 3, 3, 0)),
+    (1, Did::Got(b'y', 3, 3, 0)),
+    (1, Did::Got(b'x', 1, 1, 0)),
+];
+
 /// The text of a trace: the first client puts 1 at x under 1.0, and the second gets it.
 pub const TWO: [u8; 66] = [
     0, 0, 0, 5, 17, 0, 1, 0, 2, //
     0, 0, 0, 20, 18, 0, 0, 0, 0, 0, 0, 1, 120, 0, 1, 49, 0, 0, 0, 0, 0, 1, 0, 0, //
     0, 0, 0, 20, 19, 0, 1, 0, 0, 0, 0, 1, 120, 0, 1, 49, 0, 0, 0, 0, 0, 1, 0, 0, //
+    0, 0, 0, 5, 21, 0, 0, 0, 2,
+];
+
+/// The text of a trace of format 2: the only client deletes x under 1.0, and then finds that deletion.
+pub const DELETED: [u8; 60] = [
+    0, 0, 0, 5, 17, 0, 2, 0, 1, //
+    0, 0, 0, 17, 26, 0, 0, 0, 0, 0, 0, 1, 120, 0, 0, 0, 0, 0, 1, 0, 0, //
+    0, 0, 0, 17, 27, 0, 0, 0, 0, 0, 1, 1, 120, 0, 0, 0, 0, 0, 1, 0, 0, //
     0, 0, 0, 5, 21, 0, 0, 0, 2,
 ];
 
@@ -61,6 +82,14 @@ pub fn op(alloc: Global, did: Did) -> Result<Op, TypeFault> {
             })
         }
         Did::Missed(key) => Ok(Op::Missed {
+            key: Key::new(alloc, &[key])?,
+        }),
+        Did::Del(key, clock, node) => Ok(Op::Del {
+            version: Version::new(clock, node)?,
+            key: Key::new(alloc, &[key])?,
+        }),
+        Did::Gone(key, clock, node) => Ok(Op::Gone {
+            version: Version::new(clock, node)?,
             key: Key::new(alloc, &[key])?,
         }),
     }

@@ -70,16 +70,36 @@ fn a_put_and_another_operation(rt: HostRuntime) -> Result<(), Fail> {
     let other_put = (1, Did::Put(b'x', 2, 1, 0));
     let other_value = (1, Did::Got(b'x', 2, 1, 0));
     let newer = (0, Did::Got(b'y', 2, 2, 0));
+    let del = (0, Did::Del(b'x', 1, 0));
+    let gone = (1, Did::Gone(b'x', 1, 0));
     for (first, second, wanted) in [
         (put, got, [Clean, Clean]),
         (got, put, [Waiting(1), Clean]),
         (put, other_put, [Clean, Refused]),
         (put, other_value, [Clean, Refused]),
         (newer, put, [Waiting(1), Refused]),
+        (del, gone, [Clean, Clean]),
+        (gone, del, [Waiting(1), Clean]),
+        (del, got, [Clean, Refused]),
+        (put, gone, [Clean, Refused]),
     ] {
         assert!(rt; fed(rt.alloc(), 2, &[first, second], &wanted)?);
     }
     assert!(rt; fed(rt.alloc(), 2, &[got], &[Waiting(1)])?);
+    Ok(())
+}
+
+/// A get that found a deletion waits for it, and one of what was deleted before is stale.
+#[test]
+fn deletions_that_wait(rt: HostRuntime) -> Result<(), Fail> {
+    let entries = [
+        (1, Did::Gone(b'x', 2, 0)),
+        (1, Did::Got(b'x', 1, 1, 0)),
+        (0, Did::Put(b'x', 1, 1, 0)),
+        (0, Did::Del(b'x', 2, 0)),
+    ];
+    let wanted = [Waiting(1), Waiting(2), Waiting(1), Refused];
+    assert!(rt; fed(rt.alloc(), 2, &entries, &wanted)?);
     Ok(())
 }
 
@@ -247,5 +267,31 @@ fn a_text_that_is_cut(rt: HostRuntime) -> Result<(), Fail> {
     ] {
         assert_eq!(rt; said_of(rt.alloc(), text)?, wanted);
     }
+    Ok(())
+}
+
+/// Where the first so many bytes of the trace with a deletion are cut.
+fn cut_of(len: usize) -> Option<u64> {
+    match len {
+        0..9 => Some(0),
+        9..30 => Some(9),
+        30..51 => Some(30),
+        51..60 => Some(51),
+        _ => None,
+    }
+}
+
+#[test]
+fn a_deletion_that_is_cut(rt: HostRuntime) -> Result<(), Fail> {
+    for len in 0..61 {
+        let text = DELETED.get(..len).unwrap_or(&[]);
+        assert_eq!(rt; said_of(rt.alloc(), text)?, (cut_of(len), Clean));
+    }
+    // (the get that found the deletion comes first)
+    let mut waiting = [0; 30];
+    waiting[..9].copy_from_slice(&DELETED[..9]);
+    waiting[9..].copy_from_slice(&DELETED[30..51]);
+    waiting[19] = 0;
+    assert_eq!(rt; said_of(rt.alloc(), &waiting)?, (Some(30), Waiting(1)));
     Ok(())
 }

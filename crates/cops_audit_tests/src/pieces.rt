@@ -1,7 +1,8 @@
 //! A trace's text that comes a byte at a time, and one that goes out a frame at a time.
-use crate::building::{Did, TWO, op};
+use crate::building::{DELETED, Did, TWO, op};
 use cops_trace::{Item, TraceFault, TraceReader, TraceWriter, Unwritten, WriteFault};
-use cops_types::{Counted, FailingWriter, Memory, Op};
+use cops_types::{Counted, FailingWriter, Format, Memory, Op};
+use cops_wire::WireFault;
 use std::alloc::Global;
 use std::test::Fail;
 
@@ -29,7 +30,7 @@ fn next_told(reader: &mut TraceReader) -> Option<u16> {
 fn read_all(reader: &mut TraceReader, text: &[u8], all: &mut Vec<u16>) -> Result<(), Memory> {
     for k in 0..text.len() {
         reader.feed(&text[k..k + 1])?;
-        for _ in 0..TWO.len() {
+        for _ in 0..text.len() {
             match next_told(reader) {
                 Some(told) => all.push(told)?,
                 None => break,
@@ -53,12 +54,22 @@ fn items(alloc: Global, text: &[u8]) -> Result<(Vec<u16>, Result<(), TraceFault>
 /// Whether just the first items of the whole text come of so many of its bytes, and how those close.
 fn front(
     alloc: Global,
+    text: &[u8],
+    wanted: &[u16],
     len: usize,
     count: usize,
 ) -> Result<(bool, Result<(), TraceFault>), Memory> {
-    let (all, closed) = items(alloc, &TWO[..len.min(66)])?;
-    let wanted = [102, 0, 1, 200];
-    Ok((all.as_slice() == &wanted[..count.min(4)], closed))
+    let (all, closed) = items(alloc, text.get(..len).unwrap_or(text))?;
+    let first = wanted.get(..count).unwrap_or(wanted);
+    Ok((all.as_slice() == first, closed))
+}
+
+/// Why a text does not close: it is cut where its last whole item ends.
+fn closing(cut: Option<u64>) -> Result<(), TraceFault> {
+    match cut {
+        Some(offset) => Err(TraceFault::Cut { offset }),
+        None => Ok(()),
+    }
 }
 
 #[test]
@@ -73,11 +84,26 @@ fn a_byte_at_a_time(rt: HostRuntime) -> Result<(), Fail> {
         (65, 3, Some(57)),
         (66, 4, None),
     ] {
-        let closed = match cut {
-            Some(offset) => Err(TraceFault::Cut { offset }),
-            None => Ok(()),
-        };
-        assert!(rt; front(rt.alloc(), len, count)? == (true, closed), "{len}");
+        let got = front(rt.alloc(), &TWO, &[102, 0, 1, 200], len, count)?;
+        assert!(rt; got == (true, closing(cut)), "{len}");
+    }
+    Ok(())
+}
+
+#[test]
+fn a_byte_of_a_deletion_at_a_time(rt: HostRuntime) -> Result<(), Fail> {
+    for (len, count, cut) in [
+        (8, 0, Some(0)),
+        (9, 1, Some(9)),
+        (29, 1, Some(9)),
+        (30, 2, Some(30)),
+        (50, 2, Some(30)),
+        (51, 3, Some(51)),
+        (59, 3, Some(51)),
+        (60, 4, None),
+    ] {
+        let got = front(rt.alloc(), &DELETED, &[101, 0, 0, 200], len, count)?;
+        assert!(rt; got == (true, closing(cut)), "{len}");
     }
     Ok(())
 }
@@ -89,6 +115,38 @@ fn fault(alloc: Global, at: usize, byte: u8) -> Result<Result<(), TraceFault>, M
     text[at.min(66)] = byte;
     let (_all, closed) = items(alloc, &text)?;
     Ok(closed)
+}
+
+/// The same of the text with a deletion.
+fn fault_of_deletion(alloc: Global, at: usize, byte: u8) -> Result<Result<(), TraceFault>, Memory> {
+    let mut text = DELETED;
+    text[at.min(59)] = byte;
+    let (_all, closed) = items(alloc, &text)?;
+    Ok(closed)
+}
+
+fn unknown_kind(offset: u64) -> TraceFault {
+    let fault = WireFault::UnknownKind;
+    TraceFault::Frame { fault, offset }
+}
+
+/// Byte 6 is the format, byte 4 the kind of the first frame, and byte 13 that of the first record.
+#[test]
+fn formats_and_kinds(rt: HostRuntime) -> Result<(), Fail> {
+    for (at, byte, wanted) in [
+        (6, 1, unknown_kind(9)),
+        (6, 3, TraceFault::BadFormat { offset: 0 }),
+        (6, 0, TraceFault::BadFormat { offset: 0 }),
+        (4, 26, unknown_kind(0)),
+        (13, 28, unknown_kind(9)),
+    ] {
+        assert!(rt;
+            fault_of_deletion(rt.alloc(), at, byte)? == Err(wanted),
+            "{at}"
+        );
+    }
+    assert!(rt; fault_of_deletion(rt.alloc(), 6, 2)? == Ok(()));
+    Ok(())
 }
 
 #[test]
@@ -114,9 +172,19 @@ fn taken(device: Counted<Device>) -> Vec<u8> {
 }
 
 /// Writes the text of a put and its get to a writer that fails after so many bytes: what went out, and the fault.
-fn written_of(alloc: Global, bytes: usize, put: &Op, got: &Op) -> (Vec<u8>, Option<WriteFault>) {
+/// Where one of them is not of the format nothing is written.
+fn written_of(
+    alloc: Global,
+    format: Format,
+    bytes: usize,
+    put: &Op,
+    got: &Op,
+) -> (Vec<u8>, Option<WriteFault>) {
     let device = Counted::new(FailingWriter::new(Vec::new(alloc), 100, bytes as u64, 5));
-    let mut writer = match TraceWriter::new(alloc, device, 2) {
+    if !put.in_format(format) || !got.in_format(format) {
+        return (taken(device), None);
+    }
+    let mut writer = match TraceWriter::new(format, alloc, device, 2) {
         Ok(writer) => writer,
         Err(Unwritten { writer, fault }) => return (taken(writer), Some(fault)),
     };
@@ -133,25 +201,31 @@ fn written_of(alloc: Global, bytes: usize, put: &Op, got: &Op) -> (Vec<u8>, Opti
     }
 }
 
-/// The same of those of the 66 bytes.
-fn written(alloc: Global, bytes: usize) -> Result<(Vec<u8>, Option<WriteFault>), Fail> {
-    let put = op(alloc, Did::Put(b'x', b'1', 1, 0))?;
-    let got = match op(alloc, Did::Got(b'x', b'1', 1, 0)) {
+/// The same of what two clients did.
+fn written(
+    alloc: Global,
+    format: Format,
+    bytes: usize,
+    did: [Did; 2],
+) -> Result<(Vec<u8>, Option<WriteFault>), Fail> {
+    let put = op(alloc, did[0])?;
+    let got = match op(alloc, did[1]) {
         Ok(got) => got,
         Err(fault) => {
             drop(put);
             return Err(Fail::from(fault));
         }
     };
-    let told = written_of(alloc, bytes, &put, &got);
+    let told = written_of(alloc, format, bytes, &put, &got);
     drop(put);
     drop(got);
     Ok(told)
 }
 
-/// Whether just the first so many bytes went out, and the fault.
+/// Whether just the first so many of the 66 bytes went out, and the fault.
 fn front_of(alloc: Global, bytes: usize) -> Result<(bool, Option<WriteFault>), Fail> {
-    let (out, fault) = written(alloc, bytes)?;
+    let did = [Did::Put(b'x', b'1', 1, 0), Did::Got(b'x', b'1', 1, 0)];
+    let (out, fault) = written(alloc, Format::One, bytes, did)?;
     Ok((out.as_slice() == &TWO[..bytes.min(66)], fault))
 }
 
@@ -162,5 +236,28 @@ fn a_writer_that_fails_after_each_byte(rt: HostRuntime) -> Result<(), Fail> {
         assert!(rt; front_of(rt.alloc(), bytes)? == (true, fault), "{bytes}");
     }
     assert!(rt; front_of(rt.alloc(), 66)? == (true, None));
+    Ok(())
+}
+
+/// Whether just the first so many bytes of a deletion by one client went out, which the other one found, and the fault.
+fn front_of_deletion(alloc: Global, bytes: usize) -> Result<(bool, Option<WriteFault>), Fail> {
+    let did = [Did::Del(b'x', 1, 0), Did::Gone(b'x', 1, 0)];
+    let (out, fault) = written(alloc, Format::Two, bytes, did)?;
+    let mut text = DELETED;
+    // (two clients, and the second record is the first of client 1)
+    (text[8], text[36], text[40]) = (2, 1, 0);
+    Ok((out.as_slice() == &text[..bytes.min(60)], fault))
+}
+
+#[test]
+fn a_deletion_goes_out_until_the_writer_fails(rt: HostRuntime) -> Result<(), Fail> {
+    for bytes in 0..60 {
+        let fault = Some(WriteFault::WriteFailed { written: bytes });
+        assert!(rt;
+            front_of_deletion(rt.alloc(), bytes)? == (true, fault),
+            "{bytes}"
+        );
+    }
+    assert!(rt; front_of_deletion(rt.alloc(), 60)? == (true, None));
     Ok(())
 }

@@ -60,6 +60,26 @@ fn reports(rt: HostRuntime) -> Result<(), Fail> {
     Ok(())
 }
 
+/// A deletion is counted and named as a put, and the chain leads through it.
+#[test]
+fn reports_of_deletions(rt: HostRuntime) -> Result<(), Fail> {
+    let mut entries = STALE_BELOW_A_DELETION;
+    let stale =
+        "refused: 5 operations, 3 puts, 1 faults\nstale (1,1) returned 1.0, newer (0,1) at 2.0, chain (0,1) (0,2) (1,0) (1,1)\n";
+    assert!(rt; tells(rt.alloc(), &entries, stale)?);
+    let accepted = "accepted: 5 operations, 3 puts\n";
+    entries[4] = (1, Did::Gone(b'x', 2, 0));
+    assert!(rt; tells(rt.alloc(), &entries, accepted)?);
+    let no_source = "refused: 5 operations, 3 puts, 1 faults\nno source (1,1) at 1.0\n";
+    entries[4] = (1, Did::Gone(b'x', 1, 0));
+    assert!(rt; tells(rt.alloc(), &entries, no_source)?);
+    let missed =
+        "refused: 5 operations, 3 puts, 1 faults\nstale (1,1) returned nothing, newer (0,1) at 2.0, chain (0,1) (0,2) (1,0) (1,1)\n";
+    entries[4] = (1, Did::Missed(b'x'));
+    assert!(rt; tells(rt.alloc(), &entries, missed)?);
+    Ok(())
+}
+
 /// Whether this is the chain from a name to another, where none is told by no name.
 fn leads(
     alloc: Global,
@@ -84,6 +104,21 @@ fn chains(rt: HostRuntime) -> Result<(), Fail> {
     assert!(rt; leads(rt.alloc(), &STALE, 2, ends, &through)?);
     let itself = name(1, 0);
     assert!(rt; leads(rt.alloc(), &STALE, 2, (itself, itself), &[itself])?);
+    Ok(())
+}
+
+/// A get that found a deletion is a step from it.
+#[test]
+fn a_chain_from_a_deletion(rt: HostRuntime) -> Result<(), Fail> {
+    let entries = [
+        (0, Did::Put(b'x', 1, 1, 0)),
+        (0, Did::Del(b'x', 2, 0)),
+        (1, Did::Gone(b'x', 2, 0)),
+        (1, Did::Missed(b'y')),
+    ];
+    let through = [name(0, 1), name(1, 0), name(1, 1)];
+    let ends = (name(0, 1), name(1, 1));
+    assert!(rt; leads(rt.alloc(), &entries, 2, ends, &through)?);
     Ok(())
 }
 

@@ -1,8 +1,12 @@
-use crate::building::TWO;
+use crate::building::{DELETED, Did, STALE_BELOW_A_DELETION, TWO, op};
 use cops_stream::*;
 use cops_testing::HoldsAt;
-use cops_types::{Counted, FailingReader, FailingWriter, OpenGate, Point};
+use cops_trace::{Trace, write_trace};
+use cops_types::{Counted, FailingReader, FailingWriter, Format, OpenGate, Point};
+use std::alloc::Global;
+use std::sync::Wait;
 use std::test::Fail;
+use std::thread::Threads;
 
 /// A get whose put is nowhere, and what is told of it.
 const NO_SOURCE: [u8; 42] = [
@@ -94,6 +98,122 @@ fn a_failed_device_is_told(rt: HostRuntime) -> Result<(), Fail> {
         assert_eq!(rt; got, 4, "{told}");
         assert_eq!(rt; out.into_inner().into_inner().len(), 0, "{told}");
         assert_eq!(rt; errors.into_inner().as_slice(), told.as_bytes());
+    }
+    Ok(())
+}
+
+/// Whether just this is told of a text by 1, 2 and 64 workers.
+fn tells<R: Threads + Wait + Sync + AllocGlobal>(
+    rt: &R,
+    bytes: &[u8],
+    answer: Answer,
+    text: &str,
+) -> Result<bool, StreamFault> {
+    let mut all = true;
+    for workers in [1, 2, 64] {
+        let mut reader = Counted::new(bytes);
+        let mut writer = Counted::new(Vec::new(rt.alloc()));
+        let got = audit_stream(rt, rt.alloc(), &mut reader, &mut writer, workers, &OpenGate)?;
+        let out = writer.into_inner();
+        all = all && got == answer && out.as_slice() == text.as_bytes();
+    }
+    Ok(all)
+}
+
+#[test]
+fn a_text_with_a_deletion(rt: HostRuntime) -> Result<(), Fail> {
+    let mut text = DELETED;
+    let accepted = "accepted: 2 operations, 1 puts\n";
+    assert!(rt; tells(&rt, &text, Answer::Accepted, accepted)?);
+    for (format, fault) in [
+        (1, "faulty: unknown kind at 9\n"),
+        (3, "faulty: bad format at 0\n"),
+    ] {
+        text[6] = format;
+        assert!(rt; tells(&rt, &text, Answer::Faulty, fault)?);
+    }
+    Ok(())
+}
+
+/// Adds what two clients did to a trace, as far as it is of its format.
+fn push_all(alloc: Global, trace: &mut Trace, entries: &[(u16, Did)]) -> Result<(), Fail> {
+    for (client, did) in entries {
+        let op = op(alloc, *did)?;
+        if op.in_format(trace.format()) {
+            trace.push(*client, op)?;
+        } else {
+            drop(op);
+        }
+    }
+    Ok(())
+}
+
+/// The text of a trace of format 2, in which two clients did this.
+fn text_of(alloc: Global, entries: &[(u16, Did)]) -> Result<Vec<u8>, Fail> {
+    let mut trace = Trace::new_in(Format::Two, alloc, 2)?;
+    push_all(alloc, &mut trace, entries)?;
+    let mut writer = Counted::new(Vec::new(alloc));
+    match write_trace(alloc, &mut writer, &trace) {
+        Ok(()) => Ok(writer.into_inner()),
+        Err(_) => Err(Fail::new("the trace is not written")),
+    }
+}
+
+/// What is told of a put, a deletion and a put of client 0, and of two gets of client 1, the second of which is last.
+fn told_of_last<R: Threads + Wait + Sync + AllocGlobal>(
+    rt: &R,
+    last: Did,
+    answer: Answer,
+    text: &str,
+) -> Result<bool, Fail> {
+    let mut entries = STALE_BELOW_A_DELETION;
+    entries[4] = (1, last);
+    let bytes = text_of(rt.alloc(), &entries)?;
+    let told = tells(rt, bytes.as_slice(), answer, text);
+    drop(bytes);
+    Ok(told?)
+}
+
+#[test]
+fn gets_behind_a_deletion(rt: HostRuntime) -> Result<(), Fail> {
+    for (last, answer, text) in [
+        (
+            Did::Got(b'x', 1, 1, 0),
+            Answer::Refused,
+            "refused: 5 operations, 3 puts, 1 faults\nstale (1,1) returned 1.0, newer (0,1) at 2.0, chain (0,1) (0,2) (1,0) (1,1)\n",
+        ),
+        (
+            Did::Gone(b'x', 2, 0),
+            Answer::Accepted,
+            "accepted: 5 operations, 3 puts\n",
+        ),
+        (
+            Did::Gone(b'x', 1, 0),
+            Answer::Refused,
+            "refused: 5 operations, 3 puts, 1 faults\nno source (1,1) at 1.0\n",
+        ),
+    ] {
+        assert!(rt; told_of_last(&rt, last, answer, text)?);
+    }
+    Ok(())
+}
+
+/// What is said so far of the first bytes of the text with a deletion: it is clean, and whole at the end.
+#[test]
+fn a_deletion_that_is_cut_anywhere(rt: HostRuntime) -> Result<(), Fail> {
+    for len in 0..61 {
+        let text = match len {
+            0..9 => "cut at 0\nso far: clean\n",
+            9..30 => "cut at 9\nso far: clean\n",
+            30..51 => "cut at 30\nso far: clean\n",
+            51..60 => "cut at 51\nso far: clean\n",
+            _ => "accepted: 2 operations, 1 puts\n",
+        };
+        let mut reader = Counted::new(DELETED.get(..len).unwrap_or(&[]));
+        let mut writer = Counted::new(Vec::new(rt.alloc()));
+        let got = audit_so_far(rt.alloc(), &mut reader, &mut writer);
+        assert_eq!(rt; got, Ok(Answer::Accepted), "{len}");
+        assert_eq!(rt; writer.into_inner().as_slice(), text.as_bytes(), "{len}");
     }
     Ok(())
 }

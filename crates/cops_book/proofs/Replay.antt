@@ -1,13 +1,13 @@
 -- A book that gains the entry of a step still replays.
-use Rattle.std.proofs.Common.{◌≡◌, ◌⊎◌, inl, inr, ℕ, Bool, true, false, if◌then◌else◌, List, [], ◌∷◌, ◌++◌, Option, None, Some, refl, sym, ap, subst, ◌∙◌}
+use Rattle.std.proofs.Common.{◌≡◌, ◌⊎◌, inl, inr, ℕ, ◌+◌, Bool, true, false, if◌then◌else◌, List, [], ◌∷◌, ◌++◌, Option, None, Some, refl, sym, ap, subst, ◌∙◌}
 use Rattle.cops_types.specs.declared.refusal.Refusal.TheVariants.{Memory}
 use Rattle.cops_held.specs.Held.{Waiting, waiting}
 use Rattle.cops_node.specs.declared.event.NodeEvent.{NodeEvent}
-use Rattle.cops_node.specs.declared.event.NodeEvent.TheVariants.{Put, Get, Deliver, Ask, Mark, Settle}
+use Rattle.cops_node.specs.Acts.{Act, Write, Get, Deliver, Ask, Mark, Settle, act_of, found}
 use Rattle.cops_node.specs.declared.outcome.Outcome.{Outcome}
 use Rattle.cops_node.specs.declared.outcome.Outcome.TheVariants.{Yes, Wait, Refused}
 use Rattle.cops_store.specs.Store.{Stored, has_pair, shown}
-use Rattle.cops_node.specs.Node.{Node, opened, node_step, mark_at, settle_at, answer}
+use Rattle.cops_node.specs.Node.{Node, opened, act_step, node_step, mark_at, raised, settle_at, answer, write_at}
 use Rattle.cops_book.specs.declared.entry.Entry.{Entry}
 use Rattle.cops_book.specs.Book.{Replays, entry}
 
@@ -32,21 +32,32 @@ settle_tame : (n : Node) (w : Option Waiting) → IsTame n (settle_at n w)
 settle_tame n None = (refl, refl)
 settle_tame n (Some w) = if_tame n _ _ _ (refl, refl) (refl, refl)
 
+found_tame : (n : Node) (content : Option (List ℕ)) (version : ℕ) → IsTame n (found content version, n)
+found_tame n (Some value) version = (refl, refl)
+found_tame n None version = (refl, refl)
+
 get_tame : (n : Node) (o : Option Stored) → IsTame n (answer o, n)
 get_tame n None = (refl, refl)
-get_tame n (Some s) = (refl, refl)
+get_tame n (Some s) = found_tame n s.value s.version
+
+write_tame : (n : Node) (key : List ℕ) (content : Option (List ℕ)) (clock : ℕ) → IsTame n (write_at n key content clock)
+write_tame n key (Some value) clock = (refl, refl)
+write_tame n key None clock = (refl, refl)
 
 ask_tame : (n : Node) (b : Bool) → IsTame n (if b then Yes else Wait, n)
 ask_tame n true = (refl, refl)
 ask_tame n false = (refl, refl)
 
+act_tame : (n : Node) (a : Act) → IsTame n (act_step n a)
+act_tame n (Write client key content deps) = if_tame n _ _ _ (write_tame n key content (raised n.clock deps + 1)) (refl, refl)
+act_tame n (Get client key) = get_tame n (shown n.settled key)
+act_tame n (Deliver put) = if_tame n _ _ _ (refl, refl) (refl, refl)
+act_tame n (Ask key version) = ask_tame n (has_pair n.settled (record { key = key; version = version }))
+act_tame n (Mark version dep) = mark_tame n version dep (waiting n.held version)
+act_tame n (Settle version) = settle_tame n (waiting n.held version)
+
 step_tame : (n : Node) (e : NodeEvent) → IsTame n (node_step n e)
-step_tame n (Put client key value deps) = if_tame n _ _ _ (refl, refl) (refl, refl)
-step_tame n (Get client key) = get_tame n (shown n.settled key)
-step_tame n (Deliver put) = if_tame n _ _ _ (refl, refl) (refl, refl)
-step_tame n (Ask key version) = ask_tame n (has_pair n.settled (record { key = key; version = version }))
-step_tame n (Mark version dep) = mark_tame n version dep (waiting n.held version)
-step_tame n (Settle version) = settle_tame n (waiting n.held version)
+step_tame n e = act_tame n (act_of e)
 
 replays_more : (s : Node) (es : List Entry) (t u : Node) (ticket : ℕ) (e : NodeEvent) (out : Outcome) → Replays s es t → node_step t e ≡ (out, u)
     → Replays s (es ++ entry ticket e out ∷ []) u

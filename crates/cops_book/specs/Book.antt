@@ -2,9 +2,9 @@
 use Rattle.std.specs.Prelude.{◌≡◌, ℕ, List, [], ◌∷◌, Option, None, Some}
 use Rattle.cops_types.specs.declared.put_record.PutRecord.{PutRecord}
 use Rattle.cops_node.specs.declared.event.NodeEvent.{NodeEvent}
-use Rattle.cops_node.specs.declared.event.NodeEvent.TheVariants.{Put}
+use Rattle.cops_node.specs.declared.event.NodeEvent.TheVariants.{Put, Del}
 use Rattle.cops_node.specs.declared.outcome.Outcome.{Outcome}
-use Rattle.cops_node.specs.declared.outcome.Outcome.TheVariants.{PutDone}
+use Rattle.cops_node.specs.declared.outcome.Outcome.TheVariants.{PutDone, Deleted}
 use Rattle.cops_node.specs.Node.{Node, node_step}
 use Rattle.cops_book.specs.declared.entry.Entry.{Entry}
 
@@ -21,9 +21,10 @@ pub record ABook : Type 0 where
 abbrev pub entry : ℕ → NodeEvent → Outcome → Entry
 entry ticket event outcome = record { ticket = ticket; event = event; outcome = outcome }
 
--- the put that a step issued, if it issued one
+-- the put that a step issued, if it issued one: a deletion is one without content
 abbrev pub put_made : NodeEvent → Outcome → Option PutRecord
-put_made (Put client key value deps) (PutDone version) = Some (record { key = key; value = value; version = version; deps = deps })
+put_made (Put client key value deps) (PutDone version) = Some (record { key = key; value = Some value; version = version; deps = deps })
+put_made (Del client key deps) (Deleted version) = Some (record { key = key; value = None; version = version; deps = deps })
 put_made _ _ = None
 
 abbrev pub with_put : Option PutRecord → List PutRecord → List PutRecord

@@ -1,5 +1,5 @@
 //! Whether two entries are the same.
-ghost use Rattle.std.specs.Prelude.{◌≡◌, ◌↔◌, IsTrue};
+ghost use Rattle.std.specs.Prelude.{◌≡◌, ◌↔◌, IsTrue, option_copied};
 
 use crate::entry::Entry;
 use cops_node::{NodeEvent, Outcome};
@@ -48,6 +48,14 @@ fn is_same_event(one: &NodeEvent, other: &NodeEvent) -> bool
                 deps: d,
             },
         ) => client == c && is_same_write(key, value, k, v) && is_same_deps(deps, d),
+        (
+            NodeEvent::Del { client, key, deps },
+            NodeEvent::Del {
+                client: c,
+                key: k,
+                deps: d,
+            },
+        ) => client == c && key.is(k) && is_same_deps(deps, d),
         (NodeEvent::Get { client, key }, NodeEvent::Get { client: c, key: k }) => {
             client == c && key.is(k)
         }
@@ -91,11 +99,22 @@ pub fn is_same_put(one: &PutRecord, other: &PutRecord) -> bool
     if one.key != other.key {
         return false;
     }
-    if one.value != other.value {
+    if !is_same_content(one.value.as_ref(), other.value.as_ref()) {
         return false;
     }
     if one.version != other.version {
         return false;
     }
     one.deps.as_slice() == other.deps.as_slice()
+}
+
+/// Whether the two are one value, or no value both.
+fn is_same_content(one: Option<&Value>, other: Option<&Value>) -> bool
+    ensures { IsTrue result ↔ (option_copied one.entry ≡ option_copied other.entry) }
+{
+    match (one, other) {
+        (Some(one), Some(other)) => one.is(other),
+        (None, None) => true,
+        _ => false,
+    }
 }

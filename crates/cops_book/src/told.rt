@@ -165,27 +165,33 @@ fn puts_of(alloc: Global, entries: &[Entry]) -> Result<Vec<PutRecord>, Memory>
     Ok(puts)
 }
 
-/// A copy of the put that an entry issued, if it issued one. It takes memory only where it did.
+/// A copy of the put that an entry issued, if it issued one: of a deletion without a value. It takes memory only where
+/// one was issued.
 pub(crate) fn put_of(entry: &Entry) -> Result<Option<PutRecord>, Memory>
     ensures put { IfOk result (λ put. put ≡ put_made entry.now.event entry.now.outcome) }
     ensures err { OnErr result (put_made entry.now.event entry.now.outcome ≢ None) }
 {
-    let NodeEvent::Put {
-        key,
-        value,
-        deps,
-        ..
-    } = &entry.event
-    else {
-        return Ok(None);
-    };
-    let Outcome::PutDone(version) = &entry.outcome else {
-        return Ok(None);
-    };
-    Ok(Some(PutRecord {
-        key: key.clone()?,
-        value: value.clone()?,
-        version: *version,
-        deps: deps.clone()?,
-    }))
+    match (&entry.event, &entry.outcome) {
+        (
+            NodeEvent::Put {
+                key,
+                value,
+                deps,
+                ..
+            },
+            Outcome::PutDone(version),
+        ) => Ok(Some(PutRecord {
+            key: key.clone()?,
+            value: Some(value.clone()?),
+            version: *version,
+            deps: deps.clone()?,
+        })),
+        (NodeEvent::Del { key, deps, .. }, Outcome::Deleted(version)) => Ok(Some(PutRecord {
+            key: key.clone()?,
+            value: None,
+            version: *version,
+            deps: deps.clone()?,
+        })),
+        _ => Ok(None),
+    }
 }

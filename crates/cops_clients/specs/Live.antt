@@ -2,6 +2,8 @@
 use Rattle.std.specs.Prelude.{◌≡◌, ℕ, ◌+◌, max, min, List, [], ◌∷◌, Option, Some, slice_get, map, take}
 use Rattle.std.specs.Global.{Vec}
 use Rattle.cops_types.specs.Failures.{Failed}
+use Rattle.cops_types.specs.Format.{IsInFormat}
+use Rattle.cops_types.specs.Operations.{operation_of}
 use Rattle.cops_trace.specs.Counts.{HasTurn}
 use Rattle.cops_trace.specs.Live.{Gains, IsCutShort}
 use Rattle.cops_trace.specs.Text.{record_of}
@@ -23,11 +25,15 @@ IsHeardFor Memory old new = new ≡ old
 IsHeardFor (Untied ticket) old new = new ≡ old
 IsHeardFor _ old new = Unit {0}
 
--- it has these records more, each once and in their order, up to the first whose client may have no more
+-- the record's client may have one more, and its operation is in the format
+abbrev pub MayCome : {W : Type 0} → Record → LiveTrace W → Type 0
+MayCome r live = HasTurn live.writer.counts r.client × IsInFormat live.writer.counts.format (operation_of r.op)
+
+-- it has these records more, each once and in their order, up to the first that may not come
 pub record Follows {W : Type 0} (records : List Record) (old new : LiveTrace W) : Type 0 where
   pub count : ℕ
   pub gains : Gains (map record_of (take count records)) old new
-  pub full : (r : Record) → slice_get records count ≡ Some r → HasTurn new.writer.counts r.client → ⊥
+  pub full : (r : Record) → slice_get records count ≡ Some r → MayCome r new → ⊥
 
 -- the greater one of a ticket and the one above the greatest of these entries
 abbrev pub above_entries : ℕ → List Entry → ℕ

@@ -1,12 +1,12 @@
 //! The thread that writes the records of a run while its clients run.
-ghost use Rattle.std.specs.Prelude.{◌≡◌, IfErr, IfOk};
+ghost use Rattle.std.specs.Prelude.{◌≡◌, ◌↔◌, IfErr, IfOk, IsTrue};
 ghost use Rattle.cops_types.specs.Counted.{failures, inner};
 ghost use Rattle.cops_trace.specs.Live.{IsCutBy, IsHeardBy, IsLive};
-ghost use Rattle.cops_clients.specs.Live.{Follows};
+ghost use Rattle.cops_clients.specs.Live.{Follows, MayCome};
 
 use crate::stage::Stage;
 use cops_cluster::Tail;
-use cops_trace::{LiveTrace, Unwritten};
+use cops_trace::{LiveTrace, Record, Unwritten};
 use std::io::Write;
 use std::sync::Wait;
 
@@ -61,7 +61,8 @@ fn turn<R: Wait, W: Write>(
     add(live, &tail)
 }
 
-/// Writes the records that come next, each once and in their order, up to the first whose client may have no more.
+/// Writes the records that come next, each once and in their order, up to the first that cannot come next, whose client
+/// may have no more or whose operation is not in the format.
 fn add<W: Write>(live: LiveTrace<W>, tail: &Tail) -> Result<LiveTrace<W>, Unwritten<W>>
     requires live { IsLive W.contents live }
     requires place { tail.now.place ≡ live.writer.counts.total }
@@ -74,7 +75,7 @@ fn add<W: Write>(live: LiveTrace<W>, tail: &Tail) -> Result<LiveTrace<W>, Unwrit
     let mut live = live;
     let records = tail.records();
     for record in records {
-        if !live.has_turn(record.client) {
+        if !may_come(&live, record) {
             return Ok(live);
         }
         live = match live.add(record) {
@@ -83,4 +84,11 @@ fn add<W: Write>(live: LiveTrace<W>, tail: &Tail) -> Result<LiveTrace<W>, Unwrit
         };
     }
     Ok(live)
+}
+
+/// Whether a record may come next: its client may have one more, and its operation is in the format.
+fn may_come<W: Write>(live: &LiveTrace<W>, next: &Record) -> bool
+    ensures { IsTrue result ↔ MayCome next.now live.now }
+{
+    live.has_turn(next.client) && next.op.in_format(live.format())
 }

@@ -109,7 +109,7 @@ fn live_in<R: Threads + Wait + Sync, G: Gate, W: Write + Send + Drop>(
         Ok(opening) => opening,
         Err(_) => return without_memory(writer),
     };
-    match LiveTrace::new(alloc, writer, setting.clients() as u16) {
+    match LiveTrace::new(setting.format(), alloc, writer, setting.clients() as u16) {
         Ok(live) => driven(rt, alloc, setting, scenario.clients(), gate, opening, live),
         Err(unwritten) => {
             drop(opening);

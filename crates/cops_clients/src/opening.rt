@@ -30,6 +30,7 @@ pub(crate) fn opened<'a>(
     scenario: &'a Scenario,
 ) -> Result<Opening<'a>, Memory>
     requires { setting.now ≡ setting_of scenario.now }
+    ensures format { IfOk result (λ o. o.stage.cluster.format ≡ setting.now.format) }
     ensures place { IfOk result (λ o. o.stage.cluster.place ≡ setting.now.place) }
     ensures turns { IfOk result (λ o. o.stage.turns ≡ scenario.now.turns) }
     ensures retries { IfOk result (λ o. o.stage.retries ≡ scenario.now.retries) }

@@ -91,6 +91,12 @@ fn outcome_of<R: Wait, G: Gate>(
             };
             stage.cluster().put(rt, client, gate, key, value)
         }
+        ScriptOp::Del { key } => {
+            let Ok(key) = key.clone() else {
+                return Ok(Outcome::Refused(Refusal::Memory));
+            };
+            stage.cluster().del(rt, client, gate, key)
+        }
         ScriptOp::Get { key } => {
             let Ok(key) = key.clone() else {
                 return Ok(Outcome::Refused(Refusal::Memory));

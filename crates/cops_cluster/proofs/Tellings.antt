@@ -1,5 +1,5 @@
 -- What a caller is told of a step, and what its share gained.
-use Rattle.std.proofs.Common.{◌≡◌, ◌⊎◌, inl, inr, ℕ, Bool, true, false, if◌then◌else◌, List, Option, None, Some, refl, sym, ap, subst, ◌∙◌}
+use Rattle.std.proofs.Common.{◌≡◌, ◌⊎◌, inl, inr, ℕ, ◌+◌, nat_lt, Bool, true, false, if◌then◌else◌, List, Option, None, Some, refl, sym, ap, subst, ◌∙◌}
 use Rattle.std.specs.Prelude.{Result, Ok, Err, IfOk, IfErr, OnErr}
 use Rattle.cops_types.specs.declared.dep.Dep.{Dep}
 use Rattle.cops_types.specs.declared.gate.GateHeld.{GateHeld}
@@ -8,8 +8,12 @@ use Rattle.cops_held.specs.Held.{Waiting, waiting}
 use Rattle.cops_store.specs.Store.{Stored, has_pair, shown}
 use Rattle.cops_node.specs.declared.event.NodeEvent.{NodeEvent}
 use Rattle.cops_node.specs.declared.event.NodeEvent.TheVariants.{Get, Ask, Mark, Settle}
-use Rattle.cops_node.specs.Node.{Node, answer, mark_at, node_step, settle_at}
+use Rattle.cops_node.specs.Acts.{found, written}
+use Rattle.cops_node.specs.Node.{Node, answer, mark_at, node_step, raised, settle_at, write_at, writes}
 use Rattle.cops_types.specs.declared.refusal.Refusal.{Refusal}
+use Rattle.cops_types.specs.declared.refusal.Refusal.TheVariants.{ClockExhausted, Memory}
+use Rattle.cops_types.specs.declared.limits.TheConstants.{MAX_CLOCK}
+use Rattle.cops_types.specs.NodeNumber.{version_of}
 use Rattle.cops_node.specs.declared.outcome.Outcome.{Outcome}
 use Rattle.cops_node.specs.declared.outcome.Outcome.TheVariants.{Yes, Wait, Refused as RefusedWith}
 use Rattle.cops_cluster.specs.declared.share.Made.{Made}
@@ -19,9 +23,9 @@ use Rattle.cops_cluster.specs.declared.stepping.Answer.{Answer}
 use Rattle.cops_cluster.specs.declared.stepping.Reply.{Reply}
 use Rattle.cops_cluster.specs.declared.stepping.Seen.{Seen}
 use Rattle.cops_cluster.specs.Shares.{Adds, AddsEntry, AddsAtMostOne, is_of_node, is_refusal_of_node}
-use Rattle.cops_cluster.specs.Cluster.{IsStop}
+use Rattle.cops_cluster.specs.Cluster.{IsStop, write_event}
 use Rattle.cops_cluster.specs.Replies.{IsReplyOf, IsReplyOfSeen, IsSpent}
-use Rattle.cops_cluster.specs.Outcomes.{IsNodeAnswer, IsWant, StopsWith}
+use Rattle.cops_cluster.specs.Outcomes.{IsGetOutcome, IsNodeAnswer, IsWant, IsWriteOutcome, StopsWith}
 
 -- a step of this node, whose number stays: what was answered is a node's
 abbrev IsStepOf : Node → Outcome × Node → Type 0
@@ -39,9 +43,17 @@ settle_step : (n : Node) (w : Option Waiting) → IsStepOf n (settle_at n w)
 settle_step n None = (refl, refl)
 settle_step n (Some w) = if_step n _ _ _ (refl, refl) (refl, refl)
 
+found_of_node : (content : Option (List ℕ)) (version : ℕ) → is_of_node (found content version) ≡ true
+found_of_node None version = refl
+found_of_node (Some value) version = refl
+
+written_of_node : (content : Option (List ℕ)) (version : ℕ) → is_of_node (written content version) ≡ true
+written_of_node None version = refl
+written_of_node (Some value) version = refl
+
 get_step : (n : Node) (o : Option Stored) → IsStepOf n (answer o, n)
 get_step n None = (refl, refl)
-get_step n (Some s) = (refl, refl)
+get_step n (Some s) = (refl, found_of_node s.value s.version)
 
 ask_step : (n : Node) (b : Bool) → IsStepOf n (if b then Yes else Wait, n)
 ask_step n true = (refl, refl)
@@ -115,6 +127,12 @@ told_context after pairs new (Err s) (Ok r) (Ok out) refused is none same told =
 told_context after pairs new (Err s) (Err (Refused code)) (Ok out) refused is none same told = none ∙ sym (refused code) ∙ ap after (sym told)
 told_context after pairs new (Err s) (Err HeldThere) (Ok out) refused is none same told = absurd told
 
+-- the same by other names
+pub adds_same : (a b c d : List Made) (m n : ℕ) (e f : NodeEvent) (out : Outcome) → a ≡ b → c ≡ d → m ≡ n → e ≡ f → AddsEntry a c m e out → AddsEntry b d n f out
+adds_same a b c d m n e f out p q r s adds =
+    subst (λ (l : List Made). AddsEntry l d n f out) p (subst (λ (l : List Made). AddsEntry a l n f out) q
+    (subst (λ (k : ℕ). AddsEntry a c k f out) r (subst (λ (x : NodeEvent). AddsEntry a c m x out) s adds)))
+
 -- the same node and event by other names
 pub adds_at : (before after : List Made) (n m : ℕ) (e f : NodeEvent) (out : Outcome) → n ≡ m → e ≡ f → Adds before after n e out → Adds before after m f out
 adds_at before after n m e f out p q h = subst (λ (k : ℕ). Adds before after k f out) p (subst (λ (x : NodeEvent). Adds before after n x out) q h)
@@ -125,6 +143,63 @@ most_at before after n m e f p q h = subst (λ (k : ℕ). AddsAtMostOne before a
 want_of : (stop : Stop) (out : Outcome) → StopsWith IsWant stop → IsReplyOf (Err stop) out → IsWant out
 want_of (Refused code) out want told = told ∙ want
 want_of HeldThere out want told = absurd told
+
+-- what a node answers where a client writes a content
+if_written : (content : Option (List ℕ)) (b : Bool) (x y : Outcome × Node) → IsWriteOutcome content x.0 → IsWriteOutcome content y.0 → IsWriteOutcome content (if b then x else y).0
+if_written content true x y p q = p
+if_written content false x y p q = q
+
+write_done : (content : Option (List ℕ)) (version : ℕ) → IsWriteOutcome content (written content version)
+write_done None version = tt
+write_done (Some value) version = tt
+
+write_exhausted : (content : Option (List ℕ)) → IsWriteOutcome content (RefusedWith ClockExhausted)
+write_exhausted None = inl refl
+write_exhausted (Some value) = inl refl
+
+writes_step : (n : Node) (key : List ℕ) (content : Option (List ℕ)) (deps : List Dep) → IsWriteOutcome content (writes n key content deps).0
+writes_step n key content deps =
+    if_written content (nat_lt (raised n.clock deps) MAX_CLOCK) (write_at n key content (raised n.clock deps + 1)) (RefusedWith ClockExhausted, n)
+    (write_done content (version_of (raised n.clock deps + 1) n.number)) (write_exhausted content)
+
+write_step : (n : Node) (client : ℕ) (key : List ℕ) (content : Option (List ℕ)) (deps : List Dep) → IsWriteOutcome content (node_step n (write_event client key content deps)).0
+write_step n client key None deps = writes_step n key None deps
+write_step n client key (Some value) deps = writes_step n key (Some value) deps
+
+pub answer_written : (client : ℕ) (key : List ℕ) (content : Option (List ℕ)) (deps : List Dep) (event : NodeEvent) (out : Outcome) → event ≡ write_event client key content deps
+    → IsNodeAnswer event out → IsWriteOutcome content out
+answer_written client key content deps event out is (n, new, step) =
+    subst (IsWriteOutcome content) (ap (λ (x : Outcome × Node). x.0) (ap (node_step n) (sym is) ∙ step)) (write_step n client key content deps)
+
+-- what a node answers to a get
+found_got : (content : Option (List ℕ)) (version : ℕ) → IsGetOutcome (found content version)
+found_got None version = tt
+found_got (Some value) version = tt
+
+got : (o : Option Stored) → IsGetOutcome (answer o)
+got None = tt
+got (Some s) = found_got s.value s.version
+
+pub answer_got : (client : ℕ) (key : List ℕ) (event : NodeEvent) (out : Outcome) → event ≡ Get client key → IsNodeAnswer event out → IsGetOutcome out
+answer_got client key event out is (n, new, step) =
+    subst IsGetOutcome (ap (λ (x : Outcome × Node). x.0) (ap (node_step n) (sym is) ∙ step)) (got (shown n.settled key))
+
+want_written : (content : Option (List ℕ)) → IsWriteOutcome content (RefusedWith Memory)
+want_written None = inr (inr (inr (inl refl)))
+want_written (Some value) = inr (inr (inl refl))
+
+stop_written : (content : Option (List ℕ)) (stop : Stop) (out : Outcome) → StopsWith IsWant stop → IsReplyOf (Err stop) out → IsWriteOutcome content out
+stop_written content stop out want told = subst (IsWriteOutcome content) (sym (want_of stop out want told)) (want_written content)
+
+-- what is told of a write is one of its outcomes
+pub told_written : (content : Option (List ℕ)) (answered : Result Answer Stop) (reply : Result Reply Stop) (result : Result Outcome GateHeld)
+    → IfOk answered (λ a. IsWriteOutcome content a.outcome) → IfErr answered (StopsWith IsWant) → IsSpent answered reply → IfOk result (IsReplyOf reply)
+    → IfOk result (IsWriteOutcome content)
+told_written content answered reply (Err e) is want same told = tt
+told_written content (Ok a) (Ok r) (Ok out) is want same told = subst (IsWriteOutcome content) (sym (told ∙ same.0)) is
+told_written content (Ok a) (Err s) (Ok out) is want same told = absurd same
+told_written content (Err s) (Ok r) (Ok out) is want same told = absurd same
+told_written content (Err s) (Err t) (Ok out) is want same told = stop_written content s out want (subst (λ (x : Stop). IsReplyOf (Err x) out) same told)
 
 -- what is told is some node's answer, or want of memory
 pub told_answers : (event : NodeEvent) (number : ℕ) (answered : Result Seen Stop) (reply : Result Reply Stop) (result : Result Outcome GateHeld)

@@ -1,16 +1,18 @@
 -- What a cluster's calls may answer.
-use Rattle.std.specs.Prelude.{◌≡◌, ◌⊎◌, ◌≤◌, ℕ}
+use Rattle.std.specs.Prelude.{◌≡◌, ◌⊎◌, ◌≤◌, ℕ, false, List, Option, Some, None}
 use Rattle.cops_types.specs.declared.format.Format.{Format}
 use Rattle.cops_types.specs.Format.{most_deps}
-use Rattle.cops_types.specs.declared.refusal.Refusal.TheVariants.{ClockExhausted, ContextFull, UnknownClient, NotHeld, NoSuchDep, NoYes, DepsOpen, Memory, SessionFull}
+use Rattle.cops_types.specs.declared.refusal.Refusal.{Refusal}
+use Rattle.cops_types.specs.declared.refusal.Refusal.TheVariants.{ClockExhausted, ContextFull, UnknownClient, NotInFormat, NotHeld, NoSuchDep, NoYes, DepsOpen, Memory, SessionFull}
 use Rattle.cops_node.specs.declared.event.NodeEvent.{NodeEvent}
 use Rattle.cops_node.specs.declared.outcome.Outcome.{Outcome}
-use Rattle.cops_node.specs.declared.outcome.Outcome.TheVariants.{PutDone, Got, Missed, Held, Repeat, Yes, Wait, Marked, Settled, Refused as RefusedWith}
+use Rattle.cops_node.specs.declared.outcome.Outcome.TheVariants.{PutDone, Deleted, Got, Gone, Missed, Held, Repeat, Yes, Wait, Marked, Settled, Refused as RefusedWith}
 use Rattle.cops_node.specs.Node.{Node, node_step}
 use Rattle.cops_cluster.specs.declared.client.Client.{Client}
 use Rattle.cops_cluster.specs.declared.cluster.Cluster.{Cluster}
 use Rattle.cops_cluster.specs.declared.fault.Stop.{Stop}
 use Rattle.cops_cluster.specs.declared.fault.Stop.TheVariants.{Refused, GateHeld}
+use Rattle.cops_cluster.specs.Shares.{is_refusal_of_node}
 
 -- some node answers this event so
 abbrev pub IsNodeAnswer : NodeEvent → Outcome → Type 0
@@ -22,9 +24,21 @@ IsPutOutcome (PutDone version) = Unit {0}
 IsPutOutcome (RefusedWith refused) = (refused ≡ ClockExhausted) ⊎ (refused ≡ UnknownClient) ⊎ (refused ≡ Memory) ⊎ (refused ≡ SessionFull)
 IsPutOutcome _ = ⊥
 
+-- a deletion: its version, or how it may be refused
+abbrev pub IsDelOutcome : Outcome → Type 0
+IsDelOutcome (Deleted version) = Unit {0}
+IsDelOutcome (RefusedWith refused) = (refused ≡ ClockExhausted) ⊎ (refused ≡ UnknownClient) ⊎ (refused ≡ NotInFormat) ⊎ (refused ≡ Memory) ⊎ (refused ≡ SessionFull)
+IsDelOutcome _ = ⊥
+
+-- a write of this content: a put, or without a value a deletion
+abbrev pub IsWriteOutcome : Option (List ℕ) → Outcome → Type 0
+IsWriteOutcome (Some value) = IsPutOutcome
+IsWriteOutcome None = IsDelOutcome
+
 -- a get: what it found, or nothing, or how it may be refused
 abbrev pub IsGetOutcome : Outcome → Type 0
 IsGetOutcome (Got value version) = Unit {0}
+IsGetOutcome (Gone version) = Unit {0}
 IsGetOutcome Missed = Unit {0}
 IsGetOutcome (RefusedWith refused) = (refused ≡ ContextFull) ⊎ (refused ≡ UnknownClient) ⊎ (refused ≡ Memory) ⊎ (refused ≡ SessionFull)
 IsGetOutcome _ = ⊥
@@ -62,6 +76,10 @@ IsUnknown c client = (c.clients ≤ client.number) ⊎ (c.place.dcs ≤ client.d
 -- a get that no node was asked for: the client's context, with so many pairs, is full, or memory was wanting
 abbrev pub IsUnaskedGet : Format → ℕ → Outcome → Type 0
 IsUnaskedGet format pairs outcome = ((outcome ≡ RefusedWith ContextFull) × (most_deps format ≤ pairs)) ⊎ (outcome ≡ RefusedWith Memory)
+
+-- why a write of this content is refused before a node is asked
+abbrev pub IsUnaskedWrite : Option (List ℕ) → Refusal → Type 0
+IsUnaskedWrite content refused = (is_refusal_of_node refused ≡ false) × IsWriteOutcome content (RefusedWith refused)
 
 -- want of memory
 abbrev pub IsWant : Outcome → Type 0

@@ -1,22 +1,14 @@
 -- What a caller is told of a step.
-use Rattle.std.specs.Prelude.{◌≡◌, ℕ, Option, None, Some, Result, Ok, Err}
+use Rattle.std.specs.Prelude.{◌≡◌, ℕ, Result, Ok, Err}
 use Rattle.cops_types.specs.declared.gate.Point.{Point}
 use Rattle.cops_types.specs.declared.gate.Point.TheVariants.{Answered}
 use Rattle.cops_node.specs.declared.outcome.Outcome.{Outcome}
-use Rattle.cops_node.specs.declared.outcome.Outcome.TheVariants.{PutDone, Refused as RefusedWith}
+use Rattle.cops_node.specs.declared.outcome.Outcome.TheVariants.{Refused as RefusedWith}
 use Rattle.cops_cluster.specs.declared.fault.Stop.{Stop}
 use Rattle.cops_cluster.specs.declared.fault.Stop.TheVariants.{Refused, GateHeld}
 use Rattle.cops_cluster.specs.declared.stepping.Answer.{Answer}
 use Rattle.cops_cluster.specs.declared.stepping.Reply.{Reply}
 use Rattle.cops_cluster.specs.declared.stepping.Seen.{Seen}
-
--- the version of a put that was done
-abbrev pub version_of : Outcome → Option ℕ
-version_of (PutDone version) = Some version
-version_of _ = None
-
-abbrev pub IsVersionOf : Outcome → Option ℕ → Type 0
-IsVersionOf outcome version = version ≡ version_of outcome
 
 -- the caller is told what the node answered, or why it was refused before it
 abbrev pub IsReplyOf : Result Reply Stop → Outcome → Type 0

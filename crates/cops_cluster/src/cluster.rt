@@ -59,7 +59,24 @@ impl Cluster {
         ensures shares { IfOk result (λ o. AreReceivers place.dcs o.shares.items) }
         ensures bad { IsErrOf result OpenFault.BadClient ↔ (AreClients place client_dcs.items → ⊥) }
     {
-        match Setting::new(place, client_dcs) {
+        Cluster::open_in(Format::One, alloc, place, client_dcs)
+    }
+
+    /// Such a cluster of a format. Format 2 has deletions.
+    pub fn open_in(
+        format: Format,
+        alloc: Global,
+        place: Place,
+        client_dcs: Vec<u8>,
+    ) -> Result<Opened, OpenFault>
+        ensures format { IfOk result (λ o. o.cluster.format ≡ format) }
+        ensures place { IfOk result (λ o. o.cluster.place ≡ place) }
+        ensures clients { IfOk result (λ o. AreClientsAt client_dcs.items (length client_dcs.items) o.clients.items) }
+        ensures count { IfOk result (λ o. o.cluster.clients ≡ length client_dcs.items) }
+        ensures shares { IfOk result (λ o. AreReceivers place.dcs o.shares.items) }
+        ensures bad { IsErrOf result OpenFault.BadClient ↔ (AreClients place client_dcs.items → ⊥) }
+    {
+        match Setting::new_in(format, place, client_dcs) {
             Some(setting) => Cluster::of(alloc, &setting).or(Err(OpenFault::Memory)),
             None => Err(OpenFault::BadClient),
         }
@@ -74,7 +91,7 @@ impl Cluster {
         ensures shares { IfOk result (λ o. AreReceivers setting.now.place.dcs o.shares.items) }
     {
         let nodes = opened_nodes(alloc, setting.dcs(), setting.nodes())?;
-        let recorder = Recorder::new(alloc, setting.clients() as u16)?;
+        let recorder = Recorder::new_in(setting.format(), alloc, setting.clients() as u16)?;
         let clients = opened_clients(alloc, setting.homes())?;
         let shares = opened_shares(alloc, setting.dcs())?;
         let cluster = Cluster {
@@ -119,9 +136,9 @@ impl Cluster {
         Some(status)
     }
 
-    /// Copies of the puts that were issued at the node at a place of a data centre, from the entry at a place of its
-    /// book on, and how many entries that has: from there on the next copies are to be made. `None` where there is no
-    /// such node.
+    /// Copies of the puts and deletions that were issued at the node at a place of a data centre, from the entry at a
+    /// place of its book on, and how many entries that has: from there on the next copies are to be made. `None` where
+    /// there is no such node.
     pub fn puts_from<R: Wait>(
         &self,
         rt: &R,

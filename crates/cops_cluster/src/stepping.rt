@@ -1,7 +1,10 @@
-//! A client's put and get, and the one way in which all steps go to a node.
-ghost use Rattle.std.specs.Prelude.{◌≡◌, ◌<◌, ◌++◌, [], ◌∷◌, IfOk, OnErr, vec_capacity, vec_len};
-ghost use Rattle.cops_node.specs.declared.event.NodeEvent.TheVariants.{Get, Put};
-ghost use Rattle.cops_cluster.specs.Replies.{IsReplyOf, IsVersionOf, WasHeld};
+//! A client's put, deletion and get, and the one way in which all steps go to a node.
+ghost use Rattle.std.specs.Prelude.{◌≡◌, ◌<◌, ◌++◌, [], ◌∷◌, IfOk, OnErr, option_copied, vec_capacity, vec_len};
+ghost use Rattle.cops_types.specs.Histories.{write};
+ghost use Rattle.cops_types.specs.Operations.{operation_of};
+ghost use Rattle.cops_node.specs.declared.event.NodeEvent.TheVariants.{Get};
+ghost use Rattle.cops_cluster.specs.Cluster.{write_event};
+ghost use Rattle.cops_cluster.specs.Replies.{IsReplyOf, WasHeld};
 ghost use Rattle.cops_cluster.specs.Shares.{made};
 
 use crate::client::Client;
@@ -42,26 +45,26 @@ pub(crate) struct Reply {
     pub(crate) node: u16,
 }
 
-/// What is copied for a client's put: its dependencies, and what it notes of the put.
+/// What is copied for a client's write: its dependencies, and what it notes of the write.
 #[derive(Drop)]
-struct PutCopies {
+struct WriteCopies {
     deps: Deps,
-    notes: PutNotes,
+    notes: WriteNotes,
 }
 
-/// What a client notes of a put: the key for its context, and what it saw.
+/// What a client notes of a write: the key for its context, and what it saw. Without a value it is a deletion.
 #[derive(Drop)]
-struct PutNotes {
+struct WriteNotes {
     pair_key: Key,
     key: Key,
-    value: Value,
+    content: Option<Value>,
 }
 
-/// What a node is told of a put, and what the client notes of it.
+/// What a node is told of a write, and what the client notes of it.
 #[derive(Drop)]
-struct PutTold {
+struct WriteTold {
     event: NodeEvent,
-    notes: PutNotes,
+    notes: WriteNotes,
 }
 
 /// What a client notes of a get: the key for its context, and what it saw.
@@ -78,13 +81,13 @@ struct GetTold {
     notes: GetNotes,
 }
 
-fn put_copies(client: &Client, key: &Key, value: &Value) -> Result<PutCopies, Memory>
+fn write_copies(client: &Client, key: &Key, content: Option<&Value>) -> Result<WriteCopies, Memory>
     ensures deps { IfOk result (λ c. c.deps ≡ client.now.context.pairs) }
-    ensures noted { IfOk result (λ c. (c.notes.pair_key ≡ key.now) × (c.notes.key ≡ key.now) × (c.notes.value ≡ value.now)) }
+    ensures noted { IfOk result (λ c. (c.notes.pair_key ≡ key.now) × (c.notes.key ≡ key.now) × (c.notes.content ≡ option_copied content.entry)) }
 {
     let deps = client.context.deps()?;
-    match put_notes(key, value) {
-        Ok(notes) => Ok(PutCopies { deps, notes }),
+    match write_notes(key, content) {
+        Ok(notes) => Ok(WriteCopies { deps, notes }),
         Err(fault) => {
             drop(deps);
             Err(Memory::from(fault))
@@ -92,35 +95,69 @@ fn put_copies(client: &Client, key: &Key, value: &Value) -> Result<PutCopies, Me
     }
 }
 
-fn put_notes(key: &Key, value: &Value) -> Result<PutNotes, AllocError>
-    ensures { IfOk result (λ notes. (notes.pair_key ≡ key.now) × (notes.key ≡ key.now) × (notes.value ≡ value.now)) }
+fn write_notes(key: &Key, content: Option<&Value>) -> Result<WriteNotes, AllocError>
+    ensures { IfOk result (λ notes. (notes.pair_key ≡ key.now) × (notes.key ≡ key.now) × (notes.content ≡ option_copied content.entry)) }
 {
-    Ok(PutNotes {
+    Ok(WriteNotes {
         pair_key: key.clone()?,
         key: key.clone()?,
-        value: value.clone()?,
+        content: content_copy(content)?,
     })
 }
 
-fn put_told(client: &Client, key: Key, value: Value) -> Result<PutTold, Memory>
-    ensures event { IfOk result (λ t. t.event ≡ Put client.now.number key value client.now.context.pairs) }
-    ensures noted { IfOk result (λ t. (t.notes.pair_key ≡ key) × (t.notes.key ≡ key) × (t.notes.value ≡ value)) }
+/// A copy of a content: of a value, or that there is none.
+fn content_copy(content: Option<&Value>) -> Result<Option<Value>, AllocError>
+    ensures { IfOk result (λ copy. copy ≡ option_copied content.entry) }
 {
-    let PutCopies { deps, notes } = match put_copies(client, &key, &value) {
+    match content {
+        Some(value) => Ok(Some(value.clone()?)),
+        None => Ok(None),
+    }
+}
+
+fn write_told(client: &Client, key: Key, content: Option<Value>) -> Result<WriteTold, Memory>
+    ensures event { IfOk result (λ t. t.event ≡ write_event client.now.number key content client.now.context.pairs) }
+    ensures noted { IfOk result (λ t. (t.notes.pair_key ≡ key) × (t.notes.key ≡ key) × (t.notes.content ≡ content)) }
+{
+    let WriteCopies { deps, notes } = match write_copies(client, &key, content.as_ref()) {
         Ok(copies) => copies,
         Err(fault) => {
             drop(key);
-            drop(value);
+            drop(content);
             return Err(fault);
         }
     };
-    let event = NodeEvent::Put {
-        client: client.number,
-        key,
-        value,
-        deps,
-    };
-    Ok(PutTold { event, notes })
+    let event = event_of(client.number, key, content, deps);
+    Ok(WriteTold { event, notes })
+}
+
+/// What a node is told where a client writes a content.
+fn event_of(client: u16, key: Key, content: Option<Value>, deps: Deps) -> NodeEvent
+    ensures { result ≡ write_event client key content deps }
+{
+    match content {
+        Some(value) => NodeEvent::Put {
+            client,
+            key,
+            value,
+            deps,
+        },
+        None => NodeEvent::Del { client, key, deps },
+    }
+}
+
+/// What a client saw whose write was given a version.
+fn written(key: Key, content: Option<Value>, version: Version) -> Op
+    ensures { operation_of result ≡ write key content version }
+{
+    match content {
+        Some(value) => Op::Put {
+            key,
+            value,
+            version,
+        },
+        None => Op::Del { key, version },
+    }
 }
 
 fn get_notes(key: &Key) -> Result<GetNotes, AllocError>
@@ -149,21 +186,21 @@ fn get_told(client: u16, key: Key) -> Result<GetTold, Memory>
 }
 
 impl Cluster {
-    ghost use Rattle.std.specs.Prelude.{◌≡◌, ◌<◌, ◌≤◌, ◌↔◌, ◌++◌, ◌⊎◌, [], ◌∷◌, ℕ, true, false, length, option_map, IfOk, IfErr, IsTrue, Ok, Err, OnOk, OnErr};
+    ghost use Rattle.std.specs.Prelude.{◌≡◌, ◌<◌, ◌≤◌, ◌↔◌, ◌++◌, ◌⊎◌, [], ◌∷◌, ℕ, true, false, length, None, option_copied, option_map, IfOk, IfErr, IsErrOf, IsTrue, Ok, Err, OnOk, OnErr};
     ghost use Rattle.cops_types.specs.declared.refusal.Refusal.{Refusal};
-    ghost use Rattle.cops_types.specs.declared.refusal.Refusal.TheVariants.{ContextFull, UnknownClient, Memory as OutOfMemory};
+    ghost use Rattle.cops_types.specs.declared.refusal.Refusal.TheVariants.{ContextFull, NotInFormat, UnknownClient, Memory as OutOfMemory};
     ghost use Rattle.cops_cluster.specs.declared.fault.Stop.TheVariants.{Refused};
-    ghost use Rattle.cops_types.specs.Format.{most_deps};
+    ghost use Rattle.cops_types.specs.Format.{Fits, most_deps};
     ghost use Rattle.cops_types.specs.Operations.{operation_of};
-    ghost use Rattle.cops_node.specs.declared.event.NodeEvent.TheVariants.{Put, Get};
+    ghost use Rattle.cops_node.specs.declared.event.NodeEvent.TheVariants.{Put, Del, Get};
     ghost use Rattle.cops_node.specs.declared.outcome.Outcome.TheVariants.{Refused as RefusedWith};
     ghost use Rattle.cops_node.specs.Node.{node_step};
     ghost use Rattle.cops_place.specs.Place.{primary};
     ghost use Rattle.cops_types.specs.NodeNumber.{node_number};
     ghost use Rattle.cops_book.specs.Book.{entry};
     ghost use Rattle.cops_cluster.specs.Shares.{Adds, AddsAtMostOne, AddsEntry, is_refusal_of_node, is_of_node};
-    ghost use Rattle.cops_cluster.specs.Cluster.{IsNode, IsSameClient, IsStop, MayHoldStep, after_get, after_put, get_seen, node_of, put_seen};
-    ghost use Rattle.cops_cluster.specs.Outcomes.{IsGetOutcome, IsNodeAnswer, IsPutOutcome, IsUnaskedGet, IsUnknown, IsWant, StopsWith};
+    ghost use Rattle.cops_cluster.specs.Cluster.{IsNode, IsSameClient, IsStop, MayHoldStep, after_get, after_write, get_seen, node_of, write_event, write_seen};
+    ghost use Rattle.cops_cluster.specs.Outcomes.{IsDelOutcome, IsGetOutcome, IsNodeAnswer, IsPutOutcome, IsUnaskedGet, IsUnaskedWrite, IsUnknown, IsWant, IsWriteOutcome, StopsWith};
     ghost use Rattle.cops_cluster.specs.Replies.{IsSpent};
 
     /// A client puts a value. Refused where the client is of another cluster, which has no client of its number here or
@@ -180,28 +217,91 @@ impl Cluster {
         ensures who { IsSameClient client.old client.new }
         ensures told { IfOk result (λ out. Adds client.old.share.entries.items client.new.share.entries.items (node_of self.now client.old.dc key) (Put client.old.number key value client.old.context.pairs) out) }
         ensures most { AddsAtMostOne client.old.share.entries.items client.new.share.entries.items (node_of self.now client.old.dc key) (Put client.old.number key value client.old.context.pairs) }
-        ensures context { IfOk result (λ out. client.new.context.pairs ≡ after_put client.old.context.pairs key out) }
+        ensures context { IfOk result (λ out. client.new.context.pairs ≡ after_write client.old.context.pairs key out) }
         ensures outcome { IfOk result IsPutOutcome }
         ensures unknown { result ≡ Ok (RefusedWith UnknownClient) ↔ IsUnknown self.now client.old }
         ensures held { OnErr result (MayHoldStep (G.may_hold gate.now) (node_of self.now client.old.dc key) client.old.number) }
     {
-        if !self.knows(client) {
-            drop(key);
-            drop(value);
-            return Ok(Outcome::Refused(Refusal::UnknownClient));
-        }
+        self.write(rt, client, gate, key, Some(value))
+    }
+
+    /// A client deletes a key, which only format 2 has. Refused where the client is of another cluster, as a put is,
+    /// then where the cluster's format has no deletions, and then where its session is full, where the clock of the
+    /// key's node can rise no further, and for want of memory.
+    pub fn del<R: Wait, G: Gate>(
+        &self,
+        rt: &R,
+        client: &mut Client,
+        gate: &G,
+        key: Key,
+    ) -> Result<Outcome, GateHeld>
+        ensures who { IsSameClient client.old client.new }
+        ensures told { IfOk result (λ out. Adds client.old.share.entries.items client.new.share.entries.items (node_of self.now client.old.dc key) (Del client.old.number key client.old.context.pairs) out) }
+        ensures most { AddsAtMostOne client.old.share.entries.items client.new.share.entries.items (node_of self.now client.old.dc key) (Del client.old.number key client.old.context.pairs) }
+        ensures context { IfOk result (λ out. client.new.context.pairs ≡ after_write client.old.context.pairs key out) }
+        ensures outcome { IfOk result IsDelOutcome }
+        ensures unknown { result ≡ Ok (RefusedWith UnknownClient) ↔ IsUnknown self.now client.old }
+        ensures not_in_format { result ≡ Ok (RefusedWith NotInFormat) ↔ (¬ Fits self.now.format None) × (¬ IsUnknown self.now client.old) }
+        ensures held { OnErr result (MayHoldStep (G.may_hold gate.now) (node_of self.now client.old.dc key) client.old.number) }
+    {
+        self.write(rt, client, gate, key, None)
+    }
+
+    /// A client writes a content: a put, or without a value a deletion.
+    fn write<R: Wait, G: Gate>(
+        &self,
+        rt: &R,
+        client: &mut Client,
+        gate: &G,
+        key: Key,
+        content: Option<Value>,
+    ) -> Result<Outcome, GateHeld>
+        ensures who { IsSameClient client.old client.new }
+        ensures told { IfOk result (λ out. Adds client.old.share.entries.items client.new.share.entries.items (node_of self.now client.old.dc key) (write_event client.old.number key content client.old.context.pairs) out) }
+        ensures most { AddsAtMostOne client.old.share.entries.items client.new.share.entries.items (node_of self.now client.old.dc key) (write_event client.old.number key content client.old.context.pairs) }
+        ensures context { IfOk result (λ out. client.new.context.pairs ≡ after_write client.old.context.pairs key out) }
+        ensures outcome { IfOk result (IsWriteOutcome content) }
+        ensures unknown { result ≡ Ok (RefusedWith UnknownClient) ↔ IsUnknown self.now client.old }
+        ensures not_in_format { result ≡ Ok (RefusedWith NotInFormat) ↔ (¬ Fits self.now.format content) × (¬ IsUnknown self.now client.old) }
+        ensures held { OnErr result (MayHoldStep (G.may_hold gate.now) (node_of self.now client.old.dc key) client.old.number) }
+    {
         let number = client.number;
-        let slot = match self.recorder.reserve(rt, number) {
+        let slot = match self.slot_for(rt, client, content.as_ref()) {
             Ok(slot) => slot,
-            Err(fault) => {
+            Err(refused) => {
                 drop(key);
-                drop(value);
-                return Ok(Outcome::Refused(refusal(fault)));
+                drop(content);
+                return Ok(Outcome::Refused(refused));
             }
         };
-        let answered = self.put_step(rt, client, gate, key, value);
+        let answered = self.write_step(rt, client, gate, key, content);
         let reply = self.spent(rt, slot, answered);
         passed(rt, gate, number, reply)
+    }
+
+    /// A slot for what a client writes, or why it is refused before a node is asked.
+    fn slot_for<R: Wait>(
+        &self,
+        rt: &R,
+        client: &Client,
+        content: Option<&Value>,
+    ) -> Result<Slot, Refusal>
+        ensures known { OnOk result ((client.now.dc < self.now.place.dcs) × (¬ IsUnknown self.now client.now)) }
+        ensures fits { OnOk result (Fits self.now.format (option_copied content.entry)) }
+        ensures unknown { IsErrOf result UnknownClient ↔ IsUnknown self.now client.now }
+        ensures not_in_format { IsErrOf result NotInFormat ↔ (¬ Fits self.now.format (option_copied content.entry)) × (¬ IsUnknown self.now client.now) }
+        ensures refused { IfErr result (IsUnaskedWrite (option_copied content.entry)) }
+    {
+        if !self.knows(client) {
+            return Err(Refusal::UnknownClient);
+        }
+        if !self.format.fits(content) {
+            return Err(Refusal::NotInFormat);
+        }
+        match self.recorder.reserve(rt, client.number) {
+            Ok(slot) => Ok(slot),
+            Err(fault) => Err(refusal(fault)),
+        }
     }
 
     /// A client gets the value of a key. Refused where the client is of another cluster, which has no client of its
@@ -250,22 +350,22 @@ impl Cluster {
         client.number < self.clients && client.dc < self.place.dcs()
     }
 
-    /// A put while a slot is reserved for it.
-    fn put_step<R: Wait, G: Gate>(
+    /// A write while a slot is reserved for it.
+    fn write_step<R: Wait, G: Gate>(
         &self,
         rt: &R,
         client: &mut Client,
         gate: &G,
         key: Key,
-        value: Value,
+        content: Option<Value>,
     ) -> Result<Answer, Stop>
         requires { client.old.dc < self.now.place.dcs }
         ensures who { IsSameClient client.old client.new }
-        ensures told { IfOk result (λ a. AddsEntry client.old.share.entries.items client.new.share.entries.items (node_of self.now client.old.dc key) (Put client.old.number key value client.old.context.pairs) a.outcome) }
+        ensures told { IfOk result (λ a. AddsEntry client.old.share.entries.items client.new.share.entries.items (node_of self.now client.old.dc key) (write_event client.old.number key content client.old.context.pairs) a.outcome) }
         ensures answers { IfOk result (λ a. (is_of_node a.outcome ≡ true) × (a.node ≡ node_of self.now client.old.dc key)) }
-        ensures context { IfOk result (λ a. client.new.context.pairs ≡ after_put client.old.context.pairs key a.outcome) }
-        ensures seen { IfOk result (λ a. option_map operation_of a.op ≡ put_seen key value a.outcome) }
-        ensures outcome { IfOk result (λ a. IsPutOutcome a.outcome) }
+        ensures context { IfOk result (λ a. client.new.context.pairs ≡ after_write client.old.context.pairs key a.outcome) }
+        ensures seen { IfOk result (λ a. option_map operation_of a.op ≡ write_seen key content a.outcome) }
+        ensures outcome { IfOk result (λ a. IsWriteOutcome content a.outcome) }
         ensures stops { IfErr result (StopsWith IsWant) }
         ensures none { OnErr result (client.new.share.entries.items ≡ client.old.share.entries.items) }
         ensures kept { OnErr result (client.new.context.pairs ≡ client.old.context.pairs) }
@@ -275,7 +375,7 @@ impl Cluster {
             unreachable!()
         };
         let number = client.number;
-        let PutTold { event, notes } = put_told(client, key, value)?;
+        let WriteTold { event, notes } = write_told(client, key, content)?;
         match self.step(rt, &mut client.share, gate, number, spot, event) {
             Ok(Seen { outcome, seen }) => {
                 let op = client.wrote(notes, &seen);
@@ -444,33 +544,30 @@ impl Client {
     ghost use Rattle.std.specs.Prelude.{◌≡◌, ◌<◌, true, length, option_map};
     ghost use Rattle.cops_types.specs.Format.{most_deps};
     ghost use Rattle.cops_types.specs.Operations.{operation_of};
-    ghost use Rattle.cops_cluster.specs.Cluster.{after_get, after_put, get_seen, put_seen};
+    ghost use Rattle.cops_context.specs.Context.{with_pair};
+    ghost use Rattle.cops_cluster.specs.Cluster.{after_get, after_write, get_seen, write_seen};
 
-    /// The client's put was answered: what it saw, which its context then has alone.
-    fn wrote(&mut self, notes: PutNotes, answer: &Outcome) -> Option<Op>
+    /// The client's write was answered: what it saw, which its context then has alone.
+    fn wrote(&mut self, notes: WriteNotes, answer: &Outcome) -> Option<Op>
         requires { notes.pair_key ≡ notes.key }
-        ensures context { self.new.context.pairs ≡ after_put self.old.context.pairs notes.key answer.now }
-        ensures seen { option_map operation_of result ≡ put_seen notes.key notes.value answer.now }
+        ensures context { self.new.context.pairs ≡ after_write self.old.context.pairs notes.key answer.now }
+        ensures seen { option_map operation_of result ≡ write_seen notes.key notes.content answer.now }
         ensures same { (self.new.number ≡ self.old.number) × (self.new.dc ≡ self.old.dc) × (self.new.share ≡ self.old.share) }
     {
-        let Some(version) = version_of(answer) else {
+        let Some(version) = answer.version_given() else {
             drop(notes);
             return None;
         };
-        let PutNotes {
+        let WriteNotes {
             pair_key,
             key,
-            value,
+            content,
         } = notes;
         self.context.replace(Dep {
             key: pair_key,
             version,
         });
-        Some(Op::Put {
-            key,
-            value,
-            version,
-        })
+        Some(written(key, content, version))
     }
 
     /// The client's get was answered: what it saw, whose pair its context gains.
@@ -484,20 +581,30 @@ impl Client {
     {
         match answer {
             Outcome::Got(value, version) => {
-                let pair = Dep {
-                    key: pair_key,
-                    version,
-                };
-                self.context.add_in(format, pair).unwrap();
+                self.met(format, pair_key, version);
                 Some(Op::Got {
                     key,
                     value,
                     version,
                 })
             }
+            Outcome::Gone(version) => {
+                self.met(format, pair_key, version);
+                Some(Op::Gone { key, version })
+            }
             Outcome::Missed => Some(Op::Missed { key }),
             _ => None,
         }
+    }
+
+    /// The client's context gains a pair.
+    fn met(&mut self, format: Format, key: Key, version: Version)
+        requires room { self.old.context.room ≡ true }
+        requires few { length self.old.context.pairs < most_deps format }
+        ensures context { self.new.context.pairs ≡ with_pair self.old.context.pairs (record { key = key; version = version }) }
+        ensures same { (self.new.number ≡ self.old.number) × (self.new.dc ≡ self.old.dc) × (self.new.share ≡ self.old.share) }
+    {
+        self.context.add_in(format, Dep { key, version }).unwrap()
     }
 }
 
@@ -515,16 +622,6 @@ pub(crate) fn gained(share: &mut Share, node: u16, told: Told) -> Seen
     } = told;
     share.entries.push_reserved(Made { entry, node });
     Seen { outcome, seen }
-}
-
-/// The version that a put was given.
-fn version_of(answer: &Outcome) -> Option<Version>
-    ensures { IsVersionOf answer.now result }
-{
-    match answer {
-        Outcome::PutDone(version) => Some(*version),
-        _ => None,
-    }
 }
 
 /// What the caller is told, once it has passed the gate after a node's answer.

@@ -27,7 +27,28 @@ fn put(alloc: Global, clock: u64) -> Result<PutRecord, TypeFault> {
     let (key, value) = pair(alloc, b"p", b"6")?;
     Ok(PutRecord {
         key,
+        value: Some(value),
+        version,
+        deps,
+    })
+}
+
+/// A deletion, where this is so, in place of a put of the same key, version and dependencies.
+fn put_or_deletion(alloc: Global, clock: u64, deletes: bool) -> Result<PutRecord, TypeFault> {
+    let put = put(alloc, clock)?;
+    if !deletes {
+        return Ok(put);
+    }
+    let PutRecord {
+        key,
         value,
+        version,
+        deps,
+    } = put;
+    drop(value);
+    Ok(PutRecord {
+        key,
+        value: None,
         version,
         deps,
     })
@@ -36,7 +57,7 @@ fn put(alloc: Global, clock: u64) -> Result<PutRecord, TypeFault> {
 /// The clock of a frame's version, or 0.
 fn clock_of(message: &Message) -> u64 {
     match message {
-        Message::PutAfter { version, .. } => version.clock(),
+        Message::PutAfter { version, .. } | Message::DelAfter { version, .. } => version.clock(),
         _ => 0,
     }
 }
@@ -48,19 +69,19 @@ fn spent_clock(message: Message) -> u64 {
     clock
 }
 
-/// The frame of a put of that clock.
-fn frame(alloc: Global, clock: u64) -> Result<Frame, Fail> {
-    let put = put(alloc, clock)?;
+/// The frame of a put of that clock, or of a deletion.
+fn frame(alloc: Global, clock: u64, deletes: bool) -> Result<Frame, Fail> {
+    let put = put_or_deletion(alloc, clock, deletes)?;
     let frame = Frame::of(alloc, &put);
     drop(put);
     Ok(frame?)
 }
 
-/// Whether a put of that clock is taken.
-fn offer(alloc: Global, sender: &mut LinkIn, clock: u64) -> Result<bool, Fail>
+/// Whether a put of that clock is taken, or a deletion.
+fn offer(alloc: Global, sender: &mut LinkIn, clock: u64, deletes: bool) -> Result<bool, Fail>
     ensures { SameIn sender.old sender.new }
 {
-    let frame = frame(alloc, clock)?;
+    let frame = frame(alloc, clock, deletes)?;
     Ok(sender.send(frame).is_ok())
 }
 
@@ -74,7 +95,7 @@ fn next_clock(taker: &mut LinkOut) -> Result<u64, Memory>
     }
 }
 
-/// Whether a full link gives a put of that clock back, which it takes once there is room.
+/// Whether a full link gives a deletion of that clock back, which it takes once there is room.
 fn is_given_back(
     alloc: Global,
     sender: &mut LinkIn,
@@ -84,7 +105,7 @@ fn is_given_back(
     ensures sender { SameIn sender.old sender.new }
     ensures taker { SameOut taker.old taker.new }
 {
-    let frame = frame(alloc, clock)?;
+    let frame = frame(alloc, clock, true)?;
     let Err(SendFault::Full(back)) = sender.send(frame) else {
         return Ok(false);
     };
@@ -92,12 +113,12 @@ fn is_given_back(
     Ok(first == 1 && sender.send(back).is_ok())
 }
 
-/// Whether a link of one frame takes a put, and a second one once there is room.
+/// Whether a link of one frame takes a put, and a deletion once there is room.
 fn takes_two(alloc: Global, sender: &mut LinkIn, taker: &mut LinkOut) -> Result<bool, Fail>
     ensures sender { SameIn sender.old sender.new }
     ensures taker { SameOut taker.old taker.new }
 {
-    Ok(offer(alloc, sender, 1)? && is_given_back(alloc, sender, taker, 2)?)
+    Ok(offer(alloc, sender, 1, false)? && is_given_back(alloc, sender, taker, 2)?)
 }
 
 /// How many frames are left, and the clock of the put that is taken next, or 0.
@@ -121,8 +142,15 @@ fn a_link_of_one_frame(rt: HostRuntime) -> Result<(), Fail> {
     Ok(())
 }
 
-/// Whether the message replicates the put of clock 3.
-fn is_third(message: &Message) -> bool {
+/// Whether these are the dependencies of the put of clock 3.
+fn are_of_third(deps: &Deps) -> bool {
+    deps.as_slice().len() == 1
+        && deps.as_slice()[0].key.as_bytes() == b"k".as_slice()
+        && deps.as_slice()[0].version.clock() == 2
+}
+
+/// Whether the message replicates the put of clock 3, or the deletion.
+fn is_third(message: &Message, deletes: bool) -> bool {
     match message {
         Message::PutAfter {
             key,
@@ -130,22 +158,27 @@ fn is_third(message: &Message) -> bool {
             deps,
             version,
         } => {
-            key.as_bytes() == b"p".as_slice()
+            !deletes
+                && key.as_bytes() == b"p".as_slice()
                 && value.as_bytes() == b"6".as_slice()
                 && version.clock() == 3
-                && deps.as_slice().len() == 1
-                && deps.as_slice()[0].key.as_bytes() == b"k".as_slice()
-                && deps.as_slice()[0].version.clock() == 2
+                && are_of_third(deps)
+        }
+        Message::DelAfter { key, version, deps } => {
+            deletes
+                && key.as_bytes() == b"p".as_slice()
+                && version.clock() == 3
+                && are_of_third(deps)
         }
         _ => false,
     }
 }
 
-/// Whether the message is taken that replicates the put of clock 3.
-fn takes_third(taker: &mut LinkOut) -> Result<bool, Memory> {
+/// Whether the message is taken that replicates the put of clock 3, or the deletion.
+fn takes_third(taker: &mut LinkOut, deletes: bool) -> Result<bool, Memory> {
     match taker.take()? {
         Some(message) => {
-            let is = is_third(&message);
+            let is = is_third(&message, deletes);
             drop(message);
             Ok(is)
         }
@@ -154,10 +187,12 @@ fn takes_third(taker: &mut LinkOut) -> Result<bool, Memory> {
 }
 
 #[test]
-fn a_put_comes_out_as_it_went_in(rt: HostRuntime) -> Result<(), Fail> {
+fn puts_and_deletions_come_out_as_they_went_in(rt: HostRuntime) -> Result<(), Fail> {
     let (mut sender, mut taker) = link(rt.alloc(), MAX_CAPACITY)?;
-    assert!(rt; offer(rt.alloc(), &mut sender, 3)?);
-    assert!(rt; takes_third(&mut taker)?);
+    for deletes in [false, true] {
+        assert!(rt; offer(rt.alloc(), &mut sender, 3, deletes)?);
+        assert!(rt; takes_third(&mut taker, deletes)?);
+    }
     Ok(())
 }
 
@@ -197,10 +232,10 @@ fn send_surely<R: Wait>(rt: &R, sender: &mut LinkIn, mut frame: Frame) {
     }
 }
 
-/// Sends a thousand puts.
+/// Sends a thousand puts and deletions.
 fn send_all<R: Wait>(rt: &R, alloc: Global, mut sender: LinkIn) -> Result<bool, Fail> {
     for clock in 1..1001 {
-        let frame = frame(alloc, clock)?;
+        let frame = frame(alloc, clock, clock % 3 == 0)?;
         send_surely(rt, &mut sender, frame);
     }
     Ok(sender.finish().is_some())
@@ -218,7 +253,7 @@ fn awaited_clock<R: Wait>(rt: &R, taker: &mut LinkOut) -> Result<u64, Memory> {
     Ok(0)
 }
 
-/// Takes a thousand puts, and says whether they came in their turn.
+/// Takes a thousand puts and deletions, and says whether they came in their turn.
 fn take_all<R: Wait>(rt: &R, mut taker: LinkOut) -> Result<bool, Memory> {
     let mut in_turn = true;
     for clock in 1..1001 {

@@ -1,7 +1,7 @@
 use cops_record::*;
 use cops_testing::pair;
 use cops_trace::Trace;
-use cops_types::{Key, Memory, Op, OpName, TypeFault, Version};
+use cops_types::{Format, Key, Memory, Op, OpName, TypeFault, Version};
 use std::alloc::Global;
 use std::sync::Wait;
 use std::test::Fail;
@@ -147,6 +147,46 @@ fn a_cancelled_slot_leaves_no_record(rt: HostRuntime) -> Result<(), Fail> {
     let recorder = Recorder::new(rt.alloc(), 1)?;
     cancel_one(&rt, rt.alloc(), &recorder)?;
     assert_eq!(rt; recorded(recorder)?, 1);
+    Ok(())
+}
+
+/// A deletion of x, and a get that found it.
+fn deletion(alloc: Global) -> Result<[Op; 2], TypeFault> {
+    let version = Version::new(2, 0)?;
+    let key = Key::new(alloc, b"x")?;
+    match Key::new(alloc, b"x") {
+        Ok(found) => Ok([
+            Op::Del { key, version },
+            Op::Gone {
+                key: found,
+                version,
+            },
+        ]),
+        Err(fault) => {
+            drop(key);
+            Err(fault)
+        }
+    }
+}
+
+/// Records a put, a deletion and a get that found it.
+fn record_deletion<R: Wait>(rt: &R, alloc: Global, recorder: &Recorder) -> Result<(), Fail> {
+    record_put(rt, alloc, recorder, 0, 1)?;
+    let [deleted, gone] = deletion(alloc)?;
+    let first = record(rt, recorder, 0, deleted);
+    let second = record(rt, recorder, 0, gone);
+    first?;
+    Ok(second?)
+}
+
+/// What is not of the recorder's format leaves no record.
+#[test]
+fn deletions_are_recorded_in_format_2(rt: HostRuntime) -> Result<(), Fail> {
+    for (format, wanted) in [(Format::One, 1), (Format::Two, 3)] {
+        let recorder = Recorder::new_in(format, rt.alloc(), 1)?;
+        record_deletion(&rt, rt.alloc(), &recorder)?;
+        assert_eq!(rt; recorded(recorder)?, wanted);
+    }
     Ok(())
 }
 

@@ -2,7 +2,7 @@ use cops_core::*;
 use cops_node::Outcome;
 use cops_place::Place;
 use cops_testing::pair;
-use cops_types::{Key, Refusal, TypeFault, Version};
+use cops_types::{Format, Key, Refusal, TypeFault, Version};
 use std::alloc::Global;
 use std::test::Fail;
 
@@ -15,10 +15,19 @@ fn put(alloc: Global) -> Result<Event, TypeFault> {
     })
 }
 
-/// A put and one that depends on it, which then come to another data centre, where a client gets the second.
-fn nth(alloc: Global, i: u32) -> Result<Event, TypeFault> {
+fn del(alloc: Global) -> Result<Event, TypeFault> {
+    Ok(Event::Del {
+        client: 0,
+        key: Key::new(alloc, b"k")?,
+    })
+}
+
+/// A put and one that depends on it, in format 2 a deletion, which then come to another data centre, where a client
+/// gets the second.
+fn nth(alloc: Global, format: Format, i: u32) -> Result<Event, TypeFault> {
     let (dc, first, second) = (1, Version::new(1, 0)?, Version::new(2, 0)?);
     match i {
+        1 if format == Format::Two => del(alloc),
         0 | 1 => put(alloc),
         2 => Ok(Event::Deliver { dc, version: first }),
         3 => Ok(Event::Settle { dc, version: first }),
@@ -48,46 +57,50 @@ fn nth(alloc: Global, i: u32) -> Result<Event, TypeFault> {
 }
 
 /// The event, also where one growth was refused.
-fn surely(alloc: Global, i: u32) -> Result<Event, TypeFault> {
-    match nth(alloc, i) {
-        Err(TypeFault::Memory) => nth(alloc, i),
+fn surely(alloc: Global, format: Format, i: u32) -> Result<Event, TypeFault> {
+    match nth(alloc, format, i) {
+        Err(TypeFault::Memory) => nth(alloc, format, i),
         answer => answer,
     }
 }
 
-fn is_wanted(i: u32, outcome: &Outcome) -> bool {
+fn is_wanted(format: Format, i: u32, outcome: &Outcome) -> bool {
+    let deletes = format == Format::Two;
     match outcome {
-        Outcome::PutDone(version) => i < 2 && version.clock() == u64::from(i) + 1,
+        Outcome::PutDone(version) if i == 0 => version.clock() == 1,
+        Outcome::PutDone(version) => !deletes && i == 1 && version.clock() == 2,
+        Outcome::Deleted(version) => deletes && i == 1 && version.clock() == 2,
+        Outcome::Gone(version) => deletes && i == 8 && version.clock() == 2,
         Outcome::Held => i == 2 || i == 4,
         Outcome::Settled => i == 3 || i == 7,
         Outcome::Yes => i == 5,
         Outcome::Marked => i == 6,
-        Outcome::Got(_, version) => i == 8 && version.clock() == 2,
+        Outcome::Got(_, version) => !deletes && i == 8 && version.clock() == 2,
         _ => false,
     }
 }
 
 /// Whether the outcome is as wanted, or none where a growth was refused. The outcome is let go.
-fn told(i: u32, outcome: Outcome) -> Option<bool> {
+fn told(format: Format, i: u32, outcome: Outcome) -> Option<bool> {
     let told = match &outcome {
         Outcome::Refused(Refusal::Memory) => None,
-        outcome => Some(is_wanted(i, outcome)),
+        outcome => Some(is_wanted(format, i, outcome)),
     };
     drop(outcome);
     told
 }
 
 /// A world of two data centres with a client each, or none where a growth was refused.
-fn open(alloc: Global) -> Option<World> {
+fn open(alloc: Global, format: Format) -> Option<World> {
     let homes = Vec::from_slice(alloc, &[0, 1]).ok()?;
     let place = Place::new(2, Vec::new(alloc)).ok()?;
-    World::open(alloc, place, homes).ok()
+    World::open_in(format, alloc, place, homes).ok()
 }
 
 /// The world, also where one growth was refused.
-fn surely_open(alloc: Global) -> Option<World> {
-    match open(alloc) {
-        None => open(alloc),
+fn surely_open(alloc: Global, format: Format) -> Option<World> {
+    match open(alloc, format) {
+        None => open(alloc, format),
         opened => opened,
     }
 }
@@ -144,14 +157,14 @@ fn surely_shown(alloc: Global, world: &World) -> Option<View> {
 
 /// Whether an event is answered as wanted; where an allocation fails nothing changes, and the event may happen again.
 fn happens(alloc: Global, world: &mut World, i: u32) -> Result<bool, TypeFault> {
-    let before = surely_shown(alloc, world);
-    let event = surely(alloc, i)?;
-    if let Some(is_wanted) = told(i, world.apply(event)) {
+    let (format, before) = (world.setting().format(), surely_shown(alloc, world));
+    let event = surely(alloc, format, i)?;
+    if let Some(is_wanted) = told(format, i, world.apply(event)) {
         return Ok(is_wanted);
     }
     let is_same = before.is_some() && surely_shown(alloc, world) == before;
-    let event = surely(alloc, i)?;
-    Ok(is_same && told(i, world.apply(event)) == Some(true))
+    let event = surely(alloc, format, i)?;
+    Ok(is_same && told(format, i, world.apply(event)) == Some(true))
 }
 
 /// Whether all nine events are answered as wanted.
@@ -167,9 +180,28 @@ fn all_happen(alloc: Global, world: &mut World) -> Result<bool, TypeFault> {
 /// Holds for every one growth that is refused, of the world, its nodes, stores, held puts, contexts and history.
 #[test]
 fn a_refused_growth_changes_nothing(rt: HostRuntime) -> Result<(), Fail> {
-    let mut world = surely_open(rt.alloc()).ok_or("no world")?;
-    let all_happen = all_happen(rt.alloc(), &mut world);
+    for format in [Format::One, Format::Two] {
+        let mut world = surely_open(rt.alloc(), format).ok_or("no world")?;
+        let all_happen = all_happen(rt.alloc(), &mut world);
+        drop(world);
+        assert!(rt; all_happen?);
+    }
+    Ok(())
+}
+
+/// Whether a deletion is refused, since the world's format has none. The outcome is let go.
+fn is_not_in_format(alloc: Global, world: &mut World) -> Result<bool, TypeFault> {
+    let outcome = world.apply(del(alloc)?);
+    let is_refused = matches!(&outcome, Outcome::Refused(Refusal::NotInFormat));
+    drop(outcome);
+    Ok(is_refused && world.puts() == 0 && world.history().len() == 0)
+}
+
+#[test]
+fn format_1_has_no_deletions(rt: HostRuntime) -> Result<(), Fail> {
+    let mut world = surely_open(rt.alloc(), Format::One).ok_or("no world")?;
+    let is_refused = is_not_in_format(rt.alloc(), &mut world);
     drop(world);
-    assert!(rt; all_happen?);
+    assert!(rt; is_refused?);
     Ok(())
 }

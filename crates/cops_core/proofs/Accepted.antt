@@ -40,10 +40,10 @@ pub record Kept (home : ℕ → ℕ) (s : State) : Type 0 where
   pub held : (c : ℕ) (p : Dep) → Contains (context_of s c) p → Bears (s.settled (home c)) p
   pub fair : (c : ℕ) → AllFair s.issued [] (session s.sessions c)
   pub contexts : (c : ℕ) → context_of s c ≡ context_before [] (session s.sessions c) (length (session s.sessions c))
-  pub named : (p : PutRecord) → Contains s.issued p → (n : OpName) × (op_at s.sessions n ≡ Some (write p.key (Some p.value) p.version))
+  pub named : (p : PutRecord) → Contains s.issued p → (n : OpName) × (op_at s.sessions n ≡ Some (write p.key p.value p.version))
   pub once : IsOnce s.sessions
 
-pub wrote_of : (puts : List PutRecord) (k : List ℕ) (x : Option (List ℕ)) (v : ℕ) (put : PutRecord) → IsOf puts k x v put → write put.key (Some put.value) put.version ≡ write k x v
+pub wrote_of : (puts : List PutRecord) (k : List ℕ) (x : Option (List ℕ)) (v : ℕ) (put : PutRecord) → IsOf puts k x v put → write put.key put.value put.version ≡ write k x v
 wrote_of puts k x v put i =
     let key : put.key ≡ k = ap (λ (p : Dep). p.key) i.bears in
     let version : put.version ≡ v = ap (λ (p : Dep). p.version) i.bears in

@@ -1,11 +1,12 @@
--- Contexts and sessions stay within their limits.
-use Rattle.std.proofs.Common.{◌≡◌, ℕ, ◌<◌, ◌⊎◌, inl, inr, List, [], ◌∷◌, ◌++◌, Bool, true, false, cond, length, slice_index_or, slice_set, refl, sym, ap, ◌∙◌, arith, subst, get_or-set_same, get_or-set_other, nat_lt}
+-- Contexts and contents stay of the format, and sessions within their limits.
+use Rattle.std.proofs.Common.{◌≡◌, ℕ, ◌<◌, ◌⊎◌, inl, inr, List, [], ◌∷◌, ◌++◌, Bool, true, false, cond, Contains, length, slice_index_or, slice_set, refl, sym, ap, ◌∙◌, arith, subst, get_or-set_same, get_or-set_other, nat_lt}
 use Rattle.std.specs.List.{IsDistinct}
 use Rattle.std.proofs.lemmas.Bool.{cases_eq, and_parts, ltb-true}
 use Rattle.cops_types.specs.declared.limits.TheConstants.{MAX_CLIENT_OPS, MAX_OPS}
 use Rattle.cops_types.specs.declared.dep.Dep.{Dep}
 use Rattle.cops_types.specs.declared.format.Format.{Format}
-use Rattle.cops_types.specs.Format.{most_deps}
+use Rattle.cops_types.specs.declared.put_record.PutRecord.{PutRecord}
+use Rattle.cops_types.specs.Format.{most_deps, Fits}
 use Rattle.cops_types.specs.Recorded.{IsWithinLimits}
 use Rattle.cops_types.specs.Counts.{count_of}
 use Rattle.cops_types.specs.Histories.{with_op, Operation}
@@ -15,10 +16,11 @@ use Rattle.cops_context.specs.Kept.{IsContext}
 use Rattle.cops_context.proofs.PairLists.{context_push, deps_within}
 use Rattle.cops_core.specs.World.{Setting, World, context_in, has_room}
 
--- contexts and sessions within their limits
+-- contexts and contents of the format, and sessions within their limits
 pub record IsBounded (s : Setting) (w : World) : Type 0 where
   pub contexts : (client : ℕ) → IsContext (most_deps s.format) (context_in w client)
   pub limits : IsWithinLimits w.sessions
+  pub fits : (p : PutRecord) → Contains w.issued p → Fits s.format p.value
 
 pub no_pairs : (most : ℕ) → IsContext most []
 unfolding IsDistinct
@@ -36,10 +38,11 @@ context_gains most pairs pair h few = go (has_pair pairs pair) refl
 
 -- a client's answer
 pub bounded_answered : (s : Setting) (old new : World) (client : ℕ) (op : Operation) (context : List Dep) → IsBounded s old → client < length old.sessions → client < length old.contexts → has_room old client ≡ true
-    → new.contexts ≡ slice_set old.contexts client context → new.sessions ≡ with_op old.sessions client op → IsContext (most_deps s.format) context → IsBounded s new
-bounded_answered s old new client op context b known there room contexts sessions is = record {
+    → new.contexts ≡ slice_set old.contexts client context → new.sessions ≡ with_op old.sessions client op → IsContext (most_deps s.format) context → ((p : PutRecord) → Contains new.issued p → Fits s.format p.value) → IsBounded s new
+bounded_answered s old new client op context b known there room contexts sessions is fits = record {
   contexts = λ c. cases c (cases_eq c client);
   limits = subst IsWithinLimits (sym sessions) (within_with_op old.sessions client op (known, ltb-true (length (slice_index_or old.sessions client [])) MAX_CLIENT_OPS parts.0, ltb-true (count_of old.sessions) MAX_OPS parts.1) b.limits);
+  fits = fits;
 }
   where
     parts : (nat_lt (length (slice_index_or old.sessions client [])) MAX_CLIENT_OPS ≡ true) × (nat_lt (count_of old.sessions) MAX_OPS ≡ true)
@@ -52,8 +55,9 @@ bounded_answered s old new client op context b known there room contexts session
     cases c (inr ne) =
         subst (IsContext (most_deps s.format)) (sym (ap (λ (x : List (List Dep)). slice_index_or x c []) contexts ∙ get_or-set_other old.contexts client c context [] ne)) (b.contexts c)
 
-pub bounded_stays : (s : Setting) (old new : World) → IsBounded s old → new.contexts ≡ old.contexts → new.sessions ≡ old.sessions → IsBounded s new
-bounded_stays s old new b contexts sessions = record {
+pub bounded_stays : (s : Setting) (old new : World) → IsBounded s old → new.contexts ≡ old.contexts → new.sessions ≡ old.sessions → new.issued ≡ old.issued → IsBounded s new
+bounded_stays s old new b contexts sessions issued = record {
   contexts = λ c. subst (IsContext (most_deps s.format)) (sym (ap (λ (x : List (List Dep)). slice_index_or x c []) contexts)) (b.contexts c);
   limits = subst IsWithinLimits (sym sessions) b.limits;
+  fits = λ p h. b.fits p (subst (λ (x : List PutRecord). Contains x p) issued h);
 }

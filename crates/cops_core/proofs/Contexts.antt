@@ -27,7 +27,7 @@ context_before context (op ∷ ops) (suc i) = context_before (context_after cont
 pub record IsOf (puts : List PutRecord) (k : List ℕ) (x : Option (List ℕ)) (v : ℕ) (put : PutRecord) : Type 0 where
   pub among : Contains puts put
   pub bears : put_pair put ≡ at_version k v
-  pub value : Some put.value ≡ x
+  pub value : put.value ≡ x
 
 pub record WasPut (puts : List PutRecord) (context : List Dep) (k : List ℕ) (x : Option (List ℕ)) (v : ℕ) : Type 0 where
   pub put : PutRecord

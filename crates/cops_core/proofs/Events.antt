@@ -1,8 +1,8 @@
--- What the code of an event does at one node is what the world does.
-use Rattle.std.proofs.Common.{◌≡◌, ℕ, ◌+◌, ◌*◌, ◌<◌, ◌≤◌, ◌⊎◌, inl, inr, List, ◌∷◌, [], Bool, true, false, cond, Some, None, is_some, slice_get, slice_index_or, flat_map, length, refl, sym, ap, ◌∙◌, arith, subst, nat_lt, lt-ltb}
+-- What the code of an act does at one node is what the world does.
+use Rattle.std.proofs.Common.{◌≡◌, ℕ, ◌+◌, ◌*◌, ◌<◌, ◌≤◌, ◌⊎◌, inl, inr, List, ◌∷◌, [], Bool, true, false, cond, Option, Some, None, is_some, slice_get, slice_index_or, flat_map, length, refl, sym, ap, ◌∙◌, arith, subst, nat_lt, lt-ltb}
 use Rattle.cops_types.specs.declared.limits.TheConstants.{MAX_CLOCK}
 use Rattle.cops_types.specs.declared.refusal.Refusal.{Refusal}
-use Rattle.cops_types.specs.declared.refusal.Refusal.TheVariants.{ClockExhausted, ContextFull, UnknownClient, NeverSent, NotHeld, NoYes, Memory, UnknownDc, SessionFull}
+use Rattle.cops_types.specs.declared.refusal.Refusal.TheVariants.{ClockExhausted, ContextFull, UnknownClient, NeverSent, NotHeld, NoYes, Memory, UnknownDc, NotInFormat, SessionFull}
 use Rattle.std.proofs.lemmas.Option.{get_or_from_slice_get}
 use Rattle.std.proofs.lemmas.List.{get_or_past}
 use Rattle.std.proofs.lemmas.Bool.{and_from}
@@ -15,14 +15,14 @@ use Rattle.cops_types.specs.Counts.{count_of}
 use Rattle.cops_types.specs.NodeNumber.{version_of, place_of}
 use Rattle.cops_store.specs.Store.{has_pair}
 use Rattle.cops_held.specs.Held.{waiting}
-use Rattle.cops_node.specs.declared.event.NodeEvent.{NodeEvent}
-use Rattle.cops_node.specs.declared.event.NodeEvent.TheVariants.{Put as NodePut, Get as NodeGet, Deliver as NodeDeliver, Ask as NodeAsk, Mark as NodeMark, Settle as NodeSettle}
+use Rattle.cops_node.specs.Acts.{Act as NodeAct, Write as NodeWrite, Get as NodeGet, Deliver as NodeDeliver, Ask as NodeAsk, Mark as NodeMark, Settle as NodeSettle, version_given}
 use Rattle.cops_node.specs.declared.outcome.Outcome.{Outcome}
-use Rattle.cops_node.specs.declared.outcome.Outcome.TheVariants.{PutDone, Got as Answered, Missed as Nothing, Yes, Refused}
-use Rattle.cops_node.specs.Node.{Node, opened, raised, put_at, dep_at, NodeHappens}
+use Rattle.cops_node.specs.declared.outcome.Outcome.TheVariants.{Got as Answered, Gone, Missed as Nothing, Yes, Refused}
+use Rattle.cops_node.specs.Node.{Node, opened, raised, write_at, dep_at, ActHappens}
 use Rattle.cops_core.specs.declared.recording.Draft.{Draft}
-use Rattle.cops_core.specs.World.{IsReached, Said, Setting, IsSetting, World, home, primary, node_at, with_node, context_in, sent, is_answered, knows, has_room, has_context_room, is_dc, checks, refusal, keeps, asks, delivers, done, settled_in, Happens, Event, PutBy, GetBy, DeliverTo, AskAt, MarkAt, SettleAt}
+use Rattle.cops_core.specs.World.{IsReached, Said, Setting, IsSetting, World, home, primary, node_at, with_node, context_in, sent, is_answered, knows, has_room, has_context_room, is_dc, fits, checks, refusal, keeps, asks, delivers, done, settled_in, Happens, Act, WriteBy, GetBy, DeliverTo, AskAt, MarkAt, SettleAt}
 use Rattle.cops_core.specs.Parts.{MayRecord}
+use Rattle.cops_core.proofs.Writes.{given_written}
 use Rattle.cops_core.proofs.Nodes.{same_node}
 use Rattle.cops_core.proofs.Placed.{Placed}
 use Rattle.cops_core.proofs.Simulation.{home_within, settled_here}
@@ -56,23 +56,28 @@ client_passes {w} {client} tests a =
     ap (λ b. refusal ((b, UnknownClient) ∷ (has_room w client, SessionFull) ∷ tests)) (lt-ltb client (length w.sessions) a.known)
     ∙ ap (λ b. refusal ((b, SessionFull) ∷ tests)) (admitted_room a)
 
+-- nor does any test of a write that fits
+pub write_passes : (s : Setting) (w : World) (client : ℕ) (key : List ℕ) (content : Option (List ℕ)) → Admitted w client → fits s.format content ≡ true → refusal (checks s w (WriteBy client key content)) ≡ None
+write_passes s w client key content a fit =
+    ap (λ b. refusal ((b, UnknownClient) ∷ (fits s.format content, NotInFormat) ∷ (has_room w client, SessionFull) ∷ [])) (lt-ltb client (length w.sessions) a.known)
+    ∙ ap (λ b. refusal ((b, NotInFormat) ∷ (has_room w client, SessionFull) ∷ [])) fit
+    ∙ ap (λ b. refusal ((b, SessionFull) ∷ [])) (admitted_room a)
+
 -- an answer that is not Yes is not kept
 pub keeps_wait : (w : World) (dc place d : ℕ) (key : List ℕ) (version : ℕ) (o : Outcome) (n : Node) → (o ≡ Yes → ⊥) → keeps w dc place (AskAt d key version) o n ≡ with_node w dc place n
 keeps_wait w dc place d key version Yes n h = absurd (h refl)
 keeps_wait w dc place d key version o n h = refl
 
--- nor is what a put or a get did not do
-pub keeps_no_put : (w : World) (dc place client : ℕ) (key value : List ℕ) (o : Outcome) (n : Node) → ((version : ℕ) → o ≡ PutDone version → ⊥) → keeps w dc place (PutBy client key value) o n ≡ with_node w dc place n
-keeps_no_put w dc place client key value (PutDone version) n h = absurd (h version refl)
-keeps_no_put w dc place client key value o n h = refl
-
-pub keeps_no_get : (w : World) (dc place client : ℕ) (key : List ℕ) (o : Outcome) (n : Node) → ((value : List ℕ) (version : ℕ) → o ≡ Answered value version → ⊥) → (o ≡ Nothing → ⊥) → keeps w dc place (GetBy client key) o n ≡ with_node w dc place n
-keeps_no_get w dc place client key (Answered value version) n h k = absurd (h value version refl)
-keeps_no_get w dc place client key Nothing n h k = absurd (k refl)
-keeps_no_get w dc place client key o n h k = refl
+-- nor is what a get did not do
+pub keeps_no_get : (w : World) (dc place client : ℕ) (key : List ℕ) (o : Outcome) (n : Node) → ((value : List ℕ) (version : ℕ) → o ≡ Answered value version → ⊥) → ((version : ℕ) → o ≡ Gone version → ⊥) → (o ≡ Nothing → ⊥)
+    → keeps w dc place (GetBy client key) o n ≡ with_node w dc place n
+keeps_no_get w dc place client key (Answered value version) n h g k = absurd (h value version refl)
+keeps_no_get w dc place client key (Gone version) n h g k = absurd (g version refl)
+keeps_no_get w dc place client key Nothing n h g k = absurd (k refl)
+keeps_no_get w dc place client key o n h g k = refl
 
 -- a get leaves the node
-pub got_stays : (was : Node) (client : ℕ) (key : List ℕ) (o : Outcome) (n : Node) → NodeHappens was (NodeGet client key) o n → n ≡ was
+pub got_stays : (was : Node) (client : ℕ) (key : List ℕ) (o : Outcome) (n : Node) → ActHappens was (NodeGet client key) o n → n ≡ was
 got_stays was client key o n (inl h) = sym (ap (λ (x : Outcome × Node). x.1) h)
 got_stays was client key o n (inr h) = h.1
 
@@ -115,17 +120,21 @@ sound : {s : Setting} {w old : World} → IsSetting s → w ≡ old → IsReache
 sound {s} {w} ok view reached = reached_sound s ok w (subst (IsReached s) (sym view) reached)
 
 -- what the node at a place answers the world does
-node_happens : {w : World} {dc d place q : ℕ} {was : Node} (event : Event) (asked : NodeEvent) (o : Outcome) (n : Node) (new : World) → dc ≡ d → place ≡ q → node_at w dc place ≡ was
-    → NodeHappens was asked o n → new ≡ keeps w dc place event o n → (asks w event d q asked ≡ (o, new)) ⊎ ((o ≡ Refused Memory) × (new ≡ w))
-node_happens {w} {dc} {d} {place} {q} event asked o n new same_dc same_place is h kept =
-    subst (λ x. (asks w event x q asked ≡ (o, new)) ⊎ ((o ≡ Refused Memory) × (new ≡ w))) same_dc
-    (subst (λ x. (asks w event dc x asked ≡ (o, new)) ⊎ ((o ≡ Refused Memory) × (new ≡ w))) same_place
-    (asks_happens w event dc place asked o n new (subst (λ m. NodeHappens m asked o n) (sym is) h) kept))
+node_happens : {w : World} {dc d place q : ℕ} {was : Node} (act : Act) (asked : NodeAct) (o : Outcome) (n : Node) (new : World) → dc ≡ d → place ≡ q → node_at w dc place ≡ was
+    → ActHappens was asked o n → new ≡ keeps w dc place act o n → (asks w act d q asked ≡ (o, new)) ⊎ ((o ≡ Refused Memory) × (new ≡ w))
+node_happens {w} {dc} {d} {place} {q} act asked o n new same_dc same_place is h kept =
+    subst (λ x. (asks w act x q asked ≡ (o, new)) ⊎ ((o ≡ Refused Memory) × (new ≡ w))) same_dc
+    (subst (λ x. (asks w act dc x asked ≡ (o, new)) ⊎ ((o ≡ Refused Memory) × (new ≡ w))) same_place
+    (asks_happens w act dc place asked o n new (subst (λ m. ActHappens m asked o n) (sym is) h) kept))
 
 -- where the tests of a world pass, what its node does happens in each world that is the same
-passed : {w old : World} (s : Setting) (event : Event) (o : Outcome) (new : World) → w ≡ old → refusal (checks s w event) ≡ None
-    → (done s w event ≡ (o, new)) ⊎ ((o ≡ Refused Memory) × (new ≡ w)) → Happens s old event o new
-passed {w} s event o new view none h = subst (λ x. Happens s x event o new) view (passed_happens s w event o new none h)
+passed : {w old : World} (s : Setting) (act : Act) (o : Outcome) (new : World) → w ≡ old → refusal (checks s w act) ≡ None
+    → (done s w act ≡ (o, new)) ⊎ ((o ≡ Refused Memory) × (new ≡ w)) → Happens s old act o new
+passed {w} s act o new view none h = subst (λ x. Happens s x act o new) view (passed_happens s w act o new none h)
+
+-- there is a context for each session
+pub same_clients : {s : Setting} {w old : World} → IsSetting s → w ≡ old → IsReached s old → length w.contexts ≡ length w.sessions
+same_clients {s} {w} {old} ok view reached = let p = (sound {s = s} {w = w} {old = old} ok view reached).placed in p.contexts ∙ sym p.sessions
 
 -- a data centre that is not there has nothing settled
 pub settled_nowhere : {s : Setting} (w : World) (dc : ℕ) (pair : Dep) → IsSetting s → IsReached s w → s.place.dcs ≤ dc → has_pair (settled_in w dc) pair ≡ false
@@ -171,7 +180,7 @@ module _ {s : Setting} {w old : World} {dc : ℕ} (a : Asked s w old dc) where
   stays_nowhere place le = sym (same_node w dc place) ∙ ap (with_node w dc place) (no_node place le)
 
   -- settle
-  pub settles : (version place : ℕ) (o : Outcome) (was n : Node) → place ≡ place_of version → IsAt w dc place was → NodeHappens was (NodeSettle version) o n
+  pub settles : (version place : ℕ) (o : Outcome) (was n : Node) → place ≡ place_of version → IsAt w dc place was → ActHappens was (NodeSettle version) o n
       → Happens s old (SettleAt dc version) o (with_node w dc place n)
   settles version place o was n e at h =
       passed s (SettleAt dc version) o (with_node w dc place n) a.view (known_dc [])
@@ -192,7 +201,7 @@ module _ {s : Setting} {w old : World} {dc : ℕ} (a : Asked s w old dc) where
       ∙ ap (λ x. refusal ((x, NoYes) ∷ [])) answered
 
   pub marks : (version dep place : ℕ) (o : Outcome) (was n : Node) → place ≡ place_of version → IsAt w dc place was → is_answered w.said dc (dep_at (waiting was.held version) dep) ≡ true
-      → NodeHappens was (NodeMark version dep) o n → Happens s old (MarkAt dc version dep) o (with_node w dc place n)
+      → ActHappens was (NodeMark version dep) o n → Happens s old (MarkAt dc version dep) o (with_node w dc place n)
   marks version dep place o was n e at answered h =
       let is = is_node w dc place was at in
       passed s (MarkAt dc version dep) o (with_node w dc place n) a.view (tests_of_mark version dep place was true e is answered)
@@ -211,7 +220,7 @@ module _ {s : Setting} {w old : World} {dc : ℕ} (a : Asked s w old dc) where
 
   -- deliver
   pub comes : (version place : ℕ) (o : Outcome) (put : PutRecord) (was n : Node) → Some put ≡ sent w.issued version → place ≡ primary s put.key → IsAt w dc place was
-      → NodeHappens was (NodeDeliver put) o n → Happens s old (DeliverTo dc version) o (with_node w dc place n)
+      → ActHappens was (NodeDeliver put) o n → Happens s old (DeliverTo dc version) o (with_node w dc place n)
   comes version place o put was n found e at h =
       passed s (DeliverTo dc version) o (with_node w dc place n) a.view
       (known_dc ((is_some (sent w.issued version), NeverSent) ∷ []) ∙ ap (λ x. refusal ((is_some x, NeverSent) ∷ [])) (sym found))
@@ -220,7 +229,7 @@ module _ {s : Setting} {w old : World} {dc : ℕ} (a : Asked s w old dc) where
 
   -- ask
   pub answers : (key : List ℕ) (version place : ℕ) (o : Outcome) (was n : Node) (new : World) → place ≡ primary s key → IsAt w dc place was
-      → NodeHappens was (NodeAsk key version) o n → new ≡ keeps w dc place (AskAt dc key version) o n → Happens s old (AskAt dc key version) o new
+      → ActHappens was (NodeAsk key version) o n → new ≡ keeps w dc place (AskAt dc key version) o n → Happens s old (AskAt dc key version) o new
   answers key version place o was n new e at h kept =
       passed s (AskAt dc key version) o new a.view (known_dc []) (node_happens (AskAt dc key version) (NodeAsk key version) o n new refl e (is_node w dc place was at) h kept)
 
@@ -247,26 +256,26 @@ module _ {s : Setting} {w old : World} {client : ℕ} (a : Entered s w old clien
   pub home_asked : {dc : ℕ} → dc ≡ home s client → Asked s w old dc
   home_asked e = asked a.setting a.view a.reached (subst (λ d. d < s.place.dcs) (sym e) (home_within s a.setting w grounds.placed client a.may.known))
 
-  pub puts_at : (key value : List ℕ) (dc place : ℕ) (o : Outcome) (was n : Node) (own : Draft) (new : World) → dc ≡ home s client → place ≡ primary s key → IsAt w dc place was
-      → own ≡ record { key = key; value = value; deps = context_in w client } → NodeHappens was (NodePut client own.key own.value own.deps) o n
-      → new ≡ keeps w dc place (PutBy client key value) o n → Happens s old (PutBy client key value) o new
-  puts_at key value dc place o was n own new d e at drafted h kept =
-      passed s (PutBy client key value) o new a.view (client_passes [] a.may)
-      (node_happens (PutBy client key value) (NodePut client key value (context_in w client)) o n new d e (is_node w dc place was at)
-      (subst (λ (x : Draft). NodeHappens was (NodePut client x.key x.value x.deps) o n) drafted h) kept)
+  pub writes_at : (key : List ℕ) (content : Option (List ℕ)) (dc place : ℕ) (o : Outcome) (was n : Node) (own : Draft) (new : World) → fits s.format content ≡ true → dc ≡ home s client → place ≡ primary s key → IsAt w dc place was
+      → own ≡ record { key = key; value = content; deps = context_in w client } → ActHappens was (NodeWrite client own.key own.value own.deps) o n
+      → new ≡ keeps w dc place (WriteBy client key content) o n → Happens s old (WriteBy client key content) o new
+  writes_at key content dc place o was n own new fit d e at drafted h kept =
+      passed s (WriteBy client key content) o new a.view (write_passes s w client key content a.may fit)
+      (node_happens (WriteBy client key content) (NodeWrite client key content (context_in w client)) o n new d e (is_node w dc place was at)
+      (subst (λ (x : Draft). ActHappens was (NodeWrite client x.key x.value x.deps) o n) drafted h) kept)
 
   pub gets_at : (key : List ℕ) (dc place : ℕ) (o : Outcome) (was n : Node) (new : World) → has_context_room s w client ≡ true → dc ≡ home s client → place ≡ primary s key → IsAt w dc place was
-      → NodeHappens was (NodeGet client key) o n → new ≡ keeps w dc place (GetBy client key) o n → Happens s old (GetBy client key) o new
+      → ActHappens was (NodeGet client key) o n → new ≡ keeps w dc place (GetBy client key) o n → Happens s old (GetBy client key) o new
   gets_at key dc place o was n new few d e at h kept =
       passed s (GetBy client key) o new a.view
       (client_passes ((has_context_room s w client, ContextFull) ∷ []) a.may ∙ ap (λ b. refusal ((b, ContextFull) ∷ [])) few)
       (node_happens (GetBy client key) (NodeGet client key) o n new d e (is_node w dc place was at) h kept)
 
   -- the version that a node gives is new
-  pub new_version : (key value : List ℕ) (dc place version : ℕ) (was n : Node) (own : Draft) → dc ≡ home s client → place ≡ primary s key → IsAt w dc place was
-      → own ≡ record { key = key; value = value; deps = context_in w client } → NodeHappens was (NodePut client own.key own.value own.deps) (PutDone version) n → sent w.issued version ≡ None
-  new_version key value dc place version was n own d e at drafted happens =
-      given (subst (λ (x : Draft). NodeHappens was (NodePut client x.key x.value x.deps) (PutDone version) n) drafted happens)
+  pub new_version : (key : List ℕ) (content : Option (List ℕ)) (dc place version : ℕ) (o : Outcome) (was n : Node) (own : Draft) → fits s.format content ≡ true → dc ≡ home s client → place ≡ primary s key → IsAt w dc place was
+      → own ≡ record { key = key; value = content; deps = context_in w client } → ActHappens was (NodeWrite client own.key own.value own.deps) o n → version_given o ≡ Some version → sent w.issued version ≡ None
+  new_version key content dc place version o was n own fit d e at drafted happens is_given =
+      given (subst (λ (x : Draft). ActHappens was (NodeWrite client x.key x.value x.deps) o n) drafted happens)
     where
       node : Node
       node = node_at w (home s client) (primary s key)
@@ -274,14 +283,16 @@ module _ {s : Setting} {w old : World} {client : ℕ} (a : Entered s w old clien
       is : node ≡ was
       is = ap (node_at w (home s client)) (sym e) ∙ ap (λ x. node_at w x place) (sym d) ∙ is_node w dc place was at
 
-      go : (b : Bool) → cond b (put_at node key value (raised node.clock (context_in w client) + 1)) (Refused ClockExhausted, node) ≡ (PutDone version, n) → sent w.issued version ≡ None
+      go : (b : Bool) → cond b (write_at node key content (raised node.clock (context_in w client) + 1)) (Refused ClockExhausted, node) ≡ (o, n) → sent w.issued version ≡ None
       go true g =
-          let same : version_of (raised node.clock (context_in w client) + 1) node.number ≡ version = (let o : PutDone (version_of (raised node.clock (context_in w client) + 1) node.number) ≡ PutDone version = ap (λ (x : Outcome × Node). x.0) g in cc) in
-          not_sent w.issued version (λ p c f. fresh s a.setting w grounds.placed grounds.kept client key value grounds.bounded a.may.known (admitted_room a.may) p c (f ∙ sym same))
-      go false g = let o : Refused ClockExhausted ≡ PutDone version = ap (λ (x : Outcome × Node). x.0) g in cc
+          let new : ℕ = version_of (raised node.clock (context_in w client) + 1) node.number in
+          let both : Some new ≡ Some version = sym (given_written content new) ∙ ap (λ (x : Outcome × Node). version_given x.0) g ∙ is_given in
+          let same : new ≡ version = cc in
+          not_sent w.issued version (λ p c f. fresh s a.setting w grounds.placed grounds.kept client key content grounds.bounded a.may.known (admitted_room a.may) fit p c (f ∙ sym same))
+      go false g = let both : None ≡ Some version = ap (λ (x : Outcome × Node). version_given x.0) g ∙ is_given in cc
 
-      given : NodeHappens was (NodePut client key value (context_in w client)) (PutDone version) n → sent w.issued version ≡ None
-      given (inr h) = cc
+      given : ActHappens was (NodeWrite client key content (context_in w client)) o n → sent w.issued version ≡ None
+      given (inr h) = let both : None ≡ Some version = sym (ap version_given h.0) ∙ is_given in cc
       given (inl h) =
           go (nat_lt (raised node.clock (context_in w client)) MAX_CLOCK)
-          (subst (λ m. cond (nat_lt (raised m.clock (context_in w client)) MAX_CLOCK) (put_at m key value (raised m.clock (context_in w client) + 1)) (Refused ClockExhausted, m) ≡ (PutDone version, n)) (sym is) h)
+          (subst (λ m. cond (nat_lt (raised m.clock (context_in w client)) MAX_CLOCK) (write_at m key content (raised m.clock (context_in w client) + 1)) (Refused ClockExhausted, m) ≡ (o, n)) (sym is) h)

@@ -4,11 +4,11 @@ use Rattle.cops_types.specs.Histories.{Operation, read, missed}
 use Rattle.cops_types.specs.declared.dep.Dep.{Dep}
 use Rattle.cops_types.specs.Format.{most_deps}
 use Rattle.cops_types.specs.declared.put_record.PutRecord.{PutRecord}
-use Rattle.cops_context.specs.Context.{with_pair}
 use Rattle.cops_store.specs.Store.{Stored, has_pair, shown}
+use Rattle.cops_node.specs.Acts.{found}
 use Rattle.cops_node.specs.Node.{put_pair, Node, answer}
 use Rattle.cops_core.specs.Machine.{Gets, Misses, view}
-use Rattle.cops_core.specs.World.{Setting, home, primary, World, node_at, context_in, has_room, keeps, GetBy, with_answer}
+use Rattle.cops_core.specs.World.{Setting, home, primary, World, node_at, context_in, has_room, keeps, met, GetBy, with_answer, with_node}
 use Rattle.cops_core.proofs.Lists.{at_version}
 use Rattle.cops_core.proofs.Nodes.{same_node, IsAmong, has_to, has_from, IsShown, ShowsWell, shows}
 use Rattle.cops_core.proofs.Bounds.{IsBounded, bounded_answered, context_gains}
@@ -30,7 +30,13 @@ placed_answered s w client op context p = record {
   contexts = length-set w.contexts client _ ∙ p.contexts;
 }
 
-same_put : (p : PutRecord) (k x : List ℕ) (v : ℕ) → p.key ≡ k → p.value ≡ x → p.version ≡ v → p ≡ record { key = k; value = x; version = v; deps = p.deps }
+-- what a get found is kept
+keeps_found : (w : World) (dc place client : ℕ) (key : List ℕ) (content : Option (List ℕ)) (version : ℕ) (n : Node)
+    → keeps w dc place (GetBy client key) (found content version) n ≡ met (with_node w dc place n) client key content version
+keeps_found w dc place client key (Some value) version n = refl
+keeps_found w dc place client key None version n = refl
+
+same_put : (p : PutRecord) (k : List ℕ) (x : Option (List ℕ)) (v : ℕ) → p.key ≡ k → p.value ≡ x → p.version ≡ v → p ≡ record { key = k; value = x; version = v; deps = p.deps }
 same_put p k x v a b c = λ i. record { key = a i; value = b i; version = c i; deps = p.deps }
 
 module _ (s : Setting) (w : World) (placed : Placed s w) (client : ℕ) (key : List ℕ) (bounded : IsBounded s w) (has_session : client < length w.sessions) (room : has_room w client ≡ true) (few : length (context_in w client) < most_deps s.format) where
@@ -58,7 +64,7 @@ module _ (s : Setting) (w : World) (placed : Placed s w) (client : ℕ) (key : L
   }
 
   abbrev got : Stored → World
-  got t = with_answer w client (read key (Some t.value) t.version) (with_pair (context_in w client) (record { key = key; version = t.version }))
+  got t = met w client key t.value t.version
 
   gets : (t : Stored) → IsShown node.settled key t → (put : PutRecord) × Gets (view w) (view (got t)) dc client put
   gets t shown = (
@@ -83,7 +89,7 @@ module _ (s : Setting) (w : World) (placed : Placed s w) (client : ℕ) (key : L
       put = record { key = key; value = t.value; version = t.version; deps = stored.put.deps }
 
       same : stored.put ≡ put
-      same = same_put stored.put key t.value t.version (ap (λ (x : Dep). x.key) stored.is.bears ∙ shown.on_key) (let own : stored.put.value ≡ t.value = (let e : Some stored.put.value ≡ Some t.value = stored.is.value in cc) in own) (ap (λ (x : Dep). x.version) stored.is.bears)
+      same = same_put stored.put key t.value t.version (ap (λ (x : Dep). x.key) stored.is.bears ∙ shown.on_key) stored.is.value (ap (λ (x : Dep). x.version) stored.is.bears)
 
       there : settled_at s w dc (put_pair put) ≡ true
       there = subst (λ (k : List ℕ). has_pair node.settled (at_version k t.version) ≡ true) shown.on_key (has_from node.settled t shown.among)
@@ -96,14 +102,16 @@ module _ (s : Setting) (w : World) (placed : Placed s w) (client : ℕ) (key : L
           subst (λ x. Goes s w (with_answer x client (missed key) (context_in w client))) (sym (same_node w dc (primary s key)))
           (record {
             placed = placed_answered s w client _ _ placed;
-            bounded = bounded_answered s w _ client (missed key) (context_in w client) bounded has_session has_context room refl refl (bounded.contexts client);
+            bounded = bounded_answered s w _ client (missed key) (context_in w client) bounded has_session has_context room refl refl (bounded.contexts client) bounded.fits;
             step = inr (inr (inl (client, key, misses none)));
           })
       go (Some t) shown =
-          subst (λ x. Goes s w (with_answer x client (read key (Some t.value) t.version) (with_pair (context_in w client) (record { key = key; version = t.version })))) (sym (same_node w dc (primary s key)))
+          subst (λ x. Goes s w x) (sym (keeps_found w dc (primary s key) client key t.value t.version node))
+          (subst (λ x. Goes s w (met x client key t.value t.version)) (sym (same_node w dc (primary s key)))
           (record {
             placed = placed_answered s w client _ _ placed;
-            bounded = bounded_answered s w _ client (read key (Some t.value) t.version) _ bounded has_session has_context room refl refl
-                (context_gains (most_deps s.format) (context_in w client) (record { key = key; version = t.version }) (bounded.contexts client) few);
+            bounded = bounded_answered s w _ client (read key t.value t.version) _ bounded has_session has_context room refl refl
+                (context_gains (most_deps s.format) (context_in w client) (record { key = key; version = t.version }) (bounded.contexts client) few)
+                bounded.fits;
             step = inr (inl (let g = gets t shown in (client, g.0, g.1)));
-          })
+          }))

@@ -1,4 +1,5 @@
 pub mod Lists
+pub mod Writes
 pub mod Reaching
 pub mod Contexts
 pub mod Accepted

@@ -17,7 +17,7 @@ settled_at s w dc pair = has_pair (node_at w dc (primary s pair.key)).settled pa
 
 pub record IsStored (s : Setting) (issued : List PutRecord) (place : ℕ) (t : Stored) : Type 0 where
   pub put : PutRecord
-  pub is : IsOf issued t.key (Some t.value) t.version put
+  pub is : IsOf issued t.key t.value t.version put
   pub placed : place ≡ primary s t.key
 
 pub record IsHeld (s : Setting) (w : World) (dc place : ℕ) (h : Waiting) : Type 0 where

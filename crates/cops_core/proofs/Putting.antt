@@ -1,23 +1,25 @@
 -- A client's put is a step of the machine.
-use Rattle.std.proofs.Common.{◌≡◌, ◌≢◌, ℕ, ◌+◌, ◌*◌, ◌<◌, ◌≤◌, ◌⊎◌, inl, inr, List, [], ◌∷◌, ◌++◌, true, Contains, length, refl, sym, ap, ◌∙◌, arith, length-set, Some}
+use Rattle.std.proofs.Common.{◌≡◌, ◌≢◌, ℕ, ◌+◌, ◌*◌, ◌<◌, ◌≤◌, ◌⊎◌, inl, inr, List, [], ◌∷◌, ◌++◌, true, Contains, length, refl, sym, ap, ◌∙◌, arith, subst, length-set, Option, Some}
 use Rattle.std.proofs.lemmas.List.Elements.{Contains-append_left, Contains-push, Contains-push_cases}
 use Rattle.cops_types.specs.Histories.{write}
 use Rattle.cops_types.specs.declared.dep.Dep.{Dep}
 use Rattle.cops_types.specs.declared.put_record.PutRecord.{PutRecord}
+use Rattle.cops_types.specs.Format.{Fits}
 use Rattle.cops_types.specs.Version.{clock_of, node_of}
 use Rattle.cops_types.specs.NodeNumber.{version_of}
 use Rattle.cops_store.specs.Store.{Stored}
-use Rattle.cops_node.specs.declared.outcome.Outcome.TheVariants.{PutDone}
-use Rattle.cops_node.specs.Node.{put_pair, stored_of, Node, raised, put_at}
-use Rattle.cops_core.specs.World.{Setting, IsSetting, home, primary, World, node_at, context_in, has_room, keeps, PutBy}
+use Rattle.cops_node.specs.Acts.{written}
+use Rattle.cops_node.specs.Node.{put_pair, stored_of, Node, raised, write_at}
+use Rattle.cops_core.specs.World.{Setting, IsSetting, home, primary, World, node_at, with_node, context_in, fits, has_room, keeps, wrote, WriteBy}
 use Rattle.cops_core.specs.Machine.{view}
 use Rattle.cops_core.proofs.Accepted.{Kept}
+use Rattle.cops_core.proofs.Writes.{fits_in, given_written}
 use Rattle.cops_core.proofs.Nodes.{with_settled_old, with_settled_cases, raised_own, raised_dep}
 use Rattle.cops_core.proofs.Bounds.{IsBounded, bounded_answered, one_pair}
 use Rattle.cops_core.proofs.Placed.{IsStored, Placed, Change, is_stored_more, is_held_more, settled_more, placed_after}
 use Rattle.cops_core.proofs.Simulation.{SettlesOne, view_settles, Goes, version_clock, version_node, primary_within, home_within, settles_there, settles_only, stored_from}
 
-module _ (s : Setting) (ok : IsSetting s) (w : World) (placed : Placed s w) (kept : Kept (home s) (view w)) (client : ℕ) (key value : List ℕ) (bounded : IsBounded s w) (has_session : client < length w.sessions) (room : has_room w client ≡ true) where
+module _ (s : Setting) (ok : IsSetting s) (w : World) (placed : Placed s w) (kept : Kept (home s) (view w)) (client : ℕ) (key : List ℕ) (content : Option (List ℕ)) (bounded : IsBounded s w) (has_session : client < length w.sessions) (room : has_room w client ≡ true) (fit : fits s.format content ≡ true) where
   abbrev dc : ℕ
   dc = home s client
 
@@ -34,13 +36,13 @@ module _ (s : Setting) (ok : IsSetting s) (w : World) (placed : Placed s w) (kep
   version = version_of (clock + 1) node.number
 
   abbrev put : PutRecord
-  put = record { key = key; value = value; version = version; deps = context_in w client }
+  put = record { key = key; value = content; version = version; deps = context_in w client }
 
   abbrev node' : Node
-  node' = (put_at node key value (clock + 1)).1
+  node' = (write_at node key content (clock + 1)).1
 
   abbrev new : World
-  new = keeps w dc place (PutBy client key value) (PutDone version) node'
+  new = wrote (with_node w dc place node') client key content (Some version)
 
   has_context : client < length w.contexts
   has_context = let a = placed.sessions in let b = placed.contexts in omega arith
@@ -134,10 +136,15 @@ module _ (s : Setting) (ok : IsSetting s) (w : World) (placed : Placed s w) (kep
       one p e (inl h) = absurd (fresh p h e)
       one p e (inr same) = same
 
-  pub put_goes : Goes s w new
-  put_goes = record {
+  all_fit : (p : PutRecord) → Contains w.issued p ⊎ (put ≡ p) → Fits s.format p.value
+  all_fit p (inl h) = bounded.fits p h
+  all_fit p (inr e) = subst (λ (x : PutRecord). Fits s.format x.value) e (fits_in s.format content fit)
+
+  goes : Goes s w new
+  goes = record {
     placed = placed';
-    bounded = bounded_answered s w new client (write key (Some value) version) (put_pair put ∷ []) bounded has_session has_context room refl refl (one_pair s.format (put_pair put));
+    bounded = bounded_answered s w new client (write key content version) (put_pair put ∷ []) bounded has_session has_context room refl refl (one_pair s.format (put_pair put))
+        (λ p h. all_fit p (Contains-push_cases w.issued put p h));
     step = inl (
       client,
       put,
@@ -151,3 +158,6 @@ module _ (s : Setting) (ok : IsSetting s) (w : World) (placed : Placed s w) (kep
       },
     );
   }
+
+  pub put_goes : Goes s w (keeps w dc place (WriteBy client key content) (written content version) node')
+  put_goes = subst (λ (o : Option ℕ). Goes s w (wrote (with_node w dc place node') client key content o)) (sym (given_written content version)) goes

@@ -98,18 +98,18 @@ module _ (h : Sessions) where
       first false e rest = second (nat_lt u.version t.version) refl rest
 
   -- the puts of a list, each with a name that it has, in order of versions
-  sorted : (puts : List PutRecord) → ((p : PutRecord) → Contains puts p → (n : OpName) × IsPut h n p.key (Some p.value) p.version) → List (Tagged h)
+  sorted : (puts : List PutRecord) → ((p : PutRecord) → Contains puts p → (n : OpName) × IsPut h n p.key p.value p.version) → List (Tagged h)
   sorted [] named = []
   sorted (p ∷ puts) named =
       let n = named p (contains_head p puts) in
-      insert (record { name = n.0; version = p.version; puts = (p.key, Some p.value, n.1) }) (sorted puts (λ q c. named q (contains_tail p puts q c)))
+      insert (record { name = n.0; version = p.version; puts = (p.key, p.value, n.1) }) (sorted puts (λ q c. named q (contains_tail p puts q c)))
 
-  sorted_rising : (puts : List PutRecord) (named : (p : PutRecord) → Contains puts p → (n : OpName) × IsPut h n p.key (Some p.value) p.version) → IsRising (sorted puts named)
+  sorted_rising : (puts : List PutRecord) (named : (p : PutRecord) → Contains puts p → (n : OpName) × IsPut h n p.key p.value p.version) → IsRising (sorted puts named)
   unfolding sorted
   sorted_rising [] named = tt
   sorted_rising (p ∷ puts) named = insert_rising _ (sorted puts (λ q c. named q (contains_tail p puts q c))) (sorted_rising puts (λ q c. named q (contains_tail p puts q c)))
 
-  sorted_has : (puts : List PutRecord) (named : (p : PutRecord) → Contains puts p → (n : OpName) × IsPut h n p.key (Some p.value) p.version) (x : PutRecord) → Contains puts x → Has (sorted puts named) x.version
+  sorted_has : (puts : List PutRecord) (named : (p : PutRecord) → Contains puts p → (n : OpName) × IsPut h n p.key p.value p.version) (x : PutRecord) → Contains puts x → Has (sorted puts named) x.version
   unfolding sorted
   sorted_has [] named x c = absurd (contains_none x c)
   sorted_has (p ∷ puts) named x c =

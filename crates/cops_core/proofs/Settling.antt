@@ -34,7 +34,7 @@ pub record Holds (s : Setting) (w : World) (dc place : ℕ) (n : Node) : Type 0 
 holds_goes : (s : Setting) → length s.place.splits ≤ 63 → (w : World) → Placed s w → IsBounded s w → (dc place : ℕ) (n : Node) → dc < s.place.dcs → place ≤ length s.place.splits → Holds s w dc place n → Goes s w (with_node w dc place n)
 holds_goes s fits w placed bounded dc place n hd hp h = record {
   placed = placed';
-  bounded = bounded_stays s w new bounded refl refl;
+  bounded = bounded_stays s w new bounded refl refl refl;
   step = inr (inr (inr (inr (view_stays s w new placed placed' refl refl refl (settled_more s fits w new dc place n change placed) less))));
 }
   where
@@ -108,7 +108,7 @@ ask_goes s w placed bounded dc key version = go (settled_at s w dc pair) refl
     go false e = back_goes s w placed bounded dc (primary s key)
     go true e = subst (λ x. Goes s w (with_said x (record { dc = dc; pair = pair }))) (sym (same_node w dc (primary s key))) (record {
       placed = placed';
-      bounded = bounded_stays s w new bounded refl refl;
+      bounded = bounded_stays s w new bounded refl refl refl;
       step = inr (inr (inr (inr (view_stays s w new placed placed' refl refl refl (λ d p h. h) (λ d p h. h)))));
     })
       where
@@ -266,7 +266,7 @@ module _ (s : Setting) (fits : length s.place.splits ≤ 63) (w : World) (placed
   pub settled_goes : Goes s w new
   settled_goes = record {
     placed = placed';
-    bounded = bounded_stays s w new bounded refl refl;
+    bounded = bounded_stays s w new bounded refl refl refl;
     step = inr (inr (inr (inl (
       dc,
       h.put,

@@ -126,7 +126,7 @@ module _ (old new : State) (client : ℕ) (op : Operation) (context : List Dep) 
       cases (inl same) = subst (λ n. Bears (settled n) p) (sym same) (here p (subst (λ x. Contains x p) context_here (subst (λ n. Contains (context_of new n) p) same h)))
       cases (inr ne) = held c p (subst (λ x. Contains x p) (context_other c ne) h)
 
-  answers_named : (puts : List PutRecord) → ((p : PutRecord) → Contains puts p → (n : OpName) × (op_at old.sessions n ≡ Some (write p.key (Some p.value) p.version))) → (p : PutRecord) → Contains puts p → (n : OpName) × (op_at new.sessions n ≡ Some (write p.key (Some p.value) p.version))
+  answers_named : (puts : List PutRecord) → ((p : PutRecord) → Contains puts p → (n : OpName) × (op_at old.sessions n ≡ Some (write p.key p.value p.version))) → (p : PutRecord) → Contains puts p → (n : OpName) × (op_at new.sessions n ≡ Some (write p.key p.value p.version))
   answers_named puts named p h = let m = named p h in (m.0, operation_kept m.0 _ m.1)
 
   answers_once : IsOnce old.sessions → ((n : OpName) (k l : List ℕ) (x y : Option (List ℕ)) (v : ℕ) → op ≡ write k x v → op_at old.sessions n ≡ Some (write l y v) → ⊥) → IsOnce new.sessions
@@ -192,16 +192,16 @@ module _ (home : ℕ → ℕ) (old new : State) (k : Kept home old) where
   }
     where
       op : Operation
-      op = write put.key (Some put.value) put.version
+      op = write put.key put.value put.version
 
       deps_settled : (d : Dep) → Contains put.deps d → Bears (old.settled (home client)) d
       deps_settled d h = k.held client d (subst (λ x. Contains x d) s.deps h)
 
-      named_all : (p : PutRecord) → Contains old.issued p ⊎ (put ≡ p) → (n : OpName) × (op_at new.sessions n ≡ Some (write p.key (Some p.value) p.version))
+      named_all : (p : PutRecord) → Contains old.issued p ⊎ (put ≡ p) → (n : OpName) × (op_at new.sessions n ≡ Some (write p.key p.value p.version))
       named_all p (inl o) = answers_named old new client op (put_pair put ∷ []) s.answers old.issued k.named p o
       named_all p (inr e) = (
         new_name old new client op (put_pair put ∷ []) s.answers,
-        operation_new old new client op (put_pair put ∷ []) s.answers ∙ ap (λ (x : PutRecord). Some (write x.key (Some x.value) x.version)) e,
+        operation_new old new client op (put_pair put ∷ []) s.answers ∙ ap (λ (x : PutRecord). Some (write x.key x.value x.version)) e,
       )
 
       once_fresh : (n : OpName) (a l : List ℕ) (x y : Option (List ℕ)) (v : ℕ) → op ≡ write a x v → op_at old.sessions n ≡ Some (write l y v) → ⊥
@@ -222,13 +222,13 @@ module _ (home : ℕ → ℕ) (old new : State) (k : Kept home old) where
         (answers_fair old new client op context s.answers old.issued k.fair (k.contexts client)
         (record { put = put; is = record { among = k.known (home client) put s.shown; bears = refl; value = refl }; newest = newest }));
     contexts = answers_contexts old new client op context s.answers k.contexts refl;
-    named = subst (λ (x : List PutRecord). (p : PutRecord) → Contains x p → (n : OpName) × (op_at new.sessions n ≡ Some (write p.key (Some p.value) p.version))) (sym s.issued)
+    named = subst (λ (x : List PutRecord). (p : PutRecord) → Contains x p → (n : OpName) × (op_at new.sessions n ≡ Some (write p.key p.value p.version))) (sym s.issued)
         (answers_named old new client op context s.answers old.issued k.named);
     once = answers_once old new client op context s.answers k.once (λ n a l x y v e o. cc);
   }
     where
       op : Operation
-      op = read put.key (Some put.value) put.version
+      op = read put.key put.value put.version
 
       context : List Dep
       context = with_pair (context_of old client) (put_pair put)
@@ -258,7 +258,7 @@ module _ (home : ℕ → ℕ) (old new : State) (k : Kept home old) where
     fair = subst (λ (x : List PutRecord). (c : ℕ) → AllFair x [] (session new.sessions c)) (sym s.issued)
         (answers_fair old new client (missed key) (context_of old client) s.answers old.issued k.fair (k.contexts client) (record { none = none }));
     contexts = answers_contexts old new client (missed key) (context_of old client) s.answers k.contexts refl;
-    named = subst (λ (x : List PutRecord). (p : PutRecord) → Contains x p → (n : OpName) × (op_at new.sessions n ≡ Some (write p.key (Some p.value) p.version))) (sym s.issued)
+    named = subst (λ (x : List PutRecord). (p : PutRecord) → Contains x p → (n : OpName) × (op_at new.sessions n ≡ Some (write p.key p.value p.version))) (sym s.issued)
         (answers_named old new client (missed key) (context_of old client) s.answers old.issued k.named);
     once = answers_once old new client (missed key) (context_of old client) s.answers k.once (λ n a l x y v e o. cc);
   }
@@ -277,7 +277,7 @@ module _ (home : ℕ → ℕ) (old new : State) (k : Kept home old) where
     held = λ c p h. bears_more _ _ p (settled_stays old new dc put s.settled (home c)) (k.held c p (subst (λ (x : List (List Dep)). Contains (slice_index_or x c []) p) s.contexts h));
     fair = λ c. subst (λ (x : List PutRecord). AllFair x [] (session new.sessions c)) (sym s.issued) (subst (λ h. AllFair old.issued [] (session h c)) (sym s.sessions) (k.fair c));
     contexts = λ c. subst (λ (x : List (List Dep)). AtEnd (slice_index_or x c []) (session new.sessions c)) (sym s.contexts) (subst (λ h. AtEnd (context_of old c) (session h c)) (sym s.sessions) (k.contexts c));
-    named = λ p h. let n = k.named p (subst (λ x. Contains x p) s.issued h) in (n.0, subst (λ h. op_at h n.0 ≡ Some (write p.key (Some p.value) p.version)) (sym s.sessions) n.1);
+    named = λ p h. let n = k.named p (subst (λ x. Contains x p) s.issued h) in (n.0, subst (λ h. op_at h n.0 ≡ Some (write p.key p.value p.version)) (sym s.sessions) n.1);
     once = subst IsOnce (sym s.sessions) k.once;
   }
 
@@ -289,7 +289,7 @@ module _ (home : ℕ → ℕ) (old new : State) (k : Kept home old) where
     held = λ c p h. bears_more _ _ p (λ q i. (s.settled (home c) q).1 i) (k.held c p (subst (λ (x : List (List Dep)). Contains (slice_index_or x c []) p) s.contexts h));
     fair = λ c. subst (λ (x : List PutRecord). AllFair x [] (session new.sessions c)) (sym s.issued) (subst (λ h. AllFair old.issued [] (session h c)) (sym s.sessions) (k.fair c));
     contexts = λ c. subst (λ (x : List (List Dep)). AtEnd (slice_index_or x c []) (session new.sessions c)) (sym s.contexts) (subst (λ h. AtEnd (context_of old c) (session h c)) (sym s.sessions) (k.contexts c));
-    named = λ p h. let n = k.named p (subst (λ x. Contains x p) s.issued h) in (n.0, subst (λ h. op_at h n.0 ≡ Some (write p.key (Some p.value) p.version)) (sym s.sessions) n.1);
+    named = λ p h. let n = k.named p (subst (λ x. Contains x p) s.issued h) in (n.0, subst (λ h. op_at h n.0 ≡ Some (write p.key p.value p.version)) (sym s.sessions) n.1);
     once = subst IsOnce (sym s.sessions) k.once;
   }
 

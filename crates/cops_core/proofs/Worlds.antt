@@ -2,35 +2,35 @@
 use Rattle.std.proofs.Common.{◌≡◌, ◌≢◌, ℕ, zero, suc, ◌+◌, ◌*◌, ◌<◌, ◌≤◌, ◌⊎◌, inl, inr, List, [], ◌∷◌, ◌++◌, Bool, true, false, cond, Contains, Some, None, is_some, slice_get, slice_index_or, length, refl, sym, ap, ◌∙◌, arith, subst, nat_lt, replicate, Option}
 use Rattle.cops_types.specs.declared.limits.TheConstants.{MAX_CLOCK}
 use Rattle.cops_types.specs.declared.refusal.Refusal.{Refusal}
-use Rattle.cops_types.specs.declared.refusal.Refusal.TheVariants.{ClockExhausted, ContextFull, UnknownClient, NeverSent, NoYes, UnknownDc, SessionFull}
+use Rattle.cops_types.specs.declared.refusal.Refusal.TheVariants.{ClockExhausted, ContextFull, UnknownClient, NeverSent, NoYes, UnknownDc, NotInFormat, SessionFull}
 use Rattle.std.proofs.lemmas.Bool.{ltb-true}
 use Rattle.cops_types.specs.declared.dep.Dep.{Dep}
 use Rattle.cops_types.specs.declared.put_record.PutRecord.{PutRecord}
 use Rattle.cops_types.specs.declared.op.OpName.{OpName}
-use Rattle.cops_types.specs.Format.{most_deps}
+use Rattle.cops_types.specs.Format.{most_deps, Fits, IsInFormat}
 use Rattle.cops_types.specs.Past.{Past}
 use Rattle.cops_node.specs.declared.outcome.Outcome.{Outcome}
 use Rattle.cops_node.specs.declared.outcome.Outcome.TheVariants.{Refused}
-use Rattle.cops_node.specs.Node.{dep_at, put_pair, Node, opened, raised, put_at}
+use Rattle.cops_node.specs.Node.{dep_at, put_pair, Node, opened, raised, write_at}
 use Rattle.std.proofs.Common.{length-append}
 use Rattle.std.proofs.lemmas.List.{length-replicate}
 use Rattle.std.proofs.lemmas.Option.{slice_get_within}
 use Rattle.cops_types.specs.declared.dep.Dep.{Dep}
 use Rattle.cops_types.specs.declared.put_record.PutRecord.{PutRecord}
 use Rattle.cops_types.specs.declared.op.OpName.{OpName}
-use Rattle.cops_types.specs.Histories.{IsNamed, IsPut, IsGot, write, read}
+use Rattle.cops_types.specs.Histories.{IsNamed, IsPut, IsGot, Operation, op_at, write, read, missed}
 use Rattle.cops_types.proofs.Sessions.{none_within}
 use Rattle.cops_context.specs.Kept.{IsContext}
 use Rattle.cops_held.specs.Held.{waiting}
 use Rattle.cops_node.specs.declared.outcome.Outcome.{Outcome}
 use Rattle.cops_node.specs.declared.outcome.Outcome.TheVariants.{Refused}
-use Rattle.cops_node.specs.Node.{put_pair, Node, opened, raised, put_at}
+use Rattle.cops_node.specs.Node.{put_pair, Node, opened, raised, write_at}
 use Rattle.cops_core.specs.Dependencies.{Bears}
 use Rattle.cops_core.specs.Machine.{context_of, session, Step, view}
-use Rattle.cops_core.specs.World.{Setting, IsSetting, home, primary, World, node_at, context_in, sent, is_answered, knows, has_room, has_context_room, is_dc, checks, refusal, keeps, done, Event, PutBy, GetBy, DeliverTo, AskAt, MarkAt, SettleAt, happens, Happens, row, rows, opening, Run, IsReached}
+use Rattle.cops_core.specs.World.{Setting, IsSetting, home, primary, World, node_at, context_in, sent, is_answered, knows, has_room, has_context_room, is_dc, checks, refusal, keeps, done, fits, Act, Event, act_of, WriteBy, GetBy, DeliverTo, AskAt, MarkAt, SettleAt, happens, Happens, row, rows, opening, Run, IsReached}
 use Rattle.cops_types.specs.Verdicts.{HasAcceptedVerdict}
 use Rattle.cops_types.specs.NodeNumber.{place_of}
-use Rattle.cops_core.specs.Invariants.{Covers, IsCarried, IsIssued, Invariants}
+use Rattle.cops_core.specs.Invariants.{AreInFormat, Covers, IsCarried, IsIssued, Invariants}
 use Rattle.cops_core.proofs.Lists.{at_version, contains_none}
 use Rattle.cops_core.proofs.Reaching.{reaches_settled}
 use Rattle.cops_core.proofs.Contexts.{context_before, AllFair, fair_at, WasPut, WasGot, covers_later}
@@ -57,16 +57,17 @@ module _ (s : Setting) (ok : IsSetting s) (w : World) (sound : Sound s w) where
   inside : (dc : ℕ) → (tests : List (Bool × Refusal)) → refusal ((is_dc s dc, UnknownDc) ∷ tests) ≡ None → dc < s.place.dcs
   inside dc tests h = ltb-true dc s.place.dcs (first_passed (is_dc s dc) UnknownDc tests h).0
 
-  puts : (client : ℕ) (key value : List ℕ) → client < length w.sessions → has_room w client ≡ true → (b : Bool)
-      → Goes s w (let n = node_at w (home s client) (primary s key) in let r : Outcome × Node = cond b (put_at n key value (raised n.clock (context_in w client) + 1)) (Refused ClockExhausted, n) in keeps w (home s client) (primary s key) (PutBy client key value) r.0 r.1)
-  puts client key value h room true = put_goes s ok w sound.placed sound.kept client key value sound.bounded h room
-  puts client key value h room false = back_goes s w sound.placed sound.bounded (home s client) (primary s key)
+  puts : (client : ℕ) (key : List ℕ) (content : Option (List ℕ)) → client < length w.sessions → has_room w client ≡ true → fits s.format content ≡ true → (b : Bool)
+      → Goes s w (let n = node_at w (home s client) (primary s key) in let r : Outcome × Node = cond b (write_at n key content (raised n.clock (context_in w client) + 1)) (Refused ClockExhausted, n) in keeps w (home s client) (primary s key) (WriteBy client key content) r.0 r.1)
+  puts client key content h room fit true = put_goes s ok w sound.placed sound.kept client key content sound.bounded h room fit
+  puts client key content h room fit false = back_goes s w sound.placed sound.bounded (home s client) (primary s key)
 
-  done_goes : (e : Event) → refusal (checks s w e) ≡ None → Goes s w (done s w e).1
-  done_goes (PutBy client key value) h =
-      let a = first_passed (knows w client) UnknownClient ((has_room w client, SessionFull) ∷ []) h in
-      let b = first_passed (has_room w client) SessionFull [] a.1 in
-      puts client key value (known client a.0) b.0 (nat_lt (raised (node_at w (home s client) (primary s key)).clock (context_in w client)) MAX_CLOCK)
+  done_goes : (e : Act) → refusal (checks s w e) ≡ None → Goes s w (done s w e).1
+  done_goes (WriteBy client key content) h =
+      let a = first_passed (knows w client) UnknownClient ((fits s.format content, NotInFormat) ∷ (has_room w client, SessionFull) ∷ []) h in
+      let f = first_passed (fits s.format content) NotInFormat ((has_room w client, SessionFull) ∷ []) a.1 in
+      let b = first_passed (has_room w client) SessionFull [] f.1 in
+      puts client key content (known client a.0) b.0 f.0 (nat_lt (raised (node_at w (home s client) (primary s key)).clock (context_in w client)) MAX_CLOCK)
   done_goes (GetBy client key) h =
       let a = first_passed (knows w client) UnknownClient ((has_room w client, SessionFull) ∷ (has_context_room s w client, ContextFull) ∷ []) h in
       let b = first_passed (has_room w client) SessionFull ((has_context_room s w client, ContextFull) ∷ []) a.1 in
@@ -80,21 +81,21 @@ module _ (s : Setting) (ok : IsSetting s) (w : World) (sound : Sound s w) where
       mark_goes s ok.place.range.2 w sound.placed sound.bounded sound.kept dc version dep (inside dc ((answered, NoYes) ∷ []) h) (first_passed answered NoYes [] a.1).0
   done_goes (SettleAt dc version) h = settle_goes s ok.place.range.2 w sound.placed sound.bounded sound.kept dc version (inside dc [] h)
 
-  pub happens_goes : (e : Event) → Goes s w (happens s w e).1
+  pub happens_goes : (e : Act) → Goes s w (happens s w e).1
   happens_goes e = unless_goes s w sound.placed sound.bounded (checks s w e) (done s w e) (done_goes e)
 
-  pub event_goes : (e : Event) (o : Outcome) (new : World) → Happens s w e o new → Goes s w new
+  pub event_goes : (e : Act) (o : Outcome) (new : World) → Happens s w e o new → Goes s w new
   event_goes e o new (inl h) = subst (Goes s w) (ap (λ (r : Outcome × World). r.1) h) (happens_goes e)
   event_goes e o new (inr h) = subst (Goes s w) (sym h.1) (stays_goes s w sound.placed sound.bounded)
 
-  pub event_sound : (e : Event) (o : Outcome) (new : World) → Happens s w e o new → Sound s new
+  pub event_sound : (e : Act) (o : Outcome) (new : World) → Happens s w e o new → Sound s new
   event_sound e o new h = let g = event_goes e o new h in record { placed = g.placed; bounded = g.bounded; kept = step_kept (home s) (view w) (view new) sound.kept g.step }
 
 pub run_sound : (s : Setting) → IsSetting s → (events : List Event) (outcomes : List Outcome) (old new : World) → Sound s old → Run s old events outcomes new → Sound s new
 run_sound s ok [] [] old new sound r = subst (Sound s) (sym r) sound
 run_sound s ok [] (o ∷ outcomes) old new sound r = absurd r
 run_sound s ok (e ∷ events) [] old new sound r = absurd r
-run_sound s ok (e ∷ events) (o ∷ outcomes) old new sound r = run_sound s ok events outcomes r.0 new (event_sound s ok old sound e o r.0 r.1.0) r.1.1
+run_sound s ok (e ∷ events) (o ∷ outcomes) old new sound r = run_sound s ok events outcomes r.0 new (event_sound s ok old sound (act_of e) o r.0 r.1.0) r.1.1
 
 -- the opening world
 length_row : (dc n : ℕ) → length (row dc n) ≡ n
@@ -183,6 +184,7 @@ pub opening_bounded : (s : Setting) → length s.homes ≤ 65535 → IsBounded s
 opening_bounded s few = record {
   contexts = λ c. subst (IsContext (most_deps s.format)) (sym (no_entry (length s.homes) c)) (no_pairs (most_deps s.format));
   limits = none_within (length s.homes) few;
+  fits = λ p h. absurd (contains_none p h);
 }
 
 pub opening_sound : (s : Setting) → length s.homes ≤ 65535 → Sound s (opening s)
@@ -195,7 +197,7 @@ reached_sound s ok w r = run_sound s ok r.0 r.1 (opening s) w (opening_sound s o
 pub reached_accepted : (s : Setting) → IsSetting s → (w : World) → IsReached s w → HasAcceptedVerdict w.sessions
 reached_accepted s ok w r = kept_accepted (home s) (view w) (reached_sound s ok w r).kept
 
-pub reached_steps : (s : Setting) → IsSetting s → (w : World) → IsReached s w → (e : Event) (o : Outcome) (new : World) → Happens s w e o new → Step (home s) (view w) (view new)
+pub reached_steps : (s : Setting) → IsSetting s → (w : World) → IsReached s w → (e : Act) (o : Outcome) (new : World) → Happens s w e o new → Step (home s) (view w) (view new)
 reached_steps s ok w r e o new h = (event_goes s ok w (reached_sound s ok w r) e o new h).step
 
 -- what is settled at a primary is settled in the view
@@ -204,7 +206,7 @@ view_bears s w placed d pair h =
     let b = settled_bears s w placed d pair h in
     record { put = b.put; among = view_from s w d b.put b.among (subst (λ x. settled_at s w d x ≡ true) (sym b.bears) h); bears = b.bears }
 
-same_stored : (p : PutRecord) (k : List ℕ) (x : Option (List ℕ)) (v : ℕ) → put_pair p ≡ at_version k v → Some p.value ≡ x → (p.key ≡ k) × (Some p.value ≡ x) × (p.version ≡ v)
+same_stored : (p : PutRecord) (k : List ℕ) (x : Option (List ℕ)) (v : ℕ) → put_pair p ≡ at_version k v → p.value ≡ x → (p.key ≡ k) × (p.value ≡ x) × (p.version ≡ v)
 same_stored p k x v e f = (ap (λ (d : Dep). d.key) e, f, ap (λ (d : Dep). d.version) e)
 
 pub sound_invariants : (s : Setting) (w : World) → Sound s w → Invariants s w
@@ -216,13 +218,14 @@ sound_invariants s w sound = record {
   consistent = kept.consistent;
   clocks = placed.behind;
   held = λ d q x h. (placed.held d q x h).among;
-  settled = λ d q t h. (let i = placed.stored d q t h in let n = same_stored i.put t.key (Some t.value) t.version i.is.bears i.is.value in (i.put, i.is.among, n.0, n.1, n.2));
+  settled = λ d q t h. (let i = placed.stored d q t h in let n = same_stored i.put t.key t.value t.version i.is.bears i.is.value in (i.put, i.is.among, n.0, n.1, n.2));
   issued = kept.named;
   once = none_doubled w.sessions kept.once;
   wrote = wrote;
   got = got;
   contexts = sound.bounded.contexts;
   limits = sound.bounded.limits;
+  fits = sound.bounded.fits;
 }
   where
     placed : Placed s w
@@ -258,3 +261,18 @@ sound_invariants s w sound = record {
 
 pub reached_invariants : (s : Setting) → IsSetting s → (w : World) → IsReached s w → Invariants s w
 reached_invariants s ok w r = sound_invariants s w (reached_sound s ok w r)
+
+-- what clients saw is in the format
+pub reached_in_format : (s : Setting) → IsSetting s → (w : World) → IsReached s w → AreInFormat s.format w.sessions
+reached_in_format s ok w r name op at = go op at
+  where
+    i : Invariants s w
+    i = reached_invariants s ok w r
+
+    issued : (key : List ℕ) (content : Option (List ℕ)) (version : ℕ) → IsIssued w key content version → Fits s.format content
+    issued key content version is = subst (Fits s.format) is.3 (i.fits is.0 is.1)
+
+    go : (op : Operation) → op_at w.sessions name ≡ Some op → IsInFormat s.format op
+    go (write key content version) at = issued key content version (i.wrote name key content version at)
+    go (read key content version) at = issued key content version (i.got name key content version at)
+    go (missed key) at = tt

@@ -3,12 +3,13 @@ use Rattle.std.specs.Prelude.{◌≡◌, ℕ, ◌≤◌, List, true, Contains, S
 use Rattle.cops_types.specs.declared.dep.Dep.{Dep}
 use Rattle.cops_types.specs.declared.put_record.PutRecord.{PutRecord}
 use Rattle.cops_types.specs.declared.op.OpName.{OpName}
-use Rattle.cops_types.specs.Histories.{IsNamed, IsPut, IsGot}
+use Rattle.cops_types.specs.declared.format.Format.{Format}
+use Rattle.cops_types.specs.Histories.{Sessions, IsNamed, IsPut, IsGot, Operation, op_at}
 use Rattle.cops_types.specs.Past.{Past}
 use Rattle.cops_types.specs.Recorded.{IsWithinLimits}
 use Rattle.cops_types.specs.VersionOrder.{NoneDoubled}
 use Rattle.cops_types.specs.Version.{clock_of}
-use Rattle.cops_types.specs.Format.{most_deps}
+use Rattle.cops_types.specs.Format.{most_deps, Fits, IsInFormat}
 use Rattle.cops_context.specs.Kept.{IsContext}
 use Rattle.cops_store.specs.Store.{Stored}
 use Rattle.cops_held.specs.Held.{Waiting}
@@ -27,9 +28,13 @@ pub record IsCarried (s : State) (dc client : ℕ) (pair : Dep) : Type 0 where
   pub settled : Bears (s.settled dc) pair
   pub covered : Covers s.issued (context_of s client) pair
 
--- an issued put has this key, value and version
+-- an issued put has this key, content and version
 abbrev pub IsIssued : World → List ℕ → Option (List ℕ) → ℕ → Type 0
-IsIssued w key content version = (p : PutRecord) × Contains w.issued p × (p.key ≡ key) × (Some p.value ≡ content) × (p.version ≡ version)
+IsIssued w key content version = (p : PutRecord) × Contains w.issued p × (p.key ≡ key) × (p.value ≡ content) × (p.version ≡ version)
+
+-- each operation is in the format
+abbrev pub AreInFormat : Format → Sessions → Type 0
+AreInFormat format h = (name : OpName) (op : Operation) → op_at h name ≡ Some op → IsInFormat format op
 
 pub record Invariants (s : Setting) (w : World) : Type 0 where
   -- what a data centre has settled is closed under dependencies
@@ -44,11 +49,12 @@ pub record Invariants (s : Setting) (w : World) : Type 0 where
   pub clocks : (dc place : ℕ) (t : Stored) → Contains (node_at w dc place).settled t → clock_of t.version ≤ (node_at w dc place).clock
   -- held and settled puts were issued, each issued put is that of one operation, and each put and get is of an issued put
   pub held : (dc place : ℕ) (h : Waiting) → Contains (node_at w dc place).held h → Contains w.issued h.put
-  pub settled : (dc place : ℕ) (t : Stored) → Contains (node_at w dc place).settled t → IsIssued w t.key (Some t.value) t.version
-  pub issued : (p : PutRecord) → Contains w.issued p → (n : OpName) × IsPut w.sessions n p.key (Some p.value) p.version
+  pub settled : (dc place : ℕ) (t : Stored) → Contains (node_at w dc place).settled t → IsIssued w t.key t.value t.version
+  pub issued : (p : PutRecord) → Contains w.issued p → (n : OpName) × IsPut w.sessions n p.key p.value p.version
   pub once : NoneDoubled w.sessions
   pub wrote : (n : OpName) (key : List ℕ) (content : Option (List ℕ)) (version : ℕ) → IsPut w.sessions n key content version → IsIssued w key content version
   pub got : (n : OpName) (key : List ℕ) (content : Option (List ℕ)) (version : ℕ) → IsGot w.sessions n key content version → IsIssued w key content version
-  -- contexts and sessions are within their limits
+  -- contexts and contents are of the format, and sessions within their limits
   pub contexts : (client : ℕ) → IsContext (most_deps s.format) (context_in w client)
+  pub fits : (p : PutRecord) → Contains w.issued p → Fits s.format p.value
   pub limits : IsWithinLimits w.sessions

@@ -1,4 +1,5 @@
 pub mod Dependencies
+pub mod Acts
 pub mod World
 pub mod Memory
 pub mod Opened

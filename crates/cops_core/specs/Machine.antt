@@ -1,6 +1,6 @@
 -- The store as its clients may know it (COPS, section 3): one set of puts in each data centre, and no nodes, no clocks
 -- and no messages.
-use Rattle.std.specs.Prelude.{◌≡◌, ◌≢◌, ℕ, ◌<◌, ◌≤◌, ◌↔◌, ◌⊎◌, List, [], ◌∷◌, ◌++◌, length, filter, Contains, slice_index_or, slice_set, Some}
+use Rattle.std.specs.Prelude.{◌≡◌, ◌≢◌, ℕ, ◌<◌, ◌≤◌, ◌↔◌, ◌⊎◌, List, [], ◌∷◌, ◌++◌, length, filter, Contains, slice_index_or, slice_set}
 use Rattle.cops_types.specs.declared.dep.Dep.{Dep}
 use Rattle.cops_types.specs.declared.put_record.PutRecord.{PutRecord}
 use Rattle.cops_types.specs.Histories.{Sessions, with_op, Operation, write, read, missed}
@@ -40,14 +40,14 @@ pub record Answers (old new : State) (client : ℕ) (op : Operation) (context : 
   pub sessions : new.sessions ≡ with_op old.sessions client op
   pub contexts : new.contexts ≡ slice_set old.contexts client context
 
--- a client of data centre dc puts: the put depends on the client's context, and its version is new and above all of that
+-- a client of data centre dc puts, without content a deletion: the put depends on the client's context, and its version is new and above all of that
 pub record Puts (old new : State) (dc client : ℕ) (put : PutRecord) : Type 0 where
   pub deps : put.deps ≡ context_of old client
   pub above : (d : Dep) → Contains put.deps d → d.version < put.version
   pub fresh : (p : PutRecord) → Contains old.issued p → p.version ≢ put.version
   pub issued : new.issued ≡ old.issued ++ put ∷ []
   pub settled : SettlesAt old new dc put
-  pub answers : Answers old new client (write put.key (Some put.value) put.version) (put_pair put ∷ [])
+  pub answers : Answers old new client (write put.key put.value put.version) (put_pair put ∷ [])
 
 -- a client of data centre dc gets what has the greatest version there
 pub record Gets (old new : State) (dc client : ℕ) (put : PutRecord) : Type 0 where
@@ -55,7 +55,7 @@ pub record Gets (old new : State) (dc client : ℕ) (put : PutRecord) : Type 0 w
   pub greatest : (p : PutRecord) → Contains (old.settled dc) p → p.key ≡ put.key → p.version ≤ put.version
   pub issued : new.issued ≡ old.issued
   pub settled : new.settled ≡ old.settled
-  pub answers : Answers old new client (read put.key (Some put.value) put.version) (with_pair (context_of old client) (put_pair put))
+  pub answers : Answers old new client (read put.key put.value put.version) (with_pair (context_of old client) (put_pair put))
 
 -- a client of data centre dc gets a key that no put there has
 pub record Misses (old new : State) (dc client : ℕ) (key : List ℕ) : Type 0 where

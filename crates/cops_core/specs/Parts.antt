@@ -1,11 +1,16 @@
 -- The parts of a world, as its code keeps them.
-use Rattle.std.specs.Prelude.{◌≡◌, ℕ, ◌<◌, List, [], ◌∷◌, Bool, true, false, length, slice_index_or}
+use Rattle.std.specs.Prelude.{◌≡◌, ℕ, ◌<◌, List, [], ◌∷◌, Bool, true, false, ◌&&◌, nat_lt, length, slice_index_or, Option}
 use Rattle.cops_types.specs.declared.limits.TheConstants.{MAX_CLIENT_OPS, MAX_OPS}
 use Rattle.cops_types.specs.declared.dep.Dep.{Dep}
 use Rattle.cops_types.specs.declared.put_record.PutRecord.{PutRecord}
+use Rattle.cops_types.specs.declared.format.Format.{Format}
+use Rattle.cops_types.specs.declared.refusal.Refusal.{Refusal}
+use Rattle.cops_types.specs.declared.refusal.Refusal.TheVariants.{UnknownClient, NotInFormat, SessionFull, ContextFull}
+use Rattle.cops_types.specs.Format.{most_deps}
+use Rattle.cops_types.specs.Histories.{Sessions}
 use Rattle.cops_types.specs.Recorded.{Recorded, HasRoom}
 use Rattle.cops_types.specs.Counts.{count_of}
-use Rattle.cops_core.specs.World.{Said}
+use Rattle.cops_core.specs.World.{Said, fits}
 
 -- the issued puts, and whether one more takes no memory
 pub record Puts : Type 0 where
@@ -28,6 +33,19 @@ pub record MayRecord (history : Recorded) (client : ℕ) : Type 0 where
   pub few : length (slice_index_or history.sessions client []) < MAX_CLIENT_OPS
   pub all : count_of history.sessions < MAX_OPS
   pub room : HasRoom history client
+
+-- what a write wants of what was recorded, in the order of the refusals
+abbrev pub write_checks : Sessions → Format → ℕ → Option (List ℕ) → List (Bool × Refusal)
+write_checks h format client content =
+    (nat_lt client (length h), UnknownClient) ∷ (fits format content, NotInFormat)
+    ∷ (nat_lt (length (slice_index_or h client [])) MAX_CLIENT_OPS && nat_lt (count_of h) MAX_OPS, SessionFull) ∷ []
+
+-- what a get wants of what was recorded and of the contexts, in the order of the refusals
+abbrev pub get_checks : Sessions → List (List Dep) → Format → ℕ → List (Bool × Refusal)
+get_checks h contexts format client =
+    (nat_lt client (length h), UnknownClient)
+    ∷ (nat_lt (length (slice_index_or h client [])) MAX_CLIENT_OPS && nat_lt (count_of h) MAX_OPS, SessionFull)
+    ∷ (nat_lt (length (slice_index_or contexts client [])) (most_deps format), ContextFull) ∷ []
 
 -- the context of each client, and of each whether one more pair takes no memory
 pub record AllContexts : Type 0 where

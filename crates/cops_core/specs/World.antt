@@ -1,11 +1,13 @@
 -- The world: its nodes, what was issued and answered, and what each client saw.
-use Rattle.std.specs.Prelude.{◌≡◌, ℕ, zero, suc, ◌+◌, ◌⊎◌, List, [], ◌∷◌, ◌++◌, Bool, true, if◌then◌else◌, ◌==◌, ◌&&◌, nat_lt, length, sum_by, find, replicate, flat_map, slice_set, slice_index_or, Option, Some, None, is_some}
+use Rattle.std.specs.Prelude.{◌≡◌, ℕ, zero, suc, ◌+◌, ◌⊎◌, List, [], ◌∷◌, ◌++◌, Bool, true, false, if◌then◌else◌, ◌==◌, ◌&&◌, nat_lt, length, sum_by, find, replicate, flat_map, slice_set, slice_index_or, Option, Some, None, is_some}
 use Rattle.std.specs.List.{list_any}
 use Rattle.cops_types.specs.declared.limits.TheConstants.{MAX_CLIENT_OPS, MAX_OPS}
 use Rattle.cops_types.specs.declared.dep.Dep.{Dep}
+use Rattle.cops_types.specs.declared.format.Format.{Format}
+use Rattle.cops_types.specs.declared.format.Format.TheVariants.{One, Two}
 use Rattle.cops_types.specs.declared.put_record.PutRecord.{PutRecord}
 use Rattle.cops_types.specs.declared.refusal.Refusal.{Refusal}
-use Rattle.cops_types.specs.declared.refusal.Refusal.TheVariants.{UnknownClient, SessionFull, ContextFull, UnknownDc, NeverSent, NoYes, Memory}
+use Rattle.cops_types.specs.declared.refusal.Refusal.TheVariants.{UnknownClient, NotInFormat, SessionFull, ContextFull, UnknownDc, NeverSent, NoYes, Memory}
 use Rattle.cops_types.specs.Histories.{Sessions, with_op, Operation, write, read, missed}
 use Rattle.cops_types.specs.Dep.{is_same_dep}
 use Rattle.cops_types.specs.Format.{most_deps}
@@ -13,19 +15,18 @@ use Rattle.cops_types.specs.NodeNumber.{node_number, place_of}
 use Rattle.cops_context.specs.Context.{with_pair}
 use Rattle.cops_store.specs.Store.{Stored}
 use Rattle.cops_held.specs.Held.{waiting}
-use Rattle.cops_node.specs.declared.event.NodeEvent.{NodeEvent}
-use Rattle.cops_node.specs.declared.event.NodeEvent.TheVariants.{Put as NodePut, Get as NodeGet, Deliver as NodeDeliver, Ask as NodeAsk, Mark as NodeMark, Settle as NodeSettle}
+use Rattle.cops_node.specs.Acts.{Act as NodeAct, Write as NodeWrite, Get as NodeGet, Deliver as NodeDeliver, Ask as NodeAsk, Mark as NodeMark, Settle as NodeSettle, version_given}
 use Rattle.cops_node.specs.declared.outcome.Outcome.{Outcome}
-use Rattle.cops_node.specs.declared.outcome.Outcome.TheVariants.{PutDone, Got as Answered, Missed as Nothing, Yes, Refused}
-use Rattle.cops_node.specs.Node.{Node, opened, dep_at, node_step}
+use Rattle.cops_node.specs.declared.outcome.Outcome.TheVariants.{Got as Answered, Gone, Missed as Nothing, Yes, Refused}
+use Rattle.cops_node.specs.Node.{Node, opened, dep_at, act_step}
 pub use Rattle.cops_place.specs.Place.{Setting, IsSetting, home, primary_in as primary}
 pub use Rattle.cops_core.specs.declared.event.Said.{Said}
 pub use Rattle.cops_core.specs.declared.event.Event.{Event}
-pub use Rattle.cops_core.specs.declared.event.Event.TheVariants.{Put as PutBy, Get as GetBy, Deliver as DeliverTo, Ask as AskAt, Mark as MarkAt, Settle as SettleAt}
+pub use Rattle.cops_core.specs.Acts.{Act, WriteBy, GetBy, DeliverTo, AskAt, MarkAt, SettleAt, act_of}
 
 pub record World : Type 0 where
   pub nodes : List (List Node)  -- of each data centre, by place
-  pub issued : List PutRecord  -- in the order in which clients put them
+  pub issued : List PutRecord  -- in the order in which clients wrote them
   pub said : List Said  -- the answers Yes
   pub contexts : List (List Dep)  -- of each client
   pub sessions : Sessions
@@ -94,6 +95,12 @@ knows w client = nat_lt client (length w.sessions)
 abbrev pub has_room : World → ℕ → Bool
 has_room w client = nat_lt (length (slice_index_or w.sessions client [])) MAX_CLIENT_OPS && nat_lt (sum_by length w.sessions) MAX_OPS
 
+-- the format has such a write: a deletion is of format 2
+abbrev pub fits : Format → Option (List ℕ) → Bool
+fits format (Some value) = true
+fits One None = false
+fits Two None = true
+
 -- the client's context has room for one more pair
 abbrev pub has_context_room : Setting → World → ℕ → Bool
 has_context_room s w client = nat_lt (length (context_in w client)) (most_deps s.format)
@@ -101,9 +108,9 @@ has_context_room s w client = nat_lt (length (context_in w client)) (most_deps s
 abbrev pub is_dc : Setting → ℕ → Bool
 is_dc s dc = nat_lt dc s.place.dcs
 
--- What an event wants of the world, in the order of the refusals. Where all is there a node is asked, which may refuse too.
-abbrev pub checks : Setting → World → Event → List (Bool × Refusal)
-checks s w (PutBy client key value) = (knows w client, UnknownClient) ∷ (has_room w client, SessionFull) ∷ []
+-- What an act wants of the world, in the order of the refusals. Where all is there a node is asked, which may refuse too.
+abbrev pub checks : Setting → World → Act → List (Bool × Refusal)
+checks s w (WriteBy client key content) = (knows w client, UnknownClient) ∷ (fits s.format content, NotInFormat) ∷ (has_room w client, SessionFull) ∷ []
 checks s w (GetBy client key) = (knows w client, UnknownClient) ∷ (has_room w client, SessionFull) ∷ (has_context_room s w client, ContextFull) ∷ []
 checks s w (DeliverTo dc version) = (is_dc s dc, UnknownDc) ∷ (is_some (sent w.issued version), NeverSent) ∷ []
 checks s w (AskAt dc key version) = (is_dc s dc, UnknownDc) ∷ []
@@ -115,28 +122,37 @@ abbrev pub refusal : List (Bool × Refusal) → Option Refusal
 refusal [] = None
 refusal (t ∷ tests) = if t.0 then refusal tests else Some t.1
 
+-- a client's write is issued with its context, which then is the new pair alone
+abbrev pub wrote : World → ℕ → List ℕ → Option (List ℕ) → Option ℕ → World
+wrote w client key content None = w
+wrote w client key content (Some version) =
+    with_answer (with_issued w (record { key = key; value = content; version = version; deps = context_in w client }))
+    client (write key content version) (record { key = key; version = version } ∷ [])
+
+-- a client's context gains the pair that a get of the client met
+abbrev pub met : World → ℕ → List ℕ → Option (List ℕ) → ℕ → World
+met w client key content version = with_answer w client (read key content version) (with_pair (context_in w client) (record { key = key; version = version }))
+
 -- the world after a node has answered, and became this one
-abbrev pub keeps : World → ℕ → ℕ → Event → Outcome → Node → World
-keeps w dc place (PutBy client key value) (PutDone version) n =
-    with_answer (with_issued (with_node w dc place n) (record { key = key; value = value; version = version; deps = context_in w client }))
-    client (write key (Some value) version) (record { key = key; version = version } ∷ [])
-keeps w dc place (GetBy client key) (Answered value version) n =
-    with_answer (with_node w dc place n) client (read key (Some value) version) (with_pair (context_in w client) (record { key = key; version = version }))
+abbrev pub keeps : World → ℕ → ℕ → Act → Outcome → Node → World
+keeps w dc place (WriteBy client key content) outcome n = wrote (with_node w dc place n) client key content (version_given outcome)
+keeps w dc place (GetBy client key) (Answered value version) n = met (with_node w dc place n) client key (Some value) version
+keeps w dc place (GetBy client key) (Gone version) n = met (with_node w dc place n) client key None version
 keeps w dc place (GetBy client key) Nothing n = with_answer (with_node w dc place n) client (missed key) (context_in w client)
 keeps w dc place (AskAt d key version) Yes n = with_said (with_node w dc place n) (record { dc = d; pair = record { key = key; version = version } })
-keeps w dc place event outcome n = with_node w dc place n
+keeps w dc place act outcome n = with_node w dc place n
 
 -- the node at a place is asked, and the world keeps what it answers
-abbrev pub asks : World → Event → ℕ → ℕ → NodeEvent → Outcome × World
-asks w event dc place asked = let r = node_step (node_at w dc place) asked in (r.0, keeps w dc place event r.0 r.1)
+abbrev pub asks : World → Act → ℕ → ℕ → NodeAct → Outcome × World
+asks w act dc place asked = let r = act_step (node_at w dc place) asked in (r.0, keeps w dc place act r.0 r.1)
 
 abbrev pub delivers : Setting → World → ℕ → ℕ → Option PutRecord → Outcome × World
 delivers s w dc version None = (Refused NeverSent, w)
 delivers s w dc version (Some put) = asks w (DeliverTo dc version) dc (primary s put.key) (NodeDeliver put)
 
--- the node that an event goes to, and what it is asked
-abbrev pub done : Setting → World → Event → Outcome × World
-done s w (PutBy client key value) = asks w (PutBy client key value) (home s client) (primary s key) (NodePut client key value (context_in w client))
+-- the node that an act goes to, and what it is asked
+abbrev pub done : Setting → World → Act → Outcome × World
+done s w (WriteBy client key content) = asks w (WriteBy client key content) (home s client) (primary s key) (NodeWrite client key content (context_in w client))
 done s w (GetBy client key) = asks w (GetBy client key) (home s client) (primary s key) (NodeGet client key)
 done s w (DeliverTo dc version) = delivers s w dc version (sent w.issued version)
 done s w (AskAt dc key version) = asks w (AskAt dc key version) dc (primary s key) (NodeAsk key version)
@@ -148,17 +164,17 @@ unless w (Some refused) next = (Refused refused, w)
 unless w None next = next
 
 -- what is answered where memory is there, and the world afterwards
-abbrev pub happens : Setting → World → Event → Outcome × World
-happens s w event = unless w (refusal (checks s w event)) (done s w event)
+abbrev pub happens : Setting → World → Act → Outcome × World
+happens s w act = unless w (refusal (checks s w act)) (done s w act)
 
--- an event is answered so, or refused for want of memory
-abbrev pub Happens : Setting → World → Event → Outcome → World → Type 0
-Happens s old event outcome new = (happens s old event ≡ (outcome, new)) ⊎ ((outcome ≡ Refused Memory) × (new ≡ old))
+-- an act is answered so, or refused for want of memory
+abbrev pub Happens : Setting → World → Act → Outcome → World → Type 0
+Happens s old act outcome new = (happens s old act ≡ (outcome, new)) ⊎ ((outcome ≡ Refused Memory) × (new ≡ old))
 
 -- a whole run
 abbrev pub Run : Setting → World → List Event → List Outcome → World → Type 0
 Run s old [] [] new = new ≡ old
-Run s old (event ∷ events) (outcome ∷ outcomes) new = (mid : World) × (Happens s old event outcome mid × Run s mid events outcomes new)
+Run s old (event ∷ events) (outcome ∷ outcomes) new = (mid : World) × (Happens s old (act_of event) outcome mid × Run s mid events outcomes new)
 Run s old [] (outcome ∷ outcomes) new = ⊥
 Run s old (event ∷ events) [] new = ⊥
 

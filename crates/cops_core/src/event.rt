@@ -6,10 +6,12 @@ use std::alloc::AllocError;
 pub enum Event {
     /// A client puts a value at a key, in its own data centre.
     Put { client: u16, key: Key, value: Value },
+    /// A client deletes a key, in its own data centre, which only format 2 has.
+    Del { client: u16, key: Key },
     /// A client gets a key, from its own data centre.
     Get { client: u16, key: Key },
-    /// The put of that version comes to a data centre. Each put is on offer to every data centre for good, so delays,
-    /// losses and repeats are which of these events there are, and when.
+    /// The put of that version, or the deletion, comes to a data centre. Each is on offer to every data centre for
+    /// good, so delays, losses and repeats are which of these events there are, and when.
     Deliver { dc: u8, version: Version },
     /// A data centre's node is asked whether exactly this pair is settled there (COPS, section 4.3: `dep_check`).
     Ask { dc: u8, key: Key, version: Version },

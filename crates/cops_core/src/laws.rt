@@ -3,17 +3,17 @@ ghost use Rattle.cops_types.specs.declared.refusal.Refusal.{Refusal};
 ghost use Rattle.cops_node.specs.declared.outcome.Outcome.{Outcome};
 ghost use Rattle.cops_node.specs.declared.outcome.Outcome.TheVariants.{Refused};
 ghost use Rattle.cops_core.specs.Invariants.{Invariants};
-ghost use Rattle.cops_core.specs.World.{IsReached, Event, Happens, IsSetting, Setting, World, home};
+ghost use Rattle.cops_core.specs.World.{IsReached, Act, Happens, IsSetting, Setting, World, home};
 ghost use Rattle.cops_types.specs.Verdicts.{HasAcceptedVerdict};
 ghost use Rattle.cops_core.specs.Machine.{Step, view};
 
 /// A law of the definitions. Whatever events come to an opened world, in whatever order, and wherever memory runs out:
-/// the verdict of the history that was recorded is Accepted. Each event is a step of the machine that knows one set of
-/// puts in each data centre, or changes nothing there; the invariants hold; and a refused event changes nothing.
+/// the verdict of the history that was recorded is Accepted. Each act is a step of the machine that knows one set of
+/// puts in each data centre, or changes nothing there; the invariants hold; and a refused act changes nothing.
 pub fn every_interleaving_is_accepted()
     ensures accepted { (s : Setting) (w : World) → IsSetting s → IsReached s w → HasAcceptedVerdict w.sessions }
-    ensures steps { (s : Setting) (w new : World) (event : Event) (outcome : Outcome) → IsSetting s → IsReached s w
-        → Happens s w event outcome new → Step (home s) (view w) (view new) }
+    ensures steps { (s : Setting) (w new : World) (act : Act) (outcome : Outcome) → IsSetting s → IsReached s w
+        → Happens s w act outcome new → Step (home s) (view w) (view new) }
     ensures invariants { (s : Setting) (w : World) → IsSetting s → IsReached s w → Invariants s w }
-    ensures refused { (s : Setting) (w new : World) (event : Event) (refused : Refusal) → Happens s w event (Refused refused) new → new ≡ w }
+    ensures refused { (s : Setting) (w new : World) (act : Act) (refused : Refusal) → Happens s w act (Refused refused) new → new ≡ w }
 {}

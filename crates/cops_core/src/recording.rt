@@ -1,18 +1,22 @@
 //! What the world keeps of its clients' operations: copies, and a place in the history.
 ghost use Rattle.cops_types.specs.declared.limits.TheConstants.{MAX_CLIENT_OPS, MAX_OPS};
-ghost use Rattle.std.specs.Prelude.{◌≡◌, ◌<◌, ◌⊎◌, ◌∷◌, ◌++◌, [], true, None, Some, nat_lt, ◌&&◌, length, slice_index_or, slice_set, IfOk, IfErr, OnOk};
+ghost use Rattle.std.specs.Prelude.{◌≡◌, ◌<◌, ◌⊎◌, ◌∷◌, ◌++◌, [], true, None, Some, nat_lt, ◌&&◌, length, option_copied, slice_index_or, slice_set, IfOk, IfErr, OnOk};
 ghost use Rattle.cops_types.specs.declared.refusal.Refusal.TheVariants.{Memory as OutOfMemory, SessionFull, UnknownClient};
 ghost use Rattle.cops_types.specs.Counts.{count_of};
+ghost use Rattle.cops_types.specs.Format.{most_deps};
 ghost use Rattle.cops_types.specs.Histories.{with_op};
 ghost use Rattle.cops_types.specs.Histories.{write};
 ghost use Rattle.cops_types.specs.Operations.{operation_of};
-ghost use Rattle.cops_core.specs.Parts.{MayRecord};
-ghost use Rattle.cops_core.specs.World.{refusal, sent};
+ghost use Rattle.cops_node.specs.Acts.{Write as NodeWrite};
+ghost use Rattle.cops_node.specs.Node.{ActHappens};
+ghost use Rattle.cops_core.specs.Parts.{MayRecord, get_checks, write_checks};
+ghost use Rattle.cops_core.specs.World.{fits, refusal, sent};
 
 use crate::client_contexts::ClientContexts;
 use crate::issued::Issued;
+use cops_node::{Node, Outcome};
 use cops_types::{
-    Dep, Deps, History, Key, Memory, Op, PutRecord, Refusal, TypeFault, Value, Version,
+    Dep, Deps, Format, History, Key, Memory, Op, PutRecord, Refusal, TypeFault, Value, Version,
 };
 use std::alloc::{AllocError, Global};
 
@@ -32,6 +36,53 @@ pub fn admit(history: &mut History, client: u16) -> Result<(), Refusal>
     }
 }
 
+/// Whether a client may write this, without a value a deletion, else why not: as `admit` answers it for any operation,
+/// and `NotInFormat` where the format has no deletions.
+pub fn admit_write(
+    history: &mut History,
+    format: Format,
+    client: u16,
+    content: Option<&Value>,
+) -> Result<(), Refusal>
+    ensures same { history.new.sessions ≡ history.old.sessions }
+    ensures ok { OnOk result (MayRecord history.new client) }
+    ensures fits { OnOk result (fits format (option_copied content.entry) ≡ true) }
+    ensures err { IfErr result (λ refused. (refused ≡ OutOfMemory) ⊎ (refusal (write_checks history.old.sessions format client (option_copied content.entry)) ≡ Some refused)) }
+    ensures memory { IfErr result (λ refused. refused ≡ OutOfMemory → refusal (write_checks history.old.sessions format client (option_copied content.entry)) ≡ None) }
+{
+    if usize::from(client) < history.clients() && !format.fits(content) {
+        return Err(Refusal::NotInFormat);
+    }
+    admit(history, client)
+}
+
+/// Whether a client may get a key, else why not: as `admit` answers it for any operation, and `ContextFull` where the
+/// client's context has no room for one more pair.
+pub fn admit_get(
+    history: &mut History,
+    contexts: &ClientContexts,
+    format: Format,
+    client: u16,
+) -> Result<(), Refusal>
+    requires { length contexts.now.pairs ≡ length history.old.sessions }
+    ensures same { history.new.sessions ≡ history.old.sessions }
+    ensures ok { OnOk result (MayRecord history.new client) }
+    ensures room { OnOk result (nat_lt (length (slice_index_or contexts.now.pairs client [])) (most_deps format) ≡ true) }
+    ensures err { IfErr result (λ refused. (refused ≡ OutOfMemory) ⊎ (refusal (get_checks history.old.sessions contexts.now.pairs format client) ≡ Some refused)) }
+    ensures memory { IfErr result (λ refused. refused ≡ OutOfMemory → refusal (get_checks history.old.sessions contexts.now.pairs format client) ≡ None) }
+{
+    if let Err(refused) = admit(history, client) {
+        if refused == Refusal::Memory && !contexts.has_room(format, client) {
+            return Err(Refusal::ContextFull);
+        }
+        return Err(refused);
+    }
+    if !contexts.has_room(format, client) {
+        return Err(Refusal::ContextFull);
+    }
+    Ok(())
+}
+
 /// Records a client's next operation.
 pub fn record(history: &mut History, client: u16, op: Op)
     requires { MayRecord history.old client }
@@ -40,27 +91,27 @@ pub fn record(history: &mut History, client: u16, op: Op)
     history.push(client, op).unwrap()
 }
 
-/// A put before it has its version: its key and value, and the client's context.
+/// A put before it has its version: its key and value, and the client's context. Without a value it is a deletion.
 #[derive(Drop)]
 pub struct Draft {
     pub key: Key,
-    pub value: Value,
+    pub value: Option<Value>,
     pub deps: Deps,
 }
 
-/// Copies of what a client puts, with its context.
+/// Copies of what a client writes, with its context.
 pub fn drafted(
     contexts: &ClientContexts,
     client: u16,
     key: &Key,
-    value: &Value,
+    content: Option<&Value>,
 ) -> Result<Draft, Memory>
     requires { client < length contexts.now.pairs }
-    ensures { IfOk result (λ draft. draft ≡ record { key = key.now; value = value.now; deps = slice_index_or contexts.now.pairs client [] }) }
+    ensures { IfOk result (λ draft. draft ≡ record { key = key.now; value = option_copied content.entry; deps = slice_index_or contexts.now.pairs client [] }) }
 {
     Ok(Draft {
         key: key.clone()?,
-        value: value.clone()?,
+        value: content_copy(content)?,
         deps: contexts.deps(client)?,
     })
 }
@@ -72,25 +123,60 @@ pub struct Copies {
     pub issued: Draft,
     pub pair_key: Key,
     pub op_key: Key,
-    pub op_value: Value,
+    pub op_value: Option<Value>,
 }
 
-/// Copies of what a client puts for each place where it is kept.
+/// Copies of what a client writes for each place where it is kept.
 pub fn copies_of(
     contexts: &ClientContexts,
     client: u16,
     key: &Key,
-    value: &Value,
+    content: Option<&Value>,
 ) -> Result<Copies, Memory>
     requires { client < length contexts.now.pairs }
-    ensures { IfOk result (λ copies. copies ≡ record { issued = record { key = key.now; value = value.now; deps = slice_index_or contexts.now.pairs client [] }; pair_key = key.now; op_key = key.now; op_value = value.now }) }
+    ensures { IfOk result (λ copies. copies ≡ record { issued = record { key = key.now; value = option_copied content.entry; deps = slice_index_or contexts.now.pairs client [] }; pair_key = key.now; op_key = key.now; op_value = option_copied content.entry }) }
 {
     Ok(Copies {
-        issued: drafted(contexts, client, key, value)?,
+        issued: drafted(contexts, client, key, content)?,
         pair_key: key.clone()?,
         op_key: key.clone()?,
-        op_value: value.clone()?,
+        op_value: content_copy(content)?,
     })
+}
+
+/// A copy of a content: of a value, or that there is none.
+fn content_copy(content: Option<&Value>) -> Result<Option<Value>, AllocError>
+    ensures { IfOk result (λ copy. copy ≡ option_copied content.entry) }
+{
+    match content {
+        Some(value) => Ok(Some(value.clone()?)),
+        None => Ok(None),
+    }
+}
+
+/// The node of a client's data centre writes a draft.
+pub fn write_at(node: &mut Node, client: u16, own: Draft) -> Outcome
+    ensures { ActHappens node.old (NodeWrite client own.key own.value own.deps) result node.new }
+{
+    let Draft { key, value, deps } = own;
+    match value {
+        Some(value) => node.put(client, key, value, deps),
+        None => node.del(client, key, deps),
+    }
+}
+
+/// What the session tells of a write.
+fn written(key: Key, content: Option<Value>, version: Version) -> Op
+    ensures { operation_of result ≡ write key content version }
+{
+    match content {
+        Some(value) => Op::Put {
+            version,
+            key,
+            value,
+        },
+        None => Op::Del { version, key },
+    }
 }
 
 /// Keeps a put under its version: among the issued ones, as its client's context and in its client's session.
@@ -108,7 +194,7 @@ pub fn keep_put(
     requires may { MayRecord history.old client }
     ensures issued { issued.new.puts ≡ issued.old.puts ++ record { key = copies.issued.key; value = copies.issued.value; version = version; deps = copies.issued.deps } ∷ [] }
     ensures context { contexts.new.pairs ≡ slice_set contexts.old.pairs client (record { key = copies.pair_key; version = version } ∷ []) }
-    ensures session { history.new.sessions ≡ with_op history.old.sessions client (write copies.op_key (Some copies.op_value) version) }
+    ensures session { history.new.sessions ≡ with_op history.old.sessions client (write copies.op_key copies.op_value version) }
 {
     let Copies {
         issued: put,
@@ -127,12 +213,7 @@ pub fn keep_put(
         key: pair_key,
     };
     contexts.replace(client, pair);
-    let op = Op::Put {
-        version,
-        key: op_key,
-        value: op_value,
-    };
-    record(history, client, op)
+    record(history, client, written(op_key, op_value, version))
 }
 
 /// A copy of a put with its dependencies.
@@ -142,7 +223,7 @@ pub fn copied(alloc: Global, put: &PutRecord) -> Result<PutRecord, Memory>
     let pairs = copied_pairs(alloc, put.deps.as_slice())?;
     Ok(PutRecord {
         key: put.key.clone()?,
-        value: put.value.clone()?,
+        value: content_copy(put.value.as_ref())?,
         version: put.version,
         deps: Deps::new(pairs).unwrap(),
     })

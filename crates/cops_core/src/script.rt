@@ -5,6 +5,7 @@ use cops_types::{Key, Value};
 #[derive(Debug, Drop, PartialEq, Eq)]
 pub enum ScriptOp {
     Put { key: Key, value: Value },
+    Del { key: Key },
     Get { key: Key },
 }
 

@@ -6,7 +6,9 @@ use crate::client_contexts::ClientContexts;
 use crate::data_centres::DataCentres;
 use crate::event::{Event, Said};
 use crate::issued::Issued;
-use crate::recording::{admit, copied, copies_of, drafted, keep_put, record};
+use crate::recording::{
+    admit_get, admit_write, copied, copies_of, drafted, keep_put, record, write_at,
+};
 use crate::table::{answer, events};
 use cops_context::Context;
 use cops_node::Outcome;
@@ -41,11 +43,11 @@ impl Model for State {
 }
 
 impl State {
-    ghost use Rattle.std.specs.Prelude.{◌≡◌, ◌≢◌, [], IfOk, OnErr, length, option_copied, slice_get};
+    ghost use Rattle.std.specs.Prelude.{◌≡◌, ◌≢◌, [], IfOk, OnErr, Some, None, length, option_copied, slice_get};
     ghost use Rattle.cops_types.specs.declared.refusal.Refusal.TheVariants.{Memory as OutOfMemory};
     ghost use Rattle.cops_node.specs.declared.outcome.Outcome.TheVariants.{Refused as RefusedWith};
     ghost use Rattle.cops_store.specs.Store.{has_pair};
-    ghost use Rattle.cops_core.specs.World.{Happens, context_in, happens, opening, sent, settled_in, PutBy, GetBy, DeliverTo, AskAt, MarkAt, SettleAt, IsReached};
+    ghost use Rattle.cops_core.specs.World.{Happens, context_in, act_of, happens, opening, sent, settled_in, WriteBy, GetBy, DeliverTo, AskAt, MarkAt, SettleAt, IsReached};
     ghost use Rattle.cops_core.specs.Memory.{TakesMemory};
 
     /// The state in which nothing has happened yet.
@@ -66,8 +68,8 @@ impl State {
     /// Answers an event. Want of memory stands only in place of an answer that takes memory.
     pub fn step(&mut self, setting: &Setting, event: &Event) -> Outcome
         requires { IsReached setting.now self.old }
-        ensures happens { Happens setting.now self.old event.now result self.new }
-        ensures memory { result ≡ RefusedWith OutOfMemory → TakesMemory event.now (happens setting.now self.old event.now).0 }
+        ensures happens { Happens setting.now self.old (act_of event.now) result self.new }
+        ensures memory { result ≡ RefusedWith OutOfMemory → TakesMemory (act_of event.now) (happens setting.now self.old (act_of event.now)).0 }
     {
         events!(answer self, setting, event)
     }
@@ -123,50 +125,75 @@ impl State {
         self.centres.at(dc, setting.primary(key)).has(key, version)
     }
 
-    /// A client puts a value at a key, in its own data centre. The put depends on the client's context, which then
-    /// holds the new pair alone.
+    /// A client puts a value at a key, in its own data centre.
     fn put(&mut self, setting: &Setting, client: u16, key: &Key, value: &Value) -> Outcome
         requires { IsReached setting.now self.old }
-        ensures happens { Happens setting.now self.old (PutBy client key.now value.now) result self.new }
-        ensures memory { result ≡ RefusedWith OutOfMemory → TakesMemory (PutBy client key.now value.now) (happens setting.now self.old (PutBy client key.now value.now)).0 }
+        ensures happens { Happens setting.now self.old (WriteBy client key.now (Some value.now)) result self.new }
+        ensures memory { result ≡ RefusedWith OutOfMemory → TakesMemory (WriteBy client key.now (Some value.now)) (happens setting.now self.old (WriteBy client key.now (Some value.now))).0 }
     {
-        match self.try_put(setting, client, key, value) {
+        self.write(setting, client, key, Some(value))
+    }
+
+    /// A client deletes a key, in its own data centre.
+    fn del(&mut self, setting: &Setting, client: u16, key: &Key) -> Outcome
+        requires { IsReached setting.now self.old }
+        ensures happens { Happens setting.now self.old (WriteBy client key.now None) result self.new }
+        ensures memory { result ≡ RefusedWith OutOfMemory → TakesMemory (WriteBy client key.now None) (happens setting.now self.old (WriteBy client key.now None)).0 }
+    {
+        self.write(setting, client, key, None)
+    }
+
+    /// A client writes a content at a key, in its own data centre. The put depends on the client's context, which then
+    /// holds the new pair alone.
+    fn write(
+        &mut self,
+        setting: &Setting,
+        client: u16,
+        key: &Key,
+        content: Option<&Value>,
+    ) -> Outcome
+        requires { IsReached setting.now self.old }
+        ensures happens { Happens setting.now self.old (WriteBy client key.now (option_copied content.entry)) result self.new }
+        ensures memory { result ≡ RefusedWith OutOfMemory → TakesMemory (WriteBy client key.now (option_copied content.entry)) (happens setting.now self.old (WriteBy client key.now (option_copied content.entry))).0 }
+    {
+        match self.try_write(setting, client, key, content) {
             Ok(outcome) => outcome,
             Err(Memory) => Outcome::Refused(Refusal::Memory),
         }
     }
 
     /// The same. All growths come before the first change, so want of memory changes nothing.
-    fn try_put(
+    fn try_write(
         &mut self,
         setting: &Setting,
         client: u16,
         key: &Key,
-        value: &Value,
+        content: Option<&Value>,
     ) -> Result<Outcome, Memory>
         requires { IsReached setting.now self.old }
-        ensures ok { IfOk result (λ outcome. Happens setting.now self.old (PutBy client key.now value.now) outcome self.new) }
+        ensures ok { IfOk result (λ outcome. Happens setting.now self.old (WriteBy client key.now (option_copied content.entry)) outcome self.new) }
         ensures err { OnErr result (self.new ≡ self.old) }
-        ensures memory { IfOk result (λ outcome. outcome ≡ RefusedWith OutOfMemory → TakesMemory (PutBy client key.now value.now) (happens setting.now self.old (PutBy client key.now value.now)).0) }
-        ensures takes { OnErr result (TakesMemory (PutBy client key.now value.now) (happens setting.now self.old (PutBy client key.now value.now)).0) }
+        ensures memory { IfOk result (λ outcome. outcome ≡ RefusedWith OutOfMemory → TakesMemory (WriteBy client key.now (option_copied content.entry)) (happens setting.now self.old (WriteBy client key.now (option_copied content.entry))).0) }
+        ensures takes { OnErr result (TakesMemory (WriteBy client key.now (option_copied content.entry)) (happens setting.now self.old (WriteBy client key.now (option_copied content.entry))).0) }
     {
         let place = setting.primary(key);
-        if let Err(refused) = admit(&mut self.history, client) {
+        if let Err(refused) = admit_write(&mut self.history, setting.format(), client, content) {
             return Ok(Outcome::Refused(refused));
         }
         self.issued.reserve()?;
-        let own = drafted(&self.contexts, client, key, value)?;
-        let copies = copies_of(&self.contexts, client, key, value)?;
+        let own = drafted(&self.contexts, client, key, content)?;
+        let copies = copies_of(&self.contexts, client, key, content)?;
         let node = self.centres.node(setting.home(client), place);
-        match node.put(client, own.key, own.value, own.deps) {
-            Outcome::PutDone(version) => {
+        let outcome = write_at(node, client, own);
+        match outcome.version_given() {
+            Some(version) => {
                 let (issued, contexts) = (&mut self.issued, &mut self.contexts);
                 keep_put(issued, contexts, &mut self.history, client, version, copies);
-                Ok(Outcome::PutDone(version))
+                Ok(outcome)
             }
-            other => {
+            None => {
                 drop(copies);
-                Ok(other)
+                Ok(outcome)
             }
         }
     }
@@ -193,17 +220,11 @@ impl State {
     {
         let format = setting.format();
         let place = setting.primary(key);
-        if let Err(refused) = admit(&mut self.history, client) {
-            if refused == Refusal::Memory && !self.contexts.has_room(format, client) {
-                return Ok(Outcome::Refused(Refusal::ContextFull));
-            }
+        if let Err(refused) = admit_get(&mut self.history, &self.contexts, format, client) {
             return Ok(Outcome::Refused(refused));
         }
-        if !self.contexts.has_room(format, client) {
-            return Ok(Outcome::Refused(Refusal::ContextFull));
-        }
         self.contexts.reserve(client)?;
-        let (op_key, pair_key) = (key.clone()?, key.clone()?);
+        let (op_key, copy) = (key.clone()?, key.clone()?);
         let node = self.centres.node(setting.home(client), place);
         match node.get(client, key) {
             Outcome::Got(value, version) => {
@@ -212,21 +233,28 @@ impl State {
                     value: value.clone()?,
                     version,
                 };
-                let pair = Dep {
-                    key: pair_key,
-                    version,
-                };
+                let pair = Dep { key: copy, version };
                 self.contexts.add(format, client, pair);
                 record(&mut self.history, client, op);
                 Ok(Outcome::Got(value, version))
             }
+            Outcome::Gone(version) => {
+                let op = Op::Gone {
+                    key: op_key,
+                    version,
+                };
+                let pair = Dep { key: copy, version };
+                self.contexts.add(format, client, pair);
+                record(&mut self.history, client, op);
+                Ok(Outcome::Gone(version))
+            }
             Outcome::Missed => {
-                drop(pair_key);
+                drop(copy);
                 record(&mut self.history, client, Op::Missed { key: op_key });
                 Ok(Outcome::Missed)
             }
             other => {
-                drop((op_key, pair_key));
+                drop((op_key, copy));
                 Ok(other)
             }
         }

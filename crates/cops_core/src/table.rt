@@ -7,6 +7,7 @@ macro_rules! events {
         $make! {
             $($given)*;
             Put { client, key, value } => put(*client, key, value)
+            Del { client, key } => del(*client, key)
             Get { client, key } => get(*client, key)
             Deliver { dc, version } => deliver(*dc, *version)
             Ask { dc, key, version } => ask(*dc, key, *version)

@@ -5,7 +5,7 @@ use crate::fault::WorldFault;
 use crate::state::State;
 use cops_node::Outcome;
 use cops_place::{Place, Setting};
-use cops_types::{Deps, History, Key, Memory, PutRecord, Version};
+use cops_types::{Deps, Format, History, Key, Memory, PutRecord, Version};
 use std::alloc::Global;
 use std::marker::Model;
 
@@ -34,13 +34,13 @@ impl World {
     ghost use Rattle.cops_types.specs.declared.refusal.Refusal.TheVariants.{Memory as OutOfMemory};
     ghost use Rattle.cops_node.specs.declared.outcome.Outcome.TheVariants.{Refused as RefusedWith};
     ghost use Rattle.cops_core.specs.Machine.{Step, view};
-    ghost use Rattle.cops_core.specs.World.{Happens, context_in, happens, home, sent, settled_in, Run};
+    ghost use Rattle.cops_core.specs.World.{Happens, act_of, context_in, happens, home, sent, settled_in, Run};
     ghost use Rattle.cops_core.specs.Memory.{AnswersEach, TakesMemory};
     ghost use Rattle.cops_types.specs.Verdicts.{HasAcceptedVerdict};
     ghost use Rattle.cops_types.specs.declared.format.Format.TheVariants.{One};
     ghost use Rattle.cops_core.specs.Opened.{opened_world};
     ghost use Rattle.cops_place.specs.Clients.{AreClients};
-    ghost use Rattle.cops_core.specs.Invariants.{Invariants};
+    ghost use Rattle.cops_core.specs.Invariants.{AreInFormat, Invariants};
 
     /// A world of format 1 in which nothing has happened, of these data centres and nodes, and with a client at each of
     /// these data centres: `BadClient` where one of those is not there, or there are more than 65,535 clients.
@@ -48,7 +48,20 @@ impl World {
         ensures ok { IfOk result (λ world. world ≡ opened_world (record { format = One; place = place; homes = client_dcs.items })) }
         ensures bad { IsErrOf result WorldFault.BadClient ↔ (AreClients place client_dcs.items → ⊥) }
     {
-        match Setting::new(place, client_dcs) {
+        World::open_in(Format::One, alloc, place, client_dcs)
+    }
+
+    /// Such a world of a format. Format 2 has deletions.
+    pub fn open_in(
+        format: Format,
+        alloc: Global,
+        place: Place,
+        client_dcs: Vec<u8>,
+    ) -> Result<Self, WorldFault>
+        ensures ok { IfOk result (λ world. world ≡ opened_world (record { format = format; place = place; homes = client_dcs.items })) }
+        ensures bad { IsErrOf result WorldFault.BadClient ↔ (AreClients place client_dcs.items → ⊥) }
+    {
+        match Setting::new_in(format, place, client_dcs) {
             Some(setting) => World::of(alloc, setting).or(Err(WorldFault::Memory)),
             None => Err(WorldFault::BadClient),
         }
@@ -78,18 +91,20 @@ impl World {
     /// | Event | Outcome | Refused |
     /// |---|---|---|
     /// | Put | PutDone | 3 unknown client, 11 session full, 1 clock exhausted |
-    /// | Get | Got or Missed | 3 unknown client, 11 session full, 2 context full |
+    /// | Del | Deleted | 3 unknown client, 12 not in the format, 11 session full, 1 clock exhausted |
+    /// | Get | Got, Missed, or Gone where the key shows a deletion | 3 unknown client, 11 session full, 2 context full |
     /// | Deliver | Held; Repeat where it is held or settled there | 10 unknown data centre, 4 never sent |
     /// | Ask | Yes where the pair is settled there, else Wait | 10 unknown data centre |
     /// | Mark | Marked | 10 unknown data centre, 5 not held, 6 no such dependency, 7 no answer Yes |
     /// | Settle | Settled | 10 unknown data centre, 5 not held, 8 open dependencies |
     ///
-    /// Each is refused 9 where memory was refused: only in place of an outcome that is no refusal, or of a put's
-    /// refusal 1 or a mark's refusal 7, since the other refusals take no memory. A refused event changes nothing.
+    /// Each is refused 9 where memory was refused: only in place of an outcome that is no refusal, or of the refusal 1
+    /// of a put or a deletion or a mark's refusal 7, since the other refusals take no memory. A refused event changes
+    /// nothing.
     pub fn apply(&mut self, event: Event) -> Outcome
         ensures setting { self.new.setting ≡ self.old.setting }
-        ensures event { Happens self.old.setting self.old.world event result self.new.world }
-        ensures memory { result ≡ RefusedWith OutOfMemory → TakesMemory event (happens self.old.setting self.old.world event).0 }
+        ensures event { Happens self.old.setting self.old.world (act_of event) result self.new.world }
+        ensures memory { result ≡ RefusedWith OutOfMemory → TakesMemory (act_of event) (happens self.old.setting self.old.world (act_of event)).0 }
         ensures step { Step (home self.old.setting) (view self.old.world) (view self.new.world) }
     {
         self.answer(&event)
@@ -98,8 +113,8 @@ impl World {
     /// The same for an event that stays with the caller.
     pub fn answer(&mut self, event: &Event) -> Outcome
         ensures setting { self.new.setting ≡ self.old.setting }
-        ensures event { Happens self.old.setting self.old.world event.now result self.new.world }
-        ensures memory { result ≡ RefusedWith OutOfMemory → TakesMemory event.now (happens self.old.setting self.old.world event.now).0 }
+        ensures event { Happens self.old.setting self.old.world (act_of event.now) result self.new.world }
+        ensures memory { result ≡ RefusedWith OutOfMemory → TakesMemory (act_of event.now) (happens self.old.setting self.old.world (act_of event.now)).0 }
         ensures step { Step (home self.old.setting) (view self.old.world) (view self.new.world) }
     {
         self.state.step(&self.setting, event)
@@ -157,10 +172,12 @@ impl World {
         self.state.has_settled(&self.setting, dc, key, version)
     }
 
-    /// What the clients saw. Whatever events came, the verdict on it is Accepted.
+    /// What the clients saw. Whatever events came, the verdict on it is Accepted, and each operation is in the format
+    /// of the setting.
     pub fn history(&self) -> &History
         ensures sessions { result.now.sessions ≡ self.now.world.sessions }
         ensures accepted { HasAcceptedVerdict result.now.sessions }
+        ensures in_format { AreInFormat self.now.setting.format result.now.sessions }
         ensures invariants { Invariants self.now.setting self.now.world }
     {
         self.state.history()

@@ -1,5 +1,5 @@
 -- Operations in words.
-use Rattle.std.specs.Prelude.{ℕ, List, [], codes, decimal, Option, Some}
+use Rattle.std.specs.Prelude.{ℕ, List, [], codes, decimal, Option, Some, None}
 use Rattle.std.specs.List.{flat_map}
 use Rattle.cops_types.specs.declared.op.OpName.{OpName}
 use Rattle.cops_types.specs.Histories.{Sessions, op_at, Operation, write, read, missed}
@@ -10,12 +10,18 @@ use Rattle.cops_wire.specs.Shown.{bytes_text}
 abbrev pub pair_text : List ℕ → List ℕ → List ℕ → ℕ → List ℕ
 pair_text word key value version = word ⧺ bytes_text key ⧺ codes "=" ⧺ bytes_text value ⧺ codes " at " ⧺ version_text version
 
+-- deleted x at 1.0
+abbrev pub deletion_text : List ℕ → List ℕ → ℕ → List ℕ
+deletion_text word key version = word ⧺ bytes_text key ⧺ codes " at " ⧺ version_text version
+
 -- what an operation did
 abbrev pub did_text : Option Operation → List ℕ
 did_text (Some (write key (Some value) version)) = pair_text (codes "put ") key value version
+did_text (Some (write key None version)) = deletion_text (codes "deleted ") key version
 did_text (Some (read key (Some value) version)) = pair_text (codes "got ") key value version
+did_text (Some (read key None version)) = deletion_text (codes "found a deletion of ") key version
 did_text (Some (missed key)) = codes "got nothing at " ⧺ bytes_text key
-did_text _ = []
+did_text None = []
 
 -- client 0 put x=1 at 1.0
 abbrev pub act_text : Sessions → OpName → List ℕ

@@ -1,7 +1,7 @@
 -- The paragraph of a fault.
-use Rattle.std.specs.Prelude.{◌≡◌, ◌-◌, ℕ, zero, suc, List, [], ◌∷◌, ◌++◌, ◌==◌, if◌then◌else◌, length, take, codes, decimal, Option, Some}
+use Rattle.std.specs.Prelude.{◌≡◌, ◌-◌, ℕ, zero, suc, List, [], ◌∷◌, ◌++◌, ◌==◌, if◌then◌else◌, length, take, codes, decimal, Option, Some, None}
 use Rattle.cops_types.specs.declared.op.OpName.{OpName}
-use Rattle.cops_types.specs.Histories.{Sessions, Operation, missed, op_at}
+use Rattle.cops_types.specs.Histories.{Sessions, Operation, read, missed, op_at}
 use Rattle.cops_types.specs.Texts.{◌⧺◌, name_text}
 use Rattle.cops_audit.specs.declared.verdict.NotAbove.{NotAbove as ANotAbove}
 use Rattle.cops_audit.specs.declared.verdict.Stale.{Stale as AStale}
@@ -61,6 +61,7 @@ stale_head h number fault =
 -- what a stale get returned
 abbrev pub stale_return : Option Operation → List ℕ
 stale_return (Some (missed key)) = codes "nothing"
+stale_return (Some (read key None version)) = codes "an older deletion"
 stale_return _ = codes "an older put"
 
 -- how the client of a stale get knew of the newer put: the put is its own, or it came to know of it by this operation

@@ -166,9 +166,10 @@ fn refusal(
 /// and behind an empty line each a paragraph for each fault that is asked for, in order of names: its number, counted
 /// from 1, its class and its name; what happened, with keys, values and versions; the operations that show it, of a
 /// stale get the chain of `chain` from the newer put, and by which operation its client knew of that put; and in two
-/// lines what usually causes it. Keys and values are escaped as `show` does. Where the first 20 are asked for and
-/// there are more, it says how many are left out, and where there is no fault of the number that is asked for, it says
-/// so. The last line names the classes of faults that were not looked for, where there are any. `Memory` where an
+/// lines what usually causes it. A deletion is told as `deleted KEY at VERSION`, and a get that found one as `found a
+/// deletion of KEY at VERSION`. Keys and values are escaped as `show` does. Where the first 20 are asked for and there
+/// are more, it says how many are left out, and where there is no fault of the number that is asked for, it says so.
+/// The last line names the classes of faults that were not looked for, where there are any. `Memory` where an
 /// allocation failed.
 pub fn explain(
     alloc: Global,

@@ -8,20 +8,40 @@ use cops_types::{History, OpName, OpRef};
 use cops_wire::show_bytes;
 use std::alloc::{AllocError, Global};
 
-/// The first line of a card: what was done, and the key.
-pub fn act_line(alloc: Global, op: OpRef<'_>) -> Result<String, AllocError> {
+/// What was done, in a word.
+fn act_word(op: OpRef<'_>) -> &'static str {
     match op {
-        OpRef::Put { key, .. } => shown(alloc, "put ", key.as_bytes()),
-        OpRef::Got { key, .. } => shown(alloc, "got ", key.as_bytes()),
-        OpRef::Missed { key } => shown(alloc, "got ", key.as_bytes()),
+        OpRef::Put { value: Some(_), .. } => "put ",
+        OpRef::Put { value: None, .. } => "deleted ",
+        OpRef::Got { value: Some(_), .. } => "got ",
+        OpRef::Got { value: None, .. } => "found ",
+        OpRef::Missed { .. } => "got ",
     }
 }
 
-/// The second line: the value.
+/// The first line of a card: what was done, and the key.
+pub fn act_line(alloc: Global, op: OpRef<'_>) -> Result<String, AllocError> {
+    let word = act_word(op);
+    match op {
+        OpRef::Put { key, .. } => shown(alloc, word, key.as_bytes()),
+        OpRef::Got { key, .. } => shown(alloc, word, key.as_bytes()),
+        OpRef::Missed { key } => shown(alloc, word, key.as_bytes()),
+    }
+}
+
+/// The second line: the value. It is empty for a deletion.
 pub fn value_line(alloc: Global, op: OpRef<'_>) -> Result<String, AllocError> {
     match op {
-        OpRef::Put { value, .. } => shown(alloc, "= ", value.as_bytes()),
-        OpRef::Got { value, .. } => shown(alloc, "= ", value.as_bytes()),
+        OpRef::Put {
+            value: Some(value),
+            ..
+        } => shown(alloc, "= ", value.as_bytes()),
+        OpRef::Put { value: None, .. } => Ok(String::new(alloc)),
+        OpRef::Got {
+            value: Some(value),
+            ..
+        } => shown(alloc, "= ", value.as_bytes()),
+        OpRef::Got { value: None, .. } => String::from_str(alloc, "deleted"),
         OpRef::Missed { .. } => String::from_str(alloc, "nothing"),
     }
 }

@@ -1,7 +1,7 @@
 //! What an operation did, in words.
 ghost use Rattle.std.specs.Prelude.{◌≡◌, ◌++◌, OnOk, string_bytes};
 ghost use Rattle.cops_types.specs.Histories.{op_at};
-ghost use Rattle.cops_explain.specs.Operations.{act_text, did_text, pair_text, told_line, told_lines, told_text};
+ghost use Rattle.cops_explain.specs.Operations.{act_text, deletion_text, did_text, pair_text, told_line, told_lines, told_text};
 
 use cops_types::{History, Key, OpName, OpRef, Value, Version};
 use cops_wire::show_bytes;
@@ -25,7 +25,22 @@ fn push_pair(
     write!(out, " at {version}")
 }
 
-/// What an operation did: a put with its version, a get with what it returned, or that it found nothing.
+/// A key that was deleted, and the version.
+fn push_deletion(
+    out: &mut String,
+    word: &str,
+    key: &Key,
+    version: Version,
+) -> Result<(), AllocError>
+    ensures { OnOk result (string_bytes out.new ≡ string_bytes out.old ++ deletion_text word.now key.now version) }
+{
+    out.push_str(word)?;
+    show_bytes(key.as_bytes(), out)?;
+    write!(out, " at {version}")
+}
+
+/// What an operation did: a put or a deletion with its version, a get with what it returned, or that it found a
+/// deletion or nothing.
 fn push_did(out: &mut String, history: &History, name: OpName) -> Result<(), AllocError>
     ensures { OnOk result (string_bytes out.new ≡ string_bytes out.old ++ did_text (op_at history.now.sessions name)) }
 {
@@ -33,17 +48,31 @@ fn push_did(out: &mut String, history: &History, name: OpName) -> Result<(), All
         Some(
             OpRef::Put {
                 key,
-                value,
+                value: Some(value),
                 version,
             },
         ) => push_pair(out, "put ", key, value, *version),
         Some(
+            OpRef::Put {
+                key,
+                value: None,
+                version,
+            },
+        ) => push_deletion(out, "deleted ", key, *version),
+        Some(
             OpRef::Got {
                 key,
-                value,
+                value: Some(value),
                 version,
             },
         ) => push_pair(out, "got ", key, value, *version),
+        Some(
+            OpRef::Got {
+                key,
+                value: None,
+                version,
+            },
+        ) => push_deletion(out, "found a deletion of ", key, *version),
         Some(OpRef::Missed { key }) => {
             out.push_str("got nothing at ")?;
             show_bytes(key.as_bytes(), out)

@@ -148,7 +148,8 @@ fn stale_return(history: &History, name: OpName) -> &'static str
 {
     match history.op(name) {
         Some(OpRef::Missed { .. }) => "nothing",
-        Some(OpRef::Got { .. }) => "an older put",
+        Some(OpRef::Got { value: None, .. }) => "an older deletion",
+        Some(OpRef::Got { value: Some(_), .. }) => "an older put",
         Some(OpRef::Put { .. }) => "an older put",
         None => "an older put",
     }

@@ -13,7 +13,7 @@ pub const MAX_COLUMNS: usize = 16;
 pub const SHOWN_BYTES: usize = 16;
 
 /// The most characters in a line of a card: a word, bytes of three characters each, and what tells that there are more.
-pub const MAX_LINE: usize = 4 + 3 * SHOWN_BYTES + 2;
+pub const MAX_LINE: usize = 8 + 3 * SHOWN_BYTES + 2;
 
 /// The fewest characters for which a card has room.
 pub const MIN_LINE: usize = 11;

@@ -22,11 +22,10 @@ asks d kind at key asked is = (subst (λ (x : Data). IsAsked d kind x) is.0 aske
 
 pub tells_of : (d : Data) (kind : Kind) (at : Data) (o : Op) → IsAsked d kind at → TellsKind d kind at o → TellsOp d o
 tells_of d Put at (op.Put key value version) asked told = (asks d Put at key asked told.0, told.1, told.2)
-tells_of d Put at (op.Got key value version) asked told = absurd told
-tells_of d Put at (op.Missed key) asked told = absurd told
-tells_of d Get at (op.Put key value version) asked told = absurd told
+tells_of d Put at _ asked told = absurd told
 tells_of d Get at (op.Got key value version) asked told = (asks d Get at key asked told.0, told.1, told.2)
 tells_of d Get at (op.Missed key) asked told = (asks d Get at key asked told.0, told.1)
+tells_of d Get at _ asked told = absurd told
 
 pub wrong_of : (d : Data) (kind : Kind) (at : Data) (fault : LineFault) → HasName d → IsAsked d kind at → IsWrongOf d kind at fault → IsWrong d fault
 wrong_of d kind at NoJson name asked wrong = absurd wrong

@@ -110,6 +110,10 @@ op_one d (op.Got k x v) (op.Got l y w) p q =
 op_one d (op.Got k x v) (op.Missed l) p q = absurd (something d x p.1 q.1)
 op_one d (op.Missed k) (op.Put l y w) p q = let e : Get ≡ Put = (key_one d Get Put k l p.0 q.0).0 in absurd cc
 op_one d (op.Missed k) (op.Got l y w) p q = absurd (something d y q.1 p.1)
+op_one d (op.Del k v) b p q = absurd p
+op_one d (op.Gone k v) b p q = absurd p
+op_one d a (op.Del l w) p q = absurd q
+op_one d a (op.Gone l w) p q = absurd q
 op_one d (op.Missed k) (op.Missed l) p q = let key : k ≡ l = (key_one d Get Get k l p.0 q.0).1 in cc
 
 told_one : (d : Data) (a b : Told) → Tells d a → Tells d b → a ≡ b
@@ -142,6 +146,7 @@ op_kind : (d : Data) (o : Op) → TellsOp d o → (kind : Kind) × (key : List �
 op_kind d (op.Put key value version) told = (Put, key, told.0)
 op_kind d (op.Got key value version) told = (Get, key, told.0)
 op_kind d (op.Missed key) told = (Get, key, told.0)
+op_kind d _ told = absurd told
 
 lacks_value : (d : Data) (o : Op) (kind : Kind) (key : List ℕ) → TellsOp d o → AsksKey d kind key → LacksValue d kind → ⊥
 lacks_value d (op.Put k x v) Put key told asks lacks = lacks x told.1
@@ -150,11 +155,13 @@ lacks_value d (op.Got k x v) Put key told asks lacks = lacks x told.1
 lacks_value d (op.Got k x v) Get key told asks lacks = lacks.0 x told.1
 lacks_value d (op.Missed k) Put key told asks lacks = let e : Get ≡ Put = (key_one d Get Put k key told.0 asks).0 in absurd cc
 lacks_value d (op.Missed k) Get key told asks lacks = lacks.1 told.1
+lacks_value d _ kind key told asks lacks = absurd told
 
 lacks_version : (d : Data) (o : Op) → TellsOp d o → LacksVersion d → ⊥
 lacks_version d (op.Put k x v) told lacks = lacks.2 v told.2
 lacks_version d (op.Got k x v) told lacks = lacks.2 v told.2
 lacks_version d (op.Missed k) told lacks = something d lacks.0 lacks.1 told.1
+lacks_version d _ told lacks = absurd told
 
 neither : (d : Data) (kind : Kind) (x : Data) → IsAsked d kind x → get (codes "put") d ≡ None → get (codes "get") d ≡ None → ⊥
 neither d Put x asked p q = let e = asked.0 in cc

@@ -76,6 +76,7 @@ abbrev pub TellsOp : Data → Op → Type 0
 TellsOp d (op.Put key value version) = AsksKey d Put key × TellsValue d value × TellsVersion d version
 TellsOp d (op.Got key value version) = AsksKey d Get key × TellsValue d value × TellsVersion d version
 TellsOp d (op.Missed key) = AsksKey d Get key × FoundNothing d
+TellsOp d _ = ⊥
 
 -- the object tells what its client did
 abbrev pub Tells : Data → Told → Type 0

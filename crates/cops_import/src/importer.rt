@@ -15,7 +15,7 @@ use crate::line::{Told, Untold, of_line};
 use crate::name::Name;
 use crate::names::Names;
 use cops_trace::TraceWriter;
-use cops_types::{Counted, MAX_CLIENTS, Op};
+use cops_types::{Counted, Format, MAX_CLIENTS, Op};
 use memchr::memchr;
 use std::alloc::Global;
 use std::io::Write;
@@ -51,7 +51,7 @@ impl<W: Write> Importer<W> {
         ensures device { IfErr result (λ u. u.fault ≢ ImportFault.ReadFailed) }
         ensures clients { IfOk result (λ i. i.clients ≡ clients) }
     {
-        match TraceWriter::new(alloc, trace, clients) {
+        match TraceWriter::new(Format::One, alloc, trace, clients) {
             Ok(writer) => Ok(Importer {
                 alloc,
                 clients,

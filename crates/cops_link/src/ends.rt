@@ -76,8 +76,8 @@ impl LinkIn {
 }
 
 impl LinkOut {
-    /// Takes the oldest frame that is there and gives its message, which replicates a put; `None` where no frame is
-    /// there. It takes memory only for a frame that is there; where that runs out nothing is taken.
+    /// Takes the oldest frame that is there and gives its message, which replicates a put or a deletion; `None` where
+    /// no frame is there. It takes memory only for a frame that is there; where that runs out nothing is taken.
     pub fn take(&mut self) -> Result<Option<Message>, Memory>
         ensures same { SameOut self.old self.new }
         ensures none { IfOk result (λ o. MatchOption o ((taken self.new ≡ taken self.old) × (seen self.new ≡ [])) (λ _. Unit {0})) }

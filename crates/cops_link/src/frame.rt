@@ -3,13 +3,13 @@ ghost use Rattle.std.specs.Prelude.{◌≡◌, IfOk};
 ghost use Rattle.cops_wire.specs.Replicated.{put_after};
 ghost use Rattle.cops_link.specs.Frame.{spelled};
 
-use cops_types::{Memory, PutRecord};
-use cops_wire::{Message, WireFault, decode, encode_put_after};
+use cops_types::{Format, Memory, PutRecord};
+use cops_wire::{Message, WireFault, decode_in, encode_put_after};
 use rtrb::Protocol;
 use std::alloc::Global;
 use std::marker::Model;
 
-/// The frame of the message that replicates one put.
+/// The frame of the message that replicates one put or one deletion.
 #[derive(Debug, Drop)]
 pub struct Frame {
     bytes: Vec<u8>,
@@ -31,7 +31,7 @@ impl Frame {
     ghost use Rattle.cops_wire.specs.Replicated.{put_after};
     ghost use Rattle.cops_link.specs.Frame.{spelled, IsPutAfter};
 
-    /// The frame of a put's message.
+    /// The frame of the message of a put, or of a deletion where the put has no value. It is of format 2 always.
     pub fn of(alloc: Global, put: &PutRecord) -> Result<Frame, Memory>
         ensures { IfOk result (λ frame. frame ≡ spelled put.now) }
     {
@@ -40,18 +40,18 @@ impl Frame {
         Ok(Frame { bytes })
     }
 
-    /// It spells the message of a put: what the type keeps, told to the prover.
+    /// It spells the message of a put or a deletion: what the type keeps, told to the prover.
     pub(crate) fn spells_a_put(&self)
         ensures { IsPutAfter self.now }
     {
         let _bytes = &self.bytes;
     }
 
-    /// The message that it spells, which replicates a put.
+    /// The message that it spells, which replicates a put or a deletion.
     pub(crate) fn message(&self, alloc: Global) -> Result<Message, Memory>
         ensures { IfOk result (λ m. (put : PutRecord) × (m ≡ put_after put) × (spelled put ≡ self.now)) }
     {
-        match decode(alloc, &self.bytes) {
+        match decode_in(Format::Two, alloc, &self.bytes) {
             Ok(decoded) => Ok(decoded.message),
             Err(fault) => Err(want_of_memory(fault)),
         }
@@ -68,7 +68,7 @@ fn want_of_memory(fault: WireFault) -> Memory
     }
 }
 
-/// The rule of a link's queue: each item is the frame of a put's message.
+/// The rule of a link's queue: each item is the frame of the message of a put or a deletion.
 pub struct PutAfters;
 
 impl Protocol<Frame> for PutAfters {

@@ -1,5 +1,6 @@
 -- Sessions, one after the other.
 use Rattle.std.proofs.Common.{ℕ, ◌+◌, List, [], ◌∷◌, ◌++◌, Result, Ok, Err, refl, add-one, inl, inr}
+use Rattle.cops_types.specs.declared.format.Format.{Format}
 use Rattle.cops_net.specs.declared.fault.NetFault.{NetFault}
 use Rattle.cops_net.specs.declared.fault.NetFault.TheVariants.{Memory, Wire, ReadFailed, WriteFailed, TurnLimit}
 use Rattle.cops_net.specs.declared.reply.Call.{Call}
@@ -8,20 +9,20 @@ use Rattle.cops_net.specs.Sessions.{Serves}
 use Rattle.cops_net.specs.Listening.{IsSession, AreSessions, IsServed, AreServed}
 
 -- however a session ended, its calls are those of some messages
-pub is_session : (P : Type 0) (input : List ℕ) (calls : List Call) (written : List ℕ) (r : Result Served NetFault) → Serves P input calls written r → IsSession calls
-is_session P input calls written (Ok served) s = (s.0, s.2.called)
-is_session P input calls written (Err Memory) (ms, rest, stays, inl a) = (ms, a.called)
-is_session P input calls written (Err Memory) (ms, rest, stays, inr b) = (ms ++ b.0 ∷ [], b.1.called)
-is_session P input calls written (Err (Wire fault)) s = (s.0, s.3.called)
-is_session P input calls written (Err ReadFailed) s = (s.0, s.3.called)
-is_session P input calls written (Err WriteFailed) s = (s.0 ++ s.3.0 ∷ [], s.3.1.called)
-is_session P input calls written (Err TurnLimit) s = (s.0, s.3.2.called)
-is_session P input calls written (Err _) s = absurd s
+pub is_session : (format : Format) (P : Type 0) (input : List ℕ) (calls : List Call) (written : List ℕ) (r : Result Served NetFault) → Serves format P input calls written r → IsSession format calls
+is_session format P input calls written (Ok served) s = (s.0, s.2.called)
+is_session format P input calls written (Err Memory) (ms, rest, stays, inl a) = (ms, a.called)
+is_session format P input calls written (Err Memory) (ms, rest, stays, inr b) = (ms ++ b.0 ∷ [], b.1.called)
+is_session format P input calls written (Err (Wire fault)) s = (s.0, s.3.called)
+is_session format P input calls written (Err ReadFailed) s = (s.0, s.3.called)
+is_session format P input calls written (Err WriteFailed) s = (s.0 ++ s.3.0 ∷ [], s.3.1.called)
+is_session format P input calls written (Err TurnLimit) s = (s.0, s.3.2.called)
+is_session format P input calls written (Err _) s = absurd s
 
 -- one session more
-pub session_more : (n : ℕ) (before last : List Call) → AreSessions n before → IsSession last → AreSessions (n + 1) (before ++ last)
-session_more n before last h s = rw add-one (before, last, refl, h, s)
+pub session_more : (format : Format) (n : ℕ) (before last : List Call) → AreSessions format n before → IsSession format last → AreSessions format (n + 1) (before ++ last)
+session_more format n before last h s = rw add-one (before, last, refl, h, s)
 
 -- one session more, from one state of who answers to the next
-pub served_more : {S : Type 0} (calls : S → List Call) (Ends : S → S → Type 0) (n : ℕ) (old mid new : S) → AreServed calls Ends n old mid → IsServed calls Ends mid new → AreServed calls Ends (n + 1) old new
-served_more calls Ends n old mid new h s = rw add-one (mid, h, s)
+pub served_more : {S : Type 0} (format : Format) (calls : S → List Call) (Ends : S → S → Type 0) (n : ℕ) (old mid new : S) → AreServed format calls Ends n old mid → IsServed format calls Ends mid new → AreServed format calls Ends (n + 1) old new
+served_more format calls Ends n old mid new h s = rw add-one (mid, h, s)

@@ -1,11 +1,13 @@
 -- What a session may answer, call by call.
 use Rattle.std.specs.Prelude.{◌≡◌, ℕ, ◌<◌, ◌≤◌, ◌⊎◌, Option, Some, None, Result, Ok, Err}
+use Rattle.cops_types.specs.declared.format.Format.{Format}
 use Rattle.cops_types.specs.declared.limits.TheConstants.{MAX_CLOCK, MAX_DCS, PLACES}
 use Rattle.cops_types.specs.declared.put_record.NodeStatus.{NodeStatus}
 use Rattle.cops_types.specs.declared.refusal.Refusal.{Refusal}
-use Rattle.cops_types.specs.declared.refusal.Refusal.TheVariants.{ClockExhausted, ContextFull, UnknownClient, Memory, SessionFull}
+use Rattle.cops_types.specs.declared.refusal.Refusal.TheVariants.{ClockExhausted, ContextFull, UnknownClient, Memory, SessionFull, NotInFormat}
+use Rattle.cops_types.specs.Format.{Fits}
 use Rattle.cops_net.specs.declared.reply.Reply.{Reply}
-use Rattle.cops_net.specs.declared.reply.Reply.TheVariants.{PutDone, Got, Missed, Yes, Wait, Refused}
+use Rattle.cops_net.specs.declared.reply.Reply.TheVariants.{PutDone, Deleted, Got, Gone, Missed, Yes, Wait, Refused}
 
 -- a greeting: a data centre and its number of nodes, or that there is no such client
 abbrev pub IsWelcome : Result (ℕ × ℕ) Refusal → Type 0
@@ -18,12 +20,26 @@ IsPutReply (PutDone version) = Unit {0}
 IsPutReply (Refused refused) = (refused ≡ ClockExhausted) ⊎ (refused ≡ UnknownClient) ⊎ (refused ≡ Memory) ⊎ (refused ≡ SessionFull)
 IsPutReply _ = ⊥
 
--- a get: what it found, or nothing, or how it may be refused
-abbrev pub IsGetReply : Reply → Type 0
-IsGetReply (Got value version) = Unit {0}
-IsGetReply Missed = Unit {0}
-IsGetReply (Refused refused) = (refused ≡ ContextFull) ⊎ (refused ≡ UnknownClient) ⊎ (refused ≡ Memory) ⊎ (refused ≡ SessionFull)
-IsGetReply _ = ⊥
+-- a deletion: the version that it was given, where the session's format has deletions, or how it may be refused
+abbrev pub IsDelReply : Format → Reply → Type 0
+IsDelReply format (Deleted version) = Fits format None
+IsDelReply format (Refused refused) =
+    (refused ≡ ClockExhausted) ⊎ (refused ≡ UnknownClient) ⊎ (refused ≡ Memory) ⊎ (refused ≡ SessionFull) ⊎ (refused ≡ NotInFormat)
+IsDelReply format _ = ⊥
+
+-- a get: the value that it found, or a deletion, where the session's format has deletions, or nothing, or how it may be refused
+abbrev pub IsGetReply : Format → Reply → Type 0
+IsGetReply format (Got value version) = Unit {0}
+IsGetReply format (Gone version) = Fits format None
+IsGetReply format Missed = Unit {0}
+IsGetReply format (Refused refused) = (refused ≡ ContextFull) ⊎ (refused ≡ UnknownClient) ⊎ (refused ≡ Memory) ⊎ (refused ≡ SessionFull)
+IsGetReply format _ = ⊥
+
+-- an answer that the format has: in format 1 none tells of a deletion
+abbrev pub IsReplyIn : Format → Reply → Type 0
+IsReplyIn format (Deleted version) = Fits format None
+IsReplyIn format (Gone version) = Fits format None
+IsReplyIn format _ = Unit {0}
 
 -- a question whether a put is there: yes, or not yet, or want of memory
 abbrev pub IsCheckReply : Reply → Type 0

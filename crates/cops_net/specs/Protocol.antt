@@ -1,16 +1,32 @@
 -- The protocol of the front door: each message of a client has one reply, in order. Some messages are handed to the
--- session, whose answer the reply tells; the front door answers the others itself.
+-- session, whose answer the reply tells; the front door answers the others itself. A session has a format. What a client
+-- sends is read in format 1 until a greeting was answered with a data centre, and behind that greeting in the session's format.
 use Rattle.std.specs.Prelude.{◌≡◌, ℕ, min, Bool, true, false, ◌||◌, ◌==◌, if◌then◌else◌, MatchBool, List, [], ◌∷◌, Option, Some, None, Result, Ok, Err}
+use Rattle.cops_types.specs.declared.format.Format.{Format}
+use Rattle.cops_types.specs.declared.format.Format.TheVariants.{One}
 use Rattle.cops_types.specs.declared.put_record.NodeStatus.{NodeStatus}
 use Rattle.cops_types.specs.declared.refusal.Refusal.{Refusal}
 use Rattle.cops_types.specs.declared.refusal.Refusal.TheVariants.{NotGreeted, BadProfile, WrongKind, NoSuchNode}
+use Rattle.cops_types.specs.Format.{number_of}
 use Rattle.cops_types.specs.Refusal.{code_of}
 use Rattle.cops_wire.specs.declared.message.Message.{Message}
-use Rattle.cops_wire.specs.declared.message.Message.TheVariants.{Hello, HelloOk, Put, Get, PutDone, Got, Missed, Refused, DepCheck, DepYes, DepWait, Status, StatusIs, Bye, ByeOk}
+use Rattle.cops_wire.specs.declared.message.Message.TheVariants.{Hello, HelloOk, Put, Get, PutDone, Got, Missed, Refused}
+use Rattle.cops_wire.specs.declared.message.Message.TheVariants.{DepCheck, DepYes, DepWait, Status, StatusIs, Bye, ByeOk, Del, Deleted, Gone}
+use Rattle.cops_wire.specs.Grammar.{grammar}
+use Rattle.cops_wire.specs.Legal.{IsMessage}
+use Rattle.cops_wire.specs.Message.{parts}
 use Rattle.cops_net.specs.declared.reply.Reply.{Reply}
 use Rattle.cops_net.specs.declared.reply.Reply.TheVariants as replied
 use Rattle.cops_net.specs.declared.reply.Call.{Call}
 use Rattle.cops_net.specs.declared.reply.Call.TheVariants as called
+
+-- the format in which a message is read: format 1 before the greeting was answered, and the session's after it
+abbrev pub phase : Format → Bool → Format
+phase format greeted = if greeted then format else One
+
+-- the format has the message, and what stands in it is legal there
+abbrev pub IsLegalIn : Format → Message → Type 0
+IsLegalIn format m = IsMessage (grammar format) (parts m)
 
 -- the asker's number of a message, or 0 where it has none
 abbrev pub seq_of : Message → ℕ
@@ -25,29 +41,34 @@ seq_of (DepYes seq) = seq
 seq_of (DepWait seq) = seq
 seq_of (Status seq node) = seq
 seq_of (StatusIs seq clock keys settled held) = seq
+seq_of (Del seq key) = seq
+seq_of (Deleted seq version) = seq
+seq_of (Gone seq version) = seq
 seq_of _ = 0
 
--- Whether a message is handed to the session: before the greeting was answered, a greeting of profile 1; after it, a
--- put, a get, and the questions whether a put is there and how a node stands.
-abbrev pub is_handed : Bool → Message → Bool
-is_handed false (Hello profile client) = profile == 1
-is_handed true (Put seq key value) = true
-is_handed true (Get seq key) = true
-is_handed true (DepCheck seq key version) = true
-is_handed true (Status seq node) = true
-is_handed _ _ = false
+-- Whether a message is handed to the session: before the greeting was answered, a greeting whose profile is the number of
+-- the session's format; after it, a put, a deletion, a get, and the questions whether a put is there and how a node stands.
+abbrev pub is_handed : Format → Bool → Message → Bool
+is_handed format false (Hello profile client) = profile == number_of format
+is_handed format true (Put seq key value) = true
+is_handed format true (Del seq key) = true
+is_handed format true (Get seq key) = true
+is_handed format true (DepCheck seq key version) = true
+is_handed format true (Status seq node) = true
+is_handed format _ _ = false
 
 -- the reply that tells a refusal
 abbrev pub refused : ℕ → Refusal → Message
 refused seq refusal = Refused seq (code_of refusal)
 
--- The front door's own reply to a message that it does not hand over: another profile than 1, a second greeting, a message
--- before the greeting was answered, and no message of a client.
+-- The front door's own reply to a message that it does not hand over: another profile than the number of the
+-- session's format, a second greeting, a message before the greeting was answered, and no message of a client.
 abbrev pub own_reply : Bool → Message → Message
 own_reply greeted Bye = ByeOk
 own_reply false (Hello profile client) = refused 0 BadProfile
 own_reply true (Hello profile client) = refused 0 WrongKind
 own_reply greeted (Put seq key value) = refused seq NotGreeted
+own_reply greeted (Del seq key) = refused seq NotGreeted
 own_reply greeted (Get seq key) = refused seq NotGreeted
 own_reply greeted (DepCheck seq key version) = refused seq NotGreeted
 own_reply greeted (Status seq node) = refused seq NotGreeted
@@ -57,6 +78,7 @@ own_reply greeted m = refused (seq_of m) WrongKind
 abbrev pub Hands : Message → Call → Type 0
 Hands (Hello profile client) (called.Hello c answer) = c ≡ client
 Hands (Put seq key value) (called.Put k v answer) = (k ≡ key) × (v ≡ value)
+Hands (Del seq key) (called.Del k answer) = k ≡ key
 Hands (Get seq key) (called.Get k answer) = k ≡ key
 Hands (DepCheck seq key version) (called.DepCheck k v answer) = (k ≡ key) × (v ≡ version)
 Hands (Status seq node) (called.Status place answer) = place ≡ node
@@ -70,7 +92,9 @@ welcome seq (Err refusal) = refused seq refusal
 -- a node's answer as a message
 abbrev pub outcome : ℕ → Reply → Message
 outcome seq (replied.PutDone version) = PutDone seq version
+outcome seq (replied.Deleted version) = Deleted seq version
 outcome seq (replied.Got value version) = Got seq value version
+outcome seq (replied.Gone version) = Gone seq version
 outcome seq replied.Missed = Missed seq
 outcome seq replied.Yes = DepYes seq
 outcome seq replied.Wait = DepWait seq
@@ -89,6 +113,7 @@ standing seq (Some s) = StatusIs seq s.clock (capped s.keys) (capped s.settled) 
 abbrev pub told : ℕ → Call → Message
 told seq (called.Hello client answer) = welcome seq answer
 told seq (called.Put key value answer) = outcome seq answer
+told seq (called.Del key answer) = outcome seq answer
 told seq (called.Get key answer) = outcome seq answer
 told seq (called.DepCheck key version answer) = outcome seq answer
 told seq (called.Status place answer) = standing seq answer
@@ -109,17 +134,27 @@ from_first [] f = []
 from_first (c ∷ cs) f = f c cs
 
 -- The calls are those of the messages that are handed over, one for each, in order.
-abbrev pub AreCallsOf : Bool → List Message → List Call → Type 0
-AreCallsOf greeted [] calls = calls ≡ []
-AreCallsOf greeted (m ∷ ms) calls =
-    MatchBool (is_handed greeted m)
-    (HasFirst calls (λ c cs. Hands m c × AreCallsOf (greeted || welcomes c) ms cs))
-    (AreCallsOf greeted ms calls)
+abbrev pub AreCallsOf : Format → Bool → List Message → List Call → Type 0
+AreCallsOf format greeted [] calls = calls ≡ []
+AreCallsOf format greeted (m ∷ ms) calls =
+    MatchBool (is_handed format greeted m)
+    (HasFirst calls (λ c cs. Hands m c × AreCallsOf format (greeted || welcomes c) ms cs))
+    (AreCallsOf format greeted ms calls)
+
+-- Each message is legal in the format in which it is read: format 1 up to the one that is answered with a data centre,
+-- and the session's format behind it.
+abbrev pub AreSpoken : Format → Bool → List Message → List Call → Type 0
+AreSpoken format greeted [] calls = Unit {0}
+AreSpoken format greeted (m ∷ ms) calls =
+    IsLegalIn (phase format greeted) m
+    × MatchBool (is_handed format greeted m)
+    (HasFirst calls (λ c cs. AreSpoken format (greeted || welcomes c) ms cs))
+    (AreSpoken format greeted ms calls)
 
 -- The replies to messages, one for each, told from the calls. Where a call is missing they end.
-abbrev pub replies : Bool → List Message → List Call → List Message
-replies greeted [] calls = []
-replies greeted (m ∷ ms) calls =
-    if is_handed greeted m
-    then from_first calls (λ c cs. told (seq_of m) c ∷ replies (greeted || welcomes c) ms cs)
-    else own_reply greeted m ∷ replies greeted ms calls
+abbrev pub replies : Format → Bool → List Message → List Call → List Message
+replies format greeted [] calls = []
+replies format greeted (m ∷ ms) calls =
+    if is_handed format greeted m
+    then from_first calls (λ c cs. told (seq_of m) c ∷ replies format (greeted || welcomes c) ms cs)
+    else own_reply greeted m ∷ replies format greeted ms calls

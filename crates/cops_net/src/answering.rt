@@ -1,10 +1,11 @@
 //! A message and its reply.
 ghost use Rattle.std.specs.Prelude.{◌≡◌, ◌++◌, ◌∷◌, [], List, true, IfOk, OnErr};
 ghost use Rattle.std.specs.Io.KnownBytes.{Appends};
-ghost use Rattle.cops_wire.specs.Legal.{IsLegalMessage};
+ghost use Rattle.cops_types.specs.declared.format.Format.{Format as AFormat};
 ghost use Rattle.cops_net.specs.declared.reply.Call.{Call as ACall};
-ghost use Rattle.cops_net.specs.Answers.{IsWelcome, IsStanding};
-ghost use Rattle.cops_net.specs.Protocol.{seq_of, is_handed, Hands, told, welcome, outcome, standing, capped, welcomes};
+ghost use Rattle.cops_net.specs.Answers.{IsWelcome, IsReplyIn, IsStanding};
+ghost use Rattle.cops_net.specs.Protocol.{seq_of, is_handed, Hands, told, welcome, outcome};
+ghost use Rattle.cops_net.specs.Protocol.{IsLegalIn, standing, capped, welcomes};
 ghost use Rattle.cops_net.specs.Turns.{is_welcome, IsTurn};
 
 use crate::own::{is_handed, own_reply, refused};
@@ -18,7 +19,7 @@ use std::sync::Wait;
 fn welcome(answer: Result<(u8, u8), Refusal>) -> Message
     requires { IsWelcome answer }
     ensures message { result ≡ welcome 0 answer }
-    ensures legal { IsLegalMessage result }
+    ensures legal { (format : AFormat) → IsLegalIn format result }
 {
     match answer {
         Ok((dc, nodes)) => Message::HelloOk { dc, nodes },
@@ -29,12 +30,16 @@ fn welcome(answer: Result<(u8, u8), Refusal>) -> Message
 /// A node's answer as a message.
 fn outcome(seq: u32, reply: Reply) -> Message
     ensures message { result ≡ outcome seq reply }
-    ensures legal { IsLegalMessage result }
+    ensures legal { (format : AFormat) → IsReplyIn format reply → IsLegalIn format result }
 {
     match reply {
         Reply::PutDone(version) => {
             let _version = version.as_u64();
             Message::PutDone { seq, version }
+        }
+        Reply::Deleted(version) => {
+            let _version = version.as_u64();
+            Message::Deleted { seq, version }
         }
         Reply::Got(value, version) => {
             let _value = value.as_bytes();
@@ -44,6 +49,10 @@ fn outcome(seq: u32, reply: Reply) -> Message
                 value,
                 version,
             }
+        }
+        Reply::Gone(version) => {
+            let _version = version.as_u64();
+            Message::Gone { seq, version }
         }
         Reply::Missed => Message::Missed { seq },
         Reply::Yes => Message::DepYes { seq },
@@ -63,7 +72,7 @@ fn capped(count: u64) -> u32
 fn standing(seq: u32, status: Option<NodeStatus>) -> Message
     requires { IsStanding status }
     ensures message { result ≡ standing seq status }
-    ensures legal { IsLegalMessage result }
+    ensures legal { (format : AFormat) → IsLegalIn format result }
 {
     match status {
         Some(status) => Message::StatusIs {
@@ -79,17 +88,19 @@ fn standing(seq: u32, status: Option<NodeStatus>) -> Message
 
 /// Hands a message to the session, which has room for the call, and tells its answer.
 fn ask<R: Wait, S: Session>(rt: &R, session: &mut S, greeted: bool, message: Message) -> Message
-    requires handed { is_handed greeted message ≡ true }
+    requires handed { is_handed (S.format session.old) greeted message ≡ true }
     requires room { S.has_room session.old }
     ensures told { (call : ACall) × (S.calls session.new ≡ S.calls session.old ++ call ∷ [])
         × Hands message call × (result ≡ told (seq_of message) call) × (is_welcome result ≡ welcomes call) }
-    ensures legal { IsLegalMessage result }
+    ensures legal { IsLegalIn (S.format session.old) result }
+    ensures kept_format { S.format session.new ≡ S.format session.old }
     ensures ended { S.ended session.new ≡ S.ended session.old }
 {
     let _greeted = greeted;
     match message {
         Message::Hello { client, .. } => welcome(session.hello(client)),
         Message::Put { seq, key, value } => outcome(seq, session.put(rt, key, value)),
+        Message::Del { seq, key } => outcome(seq, session.del(rt, &key)),
         Message::Get { seq, key } => outcome(seq, session.get(rt, &key)),
         Message::DepCheck { seq, key, version } => {
             outcome(seq, session.dep_check(rt, &key, version))
@@ -108,12 +119,13 @@ pub(crate) fn answer<R: Wait, S: Session>(
     message: Message,
 ) -> Result<Message, Memory>
     ensures ok { IfOk result (λ reply. (gained : List ACall) × (S.calls session.new ≡ S.calls session.old ++ gained)
-        × IsTurn greeted message gained reply) }
+        × IsTurn (S.format session.old) greeted message gained reply) }
     ensures err { OnErr result (S.calls session.new ≡ S.calls session.old) }
-    ensures legal { IfOk result (λ reply. IsLegalMessage reply) }
+    ensures legal { IfOk result (λ reply. IsLegalIn (S.format session.old) reply) }
+    ensures kept_format { S.format session.new ≡ S.format session.old }
     ensures ended { S.ended session.new ≡ S.ended session.old }
 {
-    if !is_handed(greeted, &message) {
+    if !is_handed(session.format(), greeted, &message) {
         let reply = own_reply(greeted, &message);
         drop(message);
         return Ok(reply);

@@ -1,13 +1,12 @@
 //! Messages from a reader.
 ghost use Rattle.std.specs.Prelude.{◌≡◌, ◌≢◌, ◌++◌, ◌+◌, ◌<◌, ◌^◌, ◌⊎◌, List, ℕ, length, None, Ok, Err, IsErrOf, OnOk, OnErr};
 ghost use Rattle.std.specs.Io.KnownBytes.{Consumes, IsAtEnd};
-ghost use Rattle.cops_types.specs.declared.format.Format.TheVariants.{One};
 ghost use Rattle.cops_types.specs.Failures.{Failed};
 ghost use Rattle.cops_types.specs.Counted.{failures, inner};
 ghost use Rattle.cops_net.specs.Turns.{IsTaken, IsFront};
 
 use crate::fault::NetFault;
-use cops_types::{Counted, Memory};
+use cops_types::{Counted, Format, Memory};
 use cops_wire::{Feeder, Message, WireFault, body_len};
 use std::alloc::Global;
 use std::io::Read;
@@ -21,7 +20,6 @@ pub(crate) struct Incoming {
     feeder: Feeder,
     waiting: usize,
     ghost counts: { waiting ≡ length feeder.rest },
-    ghost format: { feeder.format ≡ One },
 }
 
 impl Incoming {
@@ -29,7 +27,8 @@ impl Incoming {
 
     /// Nothing came yet.
     pub(crate) fn new(alloc: Global) -> Incoming
-        ensures { result.feeder.rest ≡ [] }
+        ensures rest { result.feeder.rest ≡ [] }
+        ensures whole { result.feeder.fault ≡ None }
     {
         Incoming {
             feeder: Feeder::new(alloc),
@@ -39,7 +38,9 @@ impl Incoming {
 
     /// The message at the front of what came, or nothing while the front is no whole frame.
     fn front(&mut self) -> Result<Option<Message>, NetFault>
-        ensures { IsFront self.old.feeder.rest result self.new.feeder.rest }
+        ensures front { IsFront self.old.feeder.format self.old.feeder.rest result self.new.feeder.rest }
+        ensures kept { self.new.feeder.format ≡ self.old.feeder.format }
+        ensures whole { OnOk result (self.new.feeder.fault ≡ None) }
     {
         match self.feeder.next() {
             Ok(Some(message)) => {
@@ -52,17 +53,22 @@ impl Incoming {
         }
     }
 
-    /// The next message, or nothing where the reader's bytes ended behind the last one. It reads pieces of at most
-    /// 4,096 bytes, and only while no whole message is there. A failed read is not tried again.
+    /// The next message, which is read in this format, or nothing where the reader's bytes ended behind the last one.
+    /// It reads pieces of at most 4,096 bytes, and only while no whole message is there. A failed read is not tried
+    /// again. The condition: no fault of the bytes was met.
     pub(crate) fn next<I: Read>(
         &mut self,
+        format: Format,
         reader: &mut Counted<I>,
     ) -> Result<Option<Message>, NetFault>
+        requires { self.old.feeder.fault ≡ None }
         ensures next { (came : List ℕ) × Consumes (I.remaining (inner reader.old)) (I.remaining (inner reader.new)) came
-            × IsTaken (IsAtEnd (I.remaining (inner reader.new))) (self.old.feeder.rest ++ came) result self.new.feeder.rest }
+            × IsTaken format (IsAtEnd (I.remaining (inner reader.new))) (self.old.feeder.rest ++ came) result self.new.feeder.rest }
+        ensures whole { OnOk result (self.new.feeder.fault ≡ None) }
         ensures failed { IsErrOf result NetFault.ReadFailed → Failed (failures reader.old) (failures reader.new) }
         ensures heard { IsErrOf result NetFault.ReadFailed ⊎ (failures reader.new ≡ failures reader.old) }
     {
+        self.feeder.set_format(format);
         let mut piece = [0u8; PIECE];
         loop {
             if let Some(message) = self.front()? {
@@ -86,6 +92,8 @@ impl Incoming {
         requires { length self.old.feeder.rest + length piece.now < 2 ^ 63 }
         ensures ok { OnOk result (self.new.feeder.rest ≡ self.old.feeder.rest ++ piece.now) }
         ensures err { OnErr result (self.new.feeder.rest ≡ self.old.feeder.rest) }
+        ensures kept { self.new.feeder.format ≡ self.old.feeder.format }
+        ensures whole { self.new.feeder.fault ≡ self.old.feeder.fault }
     {
         self.feeder.feed(piece)?;
         self.waiting += piece.len();

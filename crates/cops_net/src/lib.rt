@@ -6,6 +6,9 @@
 //! for one connection after the other, and so does `listen_with_idle`, which waits for an idle client no longer than it
 //! is told. Who answers stands behind the trait `Session`, which keeps the list of its calls with their answers.
 //!
+//! A session has a format. A client greets with the format's number; what it sends up to that greeting is read in
+//! format 1, and what it sends behind it in the session's format.
+//!
 //! Stands on `cops_types` and on the messages of `cops_wire`. The program uses that the replies tell the messages and
 //! what the session's list gained.
 #![tactic(auto)]

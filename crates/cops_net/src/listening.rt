@@ -34,11 +34,12 @@ fn serve_client<R: Wait, I: Read, W: Write, S: Session>(
         × Consumes (I.remaining (inner reader.old)) (I.remaining (inner reader.new)) input
         × (S.calls session.new ≡ S.calls session.old ++ gained)
         × Appends (W.contents (inner writer.old)) (W.contents (inner writer.new)) written
-        × Serves (IsAtEnd (I.remaining (inner reader.new))) input gained written end
+        × Serves (S.format session.old) (IsAtEnd (I.remaining (inner reader.new))) input gained written end
         × (IsErr result ↔ IsErrOf end NetFault.Memory) }
 
     // Where it ends with `Memory` no read and no write has failed.
     ensures heard { OnErr result ((failures reader.new ≡ failures reader.old) × (failures writer.new ≡ failures writer.old)) }
+    ensures kept_format { S.format session.new ≡ S.format session.old }
     ensures ended { S.ended session.new ≡ S.ended session.old }
 {
     match serve_session(rt, alloc, reader, writer, session) {
@@ -63,7 +64,9 @@ fn serve_connection<R: Wait, S: Session>(
     session: &mut S,
     idle: Option<Duration>,
 ) -> Result<(), Memory>
-    ensures served { (gained : List Call) × (S.calls session.new ≡ S.calls session.old ++ gained) × IsSession gained }
+    ensures served { (gained : List Call) × (S.calls session.new ≡ S.calls session.old ++ gained)
+        × IsSession (S.format session.old) gained }
+    ensures kept_format { S.format session.new ≡ S.format session.old }
     ensures ended { S.ended session.new ≡ S.ended session.old }
 {
     if let_wait(stream, idle).is_err() {
@@ -90,7 +93,8 @@ pub fn listen<R: Net<Listener = TcpListener, Stream = TcpStream> + Wait, S: Sess
     // The session's list gained the calls of so many sessions, and no other, and each of them was ended before the
     // next. So many more have ended, while their number is below 2 ^ 64.
     ensures sessions { (begun : ℕ) × (gained : List Call) × (S.calls session.new ≡ S.calls session.old ++ gained)
-        × AreSessions begun gained × AreServed S.calls S.ends begun session.old session.new × IsCount sessions begun result
+        × AreSessions (S.format session.old) begun gained
+        × AreServed (S.format session.old) S.calls S.ends begun session.old session.new × IsCount sessions begun result
         × (S.ended session.old + begun < 2 ^ 64 → S.ended session.new ≡ S.ended session.old + begun) }
 {
     listen_with_idle(rt, alloc, port, session, sessions, None)
@@ -107,7 +111,8 @@ pub fn listen_with_idle<R: Net<Listener = TcpListener, Stream = TcpStream> + Wai
     idle: Option<Duration>,
 ) -> Result<(), NetFault>
     ensures sessions { (begun : ℕ) × (gained : List Call) × (S.calls session.new ≡ S.calls session.old ++ gained)
-        × AreSessions begun gained × AreServed S.calls S.ends begun session.old session.new × IsCount sessions begun result
+        × AreSessions (S.format session.old) begun gained
+        × AreServed (S.format session.old) S.calls S.ends begun session.old session.new × IsCount sessions begun result
         × (S.ended session.old + begun < 2 ^ 64 → S.ended session.new ≡ S.ended session.old + begun) }
 {
     let listener = match TcpListener::bind(rt, (Ipv4Addr::LOCALHOST, port)) {

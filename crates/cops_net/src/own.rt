@@ -1,17 +1,22 @@
 //! What the front door answers itself.
 ghost use Rattle.std.specs.Prelude.{◌≡◌, false};
+ghost use Rattle.cops_types.specs.declared.format.Format.{Format as AFormat};
 ghost use Rattle.cops_types.specs.Refusal.{code_of};
 ghost use Rattle.cops_wire.specs.declared.message.Message.TheVariants.{Refused};
-ghost use Rattle.cops_wire.specs.Legal.{IsLegalMessage};
-ghost use Rattle.cops_net.specs.Protocol.{seq_of, is_handed, own_reply};
+ghost use Rattle.cops_net.specs.Protocol.{phase, IsLegalIn, seq_of, is_handed, own_reply};
 ghost use Rattle.cops_net.specs.Sessions.{is_bye};
 ghost use Rattle.cops_net.specs.Turns.{is_welcome};
 
-use cops_types::Refusal;
+use cops_types::{Format, Refusal};
 use cops_wire::Message;
 
-/// The one profile that a client may greet with.
-const PROFILE: u16 = 1;
+/// The format in which a client's next message is read: format 1 before its greeting was answered with a data centre,
+/// and the session's after it.
+pub(crate) fn phase(format: Format, greeted: bool) -> Format
+    ensures { result ≡ phase format greeted }
+{
+    if greeted { format } else { Format::One }
+}
 
 /// The asker's number of a message, or 0 where it has none.
 pub(crate) fn seq_of(message: &Message) -> u32
@@ -19,9 +24,12 @@ pub(crate) fn seq_of(message: &Message) -> u32
 {
     match message {
         Message::Put { seq, .. }
+        | Message::Del { seq, .. }
         | Message::Get { seq, .. }
         | Message::PutDone { seq, .. }
+        | Message::Deleted { seq, .. }
         | Message::Got { seq, .. }
+        | Message::Gone { seq, .. }
         | Message::Missed { seq }
         | Message::Refused { seq, .. }
         | Message::DepCheck { seq, .. }
@@ -34,12 +42,13 @@ pub(crate) fn seq_of(message: &Message) -> u32
 }
 
 /// Whether a message is handed to the session.
-pub(crate) fn is_handed(greeted: bool, message: &Message) -> bool
-    ensures { result ≡ is_handed greeted message.now }
+pub(crate) fn is_handed(format: Format, greeted: bool, message: &Message) -> bool
+    ensures { result ≡ is_handed format greeted message.now }
 {
     match message {
-        Message::Hello { profile, .. } => !greeted && *profile == PROFILE,
+        Message::Hello { profile, .. } => !greeted && *profile == format.number(),
         Message::Put { .. }
+        | Message::Del { .. }
         | Message::Get { .. }
         | Message::DepCheck { .. }
         | Message::Status { .. } => greeted,
@@ -64,7 +73,7 @@ pub(crate) fn is_welcome(message: &Message) -> bool
 /// The reply that tells a refusal.
 pub(crate) fn refused(seq: u32, refusal: Refusal) -> Message
     ensures reply { result ≡ Refused seq (code_of refusal) }
-    ensures legal { IsLegalMessage result }
+    ensures legal { (format : AFormat) → IsLegalIn format result }
 {
     let code = refusal.code();
     Message::Refused { seq, code }
@@ -72,9 +81,8 @@ pub(crate) fn refused(seq: u32, refusal: Refusal) -> Message
 
 /// The front door's own reply to a message that is not handed to the session.
 pub(crate) fn own_reply(greeted: bool, message: &Message) -> Message
-    requires { is_handed greeted message.now ≡ false }
     ensures reply { result ≡ own_reply greeted message.now }
-    ensures legal { IsLegalMessage result }
+    ensures legal { (format : AFormat) → IsLegalIn format result }
     ensures no_welcome { is_welcome result ≡ false }
 {
     let refusal = match message {
@@ -87,6 +95,7 @@ pub(crate) fn own_reply(greeted: bool, message: &Message) -> Message
             }
         }
         Message::Put { .. }
+        | Message::Del { .. }
         | Message::Get { .. }
         | Message::DepCheck { .. }
         | Message::Status { .. } => Refusal::NotGreeted,

@@ -2,13 +2,17 @@
 use cops_types::{Key, NodeStatus, Refusal, Value, Version};
 use std::alloc::AllocError;
 
-/// A node's answer to a put, a get, or a question whether a put is there.
+/// A node's answer to a put, a deletion, a get, or a question whether a put is there.
 #[derive(Debug, Drop)]
 pub enum Reply {
     /// The put has this version.
     PutDone(Version),
+    /// The deletion has this version.
+    Deleted(Version),
     /// The get found this value with this version.
     Got(Value, Version),
+    /// The get found a deletion with this version.
+    Gone(Version),
     /// The get found nothing.
     Missed,
     /// The put is there.
@@ -28,7 +32,9 @@ impl Clone for Reply {
     fn clone(&self) -> Result<Reply, AllocError> {
         Ok(match self {
             Reply::PutDone(version) => Reply::PutDone(*version),
+            Reply::Deleted(version) => Reply::Deleted(*version),
             Reply::Got(value, version) => Reply::Got(value.clone()?, *version),
+            Reply::Gone(version) => Reply::Gone(*version),
             Reply::Missed => Reply::Missed,
             Reply::Yes => Reply::Yes,
             Reply::Wait => Reply::Wait,
@@ -49,6 +55,11 @@ pub enum Call {
     Put {
         key: Key,
         value: Value,
+        answer: Reply,
+    },
+    /// A deletion.
+    Del {
+        key: Key,
         answer: Reply,
     },
     /// A get.

@@ -1,6 +1,7 @@
 //! One session of a client.
 ghost use Rattle.std.specs.Prelude.{◌≡◌, ◌++◌, ◌⊎◌, List, ℕ, IsErrOf};
 ghost use Rattle.std.specs.Io.KnownBytes.{Appends, Consumes, IsAtEnd};
+ghost use Rattle.cops_types.specs.declared.format.Format.{Format as AFormat};
 ghost use Rattle.cops_types.specs.Failures.{Failed};
 ghost use Rattle.cops_types.specs.Counted.{failures, inner};
 ghost use Rattle.cops_wire.specs.declared.message.Message.{Message as AMessage};
@@ -12,7 +13,7 @@ ghost use Rattle.cops_net.specs.Turns.{IsTurn, IsAnswered};
 use crate::answering::answer;
 use crate::fault::NetFault;
 use crate::incoming::Incoming;
-use crate::own::{is_bye, is_welcome};
+use crate::own::{is_bye, is_welcome, phase};
 use crate::session::Session;
 use cops_types::{Counted, write_text};
 use cops_wire::{Message, encode};
@@ -41,9 +42,9 @@ fn write_reply<W: Write>(
     reply: &Message,
 ) -> Result<bool, NetFault>
     requires { IsLegalMessage reply.now }
-    ensures answered { (message : AMessage) (gained : List Call) → IsTurn greeted message gained reply.now
+    ensures answered { (format : AFormat) (message : AMessage) (gained : List Call) → IsTurn format greeted message gained reply.now
         → (written : List ℕ) × Appends (W.contents (inner writer.old)) (W.contents (inner writer.new)) written
-        × IsAnswered greeted message gained written result }
+        × IsAnswered format greeted message gained written result }
     ensures failed { IsErrOf result NetFault.WriteFailed → Failed (failures writer.old) (failures writer.new) }
     ensures heard { IsErrOf result NetFault.WriteFailed ⊎ (failures writer.new ≡ failures writer.old) }
 {
@@ -70,9 +71,10 @@ fn turn<R: Wait, W: Write, S: Session>(
     ensures answered { (gained : List Call) × (written : List ℕ)
         × (S.calls session.new ≡ S.calls session.old ++ gained)
         × Appends (W.contents (inner writer.old)) (W.contents (inner writer.new)) written
-        × IsAnswered greeted message gained written result }
+        × IsAnswered (S.format session.old) greeted message gained written result }
     ensures failed { IsErrOf result NetFault.WriteFailed → Failed (failures writer.old) (failures writer.new) }
     ensures heard { IsErrOf result NetFault.WriteFailed ⊎ (failures writer.new ≡ failures writer.old) }
+    ensures kept_format { S.format session.new ≡ S.format session.old }
     ensures ended { S.ended session.new ≡ S.ended session.old }
 {
     match answer(rt, session, greeted, message) {
@@ -87,9 +89,11 @@ fn turn<R: Wait, W: Write, S: Session>(
 
 /// Serves one client: reads its messages, hands over to the session those that the protocol hands over, and writes one
 /// reply for each, until the client says `Bye` or its bytes end between two messages. `answered` is the number of
-/// replies. It ends with `Wire` at a fault of the bytes, which is answered by nothing (`Short` where they end inside a
-/// frame), with `ReadFailed` or `WriteFailed` where a read or a write failed, which is not tried again, and with
-/// `TurnLimit` at a 1,000,001st message, which is not answered. At `Memory` the last message may be left out.
+/// replies. Until a greeting was answered with a data centre the bytes are read in format 1, and behind that greeting
+/// in the session's format. It ends with `Wire` at a fault of the bytes, which is answered by nothing (`Short` where
+/// they end inside a frame), with `ReadFailed` or `WriteFailed` where a read or a write failed, which is not tried
+/// again, and with `TurnLimit` at a 1,000,001st message, which is not answered. At `Memory` the last message may be
+/// left out.
 pub fn serve_session<R: Wait, I: Read, W: Write, S: Session>(
     rt: &R,
     alloc: Global,
@@ -103,7 +107,7 @@ pub fn serve_session<R: Wait, I: Read, W: Write, S: Session>(
         × Consumes (I.remaining (inner reader.old)) (I.remaining (inner reader.new)) input
         × (S.calls session.new ≡ S.calls session.old ++ gained)
         × Appends (W.contents (inner writer.old)) (W.contents (inner writer.new)) written
-        × Serves (IsAtEnd (I.remaining (inner reader.new))) input gained written result }
+        × Serves (S.format session.old) (IsAtEnd (I.remaining (inner reader.new))) input gained written result }
 
     // The devices' faults are told exactly where they were met.
     ensures read_count { IsErrOf result NetFault.ReadFailed → Failed (failures reader.old) (failures reader.new) }
@@ -111,15 +115,19 @@ pub fn serve_session<R: Wait, I: Read, W: Write, S: Session>(
     ensures read_heard { IsErrOf result NetFault.ReadFailed ⊎ (failures reader.new ≡ failures reader.old) }
     ensures write_heard { IsErrOf result NetFault.WriteFailed ⊎ (failures writer.new ≡ failures writer.old) }
 
+    // The session's format stays.
+    ensures kept_format { S.format session.new ≡ S.format session.old }
+
     // No session counts as ended by this.
     ensures ended { S.ended session.new ≡ S.ended session.old }
 {
+    let format = session.format();
     let mut incoming = Incoming::new(alloc);
     let mut out = Vec::new(alloc);
     out.reserve(LONGEST_REPLY).or(Err(NetFault::Memory))?;
     let mut greeted = false;
     for answered in 0..MAX_MESSAGES {
-        let message = match incoming.next(reader)? {
+        let message = match incoming.next(phase(format, greeted), reader)? {
             Some(message) => message,
             None => return Ok(Served { answered }),
         };
@@ -130,7 +138,7 @@ pub fn serve_session<R: Wait, I: Read, W: Write, S: Session>(
             return Ok(Served { answered });
         }
     }
-    match incoming.next(reader)? {
+    match incoming.next(phase(format, greeted), reader)? {
         Some(message) => {
             drop(message);
             Err(NetFault::TurnLimit)

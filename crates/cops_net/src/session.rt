@@ -1,22 +1,26 @@
 //! Who answers a client.
 use crate::reply::{Call, Reply};
-use cops_types::{Key, Memory, NodeStatus, Refusal, Value, Version};
+use cops_types::{Format, Key, Memory, NodeStatus, Refusal, Value, Version};
 use std::sync::Wait;
 
-/// Who answers a client's messages. It keeps the list of its calls with their answers. Before each of the five calls
-/// that answer stands a `room`, so that none of them is lost for want of memory. A session that says more of its calls
-/// gives for each the relation of the session before it, what was asked and answered, and the session after it; where
-/// it gives none, nothing more is said.
+/// Who answers a client's messages, in a format that no call changes. It keeps the list of its calls with their
+/// answers. Before each of the six calls that answer stands a `room`, so that none of them is lost for want of memory.
+/// A session that says more of its calls gives for each the relation of the session before it, what was asked and
+/// answered, and the session after it; where it gives none, nothing more is said.
 pub trait Session {
     ghost use Rattle.std.specs.Prelude.{◌≡◌, ◌<◌, ◌+◌, ◌-◌, ◌^◌, ◌++◌, ◌∷◌, [], ℕ, List, Option, Result, OnOk, ⊤};
+    ghost use Rattle.cops_types.specs.declared.format.Format.{Format as AFormat};
     ghost use Rattle.cops_types.specs.declared.put_record.NodeStatus.{NodeStatus as Standing};
     ghost use Rattle.cops_types.specs.declared.refusal.Refusal.{Refusal as Refused};
     ghost use Rattle.cops_net.specs.declared.reply.Reply.{Reply as Answer};
     ghost use Rattle.cops_net.specs.declared.reply.Call.{Call};
-    ghost use Rattle.cops_net.specs.Answers.{IsWelcome, IsPutReply, IsGetReply, IsCheckReply, IsStanding};
+    ghost use Rattle.cops_net.specs.Answers.{IsWelcome, IsPutReply, IsDelReply, IsGetReply, IsCheckReply, IsStanding};
 
     /// Its calls so far, each with its answer.
     ghost calls: { Self → List Call };
+
+    /// Its format.
+    ghost format: { Self → AFormat };
 
     /// How many sessions have ended.
     ghost ended: { Self → ℕ };
@@ -32,6 +36,9 @@ pub trait Session {
 
     /// What a put of a value on a key does.
     ghost puts: { Self → List ℕ → List ℕ → Answer → Self → Type 0 } = { λ _ _ _ _ _. ⊤ };
+
+    /// What a deletion of a key does.
+    ghost dels: { Self → List ℕ → Answer → Self → Type 0 } = { λ _ _ _ _. ⊤ };
 
     /// What a get of a key does.
     ghost gets: { Self → List ℕ → Answer → Self → Type 0 } = { λ _ _ _ _. ⊤ };
@@ -49,11 +56,16 @@ pub trait Session {
     fn calls(&self) -> &[Call]
         ensures { result.now ≡ calls self.now };
 
+    /// Its format, which says whether it has deletions; its number is the profile with which a client greets.
+    fn format(&self) -> Format
+        ensures { result ≡ format self.now };
+
     /// Makes room for one call.
     fn room(&mut self) -> Result<(), Memory>
         ensures kept { calls self.new ≡ calls self.old }
         ensures room { OnOk result (has_room self.new) }
         ensures same { rooms self.old self.new }
+        ensures kept_format { format self.new ≡ format self.old }
         ensures ended { ended self.new ≡ ended self.old };
 
     /// A client greets: its data centre, below 16, and the number of its nodes, 1 to 64; or `UnknownClient` where there
@@ -63,6 +75,7 @@ pub trait Session {
         ensures told { calls self.new ≡ calls self.old ++ Call.Hello client result ∷ [] }
         ensures answer { IsWelcome result }
         ensures done { hellos self.old client result self.new }
+        ensures kept_format { format self.new ≡ format self.old }
         ensures ended { ended self.new ≡ ended self.old };
 
     /// A put: `PutDone`, or `Refused` with `ClockExhausted`, `UnknownClient`, `Memory` or `SessionFull`.
@@ -71,14 +84,27 @@ pub trait Session {
         ensures told { calls self.new ≡ calls self.old ++ Call.Put key value result ∷ [] }
         ensures answer { IsPutReply result }
         ensures done { puts self.old key value result self.new }
+        ensures kept_format { format self.new ≡ format self.old }
         ensures ended { ended self.new ≡ ended self.old };
 
-    /// A get: `Got`, `Missed`, or `Refused` with `ContextFull`, `UnknownClient`, `Memory` or `SessionFull`.
+    /// A deletion: `Deleted` where the format has deletions, or `Refused` with `ClockExhausted`, `UnknownClient`,
+    /// `Memory`, `SessionFull` or `NotInFormat`.
+    fn del<R: Wait>(&mut self, rt: &R, key: &Key) -> Reply
+        requires { has_room self.old }
+        ensures told { calls self.new ≡ calls self.old ++ Call.Del key.now result ∷ [] }
+        ensures answer { IsDelReply (format self.old) result }
+        ensures done { dels self.old key.now result self.new }
+        ensures kept_format { format self.new ≡ format self.old }
+        ensures ended { ended self.new ≡ ended self.old };
+
+    /// A get: `Got`, `Gone` where the format has deletions, `Missed`, or `Refused` with `ContextFull`,
+    /// `UnknownClient`, `Memory` or `SessionFull`.
     fn get<R: Wait>(&mut self, rt: &R, key: &Key) -> Reply
         requires { has_room self.old }
         ensures told { calls self.new ≡ calls self.old ++ Call.Get key.now result ∷ [] }
-        ensures answer { IsGetReply result }
+        ensures answer { IsGetReply (format self.old) result }
         ensures done { gets self.old key.now result self.new }
+        ensures kept_format { format self.new ≡ format self.old }
         ensures ended { ended self.new ≡ ended self.old };
 
     /// Whether this put is there, in the client's data centre: `Yes`, `Wait`, or `Refused` with `Memory`.
@@ -87,6 +113,7 @@ pub trait Session {
         ensures told { calls self.new ≡ calls self.old ++ Call.DepCheck key.now version result ∷ [] }
         ensures answer { IsCheckReply result }
         ensures done { dep_checks self.old key.now version result self.new }
+        ensures kept_format { format self.new ≡ format self.old }
         ensures ended { ended self.new ≡ ended self.old };
 
     /// How the node of this place in the client's data centre stands, with a clock of at most 281,474,976,710,655;
@@ -96,11 +123,13 @@ pub trait Session {
         ensures told { calls self.new ≡ calls self.old ++ Call.Status place result ∷ [] }
         ensures answer { IsStanding result }
         ensures done { statuses self.old place result self.new }
+        ensures kept_format { format self.new ≡ format self.old }
         ensures ended { ended self.new ≡ ended self.old };
 
     /// What is to be done when a client's session has ended. It is no call of the list.
     fn after_session<R: Wait>(&mut self, rt: &R)
         ensures kept { calls self.new ≡ calls self.old }
         ensures done { ends self.old self.new }
+        ensures kept_format { format self.new ≡ format self.old }
         ensures counted { ended self.old < 2 ^ 64 - 1 → ended self.new ≡ ended self.old + 1 };
 }

@@ -1,3 +1,4 @@
+pub mod Acts
 pub mod Node
 pub mod Refusals
 pub mod Outcomes

@@ -9,9 +9,9 @@ use Rattle.cops_types.specs.NodeNumber.{version_of}
 use Rattle.cops_store.specs.Store.{Stored, has_pair, with_settled, shown}
 use Rattle.cops_held.specs.Held.{Waiting, unmarked, waiting, with_waiting, all_marked, with_mark, without}
 use Rattle.cops_node.specs.declared.event.NodeEvent.{NodeEvent}
-use Rattle.cops_node.specs.declared.event.NodeEvent.TheVariants.{Put, Get, Deliver, Ask, Mark, Settle}
 use Rattle.cops_node.specs.declared.outcome.Outcome.{Outcome}
-use Rattle.cops_node.specs.declared.outcome.Outcome.TheVariants.{PutDone, Got, Missed, Held, Repeat, Yes, Wait, Marked, Settled, Refused}
+use Rattle.cops_node.specs.declared.outcome.Outcome.TheVariants.{Missed, Held, Repeat, Yes, Wait, Marked, Settled, Refused}
+use Rattle.cops_node.specs.Acts.{Act, Write, Get, Deliver, Ask, Mark, Settle, act_of, written, found}
 
 pub record Node : Type 0 where
   pub number : ℕ
@@ -34,16 +34,21 @@ abbrev pub raised : ℕ → List Dep → ℕ
 raised clock [] = clock
 raised clock (d ∷ deps) = raised (max clock (clock_of d.version)) deps
 
--- a client's put is settled at once, at a version of this clock
-abbrev pub put_at : Node → List ℕ → List ℕ → ℕ → Outcome × Node
-put_at n key value clock =
+-- what a client writes is settled at once, at a version of this clock
+abbrev pub write_at : Node → List ℕ → Option (List ℕ) → ℕ → Outcome × Node
+write_at n key content clock =
     let version = version_of clock n.number in
-    (PutDone version, record n { clock = clock; settled = with_settled n.settled (record { key = key; value = value; version = version }) })
+    (written content version, record n { clock = clock; settled = with_settled n.settled (record { key = key; value = content; version = version }) })
+
+-- what a client writes, whose context is deps: it has a version above those of its dependencies
+abbrev pub writes : Node → List ℕ → Option (List ℕ) → List Dep → Outcome × Node
+writes n key content deps =
+    if nat_lt (raised n.clock deps) MAX_CLOCK then write_at n key content (raised n.clock deps + 1) else (Refused ClockExhausted, n)
 
 -- what the key shows
 abbrev pub answer : Option Stored → Outcome
 answer None = Missed
-answer (Some s) = Got s.value s.version
+answer (Some s) = found s.value s.version
 
 -- a dependency of the put that waits, if there is one, is marked
 abbrev pub mark_at : Node → ℕ → ℕ → Option Waiting → Outcome × Node
@@ -60,23 +65,29 @@ abbrev pub settle_at : Node → Option Waiting → Outcome × Node
 settle_at n None = (Refused NotHeld, n)
 settle_at n (Some w) = if all_marked w then (Settled, settled_node n w.put) else (Refused DepsOpen, n)
 
--- What the node answers, and the node afterwards. A put has a version above those of its dependencies; a delivered put waits,
+-- What the node answers, and the node afterwards. A delivered put waits,
 -- unless it does already or is settled; a question is answered Yes for exactly a settled pair.
-abbrev pub node_step : Node → NodeEvent → Outcome × Node
-node_step n (Put client key value deps) =
-    if nat_lt (raised n.clock deps) MAX_CLOCK then put_at n key value (raised n.clock deps + 1) else (Refused ClockExhausted, n)
-node_step n (Get client key) = (answer (shown n.settled key), n)
-node_step n (Deliver put) =
+abbrev pub act_step : Node → Act → Outcome × Node
+act_step n (Write client key content deps) = writes n key content deps
+act_step n (Get client key) = (answer (shown n.settled key), n)
+act_step n (Deliver put) =
     if is_some (waiting n.held put.version) || has_pair n.settled (put_pair put)
     then (Repeat, n)
     else (Held, record n { held = with_waiting n.held (unmarked put) })
-node_step n (Ask key version) = (if has_pair n.settled (record { key = key; version = version }) then Yes else Wait, n)
-node_step n (Mark version dep) = mark_at n version dep (waiting n.held version)
-node_step n (Settle version) = settle_at n (waiting n.held version)
+act_step n (Ask key version) = (if has_pair n.settled (record { key = key; version = version }) then Yes else Wait, n)
+act_step n (Mark version dep) = mark_at n version dep (waiting n.held version)
+act_step n (Settle version) = settle_at n (waiting n.held version)
+
+abbrev pub node_step : Node → NodeEvent → Outcome × Node
+node_step n event = act_step n (act_of event)
+
+-- the act's step, or none for want of memory
+abbrev pub ActHappens : Node → Act → Outcome → Node → Type 0
+ActHappens old act outcome new = (act_step old act ≡ (outcome, new)) ⊎ ((outcome ≡ Refused Memory) × (new ≡ old))
 
 -- the event's step, or none for want of memory
 abbrev pub NodeHappens : Node → NodeEvent → Outcome → Node → Type 0
-NodeHappens old event outcome new = (node_step old event ≡ (outcome, new)) ⊎ ((outcome ≡ Refused Memory) × (new ≡ old))
+NodeHappens old event = ActHappens old (act_of event)
 
 -- a dependency of the put that waits, if there is one, by its index
 abbrev pub dep_at : Option Waiting → ℕ → Option Dep

@@ -1,9 +1,9 @@
 -- Outcomes by what they hold, and a node that has settled a pair.
-use Rattle.std.specs.Prelude.{ℕ, max, List}
+use Rattle.std.specs.Prelude.{ℕ, max, List, Option}
 use Rattle.cops_types.specs.Version.{clock_of}
 use Rattle.cops_store.specs.Store.{with_settled}
 use Rattle.cops_node.specs.declared.outcome.Outcome.{Outcome}
-use Rattle.cops_node.specs.declared.outcome.Outcome.TheVariants.{Got, PutDone, Held, Settled}
+use Rattle.cops_node.specs.declared.outcome.Outcome.TheVariants.{Got, PutDone, Deleted, Held, Settled}
 use Rattle.cops_node.specs.Node.{Node}
 
 -- a get returned a value
@@ -14,16 +14,17 @@ IsGot _ = ⊥
 -- an answer for which a node takes memory: it keeps a pair or a put, or copies a value
 abbrev pub TakesMemory : Outcome → Type 0
 TakesMemory (PutDone version) = Unit {0}
+TakesMemory (Deleted version) = Unit {0}
 TakesMemory (Got value version) = Unit {0}
 TakesMemory Held = Unit {0}
 TakesMemory Settled = Unit {0}
 TakesMemory _ = ⊥
 
 -- a pair is settled, and the clock rises to its
-abbrev pub settled_at : Node → List ℕ → List ℕ → ℕ → Node
-settled_at n key value version = record {
+abbrev pub settled_at : Node → List ℕ → Option (List ℕ) → ℕ → Node
+settled_at n key content version = record {
   number = n.number;
   clock = max n.clock (clock_of version);
-  settled = with_settled n.settled (record { key = key; value = value; version = version });
+  settled = with_settled n.settled (record { key = key; value = content; version = version });
   held = n.held;
 }

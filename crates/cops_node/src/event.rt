@@ -11,6 +11,12 @@ pub enum NodeEvent {
         value: Value,
         deps: Deps,
     },
+    /// A client deletes a key; `deps` is its context.
+    Del {
+        client: u16,
+        key: Key,
+        deps: Deps,
+    },
     /// A client gets a key.
     Get {
         client: u16,
@@ -51,6 +57,11 @@ impl Clone for NodeEvent {
                 client: *client,
                 key: key.clone()?,
                 value: value.clone()?,
+                deps: deps.clone()?,
+            },
+            NodeEvent::Del { client, key, deps } => NodeEvent::Del {
+                client: *client,
+                key: key.clone()?,
                 deps: deps.clone()?,
             },
             NodeEvent::Get { client, key } => NodeEvent::Get {

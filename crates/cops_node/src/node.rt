@@ -32,17 +32,18 @@ impl Model for Node {
 }
 
 impl Node {
-    ghost use Rattle.std.specs.Prelude.{◌≡◌, ◌<◌, ◌≤◌, length, option_copied, IfOk, IfErr, OnOk, OnErr};
+    ghost use Rattle.std.specs.Prelude.{◌≡◌, ◌<◌, ◌≤◌, ◌⊎◌, length, option_copied, IfOk, IfErr, OnOk, OnErr};
     ghost use Rattle.std.specs.Option.{option_map};
     ghost use Rattle.cops_store.specs.Store.{Stored, has_pair, shown};
     ghost use Rattle.cops_store.specs.Settling.{shown_keys};
     ghost use Rattle.cops_held.specs.Held.{waiting};
-    ghost use Rattle.cops_node.specs.declared.event.NodeEvent.TheVariants.{Put, Get, Deliver, Ask, Mark, Settle};
+    ghost use Rattle.cops_node.specs.declared.event.NodeEvent.TheVariants.{Put, Del, Get, Deliver, Ask, Mark, Settle};
     ghost use Rattle.cops_node.specs.declared.outcome.Outcome.TheVariants.{Refused as RefusedWith};
     ghost use Rattle.cops_types.specs.declared.limits.TheConstants.{MAX_CLOCK, NODES};
     ghost use Rattle.cops_types.specs.declared.refusal.Refusal.TheVariants.{Memory as OutOfMemory};
     ghost use Rattle.cops_node.specs.Outcomes.{TakesMemory, settled_at};
-    ghost use Rattle.cops_node.specs.Node.{NodeHappens, answer, node_step, opened, dep_at};
+    ghost use Rattle.cops_node.specs.Acts.{written};
+    ghost use Rattle.cops_node.specs.Node.{NodeHappens, answer, node_step, opened, dep_at, writes};
 
     /// A node that has met no event. It takes no memory.
     pub fn open(alloc: Global, node: u16) -> Self
@@ -71,29 +72,51 @@ impl Node {
         ensures happens { NodeHappens self.old (Put client key value deps) result self.new }
         ensures memory { result ≡ RefusedWith OutOfMemory → TakesMemory (node_step self.old (Put client key value deps)).0 }
     {
-        let clock = raised_clock(self.clock.clock(), deps.as_slice());
-        let answer = match Version::new(clock + 1, self.number) {
-            Ok(version) => self.settle_own(key, value, version),
-            Err(_) => Err(Refusal::ClockExhausted),
-        };
-        events!(row Put answer)
+        events!(row Put self.write(key, Some(value), &deps))
     }
 
-    /// Settles a client's put at a version above the clock, which rises to it, or answers a refusal.
-    fn settle_own(&mut self, key: Key, value: Value, version: Version) -> Result<Version, Refusal>
+    /// A client's deletion of a key, whose context is `deps`: it is settled as a put is. Refused where the clock can
+    /// rise no further, and for want of memory.
+    pub fn del(&mut self, client: u16, key: Key, deps: Deps) -> Outcome
+        ensures happens { NodeHappens self.old (Del client key deps) result self.new }
+        ensures memory { result ≡ RefusedWith OutOfMemory → TakesMemory (node_step self.old (Del client key deps)).0 }
+    {
+        events!(row Del self.write(key, None, &deps))
+    }
+
+    /// Settles what a client writes, without a value a deletion, at a version above those of its dependencies.
+    fn write(&mut self, key: Key, content: Option<Value>, deps: &Deps) -> Result<Version, Refusal>
+        ensures ok { IfOk result (λ version. writes self.old key content deps.now ≡ (written content version, self.new)) }
+        ensures err { IfErr result (λ refused. (writes self.old key content deps.now ≡ (RefusedWith refused, self.new)) ⊎ ((refused ≡ OutOfMemory) × (self.new ≡ self.old))) }
+        ensures memory { IfErr result (λ refused. refused ≡ OutOfMemory → TakesMemory (writes self.old key content deps.now).0) }
+    {
+        let clock = raised_clock(self.clock.clock(), deps.as_slice());
+        match Version::new(clock + 1, self.number) {
+            Ok(version) => self.settle_own(key, content, version),
+            Err(_) => Err(Refusal::ClockExhausted),
+        }
+    }
+
+    /// Settles what a client writes at a version above the clock, which rises to it, or answers a refusal.
+    fn settle_own(
+        &mut self,
+        key: Key,
+        content: Option<Value>,
+        version: Version,
+    ) -> Result<Version, Refusal>
         ensures ok { IfOk result (λ v. v ≡ version) }
-        ensures after { OnOk result (self.new ≡ settled_at self.old key value version) }
+        ensures after { OnOk result (self.new ≡ settled_at self.old key content version) }
         ensures err { OnErr result (self.new ≡ self.old) }
         ensures memory { IfErr result (λ refusal. refusal ≡ OutOfMemory) }
     {
-        if self.store.settle(key, value, version).is_err() {
+        if self.store.settle(key, content, version).is_err() {
             return Err(Refusal::Memory);
         }
         self.clock.raise(version);
         Ok(version)
     }
 
-    /// A client's get: what the key shows. Refused for want of memory.
+    /// A client's get: what the key shows. Refused for want of memory, which only a value takes.
     pub fn get(&mut self, client: u16, key: &Key) -> Outcome
         ensures happens { NodeHappens self.old (Get client key.now) result self.new }
         ensures memory { result ≡ RefusedWith OutOfMemory → TakesMemory (node_step self.old (Get client key.now)).0 }
@@ -102,12 +125,13 @@ impl Node {
     }
 
     /// A copy of what the key shows.
-    fn copy_of_shown(&self, key: &Key) -> Result<Option<(Value, Version)>, Memory>
+    fn copy_of_shown(&self, key: &Key) -> Result<Option<(Option<Value>, Version)>, Memory>
         ensures ok { IfOk result (λ copy. option_map (λ r. record { key = key.now; value = r.0; version = r.1 }) copy ≡ shown self.now.settled key.now) }
         ensures err { OnErr result (TakesMemory (answer (shown self.now.settled key.now))) }
     {
         match self.shown(key) {
-            Some((value, version)) => Ok(Some((value.clone()?, version))),
+            Some((Some(value), version)) => Ok(Some((Some(value.clone()?), version))),
+            Some((None, version)) => Ok(Some((None, version))),
             None => Ok(None),
         }
     }
@@ -177,9 +201,10 @@ impl Node {
         events!(dispatch self, event)
     }
 
-    /// What the key shows: the greatest version that was settled on it, with its value. None where nothing was.
-    pub fn shown(&self, key: &Key) -> Option<(&Value, Version)>
-        ensures { option_map (λ r. record { key = key.now; value = r.0.now; version = r.1 }) result ≡ shown self.now.settled key.now }
+    /// What the key shows: the greatest version that was settled on it, with its value, or without one where that is a
+    /// deletion. None where nothing was settled on it.
+    pub fn shown(&self, key: &Key) -> Option<(Option<&Value>, Version)>
+        ensures { option_map (λ r. record { key = key.now; value = option_copied r.0; version = r.1 }) result ≡ shown self.now.settled key.now }
     {
         self.store.get(key)
     }
@@ -199,7 +224,7 @@ impl Node {
         put.deps.as_slice().get(usize::from(dep))
     }
 
-    /// The clock, and how many keys show a value, pairs are settled, and puts wait.
+    /// The clock, and how many keys show a value or a deletion, pairs are settled, and puts wait.
     pub fn status(&self) -> NodeStatus
         ensures status { result ≡ record { clock = self.now.clock; keys = length (shown_keys self.now.settled); settled = length self.now.settled; held = length self.now.held } }
         ensures clock { result.clock ≤ MAX_CLOCK }

@@ -5,8 +5,12 @@ use cops_types::{Memory, Refusal, Value, Version};
 pub enum Outcome {
     /// The put was given this version.
     PutDone(Version),
+    /// The deletion was given this version.
+    Deleted(Version),
     /// The key shows this value, written by the put of this version.
     Got(Value, Version),
+    /// The key shows the deletion of this version.
+    Gone(Version),
     /// The key shows nothing.
     Missed,
     /// The put waits from now on.
@@ -29,16 +33,29 @@ impl Outcome {
     ghost use Rattle.std.specs.Prelude.{◌≡◌, ◌↔◌, IsTrue, IfOk, OnErr};
     ghost use Rattle.cops_types.specs.declared.refusal.Refusal.TheVariants.{Memory as OutOfMemory};
     ghost use Rattle.cops_node.specs.declared.outcome.Outcome.TheVariants.{Refused as RefusedWith};
+    ghost use Rattle.cops_node.specs.Acts.{found, version_given};
     ghost use Rattle.cops_node.specs.Outcomes.{IsGot};
 
-    /// A copy. It takes memory for the value of a get alone.
+    /// A get found this: a value, or without one a deletion.
+    pub(crate) fn found(content: Option<Value>, version: Version) -> Self
+        ensures { result ≡ found content version }
+    {
+        match content {
+            Some(value) => Outcome::Got(value, version),
+            None => Outcome::Gone(version),
+        }
+    }
+
+    /// A copy. It takes memory for the value that a get returned alone.
     pub fn copy(&self) -> Result<Outcome, Memory>
         ensures ok { IfOk result (λ copy. copy ≡ self.now) }
         ensures err { OnErr result (IsGot self.now) }
     {
         Ok(match self {
             Outcome::PutDone(version) => Outcome::PutDone(*version),
+            Outcome::Deleted(version) => Outcome::Deleted(*version),
             Outcome::Got(value, version) => Outcome::Got(value.clone()?, *version),
+            Outcome::Gone(version) => Outcome::Gone(*version),
             Outcome::Missed => Outcome::Missed,
             Outcome::Held => Outcome::Held,
             Outcome::Repeat => Outcome::Repeat,
@@ -48,6 +65,16 @@ impl Outcome {
             Outcome::Settled => Outcome::Settled,
             Outcome::Refused(refusal) => Outcome::Refused(*refusal),
         })
+    }
+
+    /// The version that a put or a deletion was given, if one was done.
+    pub fn version_given(&self) -> Option<Version>
+        ensures { result ≡ version_given self.now }
+    {
+        match self {
+            Outcome::PutDone(version) | Outcome::Deleted(version) => Some(*version),
+            _ => None,
+        }
     }
 
     /// Whether nothing happened for want of memory.

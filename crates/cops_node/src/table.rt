@@ -10,8 +10,12 @@ macro_rules! events {
                 Ok(version) => PutDone(version),
                 Err(refused) => Refused(refused)
             }
+            Del { client, key, deps } => del(client, key, deps) {
+                Ok(version) => Deleted(version),
+                Err(refused) => Refused(refused)
+            }
             Get { client, key } => get(client, &key) {
-                Ok(Some((value, version))) => Got(value, version),
+                Ok(Some((content, version))) => found(content, version),
                 Ok(None) => Missed,
                 Err(Memory) => Refused(Refusal::Memory)
             }
@@ -39,6 +43,7 @@ macro_rules! events {
 /// Makes the match of an event's answers to its outcomes, from the event's row.
 macro_rules! row {
     (Put $answer:expr; Put $($rows:tt)*) => { row!(@ $answer; $($rows)*) };
+    (Del $answer:expr; Del $($rows:tt)*) => { row!(@ $answer; $($rows)*) };
     (Get $answer:expr; Get $($rows:tt)*) => { row!(@ $answer; $($rows)*) };
     (Deliver $answer:expr; Deliver $($rows:tt)*) => { row!(@ $answer; $($rows)*) };
     (Ask $answer:expr; Ask $($rows:tt)*) => { row!(@ $answer; $($rows)*) };

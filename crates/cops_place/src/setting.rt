@@ -34,11 +34,19 @@ impl Setting {
         ensures some { IfSome result (λ setting. setting ≡ record { format = Format.One; place = place; homes = homes.items }) }
         ensures none { IfNone result (AreClients place homes.items → ⊥) }
     {
+        Setting::new_in(Format::One, place, homes)
+    }
+
+    /// The setting, in a format: none where a client's data centre is not there, or there are more than 65,535 clients.
+    pub fn new_in(format: Format, place: Place, homes: Vec<u8>) -> Option<Self>
+        ensures some { IfSome result (λ setting. setting ≡ record { format = format; place = place; homes = homes.items }) }
+        ensures none { IfNone result (AreClients place homes.items → ⊥) }
+    {
         if homes.len() > usize::from(MAX_CLIENTS) || !are_below(&homes, place.dcs()) {
             return None;
         }
         Some(Setting {
-            format: Format::One,
+            format,
             place,
             homes,
         })

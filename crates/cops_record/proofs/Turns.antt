@@ -2,7 +2,7 @@
 use Rattle.std.proofs.Common.{◌≡◌, ℕ, suc, ◌+◌, ◌<◌, ◌↔◌, List, ◌∷◌, ◌++◌, length, length-take, take, drop, get_or, map, Err, IsErrOf, refl, sym, ap, subst, ◌∙◌, arith}
 use Rattle.std.proofs.Math.Seq.{split_at}
 use Rattle.std.proofs.lemmas.List.{length-map, map-append}
-use Rattle.cops_types.specs.declared.format.Format.TheVariants.{One}
+use Rattle.cops_types.specs.declared.format.Format.{Format}
 use Rattle.cops_types.specs.declared.limits.TheConstants.{MAX_CLIENT_OPS, MAX_OPS}
 use Rattle.cops_types.specs.declared.fault.TypeFault.{TypeFault}
 use Rattle.cops_types.specs.declared.fault.TypeFault.TheVariants.{Memory, KeyEmpty, KeyTooLong, ValueTooLong, BadVersion, ClockExhausted, UnknownClient, TooManyOps, BadDeps}
@@ -15,7 +15,7 @@ use Rattle.cops_record.specs.Records.{State, seat, IsKept}
 
 -- the trace of the first records
 abbrev pub front : State → ℕ → ATrace
-front s i = record { format = One; clients = length s.seats; records = map record_of (take i s.records) }
+front s i = record { format = s.format; clients = length s.seats; records = map record_of (take i s.records) }
 
 -- Before a record, its client has fewer than in the whole list.
 pub turn_below : (rs : List Record) (i : ℕ) (d : Record) → i < length rs → turn (get_or rs i d).client (map record_of (take i rs)) < turn (get_or rs i d).client (map record_of rs)
@@ -44,9 +44,9 @@ only_memory ClockExhausted A B only unknown many not_a not_b = absurd only
 only_memory BadDeps A B only unknown many not_a not_b = absurd only
 
 -- Before a record its client is there, and the trace of those before it has room for it.
-pub room_before : (seats : List Seat) (rs : List Record) (reserved capacity i : ℕ) (r : Record) → IsKept seats rs reserved capacity → i < length rs → r ≡ get_or rs i r
+pub room_before : (format : Format) (seats : List Seat) (rs : List Record) (reserved capacity i : ℕ) (r : Record) → IsKept format seats rs reserved capacity → i < length rs → r ≡ get_or rs i r
     → let before = map record_of (take i rs) in (r.client < length seats) × (turn r.client before < MAX_CLIENT_OPS) × (length before < MAX_OPS)
-room_before seats rs reserved capacity i r kept inside is =
+room_before format seats rs reserved capacity i r kept inside is =
     let known : r.client < length seats = subst (λ (q : Record). q.client < length seats) (sym is) (kept.known i r inside) in
     let fewer : turn r.client (map record_of (take i rs)) < turn r.client (map record_of rs) =
     subst (λ (q : Record). turn q.client (map record_of (take i rs)) < turn q.client (map record_of rs)) (sym is) (turn_below rs i r inside) in

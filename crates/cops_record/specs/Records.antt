@@ -1,15 +1,18 @@
 -- What a recorder keeps: records in order of arrival, and the slots that are reserved.
 use Rattle.std.specs.Prelude.{◌≡◌, ℕ, ◌+◌, ◌-◌, ◌<◌, ◌≤◌, ◌^◌, List, [], ◌∷◌, ◌++◌, length, map, All, slice_index_or, slice_set, ◌⊎◌}
 use Rattle.std.specs.List.{sum_by}
-use Rattle.cops_types.specs.declared.format.Format.TheVariants.{One}
+use Rattle.cops_types.specs.declared.format.Format.{Format}
+use Rattle.cops_types.specs.Format.{IsInFormat}
+use Rattle.cops_types.specs.Operations.{operation_of}
 use Rattle.cops_types.specs.declared.limits.TheConstants.{MAX_CLIENT_OPS, MAX_OPS}
 use Rattle.cops_types.specs.declared.op.Op.{Op}
 use Rattle.cops_trace.specs.declared.record.Record.{Record}
 use Rattle.cops_trace.specs.Text.{ATrace, record_of, turn}
 use Rattle.cops_record.specs.declared.records.Seat.{Seat}
 
--- the records in order of arrival, and a seat for each client
+-- the format of the trace, the records in order of arrival, and a seat for each client
 pub record State : Type 0 where
+  pub format : Format
   pub records : List Record
   pub seats : List Seat
 
@@ -32,6 +35,7 @@ without_slot s client = record s { seats = slice_set s.seats client (seat (seat_
 abbrev pub with_op : State → ℕ → Op → State
 with_op s client op =
     record {
+      format = s.format;
       records = s.records ++ record { client = client; op = op } ∷ [];
       seats = slice_set s.seats client (seat ((seat_of s client).filled + 1) ((seat_of s client).reserved - 1));
     }
@@ -44,14 +48,15 @@ slots seats = sum_by (λ (s : Seat). s.reserved) seats
 abbrev pub IsFull : State → ℕ → Type 0
 IsFull s client = ((seat_of s client).filled + (seat_of s client).reserved ≡ MAX_CLIENT_OPS) ⊎ (length s.records + slots s.seats ≡ MAX_OPS)
 
--- the trace of what was recorded, in the first format
+-- the trace of what was recorded
 abbrev pub recorded : State → ATrace
-recorded s = record { format = One; clients = length s.seats; records = map record_of s.records }
+recorded s = record { format = s.format; clients = length s.seats; records = map record_of s.records }
 
--- the seats count the records of their clients, and slots and records together are within a trace's limits
-pub record IsKept (seats : List Seat) (records : List Record) (reserved capacity : ℕ) : Type 0 where
+-- the records are in the format, the seats count those of their clients, and slots and records together are within a trace's limits
+pub record IsKept (format : Format) (seats : List Seat) (records : List Record) (reserved capacity : ℕ) : Type 0 where
   pub clients : length seats < 2 ^ 16
   pub known : All (λ (r : Record). r.client < length seats) records
+  pub in_format : All (λ (r : Record). IsInFormat format (operation_of r.op)) records
   pub counted : (c : ℕ) (d : Seat) → c < length seats → (slice_index_or seats c d).filled ≡ turn c (map record_of records)
   pub session : (c : ℕ) (d : Seat) → c < length seats → (slice_index_or seats c d).filled + (slice_index_or seats c d).reserved ≤ MAX_CLIENT_OPS
   pub all_slots : reserved ≡ slots seats

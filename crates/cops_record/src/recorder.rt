@@ -4,7 +4,7 @@ ghost use Rattle.std.specs.Prelude.{◌≡◌, IfOk};
 use crate::fault::{IntoTraceFault, RecordFault};
 use crate::records::Records;
 use cops_trace::{Record, Trace};
-use cops_types::{Memory, Op};
+use cops_types::{Format, Memory, Op};
 use std::alloc::Global;
 use std::fmt;
 use std::sync::{Mutex, Wait};
@@ -34,11 +34,18 @@ impl Recorder {
     ghost use Rattle.std.specs.Prelude.{◌≡◌, ◌≤◌, ◌↔◌, IfErr, IfOk, IsErrOf};
     ghost use Rattle.cops_record.specs.Back.{IsBack};
 
-    /// A recorder of so many clients, with no records.
+    /// A recorder of format 1 and of so many clients, with no records.
     pub fn new(alloc: Global, clients: u16) -> Result<Recorder, Memory>
         ensures { IfOk result (λ r. r.clients ≡ clients) }
     {
-        let records = Mutex::new(Records::new(alloc, clients)?);
+        Recorder::new_in(Format::One, alloc, clients)
+    }
+
+    /// A recorder of a format and of so many clients, with no records.
+    pub fn new_in(format: Format, alloc: Global, clients: u16) -> Result<Recorder, Memory>
+        ensures { IfOk result (λ r. r.clients ≡ clients) }
+    {
+        let records = Mutex::new(Records::new(format, alloc, clients)?);
         Ok(Recorder {
             clients,
             records,
@@ -65,8 +72,9 @@ impl Recorder {
         }
     }
 
-    /// Fills the slot: its operation takes the next place. It never fails. Where nothing is reserved here for the
-    /// slot's client, as for a slot of another recorder, nothing changes.
+    /// Fills the slot: its operation takes the next place, or the slot is given back where the operation is not in the
+    /// recorder's format. It never fails. Where nothing is reserved here for the slot's client, as for a slot of
+    /// another recorder, nothing changes.
     pub fn fill<R: Wait>(&self, rt: &R, slot: Slot, op: Op) {
         let Slot { client } = slot;
         self.records.lock(rt).fill(client, op);

@@ -3,7 +3,7 @@ ghost use Rattle.std.specs.Prelude.{◌≡◌};
 
 use crate::fault::RecordFault;
 use cops_trace::{Record, Trace};
-use cops_types::{MAX_CLIENT_OPS, MAX_OPS, Memory, Op, TypeFault};
+use cops_types::{Format, MAX_CLIENT_OPS, MAX_OPS, Memory, Op, TypeFault};
 use std::alloc::Global;
 use std::marker::Model;
 
@@ -14,9 +14,11 @@ pub(crate) struct Seat {
     reserved: u32,
 }
 
-/// The records in order of arrival, with room for all reserved slots, and a seat for each client.
+/// The records in order of arrival, operations of the format, with room for all reserved slots, and a seat for each
+/// client.
 #[derive(Drop)]
 pub(crate) struct Records {
+    format: Format,
     seats: Vec<Seat>,
     records: Vec<Record>,
     reserved: usize,
@@ -28,24 +30,27 @@ impl Model for Records {
 
     ghost Value = { State };
 
-    ghost view = { λ r. record { records = r.records.items; seats = r.seats.items } };
+    ghost view = { λ r. record { format = r.format; records = r.records.items; seats = r.seats.items } };
 
-    ghost invariant = { λ r. IsKept r.seats.items r.records.items r.reserved (vec_capacity r.records) };
+    ghost invariant = { λ r. IsKept r.format r.seats.items r.records.items r.reserved (vec_capacity r.records) };
 }
 
 impl Records {
     ghost use Rattle.std.specs.Prelude.{◌≡◌, ◌+◌, ◌<◌, ◌≤◌, ◌⊎◌, ◌↔◌, [], ℕ, drop, length, replicate, IfOk, IsErrOf, OnOk, OnErr};
+    ghost use Rattle.cops_types.specs.Format.{IsInFormat};
+    ghost use Rattle.cops_types.specs.Operations.{operation_of};
     ghost use Rattle.cops_record.specs.Records.{State, IsFull, recorded, seat_of, seat, slots, with_slot, without_slot, with_op};
 
     /// No records, and no slots, of so many clients.
-    pub(crate) fn new(alloc: Global, clients: u16) -> Result<Records, Memory>
-        ensures { IfOk result (λ r. r ≡ record { records = []; seats = replicate clients (seat 0 0) }) }
+    pub(crate) fn new(format: Format, alloc: Global, clients: u16) -> Result<Records, Memory>
+        ensures { IfOk result (λ r. r ≡ record { format = format; records = []; seats = replicate clients (seat 0 0) }) }
     {
         let empty = Seat {
             filled: 0,
             reserved: 0,
         };
         Ok(Records {
+            format,
             seats: vec![in alloc; empty; usize::from(clients)]?,
             records: Vec::new(alloc),
             reserved: 0,
@@ -83,11 +88,17 @@ impl Records {
         Ok(())
     }
 
-    /// Fills a slot of the client. Where none is reserved for it, nothing changes.
+    /// Fills a slot of the client, or gives it back where the operation is not in the format. Where none is reserved
+    /// for it, nothing changes.
     pub(crate) fn fill(&mut self, client: u16, op: Op)
-        ensures filled { 0 < (seat_of self.old client).reserved → self.new ≡ with_op self.old client op }
+        ensures filled { 0 < (seat_of self.old client).reserved → IsInFormat self.old.format (operation_of op) → self.new ≡ with_op self.old client op }
+        ensures given { 0 < (seat_of self.old client).reserved → ¬ IsInFormat self.old.format (operation_of op) → self.new ≡ without_slot self.old client }
         ensures idle { (seat_of self.old client).reserved ≡ 0 → self.new ≡ self.old }
     {
+        if !op.in_format(self.format) {
+            drop(op);
+            return self.cancel(client);
+        }
         let place = usize::from(client);
         if place >= self.seats.len() {
             return;
@@ -142,7 +153,7 @@ impl Records {
     pub(crate) fn trace(&self, alloc: Global) -> Result<Trace, Memory>
         ensures { IfOk result (λ trace. trace ≡ recorded self.now) }
     {
-        let mut trace = Trace::new(alloc, self.seats.len() as u16)?;
+        let mut trace = Trace::new_in(self.format, alloc, self.seats.len() as u16)?;
         for record in &self.records {
             match trace.push(record.client, record.op.clone()?) {
                 Ok(()) => {}

@@ -1,4 +1,4 @@
-//! Puts that were taken from links, and what nodes answer to them.
+//! Puts and deletions that were taken from links, and what nodes answer to them.
 ghost use Rattle.std.specs.Prelude.{◌≡◌, [], ◌∷◌, ◌++◌, IfNone, IfOk, IfSome};
 ghost use Rattle.cops_types.specs.declared.put_record.PutRecord.{PutRecord};
 ghost use Rattle.cops_wire.specs.Replicated.{put_after};
@@ -79,26 +79,33 @@ pub fn next_arrival(link: &mut LinkOut) -> Result<Option<Arrival>, Memory>
     }
 }
 
-/// The put that a message replicates.
+/// The put that a message replicates, without a value where that is a deletion.
 fn arrival_of(message: Message) -> Arrival
     requires { (put : PutRecord) × (message ≡ put_after put) }
     ensures { message ≡ put_after result.put }
 {
-    match message {
+    let put = match message {
         Message::PutAfter {
             key,
             value,
             version,
             deps,
-        } => Arrival {
-            put: PutRecord {
-                key,
-                value,
-                version,
-                deps,
-            },
-            stage: Stage::Taken,
+        } => PutRecord {
+            key,
+            value: Some(value),
+            version,
+            deps,
+        },
+        Message::DelAfter { key, version, deps } => PutRecord {
+            key,
+            value: None,
+            version,
+            deps,
         },
         _ => unreachable!(),
+    };
+    Arrival {
+        put,
+        stage: Stage::Taken,
     }
 }

@@ -134,7 +134,8 @@ fn refusal(alloc: Global, history: &History, faults: &Faults) -> Result<Vec<u8>,
 /// `refused: N operations, M puts, F faults` and then, in order of names, a line for each fault: `doubled NAME at
 /// VERSION`, `no source NAME at VERSION`, `not above NAME at VERSION, earlier NAME at VERSION`, or `stale NAME returned
 /// VERSION, newer NAME at VERSION, chain NAME NAME ..`, which for a get that found nothing says `returned nothing`. A
-/// stale get's chain is that of `chain` from the newer put to it. `Memory` where a growth was refused.
+/// stale get's chain is that of `chain` from the newer put to it. A deletion is counted and named as any put. `Memory`
+/// where a growth was refused.
 pub fn report(alloc: Global, history: &History, verdict: &Verdict) -> Result<Vec<u8>, Memory>
     requires { IsVerdict history.now.sessions verdict.now }
     ensures { IfOk result (λ text. IsReport history.now.sessions verdict.now text.items) }

@@ -2,7 +2,6 @@
 use Rattle.std.specs.Prelude.{IfOk}
 use Rattle.std.specs.Global.{Vec}
 use Rattle.cops_types.specs.declared.fault.Memory.{Memory}
-use Rattle.cops_types.specs.declared.format.Format.TheVariants.{One}
 use Rattle.std.proofs.Common.{Result, Ok, Err, ◌≡◌, ℕ, List, [], ◌++◌, length, replicate, sym, ap, subst, ◌∙◌}
 use Rattle.std.proofs.lemmas.List.{length-map}
 use Rattle.cops_node.specs.declared.outcome.Outcome.{Outcome}
@@ -41,7 +40,7 @@ answered_if s c d events (Err e) end law opened same legal ran = tt
 
 -- the trace of such events holds what the world's sessions do
 pub event_run : (s : AScenario) (events : List Event) (outcomes : List Outcome) (lines : List ℕ) (t : ATrace) (n : ℕ) → AreAnswers (setting_of s) events outcomes
-    → n ≡ length s.clients → t ≡ record { format = One; clients = n; records = all_seen events outcomes } → lines ≡ outcome_lines outcomes
+    → n ≡ length s.clients → t ≡ record { format = s.format; clients = n; records = all_seen events outcomes } → lines ≡ outcome_lines outcomes
     → IsEventRun s events lines t × HasAcceptedVerdict (sessions_of t)
 event_run s events outcomes lines t n (end, ran, accepted) count trace told =
     let records = all_seen events outcomes in
@@ -53,7 +52,7 @@ event_run s events outcomes lines t n (end, ran, accepted) count trace told =
         outcomes = outcomes;
         end = end;
         ran = ran;
-        trace_is = trace ∙ ap (λ (k : ℕ). record { format = One; clients = k; records = records }) count;
+        trace_is = trace ∙ ap (λ (k : ℕ). record { format = s.format; clients = k; records = records }) count;
         saw_these = saw_these;
         lines_are = told;
       },

@@ -2,21 +2,20 @@
 use Rattle.std.proofs.Common.{◌≡◌, ℕ, zero, suc, ◌+◌, ◌<◌, List, [], ◌∷◌, ◌++◌, length, take, slice_index_or, Option, None, Some, inl, inr, refl, sym, ap, ◌∙◌, arith, append_assoc, append-nil}
 use Rattle.cops_types.specs.Histories.{Sessions, with_op}
 use Rattle.cops_types.specs.declared.put_record.PutRecord.{PutRecord}
-use Rattle.cops_node.specs.declared.event.NodeEvent.{NodeEvent}
-use Rattle.cops_node.specs.declared.event.NodeEvent.TheVariants.{Put as NodePut, Get as NodeGet, Deliver as NodeDeliver, Ask as NodeAsk, Mark as NodeMark, Settle as NodeSettle}
+use Rattle.cops_node.specs.Acts.{version_given, Act as NodeAct}
 use Rattle.cops_node.specs.declared.outcome.Outcome.{Outcome}
-use Rattle.cops_node.specs.declared.outcome.Outcome.TheVariants.{PutDone, Got, Missed, Held, Repeat, Yes, Wait, Marked, Settled, Refused}
-use Rattle.cops_node.specs.Node.{Node, node_step}
+use Rattle.cops_node.specs.declared.outcome.Outcome.TheVariants.{Got, Gone, Missed, Yes, Refused}
+use Rattle.cops_node.specs.Node.{Node, act_step}
 use Rattle.cops_types.specs.declared.refusal.Refusal.{Refusal}
 use Rattle.cops_types.specs.declared.refusal.Refusal.TheVariants.{NeverSent, Memory}
 use Rattle.cops_core.specs.declared.event.Event.{Event}
-use Rattle.cops_core.specs.declared.event.Event.TheVariants.{Put as PutBy, Get as GetBy, Deliver as DeliverTo, Ask as AskAt, Mark as MarkAt, Settle as SettleAt}
-use Rattle.cops_core.specs.World.{Setting, World, Happens, asks, checks, context_in, delivers, done, home, keeps, node_at, primary, refusal, sent, unless, Run}
+use Rattle.cops_core.specs.Acts.{Act, WriteBy, GetBy, AskAt, act_of}
+use Rattle.cops_core.specs.World.{Setting, World, Happens, asks, checks, context_in, delivers, done, home, keeps, node_at, primary, refusal, sent, unless, with_node, wrote, Run}
 use Rattle.cops_core.specs.Memory.{AnswersEach}
 use Rattle.cops_types.specs.NodeNumber.{place_of}
 use Rattle.cops_trace.specs.Text.{ARecord, sessions_after}
 use Rattle.cops_core.proofs.Asking.{done_asks}
-use Rattle.cops_run_stream.specs.Running.{saw, all_seen}
+use Rattle.cops_run_stream.specs.Running.{saw, all_seen, written_by}
 
 -- some records, and then others
 after_all : (h : Sessions) (xs ys : List ARecord) → sessions_after h (xs ++ ys) ≡ sessions_after (sessions_after h xs) ys
@@ -24,49 +23,55 @@ after_all h [] ys = refl
 after_all h (r ∷ rs) ys = after_all (with_op h r.client r.op) rs ys
 
 -- what the world keeps of an answer
-keeps_saw : (w : World) (dc place : ℕ) (event : Event) (outcome : Outcome) (n : Node)
-    → (keeps w dc place event outcome n).sessions ≡ sessions_after w.sessions (saw event outcome)
-keeps_saw w dc place (PutBy c k v) (PutDone version) n = refl
+keeps_saw : (w : World) (dc place : ℕ) (act : Act) (outcome : Outcome) (n : Node)
+    → (keeps w dc place act outcome n).sessions ≡ sessions_after w.sessions (saw act outcome)
+keeps_saw w dc place (WriteBy c k x) outcome n = by_version (version_given outcome)
+  where
+    by_version : (o : Option ℕ) → (wrote (with_node w dc place n) c k x o).sessions ≡ sessions_after w.sessions (written_by c k x o)
+    by_version None = refl
+    by_version (Some version) = refl
 keeps_saw w dc place (GetBy c k) Missed n = refl
+keeps_saw w dc place (GetBy c k) (Got value version) n = refl
+keeps_saw w dc place (GetBy c k) (Gone version) n = refl
 keeps_saw w dc place (AskAt d k version) Yes n = refl
-keeps_saw w dc place event outcome n = refl
+keeps_saw w dc place act outcome n = refl
 
 -- of a refusal nobody sees anything
-refused_saw : (event : Event) (code : Refusal) → saw event (Refused code) ≡ []
-refused_saw (PutBy c k v) code = refl
-refused_saw event code = refl
+refused_saw : (act : Act) (code : Refusal) → saw act (Refused code) ≡ []
+refused_saw (WriteBy c k x) code = refl
+refused_saw act code = refl
 
--- a world that stays, of which an event was refused
-refused_stays : (w mid : World) (event : Event) (code : Refusal) (outcome : Outcome) → ◌≡◌ {A = Outcome × World} (Refused code, w) (outcome, mid)
-    → mid.sessions ≡ sessions_after w.sessions (saw event outcome)
-refused_stays w mid event code outcome e =
-    let none : saw event outcome ≡ [] = ap (λ (p : Outcome × World). saw event p.0) (sym e) ∙ refused_saw event code in
+-- a world that stays, of which an act was refused
+refused_stays : (w mid : World) (act : Act) (code : Refusal) (outcome : Outcome) → ◌≡◌ {A = Outcome × World} (Refused code, w) (outcome, mid)
+    → mid.sessions ≡ sessions_after w.sessions (saw act outcome)
+refused_stays w mid act code outcome e =
+    let none : saw act outcome ≡ [] = ap (λ (p : Outcome × World). saw act p.0) (sym e) ∙ refused_saw act code in
     ap (λ (p : Outcome × World). p.1.sessions) (sym e) ∙ ap (λ (rs : List ARecord). sessions_after w.sessions rs) (sym none)
 
-asked_saw : (w mid : World) (event : Event) (dc place : ℕ) (asked : NodeEvent) (outcome : Outcome) → asks w event dc place asked ≡ (outcome, mid)
-    → mid.sessions ≡ sessions_after w.sessions (saw event outcome)
-asked_saw w mid event dc place asked outcome e =
-    let r = node_step (node_at w dc place) asked in
-    ap (λ (p : Outcome × World). p.1.sessions) (sym e) ∙ keeps_saw w dc place event r.0 r.1
-    ∙ ap (λ (p : Outcome × World). sessions_after w.sessions (saw event p.0)) e
+asked_saw : (w mid : World) (act : Act) (dc place : ℕ) (asked : NodeAct) (outcome : Outcome) → asks w act dc place asked ≡ (outcome, mid)
+    → mid.sessions ≡ sessions_after w.sessions (saw act outcome)
+asked_saw w mid act dc place asked outcome e =
+    let r = act_step (node_at w dc place) asked in
+    ap (λ (p : Outcome × World). p.1.sessions) (sym e) ∙ keeps_saw w dc place act r.0 r.1
+    ∙ ap (λ (p : Outcome × World). sessions_after w.sessions (saw act p.0)) e
 
-done_saw : (s : Setting) (w mid : World) (event : Event) (outcome : Outcome) → done s w event ≡ (outcome, mid)
-    → mid.sessions ≡ sessions_after w.sessions (saw event outcome)
-done_saw s w mid event outcome =
-    done_asks (λ r. r ≡ (outcome, mid) → mid.sessions ≡ sessions_after w.sessions (saw event outcome)) s w event
-    (λ dc place asked. asked_saw w mid event dc place asked outcome) (refused_stays w mid event NeverSent outcome)
+done_saw : (s : Setting) (w mid : World) (act : Act) (outcome : Outcome) → done s w act ≡ (outcome, mid)
+    → mid.sessions ≡ sessions_after w.sessions (saw act outcome)
+done_saw s w mid act outcome =
+    done_asks (λ r. r ≡ (outcome, mid) → mid.sessions ≡ sessions_after w.sessions (saw act outcome)) s w act
+    (λ dc place asked. asked_saw w mid act dc place asked outcome) (refused_stays w mid act NeverSent outcome)
 
-checked_saw : (s : Setting) (w mid : World) (event : Event) (code : Option Refusal) (outcome : Outcome) → unless w code (done s w event) ≡ (outcome, mid)
-    → mid.sessions ≡ sessions_after w.sessions (saw event outcome)
-checked_saw s w mid event None outcome e = done_saw s w mid event outcome e
-checked_saw s w mid event (Some code) outcome e = refused_stays w mid event code outcome e
+checked_saw : (s : Setting) (w mid : World) (act : Act) (code : Option Refusal) (outcome : Outcome) → unless w code (done s w act) ≡ (outcome, mid)
+    → mid.sessions ≡ sessions_after w.sessions (saw act outcome)
+checked_saw s w mid act None outcome e = done_saw s w mid act outcome e
+checked_saw s w mid act (Some code) outcome e = refused_stays w mid act code outcome e
 
--- one event
-happened_saw : (s : Setting) (w mid : World) (event : Event) (outcome : Outcome) → Happens s w event outcome mid
-    → mid.sessions ≡ sessions_after w.sessions (saw event outcome)
-happened_saw s w mid event outcome (inl e) = checked_saw s w mid event (refusal (checks s w event)) outcome e
-happened_saw s w mid event outcome (inr (e, same)) =
-    let none : saw event outcome ≡ [] = ap (λ (o : Outcome). saw event o) e ∙ refused_saw event Memory in
+-- one act
+happened_saw : (s : Setting) (w mid : World) (act : Act) (outcome : Outcome) → Happens s w act outcome mid
+    → mid.sessions ≡ sessions_after w.sessions (saw act outcome)
+happened_saw s w mid act outcome (inl e) = checked_saw s w mid act (refusal (checks s w act)) outcome e
+happened_saw s w mid act outcome (inr (e, same)) =
+    let none : saw act outcome ≡ [] = ap (λ (o : Outcome). saw act o) e ∙ refused_saw act Memory in
     ap (λ (v : World). v.sessions) same ∙ ap (λ (rs : List ARecord). sessions_after w.sessions rs) (sym none)
 
 -- what is answered so is a run
@@ -83,8 +88,8 @@ pub run_saw : (s : Setting) (old : World) (events : List Event) (outcomes : List
 run_saw s old [] [] new e = ap (λ (v : World). v.sessions) e
 run_saw s old (event ∷ events) (outcome ∷ outcomes) new (mid, (first, rest)) =
     run_saw s mid events outcomes new rest
-    ∙ ap (λ (h : Sessions). sessions_after h (all_seen events outcomes)) (happened_saw s old mid event outcome first)
-    ∙ sym (after_all old.sessions (saw event outcome) (all_seen events outcomes))
+    ∙ ap (λ (h : Sessions). sessions_after h (all_seen events outcomes)) (happened_saw s old mid (act_of event) outcome first)
+    ∙ sym (after_all old.sessions (saw (act_of event) outcome) (all_seen events outcomes))
 run_saw s old [] (outcome ∷ outcomes) new none = absurd none
 run_saw s old (event ∷ events) [] new none = absurd none
 
@@ -96,17 +101,17 @@ run_len s old [] (outcome ∷ outcomes) new none = absurd none
 run_len s old (event ∷ events) [] new none = absurd none
 
 seen_suc : (events : List Event) (outcomes : List Outcome) (n : ℕ) (event : Event) (outcome : Outcome) → n < length events → n < length outcomes
-    → all_seen (take (suc n) events) (take (suc n) outcomes) ≡ all_seen (take n events) (take n outcomes) ++ saw (slice_index_or events n event) (slice_index_or outcomes n outcome)
+    → all_seen (take (suc n) events) (take (suc n) outcomes) ≡ all_seen (take n events) (take n outcomes) ++ saw (act_of (slice_index_or events n event)) (slice_index_or outcomes n outcome)
 seen_suc [] outcomes n event outcome p q = absurd (omega (arith, p))
 seen_suc (e ∷ es) [] n event outcome p q = absurd (omega (arith, q))
-seen_suc (e ∷ es) (o ∷ os) zero event outcome p q = append-nil (saw e o)
+seen_suc (e ∷ es) (o ∷ os) zero event outcome p q = append-nil (saw (act_of e) o)
 seen_suc (e ∷ es) (o ∷ os) (suc n) event outcome p q =
-    ap (λ (rs : List ARecord). saw e o ++ rs) (seen_suc es os n event outcome (omega (arith, p)) (omega (arith, q)))
-    ∙ sym (append_assoc (saw e o) (all_seen (take n es) (take n os)) (saw (slice_index_or es n event) (slice_index_or os n outcome)))
+    ap (λ (rs : List ARecord). saw (act_of e) o ++ rs) (seen_suc es os n event outcome (omega (arith, p)) (omega (arith, q)))
+    ∙ sym (append_assoc (saw (act_of e) o) (all_seen (take n es) (take n os)) (saw (act_of (slice_index_or es n event)) (slice_index_or os n outcome)))
 
 -- one event more
 pub seen_next : (events : List Event) (outcomes : List Outcome) (n : ℕ) (event : Event) (outcome : Outcome) → n < length events → n < length outcomes
-    → all_seen (take (n + 1) events) (take (n + 1) outcomes) ≡ all_seen (take n events) (take n outcomes) ++ saw (slice_index_or events n event) (slice_index_or outcomes n outcome)
+    → all_seen (take (n + 1) events) (take (n + 1) outcomes) ≡ all_seen (take n events) (take n outcomes) ++ saw (act_of (slice_index_or events n event)) (slice_index_or outcomes n outcome)
 seen_next events outcomes n event outcome p q =
     let e : n + 1 ≡ suc n = omega arith in
     ap (λ (k : ℕ). all_seen (take k events) (take k outcomes)) e ∙ seen_suc events outcomes n event outcome p q

@@ -3,9 +3,10 @@ use Rattle.std.specs.Prelude.{◌≡◌, ◌⊎◌, ℕ, List, [], ◌∷◌, �
 use Rattle.std.specs.Io.KnownBytes.{Appends, Keeps}
 use Rattle.cops_types.specs.Histories.{write, read, missed}
 use Rattle.cops_node.specs.declared.outcome.Outcome.{Outcome}
-use Rattle.cops_node.specs.declared.outcome.Outcome.TheVariants.{PutDone, Got as Answered, Missed as Nothing}
+use Rattle.cops_node.specs.declared.outcome.Outcome.TheVariants.{Got as Answered, Gone, Missed as Nothing}
+use Rattle.cops_node.specs.Acts.{version_given}
 use Rattle.cops_core.specs.declared.event.Event.{Event}
-use Rattle.cops_core.specs.declared.event.Event.TheVariants.{Put as PutBy, Get as GetBy}
+use Rattle.cops_core.specs.Acts.{Act, WriteBy, GetBy, act_of}
 use Rattle.cops_core.specs.World.{World, opening}
 use Rattle.cops_core.specs.Memory.{AnswersEach}
 use Rattle.cops_types.specs.Verdicts.{HasAcceptedVerdict}
@@ -23,18 +24,24 @@ use Rattle.cops_command.specs.Told.{IsReportOf}
 use Rattle.cops_command.specs.declared.status.Status.TheVariants.{Accepted, Faulty}
 use Rattle.cops_run_stream.specs.Lines.{outcome_lines, client_lines}
 
--- what a client saw of an event that was answered so: of its put that was done, and of its get
-abbrev pub saw : Event → Outcome → List ARecord
-saw (PutBy client key value) (PutDone version) = record { client = client; op = write key (Some value) version } ∷ []
+-- what a client wrote at this version, if it was given one
+abbrev pub written_by : ℕ → List ℕ → Option (List ℕ) → Option ℕ → List ARecord
+written_by client key content None = []
+written_by client key content (Some version) = record { client = client; op = write key content version } ∷ []
+
+-- what a client saw of an act that was answered so: of its write that was done, and of its get
+abbrev pub saw : Act → Outcome → List ARecord
+saw (WriteBy client key content) outcome = written_by client key content (version_given outcome)
 saw (GetBy client key) (Answered value version) = record { client = client; op = read key (Some value) version } ∷ []
+saw (GetBy client key) (Gone version) = record { client = client; op = read key None version } ∷ []
 saw (GetBy client key) Nothing = record { client = client; op = missed key } ∷ []
-saw event outcome = []
+saw act outcome = []
 
 -- what the clients saw, in the order of the events
 abbrev pub all_seen : List Event → List Outcome → List ARecord
 all_seen [] outcomes = []
 all_seen (event ∷ events) [] = []
-all_seen (event ∷ events) (outcome ∷ outcomes) = saw event outcome ++ all_seen events outcomes
+all_seen (event ∷ events) (outcome ∷ outcomes) = saw (act_of event) outcome ++ all_seen events outcomes
 
 -- these events, one after the other, in the scenario's world, each refused for memory only where its answer takes some: the trace is what
 -- its clients saw

@@ -1,18 +1,18 @@
 //! The run of an event list, in a world on one thread.
 ghost use Rattle.std.specs.Prelude.{◌≡◌, ◌++◌, Some, length, IfOk, OnOk};
 ghost use Rattle.cops_scenario.specs.Scenario.{setting_of};
-ghost use Rattle.cops_types.specs.declared.format.Format.TheVariants.{One};
 ghost use Rattle.cops_types.specs.declared.op.Op.TheVariants.{Put as Wrote, Got};
 ghost use Rattle.cops_run_stream.specs.Lines.{outcome_lines};
 ghost use Rattle.cops_run_stream.specs.Parts.{AreAnswers, IsRunLeft};
 ghost use Rattle.cops_run_stream.specs.Running.{all_seen, saw};
+ghost use Rattle.cops_core.specs.Acts.{act_of};
 
 use crate::leaving::{Left, reported_left};
 use cops_core::{Event, World, every_interleaving_is_accepted};
 use cops_node::Outcome;
 use cops_scenario::{Scenario, outcome_line};
 use cops_trace::Trace;
-use cops_types::{Key, Memory, Op, Value, Version};
+use cops_types::{Format, Key, Memory, Op, Value, Version};
 use std::alloc::Global;
 
 /// Runs the events in a world of the scenario: a line for each event.
@@ -27,7 +27,7 @@ pub(crate) fn run_events(
     let clients = scenario.clients().len() as u16;
     let outcomes = answers(alloc, scenario, events)?;
     let lines = lines(alloc, &outcomes)?;
-    let trace = recorded(alloc, clients, events, &outcomes)?;
+    let trace = recorded(alloc, scenario.format(), clients, events, &outcomes)?;
     Ok(reported_left(alloc, lines, trace)?)
 }
 
@@ -54,27 +54,50 @@ fn lines(alloc: Global, outcomes: &[Outcome]) -> Result<Vec<u8>, Memory>
 /// The trace of what the clients saw, in the order of the events.
 fn recorded(
     alloc: Global,
+    format: Format,
     clients: u16,
     events: &[Event],
     outcomes: &[Outcome],
 ) -> Result<Trace, Memory>
     requires { length outcomes.now ≡ length events.now }
-    ensures { IfOk result (λ trace. trace ≡ record { format = One; clients = clients; records = all_seen events.now outcomes.now }) }
+    ensures { IfOk result (λ trace. trace ≡ record { format = format; clients = clients; records = all_seen events.now outcomes.now }) }
 {
-    let mut trace = Trace::new(alloc, clients)?;
+    let mut trace = Trace::new_in(format, alloc, clients)?;
     for n in 0..events.len() {
         record(&mut trace, &events[n], &outcomes[n])?;
     }
     Ok(trace)
 }
 
-/// Records what a client saw of an event, if it saw any of it. The world takes no more operations than a trace.
+/// Records what a client saw of an event, if it saw any of it. The world takes no more operations than a trace, and
+/// answers none that is not in its format.
 fn record(trace: &mut Trace, event: &Event, outcome: &Outcome) -> Result<(), Memory>
-    ensures { OnOk result (trace.new ≡ record { format = trace.old.format; clients = trace.old.clients; records = trace.old.records ++ saw event.now outcome.now }) }
+    ensures { OnOk result (trace.new ≡ record { format = trace.old.format; clients = trace.old.clients; records = trace.old.records ++ saw (act_of event.now) outcome.now }) }
 {
     let (client, op) = match (event, outcome) {
-        (Event::Put { client, key, value }, Outcome::PutDone(version)) => {
-            (*client, put(key, value, *version)?)
+        (
+            Event::Put { client, key, value },
+            Outcome::PutDone(version) | Outcome::Deleted(version),
+        ) => { (*client, put(key, value, *version)?) }
+        (Event::Del { client, key }, Outcome::PutDone(version) | Outcome::Deleted(version)) => {
+            let key = key.clone()?;
+            (
+                *client,
+                Op::Del {
+                    key,
+                    version: *version,
+                },
+            )
+        }
+        (Event::Get { client, key }, Outcome::Gone(version)) => {
+            let key = key.clone()?;
+            (
+                *client,
+                Op::Gone {
+                    key,
+                    version: *version,
+                },
+            )
         }
         (Event::Get { client, key }, Outcome::Got(value, version)) => {
             (*client, got(key, value, *version)?)
@@ -85,6 +108,10 @@ fn record(trace: &mut Trace, event: &Event, outcome: &Outcome) -> Result<(), Mem
         ),
         _ => return Ok(()),
     };
+    if !op.in_format(trace.format()) {
+        drop(op);
+        return Err(Memory);
+    }
     match trace.push(client, op) {
         Ok(()) => Ok(()),
         Err(_) => Err(Memory),

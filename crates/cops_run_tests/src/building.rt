@@ -11,8 +11,15 @@ use std::thread::Threads;
 pub const TWO: &str =
     "{\"data_centres\":2,\"clients\":[{\"at\":0,\"script\":[{\"put\":[\"a\",\"1\"]},{\"get\":\"a\"}]},{\"at\":1,\"script\":[{\"put\":[\"b\",\"1\"]},{\"get\":\"b\"}]}]}";
 
-/// The head of a trace of two clients.
+/// The same in format 2: a client puts a key, deletes it and gets it, and the other deletes a key and gets it.
+pub const DELETING: &str =
+    "{\"format\":2,\"data_centres\":2,\"clients\":[{\"at\":0,\"script\":[{\"put\":[\"x\",\"1\"]},{\"del\":\"x\"},{\"get\":\"x\"}]},{\"at\":1,\"script\":[{\"del\":\"y\"},{\"get\":\"y\"}]}]}";
+
+/// The head of a trace of two clients, in format 1.
 pub const HEAD: [u8; 9] = [0, 0, 0, 5, 0x11, 0, 1, 0, 2];
+
+/// The same in format 2.
+pub const HEAD_OF_TWO: [u8; 9] = [0, 0, 0, 5, 0x11, 0, 2, 0, 2];
 
 pub const DONE: ClientOutcome = ClientOutcome::Done;
 

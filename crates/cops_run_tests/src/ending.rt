@@ -132,3 +132,52 @@ fn altered_books_do_not_pass(rt: HostRuntime) -> Result<(), Fail> {
     assert!(rt; passed? == (false, false));
     Ok(())
 }
+
+/// A client puts a key and deletes it, at tickets 0 and 1.
+const DELETED: &str =
+    "{\"format\":2,\"data_centres\":1,\"clients\":[{\"at\":0,\"script\":[{\"put\":[\"x\",\"1\"]},{\"del\":\"x\"}]}]}";
+
+/// The same data centre and client in format 1.
+const WITHOUT: &str = "{\"data_centres\":1,\"clients\":[{\"at\":0}]}";
+
+/// The ticket at which what a run left is not tied in this setting, or none. What was tied is let go.
+fn untied_in(alloc: Global, setting: &Setting, run: &Run) -> Option<u64> {
+    if run.entries.len() != setting.dcs() as usize * setting.nodes() as usize {
+        return Some(0);
+    }
+    let tied = tie(alloc, setting, &run.entries, &run.trace);
+    let ticket = match &tied {
+        Ok(_) => None,
+        Err(TieFault::Untied { ticket }) => Some(*ticket),
+        Err(TieFault::Memory) => Some(0),
+    };
+    drop(tied);
+    ticket
+}
+
+/// The same in the setting of a scenario's text.
+fn untied(alloc: Global, text: &str, run: &Run) -> Result<Option<u64>, Fail> {
+    let scenario = scenario(alloc, text)?;
+    let setting = scenario.setting(alloc);
+    drop(scenario);
+    let setting = setting?;
+    let ticket = untied_in(alloc, &setting, run);
+    drop(setting);
+    Ok(ticket)
+}
+
+/// The same in the setting of each format.
+fn untied_in_each(alloc: Global, run: &Run) -> Result<(Option<u64>, Option<u64>), Fail> {
+    let with = untied(alloc, DELETED, run)?;
+    Ok((with, untied(alloc, WITHOUT, run)?))
+}
+
+/// The put alone is of both worlds.
+#[test]
+fn a_deletion_is_untied_in_format_1(rt: HostRuntime) -> Result<(), Fail> {
+    let run = ran(&rt, rt.alloc(), DELETED, &OpenGate)??;
+    let untied = untied_in_each(rt.alloc(), &run);
+    drop(run);
+    assert!(rt; untied? == (None, Some(1)));
+    Ok(())
+}

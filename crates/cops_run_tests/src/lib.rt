@@ -6,6 +6,8 @@
 #[cfg(test)]
 mod building;
 #[cfg(test)]
+mod deleting;
+#[cfg(test)]
 mod ending;
 #[cfg(test)]
 mod live;

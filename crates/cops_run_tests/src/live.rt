@@ -1,4 +1,4 @@
-use crate::building::{DONE, HEAD, TWO, fault_of, operations_of, scenario};
+use crate::building::{DELETING, DONE, HEAD, HEAD_OF_TWO, TWO, fault_of, operations_of, scenario};
 use cops_clients::*;
 use cops_stream::{Answer, StreamFault, audit_stream};
 use cops_testing::waits_for;
@@ -25,17 +25,42 @@ fn is_accepted<R: Threads + Wait + Sync + AllocGlobal>(
     Ok(matches!(answer?, Answer::Accepted) && is_told)
 }
 
+/// How many operations the trace of a run of a scenario's text has, where both clients are done, and what was written.
+fn written<R: Threads + Wait + Sync>(
+    rt: &R,
+    alloc: Global,
+    text: &str,
+) -> Result<(Option<usize>, Vec<u8>), Fail> {
+    let scenario = scenario(alloc, text)?;
+    let writer = Counted::new(Vec::new(alloc));
+    let Live { ran, writer } = run_live(rt, alloc, scenario, &OpenGate, writer);
+    let operations = operations_of(ran, &[DONE, DONE]);
+    Ok((operations, writer.into_inner()))
+}
+
 #[test]
 fn what_is_written_is_audited(rt: HostRuntime) -> Result<(), Fail> {
-    let scenario = scenario(rt.alloc(), TWO)?;
-    let writer = Counted::new(Vec::new(rt.alloc()));
-    let Live { ran, writer } = run_live(&rt, rt.alloc(), scenario, &OpenGate, writer);
-    let operations = operations_of(ran, &[DONE, DONE]);
-    let text = writer.into_inner();
+    let (operations, text) = written(&rt, rt.alloc(), TWO)?;
     let wanted = b"accepted: 4 operations, 2 puts\n";
     let is_accepted = is_accepted(&rt, rt.alloc(), &text, wanted);
+    let has_head = text.starts_with(&HEAD);
     drop(text);
     assert!(rt; operations == Some(4));
+    assert!(rt; has_head);
+    assert!(rt; is_accepted?);
+    Ok(())
+}
+
+/// A deletion counts as a put.
+#[test]
+fn deletions_are_written_and_audited(rt: HostRuntime) -> Result<(), Fail> {
+    let (operations, text) = written(&rt, rt.alloc(), DELETING)?;
+    let wanted = b"accepted: 5 operations, 3 puts\n";
+    let is_accepted = is_accepted(&rt, rt.alloc(), &text, wanted);
+    let has_head = text.starts_with(&HEAD_OF_TWO);
+    drop(text);
+    assert!(rt; operations == Some(5));
+    assert!(rt; has_head);
     assert!(rt; is_accepted?);
     Ok(())
 }

@@ -1,4 +1,4 @@
-use crate::building::{DONE, TWO, fault_of, operations_of, ran, scenario};
+use crate::building::{DELETING, DONE, TWO, fault_of, operations_of, ran, scenario};
 use cops_clients::*;
 use cops_core::{Event, World};
 use cops_node::Outcome;
@@ -24,6 +24,10 @@ const LIMITED: &str =
 /// late.
 const LATE: &str =
     "{\"data_centres\":2,\"link\":1,\"repeat\":2,\"hold\":5,\"clients\":[{\"at\":0,\"script\":[{\"put\":[\"x\",\"1\"]},{\"put\":[\"y\",\"2\"]}]}]}";
+
+/// The same in format 2, where the second message is of a deletion.
+const LATE_DELETION: &str =
+    "{\"format\":2,\"data_centres\":2,\"link\":1,\"repeat\":2,\"hold\":5,\"clients\":[{\"at\":0,\"script\":[{\"put\":[\"x\",\"1\"]},{\"del\":\"x\"}]}]}";
 
 /// How many outcomes a run left, and how many operations. What it left is let go.
 fn sizes(ran: Result<Run, RunFault>) -> Option<(usize, usize)> {
@@ -202,6 +206,15 @@ fn each_message_comes_three_times(rt: HostRuntime) -> Result<(), Fail> {
     Ok(())
 }
 
+#[test]
+fn a_deletion_comes_three_times(rt: HostRuntime) -> Result<(), Fail> {
+    let run = ran(&rt, rt.alloc(), LATE_DELETION, &OpenGate)??;
+    let counts = counts(rt.alloc(), LATE_DELETION, &run.events);
+    drop(run);
+    assert_eq!(rt; counts?, [2, 4, 2]);
+    Ok(())
+}
+
 /// Each of the two puts comes once to the other data centre and is settled there.
 #[test]
 fn each_put_is_settled_in_the_other_data_centre(rt: HostRuntime) -> Result<(), Fail> {
@@ -209,5 +222,23 @@ fn each_put_is_settled_in_the_other_data_centre(rt: HostRuntime) -> Result<(), F
     let counts = counts(rt.alloc(), TWO, &run.events);
     drop(run);
     assert_eq!(rt; counts?, [2, 0, 2]);
+    Ok(())
+}
+
+/// A put and two deletions, and what each client then finds.
+#[test]
+fn clients_delete(rt: HostRuntime) -> Result<(), Fail> {
+    let ran = ran(&rt, rt.alloc(), DELETING, &OpenGate)?;
+    assert!(rt; operations_of(ran, &[DONE, DONE]) == Some(5));
+    Ok(())
+}
+
+/// Each put and each deletion comes once to the other data centre and is settled there.
+#[test]
+fn each_deletion_is_settled_in_the_other_data_centre(rt: HostRuntime) -> Result<(), Fail> {
+    let run = ran(&rt, rt.alloc(), DELETING, &OpenGate)??;
+    let counts = counts(rt.alloc(), DELETING, &run.events);
+    drop(run);
+    assert_eq!(rt; counts?, [3, 0, 3]);
     Ok(())
 }

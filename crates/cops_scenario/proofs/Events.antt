@@ -1,12 +1,13 @@
 -- What tells no event of one kind tells none under its name, and so with the operations of a script.
-use Rattle.std.proofs.Common.{◌≡◌, ◌≤◌, ◌∙◌, ℕ, List, [], ◌∷◌, ap, arith, get_or, sym}
+use Rattle.std.proofs.Common.{◌≡◌, ◌≤◌, ◌∙◌, ℕ, List, [], ◌∷◌, ap, arith, get_or, length, sym}
 use Rattle.std.specs.Prelude.{◌≢◌, codes}
 use Rattle.serde_json.specs.Data.{Data}
+use Rattle.cops_types.specs.declared.format.Format.{Format}
 use Rattle.cops_types.specs.KeyValue.{IsKey, IsValue}
 use Rattle.cops_types.specs.Texts.{version_text}
 use Rattle.cops_types.specs.Version.{IsVersion}
 use Rattle.cops_core.specs.declared.event.Event.{Event}
-use Rattle.cops_core.specs.declared.event.Event.TheVariants.{Put, Get, Deliver, Ask, Mark, Settle}
+use Rattle.cops_core.specs.declared.event.Event.TheVariants.{Put, Del, Get, Deliver, Ask, Mark, Settle}
 use Rattle.cops_core.specs.declared.script.ScriptOp.{ScriptOp}
 use Rattle.cops_core.specs.declared.script.ScriptOp.TheVariants as script
 use Rattle.cops_fields.specs.Json.{number_json, text_json}
@@ -23,37 +24,48 @@ same_event json of name parts e named listed told =
 other_name : {a b : List ℕ} → a ≡ b → get_or a 0 0 ≢ get_or b 0 0 → ⊥
 other_name e h = h (ap (λ n. get_or n 0 0) e)
 
+other_length : {a b : List ℕ} → a ≡ b → length a ≢ length b → ⊥
+other_length e h = h (ap length e)
+
 pub no_put : (parts : List Data) → ((c : ℕ) (k v : List ℕ) → c ≤ 65535 → IsKey k → IsValue v → parts ≢ number_json c ∷ text_json k ∷ text_json v ∷ [])
-    → (e : Event) → IsLegalEvent e → codes "put" ≡ kind_of e → parts ≢ parts_of e
-no_put parts told (Put c k v) legal name e = told c k v legal.0 legal.1 legal.2 e
-no_put parts told _ legal name e = other_name name (omega arith)
+    → (format : Format) (e : Event) → IsLegalEvent format e → codes "put" ≡ kind_of e → parts ≢ parts_of e
+no_put parts told format (Put c k v) legal name e = told c k v legal.0 legal.1 legal.2 e
+no_put parts told format _ legal name e = other_name name (omega arith)
+
+pub no_del : (parts : List Data) → ((c : ℕ) (k : List ℕ) → c ≤ 65535 → IsKey k → parts ≢ number_json c ∷ text_json k ∷ [])
+    → (format : Format) (e : Event) → IsLegalEvent format e → codes "del" ≡ kind_of e → parts ≢ parts_of e
+no_del parts told format (Del c k) legal name e = told c k legal.0 legal.1 e
+no_del parts told format (Deliver d v) legal name e = other_length name (omega arith)
+no_del parts told format _ legal name e = other_name name (omega arith)
 
 pub no_get : (parts : List Data) → ((c : ℕ) (k : List ℕ) → c ≤ 65535 → IsKey k → parts ≢ number_json c ∷ text_json k ∷ [])
-    → (e : Event) → IsLegalEvent e → codes "get" ≡ kind_of e → parts ≢ parts_of e
-no_get parts told (Get c k) legal name e = told c k legal.0 legal.1 e
-no_get parts told _ legal name e = other_name name (omega arith)
+    → (format : Format) (e : Event) → IsLegalEvent format e → codes "get" ≡ kind_of e → parts ≢ parts_of e
+no_get parts told format (Get c k) legal name e = told c k legal.0 legal.1 e
+no_get parts told format _ legal name e = other_name name (omega arith)
 
 pub no_deliver : (parts : List Data) → ((d v : ℕ) → d ≤ 255 → IsVersion v → parts ≢ number_json d ∷ text_json (version_text v) ∷ [])
-    → (e : Event) → IsLegalEvent e → codes "deliver" ≡ kind_of e → parts ≢ parts_of e
-no_deliver parts told (Deliver d v) legal name e = told d v legal.0 legal.1 e
-no_deliver parts told _ legal name e = other_name name (omega arith)
+    → (format : Format) (e : Event) → IsLegalEvent format e → codes "deliver" ≡ kind_of e → parts ≢ parts_of e
+no_deliver parts told format (Deliver d v) legal name e = told d v legal.0 legal.1 e
+no_deliver parts told format (Del c k) legal name e = other_length name (omega arith)
+no_deliver parts told format _ legal name e = other_name name (omega arith)
 
 pub no_ask : (parts : List Data) → ((d : ℕ) (k : List ℕ) (v : ℕ) → d ≤ 255 → IsKey k → IsVersion v → parts ≢ number_json d ∷ text_json k ∷ text_json (version_text v) ∷ [])
-    → (e : Event) → IsLegalEvent e → codes "ask" ≡ kind_of e → parts ≢ parts_of e
-no_ask parts told (Ask d k v) legal name e = told d k v legal.0 legal.1 legal.2 e
-no_ask parts told _ legal name e = other_name name (omega arith)
+    → (format : Format) (e : Event) → IsLegalEvent format e → codes "ask" ≡ kind_of e → parts ≢ parts_of e
+no_ask parts told format (Ask d k v) legal name e = told d k v legal.0 legal.1 legal.2 e
+no_ask parts told format _ legal name e = other_name name (omega arith)
 
 pub no_mark : (parts : List Data) → ((d v n : ℕ) → d ≤ 255 → IsVersion v → n ≤ 65535 → parts ≢ number_json d ∷ text_json (version_text v) ∷ number_json n ∷ [])
-    → (e : Event) → IsLegalEvent e → codes "mark" ≡ kind_of e → parts ≢ parts_of e
-no_mark parts told (Mark d v n) legal name e = told d v n legal.0 legal.1 legal.2 e
-no_mark parts told _ legal name e = other_name name (omega arith)
+    → (format : Format) (e : Event) → IsLegalEvent format e → codes "mark" ≡ kind_of e → parts ≢ parts_of e
+no_mark parts told format (Mark d v n) legal name e = told d v n legal.0 legal.1 legal.2 e
+no_mark parts told format _ legal name e = other_name name (omega arith)
 
 pub no_settle : (parts : List Data) → ((d v : ℕ) → d ≤ 255 → IsVersion v → parts ≢ number_json d ∷ text_json (version_text v) ∷ [])
-    → (e : Event) → IsLegalEvent e → codes "settle" ≡ kind_of e → parts ≢ parts_of e
-no_settle parts told (Settle d v) legal name e = told d v legal.0 legal.1 e
-no_settle parts told _ legal name e = other_name name (omega arith)
+    → (format : Format) (e : Event) → IsLegalEvent format e → codes "settle" ≡ kind_of e → parts ≢ parts_of e
+no_settle parts told format (Settle d v) legal name e = told d v legal.0 legal.1 e
+no_settle parts told format _ legal name e = other_name name (omega arith)
 
 pub no_pair : (name : List ℕ) (of : Data) → name ≡ codes "put" → ((k v : List ℕ) → IsKey k → IsValue v → of ≢ list_json (text_json k ∷ text_json v ∷ []))
-    → (op : ScriptOp) → IsLegalOp op → one_json name of ≢ op_json op
-no_pair name of put told (script.Put k v) legal e = told k v legal.0 legal.1 (same_one name (codes "put") of (list_json (text_json k ∷ text_json v ∷ [])) e).1
-no_pair name of put told (script.Get k) legal e = other_name (sym put ∙ (same_one name (codes "get") of (text_json k) e).0) (omega arith)
+    → (format : Format) (op : ScriptOp) → IsLegalOp format op → one_json name of ≢ op_json op
+no_pair name of put told format (script.Put k v) legal e = told k v legal.0 legal.1 (same_one name (codes "put") of (list_json (text_json k ∷ text_json v ∷ [])) e).1
+no_pair name of put told format (script.Get k) legal e = other_name (sym put ∙ (same_one name (codes "get") of (text_json k) e).0) (omega arith)
+no_pair name of put told format (script.Del k) legal e = other_name (sym put ∙ (same_one name (codes "del") of (text_json k) e).0) (omega arith)

@@ -1,15 +1,20 @@
 -- The text of a scenario has no wrong field.
-use Rattle.std.proofs.Common.{◌≡◌, ◌≤◌, ℕ, List, All, ap, arith, refl, subst, sym}
+use Rattle.std.proofs.Common.{◌≡◌, ◌≤◌, ℕ, List, All, ap, ◌∙◌, arith, refl, subst, sym}
 use Rattle.std.specs.Prelude.{Option, None, Some}
 use Rattle.serde_json.specs.Data.{Data, null, boolean, number, string, array, object}
 use Rattle.serde_json.specs.Find.{get, as_object}
+use Rattle.std.specs.Prelude.{unwrap_or}
+use Rattle.cops_types.specs.declared.format.Format.{Format}
+use Rattle.cops_types.specs.declared.format.Format.TheVariants.{One, Two}
+use Rattle.cops_types.specs.Format.{format_of_number, number_of}
+use Rattle.cops_types.proofs.Formats.{number_again}
 use Rattle.cops_types.specs.declared.limits.TheConstants.{MAX_DCS}
 use Rattle.cops_scenario.specs.declared.fault.Field.{Field}
-use Rattle.cops_scenario.specs.declared.fault.Field.TheVariants.{Root, DataCentres, Splits, Link, Turns, Retries, Repeat, Hold, Clients, Events}
-use Rattle.cops_scenario.specs.declared.scenario.TheConstants.{DEFAULT_HOLD, DEFAULT_LINK, DEFAULT_REPEAT, DEFAULT_RETRIES, DEFAULT_TURNS, MAX_HOLD, MAX_LINK, MAX_REPEAT, MAX_RETRIES, MAX_TURNS}
+use Rattle.cops_scenario.specs.declared.fault.Field.TheVariants.{Root, Format as FormatField, DataCentres, Splits, Link, Turns, Retries, Repeat, Hold, Clients, Events}
+use Rattle.cops_scenario.specs.declared.scenario.TheConstants.{DEFAULT_FORMAT, DEFAULT_HOLD, DEFAULT_LINK, DEFAULT_REPEAT, DEFAULT_RETRIES, DEFAULT_TURNS, MAX_FORMAT, MAX_HOLD, MAX_LINK, MAX_REPEAT, MAX_RETRIES, MAX_TURNS}
 use Rattle.cops_scenario.specs.Scenario.{AScenario}
-use Rattle.cops_scenario.specs.Fields.{name_of, number_or}
-use Rattle.cops_scenario.specs.Limits.{IsLegalClient, IsLegalScenario}
+use Rattle.cops_scenario.specs.Fields.{format_at, name_of, number_or}
+use Rattle.cops_scenario.specs.Limits.{AreLegalEvents, IsLegalClient, IsLegalScenario}
 use Rattle.cops_scenario.specs.File.{IsNoNumberOf, IsNoText, TellsNumber, IsTextOf, IsWrong, IsWrongText, TellsScenario}
 
 -- what has a member is an object
@@ -27,33 +32,53 @@ no_wrong None least most d n told low high wrong = wrong n low high told
 no_wrong (Some m) least most None n told low high wrong = wrong.0 refl
 no_wrong (Some m) least most (Some d) n told low high wrong = wrong.1 n low high (ap (λ (x : Data). Some x) told)
 
+-- the numbers of formats
+number_in_range : (format : Format) → (1 ≤ number_of format) × (number_of format ≤ 2)
+number_in_range One = (omega arith, omega arith)
+number_in_range Two = (omega arith, omega arith)
+
+number_told : (d : Option Data) (n : ℕ) → TellsNumber (Some DEFAULT_FORMAT) d n → number_or DEFAULT_FORMAT d ≡ n
+number_told None n told = sym told
+number_told (Some d) n told = ap (λ x. number_or DEFAULT_FORMAT (Some x)) told
+
+-- the format of the file is the scenario's
+format_told : (root : Data) (s : AScenario) → TellsScenario root s → format_at root ≡ s.format
+format_told root s told =
+    ap (λ n. unwrap_or (format_of_number n) One) (number_told (get (name_of FormatField) root) (number_of s.format) told.numbers.0)
+    ∙ ap (λ o. unwrap_or o One) (number_again s.format)
+
 never_wrong : (root : Data) (s : AScenario) (field : Field) → TellsScenario root s → IsLegalScenario s
     → IsWrong root field → ⊥
 never_wrong root s Root told legal wrong = no_member (name_of Clients) root _ wrong told.clients.1
+never_wrong root s FormatField told legal wrong =
+    let range = number_in_range s.format in
+    no_wrong (Some DEFAULT_FORMAT) 1 MAX_FORMAT (get (name_of FormatField) root) (number_of s.format) told.numbers.0 range.0 range.1 wrong
 never_wrong root s DataCentres told legal wrong =
     let range = legal.is_scenario.is_place.range in
-    no_wrong None 1 MAX_DCS (get (name_of DataCentres) root) s.place.dcs told.numbers.0 range.0 range.1 wrong
+    no_wrong None 1 MAX_DCS (get (name_of DataCentres) root) s.place.dcs told.numbers.1 range.0 range.1 wrong
 never_wrong root s Splits told legal wrong = wrong s.place.splits legal.splits told.splits
 never_wrong root s Link told legal wrong =
     let range = legal.is_scenario.link_in_range in
-    no_wrong (Some DEFAULT_LINK) 1 MAX_LINK (get (name_of Link) root) s.link told.numbers.1 range.0 range.1 wrong
+    no_wrong (Some DEFAULT_LINK) 1 MAX_LINK (get (name_of Link) root) s.link told.numbers.2 range.0 range.1 wrong
 never_wrong root s Turns told legal wrong =
     let range = legal.is_scenario.turns_in_range in
-    no_wrong (Some DEFAULT_TURNS) 1 MAX_TURNS (get (name_of Turns) root) s.turns told.numbers.2 range.0 range.1 wrong
+    no_wrong (Some DEFAULT_TURNS) 1 MAX_TURNS (get (name_of Turns) root) s.turns told.numbers.3 range.0 range.1 wrong
 never_wrong root s Retries told legal wrong =
     let low : 0 ≤ s.retries = omega arith in
-    no_wrong (Some DEFAULT_RETRIES) 0 MAX_RETRIES (get (name_of Retries) root) s.retries told.numbers.3 low legal.is_scenario.retries_in_range wrong
+    no_wrong (Some DEFAULT_RETRIES) 0 MAX_RETRIES (get (name_of Retries) root) s.retries told.numbers.4 low legal.is_scenario.retries_in_range wrong
 never_wrong root s Repeat told legal wrong =
     let low : 0 ≤ s.repeat = omega arith in
-    no_wrong (Some DEFAULT_REPEAT) 0 MAX_REPEAT (get (name_of Repeat) root) s.repeat told.numbers.4 low legal.is_scenario.repeat_in_range wrong
+    no_wrong (Some DEFAULT_REPEAT) 0 MAX_REPEAT (get (name_of Repeat) root) s.repeat told.numbers.5 low legal.is_scenario.repeat_in_range wrong
 never_wrong root s Hold told legal wrong =
     let low : 0 ≤ s.hold = omega arith in
-    no_wrong (Some DEFAULT_HOLD) 0 MAX_HOLD (get (name_of Hold) root) s.hold told.numbers.5 low legal.is_scenario.hold_in_range wrong
+    no_wrong (Some DEFAULT_HOLD) 0 MAX_HOLD (get (name_of Hold) root) s.hold told.numbers.6 low legal.is_scenario.hold_in_range wrong
 never_wrong root s Clients told legal wrong =
-    let each = subst (λ (dcs : ℕ). All (IsLegalClient dcs) s.clients) (sym (ap (number_or 0) told.numbers.0)) legal.clients in
+    let dcs = sym (ap (number_or 0) told.numbers.1) in
+    let format = sym (format_told root s told) in
+    let each = subst (λ (f : Format). All (IsLegalClient f (number_or 0 (get (name_of DataCentres) root))) s.clients) format (subst (λ (n : ℕ). All (IsLegalClient s.format n) s.clients) dcs legal.clients) in
     wrong told.clients.0 s.clients told.clients.1 told.clients.2 legal.is_scenario.few_clients each
 never_wrong root s Events told legal wrong =
-    wrong told.clients.0 s.events told.clients.1 told.events legal.events told.clients.3
+    wrong told.clients.0 s.events told.clients.1 told.events (subst (λ (f : Format). AreLegalEvents f s.events) (sym (format_told root s told)) legal.events) told.clients.3
 
 pub has_no_wrong : (bytes : List ℕ) (s : AScenario) (field : Field) → IsTextOf bytes s → IsWrongText bytes field → ⊥
 has_no_wrong bytes s field is wrong =

@@ -5,13 +5,17 @@ use Rattle.serde_json.specs.Data.{Data}
 use Rattle.serde_json.specs.Find.{get, as_number, as_u64}
 use Rattle.cops_scenario.specs.declared.fault.Field.{Field}
 use Rattle.cops_scenario.specs.declared.fault.Range.{Range}
-use Rattle.cops_scenario.specs.declared.fault.Field.TheVariants.{Root, DataCentres, Splits, Link, Turns, Retries, Repeat, Hold, Clients, Events}
+use Rattle.cops_scenario.specs.declared.fault.Field.TheVariants.{Root, Format as FormatField, DataCentres, Splits, Link, Turns, Retries, Repeat, Hold, Clients, Events}
+use Rattle.cops_types.specs.declared.format.Format.{Format}
+use Rattle.cops_types.specs.declared.format.Format.TheVariants.{One}
+use Rattle.cops_types.specs.Format.{format_of_number}
 use Rattle.cops_types.specs.declared.limits.TheConstants.{MAX_DCS}
-use Rattle.cops_scenario.specs.declared.scenario.TheConstants.{DEFAULT_HOLD, DEFAULT_LINK, DEFAULT_REPEAT, DEFAULT_RETRIES, DEFAULT_TURNS, MAX_HOLD, MAX_LINK, MAX_REPEAT, MAX_RETRIES, MAX_TURNS}
+use Rattle.cops_scenario.specs.declared.scenario.TheConstants.{DEFAULT_FORMAT, DEFAULT_HOLD, DEFAULT_LINK, DEFAULT_REPEAT, DEFAULT_RETRIES, DEFAULT_TURNS, MAX_FORMAT, MAX_HOLD, MAX_LINK, MAX_REPEAT, MAX_RETRIES, MAX_TURNS}
 
 -- the names of the fields in a file
 abbrev pub name_of : Field → List ℕ
 name_of Root = codes "root"
+name_of FormatField = codes "format"
 name_of DataCentres = codes "data_centres"
 name_of Splits = codes "splits"
 name_of Link = codes "link"
@@ -24,6 +28,7 @@ name_of Events = codes "events"
 
 -- the fields that are whole numbers, each with its range
 abbrev pub range_of : Field → Option Range
+range_of FormatField = Some (record { least = 1; most = MAX_FORMAT; missing = Some DEFAULT_FORMAT })
 range_of DataCentres = Some (record { least = 1; most = MAX_DCS; missing = None })
 range_of Link = Some (record { least = 1; most = MAX_LINK; missing = Some DEFAULT_LINK })
 range_of Turns = Some (record { least = 1; most = MAX_TURNS; missing = Some DEFAULT_TURNS })
@@ -44,3 +49,7 @@ missing_of field = option_map_or (λ range. unwrap_or range.missing 0) (range_of
 -- the whole number of a field of a file
 abbrev pub number_at : Data → Field → ℕ
 number_at root field = number_or (missing_of field) (get (name_of field) root)
+
+-- the format of a file, where its number is one
+abbrev pub format_at : Data → Format
+format_at root = unwrap_or (format_of_number (number_at root FormatField)) One

@@ -4,18 +4,19 @@ use Rattle.serde_json.specs.Data.{Data, array, object, member, no_members}
 use Rattle.serde_json.specs.Read.{read}
 use Rattle.serde_json.specs.View.{items_of}
 use Rattle.serde_json.specs.Find.{get, as_object}
+use Rattle.cops_types.specs.Format.{number_of}
 use Rattle.cops_types.specs.Texts.{version_text}
 use Rattle.cops_fields.specs.Json.{number_json, text_json}
 use Rattle.cops_core.specs.declared.event.Event.{Event}
-use Rattle.cops_core.specs.declared.event.Event.TheVariants.{Put, Get, Deliver, Ask, Mark, Settle}
+use Rattle.cops_core.specs.declared.event.Event.TheVariants.{Put, Del, Get, Deliver, Ask, Mark, Settle}
 use Rattle.cops_scenario.specs.declared.fault.Field.{Field}
-use Rattle.cops_scenario.specs.declared.fault.Field.TheVariants.{Root, DataCentres, Splits, Link, Turns, Retries, Repeat, Hold, Clients, Events}
+use Rattle.cops_scenario.specs.declared.fault.Field.TheVariants.{Root, Format as FormatField, DataCentres, Splits, Link, Turns, Retries, Repeat, Hold, Clients, Events}
 use Rattle.cops_core.specs.declared.script.ScriptOp.{ScriptOp}
 use Rattle.cops_core.specs.declared.script.ScriptOp.TheVariants as script
 use Rattle.cops_core.specs.declared.script.ScriptedClient.{ScriptedClient}
 use Rattle.cops_scenario.specs.declared.scenario.TheConstants.{MAX_CLIENTS}
 use Rattle.cops_scenario.specs.Scenario.{AScenario}
-use Rattle.cops_scenario.specs.Fields.{name_of, number_at, range_of}
+use Rattle.cops_scenario.specs.Fields.{format_at, name_of, number_at, range_of}
 use Rattle.cops_scenario.specs.Limits.{AreSplits, IsLegalClient, IsLegalScenario, AreLegalEvents}
 
 abbrev pub list_json : List Data → Data
@@ -28,6 +29,7 @@ one_json name of = object (member name of no_members)
 -- the name of what happens in an event
 abbrev pub kind_of : Event → List ℕ
 kind_of (Put client key value) = codes "put"
+kind_of (Del client key) = codes "del"
 kind_of (Get client key) = codes "get"
 kind_of (Deliver dc version) = codes "deliver"
 kind_of (Ask dc key version) = codes "ask"
@@ -37,6 +39,7 @@ kind_of (Settle dc version) = codes "settle"
 -- its numbers, key, value and version
 abbrev pub parts_of : Event → List Data
 parts_of (Put client key value) = number_json client ∷ text_json key ∷ text_json value ∷ []
+parts_of (Del client key) = number_json client ∷ text_json key ∷ []
 parts_of (Get client key) = number_json client ∷ text_json key ∷ []
 parts_of (Deliver dc version) = number_json dc ∷ text_json (version_text version) ∷ []
 parts_of (Ask dc key version) = number_json dc ∷ text_json key ∷ text_json (version_text version) ∷ []
@@ -48,6 +51,7 @@ event_json e = one_json (kind_of e) (list_json (parts_of e))
 
 abbrev pub op_json : ScriptOp → Data
 op_json (script.Put key value) = one_json (codes "put") (list_json (text_json key ∷ text_json value ∷ []))
+op_json (script.Del key) = one_json (codes "del") (text_json key)
 op_json (script.Get key) = one_json (codes "get") (text_json key)
 
 -- the list of these, which may be missing where there are none
@@ -68,7 +72,7 @@ TellsNumberAt root field n = IfSome (range_of field) (λ range. TellsNumber rang
 -- the whole numbers of a scenario
 abbrev pub TellsNumbers : Data → AScenario → Type 0
 TellsNumbers root s =
-    TellsNumberAt root DataCentres s.place.dcs × TellsNumberAt root Link s.link × TellsNumberAt root Turns s.turns × TellsNumberAt root Retries s.retries
+    TellsNumberAt root FormatField (number_of s.format) × TellsNumberAt root DataCentres s.place.dcs × TellsNumberAt root Link s.link × TellsNumberAt root Turns s.turns × TellsNumberAt root Retries s.retries
     × TellsNumberAt root Repeat s.repeat × TellsNumberAt root Hold s.hold
 
 -- an object that tells the client's data centre and its script
@@ -121,16 +125,17 @@ TellsNoSplits root = (splits : List (List ℕ)) → AreSplits splits → IsListO
 -- it tells no clients within their limits, at most 64
 abbrev pub TellsNoClients : Data → Type 0
 TellsNoClients root = (ds : List Data) (clients : List ScriptedClient) → get (name_of Clients) root ≡ Some (list_json ds) → TellClients ds clients
-    → length clients ≤ MAX_CLIENTS → All (IsLegalClient (number_at root DataCentres)) clients → ⊥
+    → length clients ≤ MAX_CLIENTS → All (IsLegalClient (format_at root) (number_at root DataCentres)) clients → ⊥
 
 -- it tells no events within their limits, beside clients without a script
 abbrev pub TellsNoEvents : Data → Type 0
 TellsNoEvents root = (ds : List Data) (events : Option (List Event)) → get (name_of Clients) root ≡ Some (list_json ds) → TellsEvents (get (name_of Events) root) events
-    → AreLegalEvents events → AreUnscripted ds events → ⊥
+    → AreLegalEvents (format_at root) events → AreUnscripted ds events → ⊥
 
 -- what is wrong with a file's field where it is named: it is missing and has no default, or tells nothing that is legal there
 abbrev pub IsWrong : Data → Field → Type 0
 IsWrong root Root = as_object root ≡ None
+IsWrong root FormatField = IsWrongNumber root FormatField
 IsWrong root DataCentres = IsWrongNumber root DataCentres
 IsWrong root Splits = TellsNoSplits root
 IsWrong root Link = IsWrongNumber root Link
@@ -157,6 +162,7 @@ IsRightNumber root field = IfSome (range_of field) (λ range. IsNumberOf range.m
 -- a file's field is of its form and within its limits
 abbrev pub IsRight : Data → Field → Type 0
 IsRight root Root = as_object root ≢ None
+IsRight root FormatField = IsRightNumber root FormatField
 IsRight root DataCentres = IsRightNumber root DataCentres
 IsRight root Splits = (splits : List (List ℕ)) × AreSplits splits × IsListOrMissing (map text_json splits) (get (name_of Splits) root)
 IsRight root Link = IsRightNumber root Link
@@ -166,21 +172,22 @@ IsRight root Repeat = IsRightNumber root Repeat
 IsRight root Hold = IsRightNumber root Hold
 IsRight root Clients =
     (ds : List Data) × (clients : List ScriptedClient) × (get (name_of Clients) root ≡ Some (list_json ds)) × TellClients ds clients
-    × (length clients ≤ MAX_CLIENTS) × All (IsLegalClient (number_at root DataCentres)) clients
-IsRight root Events = (events : Option (List Event)) × TellsEvents (get (name_of Events) root) events × AreLegalEvents events
+    × (length clients ≤ MAX_CLIENTS) × All (IsLegalClient (format_at root) (number_at root DataCentres)) clients
+IsRight root Events = (events : Option (List Event)) × TellsEvents (get (name_of Events) root) events × AreLegalEvents (format_at root) events
 
 -- the fields that are looked at before it
 abbrev pub before : Field → List Field
 before Root = []
-before DataCentres = Root ∷ []
-before Splits = DataCentres ∷ Root ∷ []
-before Link = Splits ∷ DataCentres ∷ Root ∷ []
-before Turns = Link ∷ Splits ∷ DataCentres ∷ Root ∷ []
-before Retries = Turns ∷ Link ∷ Splits ∷ DataCentres ∷ Root ∷ []
-before Repeat = Retries ∷ Turns ∷ Link ∷ Splits ∷ DataCentres ∷ Root ∷ []
-before Hold = Repeat ∷ Retries ∷ Turns ∷ Link ∷ Splits ∷ DataCentres ∷ Root ∷ []
-before Clients = Hold ∷ Repeat ∷ Retries ∷ Turns ∷ Link ∷ Splits ∷ DataCentres ∷ Root ∷ []
-before Events = Clients ∷ Hold ∷ Repeat ∷ Retries ∷ Turns ∷ Link ∷ Splits ∷ DataCentres ∷ Root ∷ []
+before FormatField = Root ∷ []
+before DataCentres = FormatField ∷ Root ∷ []
+before Splits = DataCentres ∷ FormatField ∷ Root ∷ []
+before Link = Splits ∷ DataCentres ∷ FormatField ∷ Root ∷ []
+before Turns = Link ∷ Splits ∷ DataCentres ∷ FormatField ∷ Root ∷ []
+before Retries = Turns ∷ Link ∷ Splits ∷ DataCentres ∷ FormatField ∷ Root ∷ []
+before Repeat = Retries ∷ Turns ∷ Link ∷ Splits ∷ DataCentres ∷ FormatField ∷ Root ∷ []
+before Hold = Repeat ∷ Retries ∷ Turns ∷ Link ∷ Splits ∷ DataCentres ∷ FormatField ∷ Root ∷ []
+before Clients = Hold ∷ Repeat ∷ Retries ∷ Turns ∷ Link ∷ Splits ∷ DataCentres ∷ FormatField ∷ Root ∷ []
+before Events = Clients ∷ Hold ∷ Repeat ∷ Retries ∷ Turns ∷ Link ∷ Splits ∷ DataCentres ∷ FormatField ∷ Root ∷ []
 
 -- those are of their form
 abbrev pub AreRightBefore : Data → Field → Type 0

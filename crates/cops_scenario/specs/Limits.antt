@@ -1,5 +1,7 @@
 -- The limits of scenarios.
 use Rattle.std.specs.Prelude.{◌≡◌, ℕ, ◌<◌, ◌≤◌, List, [], length, All, Option, None, Some}
+use Rattle.cops_types.specs.declared.format.Format.{Format}
+use Rattle.cops_types.specs.Format.{Fits}
 use Rattle.cops_types.specs.KeyValue.{IsKey, IsValue}
 use Rattle.cops_types.specs.Version.{IsVersion}
 use Rattle.cops_place.specs.declared.place.TheConstants.{MAX_SPLITS}
@@ -37,32 +39,34 @@ pub record IsScenario (s : AScenario) : Type 0 where
 abbrev pub AreSplits : List (List ℕ) → Type 0
 AreSplits splits = (length splits ≤ MAX_SPLITS) × AreAscending splits × All IsKey splits
 
--- an operation of a script, whose key and value are of their ranges
-abbrev pub IsLegalOp : ScriptOp → Type 0
-IsLegalOp (script.Put key value) = IsKey key × IsValue value
-IsLegalOp (script.Get key) = IsKey key
+-- an operation of a script of a format, whose key and value are of their ranges
+abbrev pub IsLegalOp : Format → ScriptOp → Type 0
+IsLegalOp format (script.Put key value) = IsKey key × IsValue value
+IsLegalOp format (script.Del key) = IsKey key × Fits format None
+IsLegalOp format (script.Get key) = IsKey key
 
 -- a client within its limits, each operation of whose script is legal
-abbrev pub IsLegalClient : ℕ → ScriptedClient → Type 0
-IsLegalClient dcs c = IsClientOf dcs c × All IsLegalOp c.script.items
+abbrev pub IsLegalClient : Format → ℕ → ScriptedClient → Type 0
+IsLegalClient format dcs c = IsClientOf dcs c × All (IsLegalOp format) c.script.items
 
--- an event whose numbers, key, value and version are of their ranges, whatever clients and data centres there are
-abbrev pub IsLegalEvent : Event → Type 0
-IsLegalEvent (event.Put client key value) = (client ≤ MAX_CLIENT) × IsKey key × IsValue value
-IsLegalEvent (event.Get client key) = (client ≤ MAX_CLIENT) × IsKey key
-IsLegalEvent (event.Deliver dc version) = (dc ≤ MAX_DC) × IsVersion version
-IsLegalEvent (event.Ask dc key version) = (dc ≤ MAX_DC) × IsKey key × IsVersion version
-IsLegalEvent (event.Mark dc version dep) = (dc ≤ MAX_DC) × IsVersion version × (dep ≤ MAX_DEP)
-IsLegalEvent (event.Settle dc version) = (dc ≤ MAX_DC) × IsVersion version
+-- an event of a format whose numbers, key, value and version are of their ranges, whatever clients and data centres there are
+abbrev pub IsLegalEvent : Format → Event → Type 0
+IsLegalEvent format (event.Put client key value) = (client ≤ MAX_CLIENT) × IsKey key × IsValue value
+IsLegalEvent format (event.Del client key) = (client ≤ MAX_CLIENT) × IsKey key × Fits format None
+IsLegalEvent format (event.Get client key) = (client ≤ MAX_CLIENT) × IsKey key
+IsLegalEvent format (event.Deliver dc version) = (dc ≤ MAX_DC) × IsVersion version
+IsLegalEvent format (event.Ask dc key version) = (dc ≤ MAX_DC) × IsKey key × IsVersion version
+IsLegalEvent format (event.Mark dc version dep) = (dc ≤ MAX_DC) × IsVersion version × (dep ≤ MAX_DEP)
+IsLegalEvent format (event.Settle dc version) = (dc ≤ MAX_DC) × IsVersion version
 
 -- at most 100,000 legal events
-abbrev pub AreLegalEvents : Option (List Event) → Type 0
-AreLegalEvents None = Unit {0}
-AreLegalEvents (Some events) = (length events ≤ MAX_EVENTS) × All IsLegalEvent events
+abbrev pub AreLegalEvents : Format → Option (List Event) → Type 0
+AreLegalEvents format None = Unit {0}
+AreLegalEvents format (Some events) = (length events ≤ MAX_EVENTS) × All (IsLegalEvent format) events
 
 -- a scenario within its limits, whose split keys are keys, and whose scripts and events are legal
 pub record IsLegalScenario (s : AScenario) : Type 0 where
   pub is_scenario : IsScenario s
   pub splits : AreSplits s.place.splits
-  pub clients : All (IsLegalClient s.place.dcs) s.clients
-  pub events : AreLegalEvents s.events
+  pub clients : All (IsLegalClient s.format s.place.dcs) s.clients
+  pub events : AreLegalEvents s.format s.events

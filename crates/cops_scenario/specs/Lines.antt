@@ -3,11 +3,13 @@ use Rattle.std.specs.Prelude.{ℕ, List, codes, decimal}
 use Rattle.cops_types.specs.Refusal.{code_of}
 use Rattle.cops_types.specs.Texts.{◌⧺◌, version_text}
 use Rattle.cops_node.specs.declared.outcome.Outcome.{Outcome}
-use Rattle.cops_node.specs.declared.outcome.Outcome.TheVariants.{PutDone, Got, Missed, Held, Repeat, Yes, Wait, Marked, Settled, Refused}
+use Rattle.cops_node.specs.declared.outcome.Outcome.TheVariants.{PutDone, Deleted, Got, Gone, Missed, Held, Repeat, Yes, Wait, Marked, Settled, Refused}
 
 abbrev pub words : Outcome → List ℕ
 words (PutDone version) = codes "done " ⧺ version_text version
+words (Deleted version) = codes "deleted " ⧺ version_text version
 words (Got value version) = codes "got " ⧺ version_text version
+words (Gone version) = codes "gone " ⧺ version_text version
 words Missed = codes "missed"
 words Held = codes "held"
 words Repeat = codes "repeat"

@@ -1,14 +1,15 @@
 -- What a scenario is.
 use Rattle.std.specs.Prelude.{ℕ, List, map, Option}
-use Rattle.cops_types.specs.declared.format.Format.TheVariants.{One}
+use Rattle.cops_types.specs.declared.format.Format.{Format}
 use Rattle.cops_place.specs.Place.{APlace}
 use Rattle.cops_core.specs.declared.event.Event.{Event}
 use Rattle.cops_core.specs.declared.script.ScriptedClient.{ScriptedClient}
 use Rattle.cops_core.specs.World.{Setting}
 
--- a place, what the links hold, how many turns a loop may take, how often an operation is tried again, how often each record is sent
+-- the format of the cluster and of its trace, a place, what the links hold, how many turns a loop may take, how often an operation is tried again, how often each record is sent
 -- again, how many turns of a receiver come late, the clients, and the events where there are any
 pub record AScenario : Type 0 where
+  pub format : Format
   pub place : APlace
   pub link : ℕ
   pub turns : ℕ
@@ -23,4 +24,4 @@ abbrev pub homes_of : AScenario → List ℕ
 homes_of s = map (λ c. c.at) s.clients
 
 abbrev pub setting_of : AScenario → Setting
-setting_of s = record { format = One; place = s.place; homes = homes_of s }
+setting_of s = record { format = s.format; place = s.place; homes = homes_of s }

@@ -1,6 +1,7 @@
 //! Events, and the operations of a script: objects of one member, which names what happens.
-ghost use Rattle.std.specs.Prelude.{◌≡◌, ◌≢◌, ◌≤◌, ℕ, List, [], ◌∷◌, length, map, codes, All, Err, IfOk, OnErr};
+ghost use Rattle.std.specs.Prelude.{◌≡◌, ◌≢◌, ◌≤◌, ℕ, List, [], ◌∷◌, length, map, codes, All, Err, IfOk, None, OnErr};
 ghost use Rattle.serde_json.specs.View.{view};
+ghost use Rattle.cops_types.specs.Format.{Fits};
 ghost use Rattle.cops_types.specs.KeyValue.{IsKey, IsValue};
 ghost use Rattle.cops_types.specs.Texts.{version_text};
 ghost use Rattle.cops_types.specs.Version.{IsVersion};
@@ -15,43 +16,53 @@ use crate::field::{client, dc, list, number, only_member};
 use crate::scenario::MAX_DEP;
 use cops_core::{Event, ScriptOp};
 use cops_fields::{Unread, key, value, version};
-use cops_types::{Key, Value, Version};
+use cops_types::{Format, Key, Value, Version};
 use serde_json::Value as Json;
 use std::alloc::Global;
 
 /// The events of a list of at most so many.
-pub(crate) fn events(alloc: Global, json: &Json, most: usize) -> Result<Vec<Event>, Unread>
+pub(crate) fn events(
+    alloc: Global,
+    format: Format,
+    json: &Json,
+    most: usize,
+) -> Result<Vec<Event>, Unread>
     ensures few { IfOk result (λ events. length events.items ≤ most) }
     ensures json { IfOk result (λ events. view json.now ≡ list_json (map event_json events.items)) }
-    ensures legal { IfOk result (λ events. All IsLegalEvent events.items) }
-    ensures none { result ≡ Err Unread.Form → (events : List AnEvent) → length events ≤ most → All IsLegalEvent events → view json.now ≢ list_json (map event_json events) }
+    ensures legal { IfOk result (λ events. All (IsLegalEvent format) events.items) }
+    ensures none { result ≡ Err Unread.Form → (events : List AnEvent) → length events ≤ most → All (IsLegalEvent format) events → view json.now ≢ list_json (map event_json events) }
 {
     let mut events = Vec::new(alloc);
     for item in list(json, most)? {
-        events.push(event(alloc, item)?)?;
+        events.push(event(alloc, format, item)?)?;
     }
     Ok(events)
 }
 
 /// The operations of a script of at most so many.
-pub(crate) fn script(alloc: Global, json: &Json, most: usize) -> Result<Vec<ScriptOp>, Unread>
+pub(crate) fn script(
+    alloc: Global,
+    format: Format,
+    json: &Json,
+    most: usize,
+) -> Result<Vec<ScriptOp>, Unread>
     ensures few { IfOk result (λ script. length script.items ≤ most) }
     ensures json { IfOk result (λ script. view json.now ≡ list_json (map op_json script.items)) }
-    ensures legal { IfOk result (λ script. All IsLegalOp script.items) }
-    ensures none { result ≡ Err Unread.Form → (ops : List AnOp) → length ops ≤ most → All IsLegalOp ops → view json.now ≢ list_json (map op_json ops) }
+    ensures legal { IfOk result (λ script. All (IsLegalOp format) script.items) }
+    ensures none { result ≡ Err Unread.Form → (ops : List AnOp) → length ops ≤ most → All (IsLegalOp format) ops → view json.now ≢ list_json (map op_json ops) }
 {
     let mut script = Vec::new(alloc);
     for item in list(json, most)? {
-        script.push(script_op(alloc, item)?)?;
+        script.push(script_op(alloc, format, item)?)?;
     }
     Ok(script)
 }
 
 /// An operation of a script.
-fn script_op(alloc: Global, json: &Json) -> Result<ScriptOp, Unread>
+fn script_op(alloc: Global, format: Format, json: &Json) -> Result<ScriptOp, Unread>
     ensures json { IfOk result (λ op. view json.now ≡ op_json op) }
-    ensures legal { IfOk result IsLegalOp }
-    ensures none { result ≡ Err Unread.Form → (op : AnOp) → IsLegalOp op → view json.now ≢ op_json op }
+    ensures legal { IfOk result (IsLegalOp format) }
+    ensures none { result ≡ Err Unread.Form → (op : AnOp) → IsLegalOp format op → view json.now ≢ op_json op }
 {
     let (name, of) = only_member(json)?;
     match name {
@@ -59,6 +70,9 @@ fn script_op(alloc: Global, json: &Json) -> Result<ScriptOp, Unread>
             let (key, value) = pair(alloc, list(of, 2)?)?;
             Ok(ScriptOp::Put { key, value })
         }
+        "del" if format.fits(None) => Ok(ScriptOp::Del {
+            key: key(alloc, of)?,
+        }),
         "get" => Ok(ScriptOp::Get {
             key: key(alloc, of)?,
         }),
@@ -79,22 +93,23 @@ fn pair(alloc: Global, parts: &[Json]) -> Result<(Key, Value), Unread>
 }
 
 /// An event.
-fn event(alloc: Global, json: &Json) -> Result<Event, Unread>
+fn event(alloc: Global, format: Format, json: &Json) -> Result<Event, Unread>
     ensures json { IfOk result (λ event. view json.now ≡ event_json event) }
-    ensures legal { IfOk result IsLegalEvent }
-    ensures none { result ≡ Err Unread.Form → (event : AnEvent) → IsLegalEvent event → view json.now ≢ event_json event }
+    ensures legal { IfOk result (IsLegalEvent format) }
+    ensures none { result ≡ Err Unread.Form → (event : AnEvent) → IsLegalEvent format event → view json.now ≢ event_json event }
 {
     let (name, of) = only_member(json)?;
     let parts = list(of, 3)?;
     match name {
-        "put" => put(alloc, parts),
-        "get" => get(alloc, parts),
+        "put" => put(alloc, format, parts),
+        "del" if format.fits(None) => del(alloc, format, parts),
+        "get" => get(alloc, format, parts),
         "deliver" => {
             let (dc, version) = put_at(parts)?;
             Ok(Event::Deliver { dc, version })
         }
-        "ask" => ask(alloc, parts),
-        "mark" => mark(parts),
+        "ask" => ask(alloc, format, parts),
+        "mark" => mark(format, parts),
         "settle" => {
             let (dc, version) = put_at(parts)?;
             Ok(Event::Settle { dc, version })
@@ -104,9 +119,9 @@ fn event(alloc: Global, json: &Json) -> Result<Event, Unread>
 }
 
 /// A put: a client, a key and a value.
-fn put(alloc: Global, parts: &[Json]) -> Result<Event, Unread>
+fn put(alloc: Global, _format: Format, parts: &[Json]) -> Result<Event, Unread>
     ensures json { IfOk result (λ event. (kind_of event ≡ codes "put") × (parts_of event ≡ map view parts.now)) }
-    ensures legal { IfOk result IsLegalEvent }
+    ensures legal { IfOk result (IsLegalEvent _format) }
     ensures none { result ≡ Err Unread.Form → (client : ℕ) (key value : List ℕ) → client ≤ MAX_CLIENT → IsKey key → IsValue value → map view parts.now ≢ number_json client ∷ text_json key ∷ text_json value ∷ [] }
 {
     match parts {
@@ -119,10 +134,27 @@ fn put(alloc: Global, parts: &[Json]) -> Result<Event, Unread>
     }
 }
 
+/// A deletion: a client and a key.
+fn del(alloc: Global, format: Format, parts: &[Json]) -> Result<Event, Unread>
+    requires { Fits format None }
+    ensures json { IfOk result (λ event. (kind_of event ≡ codes "del") × (parts_of event ≡ map view parts.now)) }
+    ensures legal { IfOk result (IsLegalEvent format) }
+    ensures none { result ≡ Err Unread.Form → (client : ℕ) (key : List ℕ) → client ≤ MAX_CLIENT → IsKey key → map view parts.now ≢ number_json client ∷ text_json key ∷ [] }
+{
+    let _format = format;
+    match parts {
+        [c, k] => Ok(Event::Del {
+            client: client(c)?,
+            key: key(alloc, k)?,
+        }),
+        _ => Err(Unread::Form),
+    }
+}
+
 /// A get: a client and a key.
-fn get(alloc: Global, parts: &[Json]) -> Result<Event, Unread>
+fn get(alloc: Global, _format: Format, parts: &[Json]) -> Result<Event, Unread>
     ensures json { IfOk result (λ event. (kind_of event ≡ codes "get") × (parts_of event ≡ map view parts.now)) }
-    ensures legal { IfOk result IsLegalEvent }
+    ensures legal { IfOk result (IsLegalEvent _format) }
     ensures none { result ≡ Err Unread.Form → (client : ℕ) (key : List ℕ) → client ≤ MAX_CLIENT → IsKey key → map view parts.now ≢ number_json client ∷ text_json key ∷ [] }
 {
     match parts {
@@ -147,9 +179,9 @@ fn put_at(parts: &[Json]) -> Result<(u8, Version), Unread>
 }
 
 /// A question: a data centre, a key and a version.
-fn ask(alloc: Global, parts: &[Json]) -> Result<Event, Unread>
+fn ask(alloc: Global, _format: Format, parts: &[Json]) -> Result<Event, Unread>
     ensures json { IfOk result (λ event. (kind_of event ≡ codes "ask") × (parts_of event ≡ map view parts.now)) }
-    ensures legal { IfOk result IsLegalEvent }
+    ensures legal { IfOk result (IsLegalEvent _format) }
     ensures none { result ≡ Err Unread.Form → (dc : ℕ) (key : List ℕ) (version : ℕ) → dc ≤ MAX_DC → IsKey key → IsVersion version → map view parts.now ≢ number_json dc ∷ text_json key ∷ text_json (version_text version) ∷ [] }
 {
     match parts {
@@ -163,9 +195,9 @@ fn ask(alloc: Global, parts: &[Json]) -> Result<Event, Unread>
 }
 
 /// A mark: a data centre, the version of a put and a dependency's index.
-fn mark(parts: &[Json]) -> Result<Event, Unread>
+fn mark(_format: Format, parts: &[Json]) -> Result<Event, Unread>
     ensures json { IfOk result (λ event. (kind_of event ≡ codes "mark") × (parts_of event ≡ map view parts.now)) }
-    ensures legal { IfOk result IsLegalEvent }
+    ensures legal { IfOk result (IsLegalEvent _format) }
     ensures none { result ≡ Err Unread.Form → (dc version dep : ℕ) → dc ≤ MAX_DC → IsVersion version → dep ≤ MAX_DEP → map view parts.now ≢ number_json dc ∷ text_json (version_text version) ∷ number_json dep ∷ [] }
 {
     match parts {

@@ -1,7 +1,7 @@
 //! Why bytes are no scenario.
 use crate::scenario::{
-    DEFAULT_HOLD, DEFAULT_LINK, DEFAULT_REPEAT, DEFAULT_RETRIES, DEFAULT_TURNS, MAX_HOLD, MAX_LINK,
-    MAX_REPEAT, MAX_RETRIES, MAX_TURNS,
+    DEFAULT_FORMAT, DEFAULT_HOLD, DEFAULT_LINK, DEFAULT_REPEAT, DEFAULT_RETRIES, DEFAULT_TURNS,
+    MAX_FORMAT, MAX_HOLD, MAX_LINK, MAX_REPEAT, MAX_RETRIES, MAX_TURNS,
 };
 use cops_fields::Unread;
 use cops_types::MAX_DCS;
@@ -20,6 +20,7 @@ pub(crate) struct Range {
 #[derive(Clone, Copy, Debug, PartialEq, Eq)]
 pub enum Field {
     Root,
+    Format,
     DataCentres,
     Splits,
     Link,
@@ -40,6 +41,7 @@ impl Field {
         ensures { result ≡ range_of self }
     {
         let (least, most, missing) = match self {
+            Field::Format => (1, u64::from(MAX_FORMAT), Some(u64::from(DEFAULT_FORMAT))),
             Field::DataCentres => (1, u64::from(MAX_DCS), None),
             Field::Link => (1, u64::from(MAX_LINK), Some(u64::from(DEFAULT_LINK))),
             Field::Turns => (1, u64::from(MAX_TURNS), Some(u64::from(DEFAULT_TURNS))),
@@ -61,6 +63,7 @@ impl Field {
     {
         match self {
             Field::Root => "root",
+            Field::Format => "format",
             Field::DataCentres => "data_centres",
             Field::Splits => "splits",
             Field::Link => "link",

@@ -28,7 +28,9 @@ fn words(alloc: Global, outcome: &Outcome) -> Result<String, AllocError>
 {
     match outcome {
         Outcome::PutDone(version) => format!(in alloc; "done {version}"),
+        Outcome::Deleted(version) => format!(in alloc; "deleted {version}"),
         Outcome::Got(_, version) => format!(in alloc; "got {version}"),
+        Outcome::Gone(version) => format!(in alloc; "gone {version}"),
         Outcome::Missed => format!(in alloc; "missed"),
         Outcome::Held => format!(in alloc; "held"),
         Outcome::Repeat => format!(in alloc; "repeat"),

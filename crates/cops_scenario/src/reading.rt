@@ -9,7 +9,8 @@ ghost use Rattle.cops_scenario.specs.declared.fault.Field.{Field as AField};
 ghost use Rattle.serde_json.specs.Find.{get};
 ghost use Rattle.cops_types.specs.declared.limits.TheConstants.{MAX_DCS};
 ghost use Rattle.cops_scenario.specs.declared.scenario.TheConstants.{MAX_CLIENTS, MAX_EVENTS};
-ghost use Rattle.cops_scenario.specs.Fields.{name_of, number_at, range_of};
+ghost use Rattle.cops_scenario.specs.Fields.{format_at, name_of, number_at, range_of};
+ghost use Rattle.cops_types.specs.Format.{number_of as number_in};
 ghost use Rattle.cops_scenario.specs.Limits.{AreLegalEvents, AreSplits, IsClientOf, IsLegalClient, IsLegalScenario};
 ghost use Rattle.cops_core.specs.declared.event.Event.{Event as AnEvent};
 ghost use Rattle.cops_core.specs.declared.script.ScriptedClient.{ScriptedClient as AClient};
@@ -21,7 +22,7 @@ use crate::scenario::{MAX_CLIENTS, MAX_EVENTS, MAX_SCRIPT, Scenario};
 use cops_core::{Event, ScriptedClient};
 use cops_fields::{Unread, key};
 use cops_place::{MAX_SPLITS, Place, PlaceFault};
-use cops_types::MAX_DCS;
+use cops_types::{Format, MAX_DCS};
 use serde_json::Value as Json;
 use std::alloc::Global;
 
@@ -56,6 +57,7 @@ fn scenario(alloc: Global, root: &Json) -> Result<Scenario, ScenarioFault>
     if !root.is_object() {
         return Err(ScenarioFault::BadField(Field::Root));
     }
+    let format = format_of(root)?;
     let dcs = number_of(root, Field::DataCentres)? as u8;
     let place = place(alloc, dcs, root.get(Field::Splits.name())).map_err(
         |unread| ScenarioFault::of(unread, Field::Splits),
@@ -68,14 +70,31 @@ fn scenario(alloc: Global, root: &Json) -> Result<Scenario, ScenarioFault>
     let Some(listed) = root.get(Field::Clients.name()) else {
         return Err(ScenarioFault::BadField(Field::Clients));
     };
-    let clients = clients(alloc, dcs, listed).map_err(|unread| ScenarioFault::of(
+    let clients = clients(alloc, format, dcs, listed).map_err(|unread| ScenarioFault::of(
         unread,
         Field::Clients,
     ))?;
-    let events = events_beside(alloc, listed, root.get(Field::Events.name())).map_err(
+    let events = events_beside(alloc, format, listed, root.get(Field::Events.name())).map_err(
         |unread| ScenarioFault::of(unread, Field::Events),
     )?;
-    Ok(Scenario::new(place, link, turns, retries, repeat, hold, clients, events))
+    Ok(Scenario::new(
+        format, place, link, turns, retries, repeat, hold, clients, events,
+    ))
+}
+
+/// The format that the file names, or format 1 where it names none.
+fn format_of(root: &Json) -> Result<Format, ScenarioFault>
+    ensures told { IfOk result (λ format. TellsNumberAt (view root.now) AField.Format (number_in format)) }
+    ensures value { IfOk result (λ format. format ≡ format_at (view root.now)) }
+    ensures right { OnOk result (IsRightNumber (view root.now) AField.Format) }
+    ensures wrong { OnErr result (result ≡ Err (ScenarioFault.BadField AField.Format)) }
+    ensures none { OnErr result (IsWrongNumber (view root.now) AField.Format) }
+{
+    let number = number_of(root, Field::Format)?;
+    match Format::of_number(number as u16) {
+        Some(format) => Ok(format),
+        None => unreachable!(),
+    }
 }
 
 /// The whole number of a field that is one, or what stands for it where the field is missing.
@@ -131,33 +150,38 @@ fn whole_place(alloc: Global, dcs: u8) -> Place
 }
 
 /// The clients of a list.
-fn clients(alloc: Global, dcs: u8, json: &Json) -> Result<Vec<ScriptedClient>, Unread>
+fn clients(
+    alloc: Global,
+    format: Format,
+    dcs: u8,
+    json: &Json,
+) -> Result<Vec<ScriptedClient>, Unread>
     ensures few { IfOk result (λ clients. length clients.items ≤ MAX_CLIENTS) }
     ensures each { IfOk result (λ clients. All (IsClientOf dcs) clients.items) }
-    ensures legal { IfOk result (λ clients. All (IsLegalClient dcs) clients.items) }
+    ensures legal { IfOk result (λ clients. All (IsLegalClient format dcs) clients.items) }
     ensures told { IfOk result (λ clients. (ds : List Data) × (view json.now ≡ list_json ds) × TellClients ds clients.items) }
-    ensures none { result ≡ Err Unread.Form → (ds : List Data) (cs : List AClient) → view json.now ≡ list_json ds → TellClients ds cs → length cs ≤ MAX_CLIENTS → All (IsLegalClient dcs) cs → ⊥ }
+    ensures none { result ≡ Err Unread.Form → (ds : List Data) (cs : List AClient) → view json.now ≡ list_json ds → TellClients ds cs → length cs ≤ MAX_CLIENTS → All (IsLegalClient format dcs) cs → ⊥ }
 {
     let mut clients = Vec::new(alloc);
     for item in list(json, MAX_CLIENTS)? {
-        clients.push(client(alloc, dcs, item)?)?;
+        clients.push(client(alloc, format, dcs, item)?)?;
     }
     Ok(clients)
 }
 
 /// A client: an object with its data centre, and its script, empty where that is missing.
-fn client(alloc: Global, dcs: u8, json: &Json) -> Result<ScriptedClient, Unread>
+fn client(alloc: Global, format: Format, dcs: u8, json: &Json) -> Result<ScriptedClient, Unread>
     ensures limits { IfOk result (IsClientOf dcs) }
-    ensures legal { IfOk result (IsLegalClient dcs) }
+    ensures legal { IfOk result (IsLegalClient format dcs) }
     ensures told { IfOk result (TellsClient (view json.now)) }
-    ensures none { result ≡ Err Unread.Form → (c : AClient) → IsLegalClient dcs c → TellsClient (view json.now) c → ⊥ }
+    ensures none { result ≡ Err Unread.Form → (c : AClient) → IsLegalClient format dcs c → TellsClient (view json.now) c → ⊥ }
 {
     let at = dc(json.get("at").ok_or(Unread::Form)?)?;
     if at >= dcs {
         return Err(Unread::Form);
     }
     let script = match json.get("script") {
-        Some(list) => script(alloc, list, MAX_SCRIPT)?,
+        Some(list) => script(alloc, format, list, MAX_SCRIPT)?,
         None => Vec::new(alloc),
     };
     Ok(ScriptedClient { at, script })
@@ -166,14 +190,15 @@ fn client(alloc: Global, dcs: u8, json: &Json) -> Result<ScriptedClient, Unread>
 /// The events of a list, none where it is missing: beside events no client that is listed has a script.
 fn events_beside(
     alloc: Global,
+    format: Format,
     listed: &Json,
     list: Option<&Json>,
 ) -> Result<Option<Vec<Event>>, Unread>
     ensures few { IfOk result (λ found. IfSome (option_map (λ e. e.items) found) (λ events. length events ≤ MAX_EVENTS)) }
-    ensures legal { IfOk result (λ found. AreLegalEvents (option_map (λ e. e.items) found)) }
+    ensures legal { IfOk result (λ found. AreLegalEvents format (option_map (λ e. e.items) found)) }
     ensures told { IfOk result (λ found. TellsEvents (option_map (λ v. view v.now) list.entry) (option_map (λ e. e.items) found)) }
     ensures beside { IfOk result (λ found. (ds : List Data) → view listed.now ≡ list_json ds → AreUnscripted ds (option_map (λ e. e.items) found)) }
-    ensures none { result ≡ Err Unread.Form → (ds : List Data) (told : Option (List AnEvent)) → view listed.now ≡ list_json ds → TellsEvents (option_map (λ v. view v.now) list.entry) told → AreLegalEvents told → AreUnscripted ds told → ⊥ }
+    ensures none { result ≡ Err Unread.Form → (ds : List Data) (told : Option (List AnEvent)) → view listed.now ≡ list_json ds → TellsEvents (option_map (λ v. view v.now) list.entry) told → AreLegalEvents format told → AreUnscripted ds told → ⊥ }
 {
     let Some(json) = list else {
         return Ok(None);
@@ -181,7 +206,7 @@ fn events_beside(
     if lists_script(listed) {
         return Err(Unread::Form);
     }
-    Ok(Some(events(alloc, json, MAX_EVENTS)?))
+    Ok(Some(events(alloc, format, json, MAX_EVENTS)?))
 }
 
 /// Whether some client that is listed has a script, be it an empty one.

@@ -1,9 +1,15 @@
 //! What a scenario holds.
 use cops_core::{Event, ScriptedClient, Setting};
 use cops_place::Place;
-use cops_types::Memory;
+use cops_types::{Format, Memory};
 use std::alloc::{AllocError, Global};
 use std::marker::Model;
+
+/// The greatest number of a format.
+pub const MAX_FORMAT: u16 = 2;
+
+/// The number of the format where a file names none.
+pub const DEFAULT_FORMAT: u16 = 1;
 
 /// The most clients of a scenario.
 pub const MAX_CLIENTS: usize = 64;
@@ -53,12 +59,14 @@ pub const MAX_HOLD: u16 = 1_000;
 /// How many they are where a file says nothing.
 pub const DEFAULT_HOLD: u16 = 0;
 
-/// What a cluster is made of, and what happens in it: where keys live; how many frames a link holds, 1 to 1,024; how
-/// many turns a loop may make, 1 to 1,000,000,000; how often a client's operation is tried again which memory was
-/// refused to, 0 to 3; how often each record is sent again on each link, 0 to 3; how many turns of a receiver come
-/// late, 0 to 1,000; at most 64 clients; and, where no client has a script, at most 100,000 events.
+/// What a cluster is made of, and what happens in it: the format of the cluster and of its trace; where keys live; how
+/// many frames a link holds, 1 to 1,024; how many turns a loop may make, 1 to 1,000,000,000; how often a client's
+/// operation is tried again which memory was refused to, 0 to 3; how often each record is sent again on each link, 0 to
+/// 3; how many turns of a receiver come late, 0 to 1,000; at most 64 clients; and, where no client has a script, at
+/// most 100,000 events.
 #[derive(Debug, Drop)]
 pub struct Scenario {
+    format: Format,
     place: Place,
     link: u16,
     turns: u32,
@@ -76,9 +84,9 @@ impl Model for Scenario {
 
     ghost Value = { AScenario };
 
-    ghost view = { λ s. record { place = s.place; link = s.link; turns = s.turns; retries = s.retries; repeat = s.repeat; hold = s.hold; clients = s.clients.items; events = option_map (λ e. e.items) s.events } };
+    ghost view = { λ s. record { format = s.format; place = s.place; link = s.link; turns = s.turns; retries = s.retries; repeat = s.repeat; hold = s.hold; clients = s.clients.items; events = option_map (λ e. e.items) s.events } };
 
-    ghost invariant = { λ s. IsScenario (record { place = s.place; link = s.link; turns = s.turns; retries = s.retries; repeat = s.repeat; hold = s.hold; clients = s.clients.items; events = option_map (λ e. e.items) s.events }) };
+    ghost invariant = { λ s. IsScenario (record { format = s.format; place = s.place; link = s.link; turns = s.turns; retries = s.retries; repeat = s.repeat; hold = s.hold; clients = s.clients.items; events = option_map (λ e. e.items) s.events }) };
 }
 
 impl Scenario {
@@ -90,6 +98,7 @@ impl Scenario {
 
     /// The scenario of these parts, which are within their limits.
     pub(crate) fn new(
+        format: Format,
         place: Place,
         link: u16,
         turns: u32,
@@ -107,10 +116,11 @@ impl Scenario {
         requires clients { (length clients.items ≤ MAX_CLIENTS) × All (IsClientOf place.dcs) clients.items }
         requires events { AreEventsOf clients.items (option_map (λ e. e.items) events) }
         ensures scenario { IsScenario result }
-        ensures parts { result ≡ record { place = place; link = link; turns = turns; retries = retries; repeat = repeat; hold = hold; clients = clients.items; events = option_map (λ e. e.items) events } }
+        ensures parts { result ≡ record { format = format; place = place; link = link; turns = turns; retries = retries; repeat = repeat; hold = hold; clients = clients.items; events = option_map (λ e. e.items) events } }
     {
         let _dcs = place.dcs();
         Scenario {
+            format,
             place,
             link,
             turns,
@@ -120,6 +130,14 @@ impl Scenario {
             clients,
             events,
         }
+    }
+
+    /// The format of the cluster and of its trace.
+    pub fn format(&self) -> Format
+        ensures value { result ≡ self.now.format }
+        ensures scenario { IsScenario self.now }
+    {
+        self.format
     }
 
     /// Where keys live, and in how many data centres.
@@ -179,11 +197,11 @@ impl Scenario {
         &self.clients
     }
 
-    /// Its data centres, and its clients' places in them.
+    /// Its format and data centres, and its clients' places in them.
     pub fn setting(&self, alloc: Global) -> Result<Setting, Memory>
         ensures { IfOk result (λ setting. setting ≡ setting_of self.now) }
     {
-        match Setting::new(self.place.clone()?, self.homes(alloc)?) {
+        match Setting::new_in(self.format, self.place.clone()?, self.homes(alloc)?) {
             Some(setting) => Ok(setting),
             None => unreachable!(),
         }

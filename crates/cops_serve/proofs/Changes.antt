@@ -1,6 +1,6 @@
 -- A client that was changed in its place of the list, and what a call that was not made leaves of it.
-use Rattle.std.proofs.Common.{◌≡◌, ℕ, ◌<◌, ◌≤◌, List, length, Some, slice_index_or, slice_set, refl, sym, ap, subst, ◌∙◌, arith}
-use Rattle.std.specs.Prelude.{slice_get, MatchOption}
+use Rattle.std.proofs.Common.{◌≡◌, ◌⊎◌, inl, inr, ℕ, ◌<◌, ◌≤◌, List, length, Some, slice_index_or, slice_set, refl, sym, ap, subst, ◌∙◌, arith}
+use Rattle.std.specs.Prelude.{Option, None, slice_get, MatchOption}
 use Rattle.std.specs.Global.{Vec}
 use Rattle.std.proofs.lemmas.Option.{slice_get_read}
 use Rattle.cops_node.specs.declared.event.NodeEvent.TheVariants.{Ask}
@@ -8,8 +8,13 @@ use Rattle.std.specs.Prelude.{Result, Ok, Err}
 use Rattle.cops_types.specs.declared.gate.GateHeld.{GateHeld}
 use Rattle.cops_types.specs.declared.refusal.Refusal.{Refusal}
 use Rattle.cops_node.specs.declared.outcome.Outcome.{Outcome}
-use Rattle.cops_node.specs.declared.outcome.Outcome.TheVariants.{Refused}
-use Rattle.cops_types.specs.declared.refusal.Refusal.TheVariants.{Memory}
+use Rattle.cops_node.specs.declared.outcome.Outcome.TheVariants.{PutDone, Deleted, Refused}
+use Rattle.cops_types.specs.declared.format.Format.{Format}
+use Rattle.cops_types.specs.declared.format.Format.TheVariants.{One, Two}
+use Rattle.cops_types.specs.declared.refusal.Refusal.TheVariants.{Memory, NotInFormat, UnknownClient}
+use Rattle.cops_types.specs.Format.{Fits}
+use Rattle.cops_net.specs.declared.reply.Reply.{Reply}
+use Rattle.cops_cluster.specs.Outcomes.{IsUnknown, IsPutOutcome, IsDelOutcome, IsWriteOutcome}
 use Rattle.cops_cluster.specs.declared.client.Client.{Client}
 use Rattle.cops_cluster.specs.declared.cluster.Cluster.{Cluster}
 use Rattle.cops_cluster.specs.declared.share.Share.{Share}
@@ -18,7 +23,8 @@ use Rattle.cops_cluster.specs.Lending.{with_share}
 use Rattle.cops_cluster.specs.Shares.{Adds}
 use Rattle.cops_serve.specs.declared.front_end.FrontEnd.{FrontEnd}
 use Rattle.cops_serve.specs.declared.front_end.Greeted.{Greeted}
-use Rattle.cops_serve.specs.FrontEnd.{DoneByGreeted, HasPut, HasGot, HasAsked, IsSame}
+use Rattle.cops_serve.specs.FrontEnd.{DoneByGreeted, HasWritten, HasGot, HasAsked, IsSame}
+use Rattle.cops_serve.specs.Replying.{IsOutcomeIn, IsReplyTo, IsWriteReply}
 
 -- what was lent from its place stands there
 there : {X : Type 0} (xs : List X) (number place : ℕ) (x : X) → place ≡ number → (place < length xs) × ((d : X) → x ≡ slice_index_or xs place d)
@@ -44,9 +50,13 @@ pub changed : {X : Type 0} (Did : X → X → Type 0) (xs : List X) (number plac
 changed Did xs number place before after e lent did = (before, after, there xs number place before e lent, set_there xs number place after e, did)
 
 -- of copies of the key and the value
-pub put_of : (c : Cluster) (key value k v : List ℕ) (out : Outcome) (before after : Client) → k ≡ key → v ≡ value → HasPut c k v out before after
-    → HasPut c key value out before after
+pub put_of : (c : Cluster) (key value k v : List ℕ) (out : Outcome) (before after : Client) → k ≡ key → v ≡ value → HasWritten c k (Some v) out before after
+    → HasWritten c key (Some value) out before after
 put_of c key value k v out before after ek ev h = rw (sym ek, sym ev) h
+
+-- of a copy of the key
+pub del_of : (c : Cluster) (key k : List ℕ) (out : Outcome) (before after : Client) → k ≡ key → HasWritten c k None out before after → HasWritten c key None out before after
+del_of c key k out before after ek h = rw (sym ek) h
 
 pub got_of : (c : Cluster) (key k : List ℕ) (out : Outcome) (before after : Client) → k ≡ key → HasGot c k out before after → HasGot c key out before after
 got_of c key k out before after ek h = rw (sym ek) h
@@ -62,9 +72,56 @@ where_refused Says result out refused is told e = told (is ∙ ap Ok e)
 pub some_refusal : (result : Result Outcome GateHeld) (out : Outcome) → result ≡ Ok out → (refused : Refusal) × (result ≡ Ok (Refused refused)) → (refused : Refusal) × (out ≡ Refused refused)
 some_refusal result out is (refused, e) = (refused, ap (outcome_in out) (sym is ∙ e))
 
--- a put that was not made for want of memory
-pub no_put : (c : Cluster) (key value : List ℕ) (client : Client) → HasPut c key value (Refused Memory) client client
-no_put c key value client = ((refl, refl, refl), (λ h. absurd cc, λ h. refl), refl, λ e. absurd cc)
+-- a write that was not made for want of memory
+pub no_write : (c : Cluster) (key : List ℕ) (content : Option (List ℕ)) (client : Client) → HasWritten c key content (Refused Memory) client client
+no_write c key content client = ((refl, refl, refl), (λ h. absurd cc, λ h. refl), refl, λ e. absurd cc, λ e. absurd cc)
+
+-- a put is no deletion
+pub put_in : (format : Format) (out : Outcome) → IsPutOutcome out → IsOutcomeIn format out
+put_in format out is version e = elim (subst IsPutOutcome e is) [ ]
+
+-- a put never says that the format does not have it
+pub put_fits : (format : Format) (value : List ℕ) (out : Outcome) → IsPutOutcome out → out ≡ Refused NotInFormat → ¬ Fits format (Some value)
+put_fits format value out is e =
+    elim (subst IsPutOutcome e is) [
+      | inl clock ↦ absurd cc
+      | inr (inl unknown) ↦ absurd cc
+      | inr (inr (inl memory)) ↦ absurd cc
+      | inr (inr (inr full)) ↦ absurd cc
+    ]
+
+has_deletions : (format : Format) → ((Fits format None → ⊥) → ⊥) → Fits format None
+has_deletions One not = absurd (not (λ x. x))
+has_deletions Two not = tt
+
+-- a deletion that is done is in the format, since it was refused neither with 3 nor with 12
+pub del_in : (c : Cluster) (client : Client) (result : Result Outcome GateHeld) (out : Outcome) → result ≡ Ok out → (IsUnknown c client → result ≡ Ok (Refused UnknownClient))
+    → ((¬ Fits c.format None) × (¬ IsUnknown c client) → result ≡ Ok (Refused NotInFormat)) → IsOutcomeIn c.format out
+del_in c client result out is unknown unfit version e =
+    let done : result ≡ Ok (Deleted version) = is ∙ ap Ok e in
+    has_deletions c.format (λ not. let d : Ok (Deleted version) ≡ Ok (Refused NotInFormat) = sym done ∙ unfit (not, λ u. let d : Ok (Deleted version) ≡ Ok (Refused UnknownClient) = sym done ∙ unknown u in absurd cc) in absurd cc)
+
+-- the reply to a write tells its outcome, in the format
+pub write_reply : (format : Format) (content : Option (List ℕ)) (out : Outcome) (reply : Reply) → IsWriteOutcome content out → IsOutcomeIn format out → IsReplyTo out reply
+    → IsWriteReply format content reply
+write_reply format (Some value) (PutDone version) reply is fits told = rw told tt
+write_reply format (Some value) (Refused refused) reply is fits told = rw told is
+write_reply format (Some value) _ reply is fits told = elim is [ ]
+write_reply format None (Deleted version) reply is fits told = rw told (fits version refl)
+write_reply format None (Refused refused) reply is fits told =
+    rw told (elim is [
+      | inl clock ↦ inl clock
+      | inr (inl unknown) ↦ inr (inl unknown)
+      | inr (inr (inl unfit)) ↦ inr (inr (inr (inr unfit)))
+      | inr (inr (inr (inl memory))) ↦ inr (inr (inl memory))
+      | inr (inr (inr (inr full))) ↦ inr (inr (inr (inl full)))
+    ])
+write_reply format None _ reply is fits told = elim is [ ]
+
+-- a write is a put or a deletion
+pub either : (content : Option (List ℕ)) (out : Outcome) → IsWriteOutcome content out → IsPutOutcome out ⊎ IsDelOutcome out
+either (Some value) out is = inl is
+either None out is = inr is
 
 -- a get that was not made for want of memory
 pub no_get : (c : Cluster) (key : List ℕ) (client : Client) → HasGot c key (Refused Memory) client client

@@ -1,22 +1,22 @@
 -- What the calls of a front end do.
-use Rattle.std.specs.Prelude.{◌≡◌, ◌<◌, ◌≤◌, ◌+◌, ◌↔◌, ℕ, List, length, slice_get, slice_set, Option, Some, Result, Ok, Err, MatchOption, vec_len, vec_capacity, IsSome, IsNone}
+use Rattle.std.specs.Prelude.{◌≡◌, ◌<◌, ◌≤◌, ◌+◌, ◌↔◌, ℕ, List, length, slice_get, slice_set, Option, Some, None, Result, Ok, Err, MatchOption, vec_len, vec_capacity, IsSome, IsNone}
 use Rattle.cops_types.specs.declared.put_record.NodeStatus.{NodeStatus}
 use Rattle.cops_types.specs.declared.refusal.Refusal.{Refusal}
-use Rattle.cops_types.specs.declared.refusal.Refusal.TheVariants.{ContextFull, UnknownClient}
-use Rattle.cops_types.specs.Format.{most_deps}
-use Rattle.cops_node.specs.declared.event.NodeEvent.TheVariants.{Put, Get, Ask}
+use Rattle.cops_types.specs.declared.refusal.Refusal.TheVariants.{ContextFull, NotInFormat, UnknownClient}
+use Rattle.cops_types.specs.Format.{Fits, most_deps}
+use Rattle.cops_node.specs.declared.event.NodeEvent.TheVariants.{Get, Ask}
 use Rattle.cops_node.specs.declared.outcome.Outcome.{Outcome}
 use Rattle.cops_node.specs.declared.outcome.Outcome.TheVariants.{Wait, Refused}
 use Rattle.cops_cluster.specs.declared.client.Client.{Client}
 use Rattle.cops_cluster.specs.declared.cluster.Cluster.{Cluster}
-use Rattle.cops_cluster.specs.Cluster.{IsNode, IsSameClient, after_get, after_put, node_of}
+use Rattle.cops_cluster.specs.Cluster.{IsNode, IsSameClient, after_get, after_write, node_of, write_event}
 use Rattle.cops_cluster.specs.Lending.{with_share}
 use Rattle.cops_cluster.specs.Outcomes.{IsUnknown}
 use Rattle.cops_cluster.specs.Shares.{Adds}
 use Rattle.cops_net.specs.declared.reply.Reply.{Reply}
 use Rattle.cops_serve.specs.declared.front_end.FrontEnd.{FrontEnd}
 use Rattle.cops_serve.specs.declared.front_end.Greeted.{Greeted}
-use Rattle.cops_serve.specs.Replying.{IsReplyTo}
+use Rattle.cops_serve.specs.Replying.{IsReplyIn, IsReplyTo}
 
 -- there is room for a call, and for the copies that it keeps
 abbrev pub HasRoom : FrontEnd → Type 0
@@ -65,16 +65,17 @@ Hellos old number (Ok place) new =
     × (new.cluster ≡ old.cluster)
 Hellos old number (Err refused) new = ((dc : ℕ) → IsHome old number dc → ⊥) × (refused ≡ UnknownClient) × IsSame old new
 
--- ---- puts, gets and questions
+-- ---- writes, gets and questions
 
--- What a put of a client leaves of it, by the outcome: the entry in its share, where a node answered, and its context. It is refused
--- with 3 only where the cluster does not know the client.
-abbrev pub HasPut : Cluster → List ℕ → List ℕ → Outcome → Client → Client → Type 0
-HasPut c key value out before after =
+-- What a client's write of a content leaves of it, by the outcome: the entry in its share, where a node answered, and its context. It is
+-- refused with 3 only where the cluster does not know the client, and with 12 only where its format does not have the content.
+abbrev pub HasWritten : Cluster → List ℕ → Option (List ℕ) → Outcome → Client → Client → Type 0
+HasWritten c key content out before after =
     IsSameClient before after
-    × Adds before.share.entries.items after.share.entries.items (node_of c before.dc key) (Put before.number key value before.context.pairs) out
-    × (after.context.pairs ≡ after_put before.context.pairs key out)
+    × Adds before.share.entries.items after.share.entries.items (node_of c before.dc key) (write_event before.number key content before.context.pairs) out
+    × (after.context.pairs ≡ after_write before.context.pairs key out)
     × (out ≡ Refused UnknownClient → IsUnknown c before)
+    × (out ≡ Refused NotInFormat → ¬ Fits c.format content)
 
 -- the same of a get, which is refused with 2 only where the client's context is full, and there it is always refused
 abbrev pub HasGot : Cluster → List ℕ → Outcome → Client → Client → Type 0
@@ -99,9 +100,9 @@ DoneByGreeted old Nobody Did new =
     IsSameSession old new
     × MatchOption old.greeted (Nobody × (new.clients ≡ old.clients)) (λ g. ChangesBy old g.client (Did g) new)
 
--- Who has greeted puts with this outcome. Where nobody has it is refused with 3.
-abbrev pub PutsAs : FrontEnd → List ℕ → List ℕ → Outcome → FrontEnd → Type 0
-PutsAs old key value out new = DoneByGreeted old (out ≡ Refused UnknownClient) (λ g. HasPut old.cluster key value out) new
+-- Who has greeted writes a content with this outcome. Where nobody has it is refused with 3.
+abbrev pub WritesAs : FrontEnd → List ℕ → Option (List ℕ) → Outcome → FrontEnd → Type 0
+WritesAs old key content out new = DoneByGreeted old (out ≡ Refused UnknownClient) (λ g. HasWritten old.cluster key content out) new
 
 -- the same of a get
 abbrev pub GetsAs : FrontEnd → List ℕ → Outcome → FrontEnd → Type 0
@@ -111,12 +112,21 @@ GetsAs old key out new = DoneByGreeted old (out ≡ Refused UnknownClient) (λ g
 abbrev pub AsksAs : FrontEnd → List ℕ → ℕ → Outcome → FrontEnd → Type 0
 AsksAs old key version out new = DoneByGreeted old (out ≡ Wait) (λ g. HasAsked old.cluster g.dc key version out) new
 
--- the reply tells the outcome of the put that was done
-abbrev pub Puts : FrontEnd → List ℕ → List ℕ → Reply → FrontEnd → Type 0
-Puts old key value reply new = (out : Outcome) × IsReplyTo out reply × PutsAs old key value out new
+-- the reply tells the outcome of the write that was done
+abbrev pub Writes : FrontEnd → List ℕ → Option (List ℕ) → Reply → FrontEnd → Type 0
+Writes old key content reply new = (out : Outcome) × IsReplyTo out reply × WritesAs old key content out new
 
+-- a put of a value
+abbrev pub Puts : FrontEnd → List ℕ → List ℕ → Reply → FrontEnd → Type 0
+Puts old key value reply new = Writes old key (Some value) reply new
+
+-- a deletion
+abbrev pub Dels : FrontEnd → List ℕ → Reply → FrontEnd → Type 0
+Dels old key reply new = Writes old key None reply new
+
+-- the reply tells the outcome of the get in the cluster's format
 abbrev pub Gets : FrontEnd → List ℕ → Reply → FrontEnd → Type 0
-Gets old key reply new = (out : Outcome) × IsReplyTo out reply × GetsAs old key out new
+Gets old key reply new = (out : Outcome) × IsReplyIn old.cluster.format out reply × GetsAs old key out new
 
 abbrev pub Checks : FrontEnd → List ℕ → ℕ → Reply → FrontEnd → Type 0
 Checks old key version reply new = (out : Outcome) × IsReplyTo out reply × AsksAs old key version out new

@@ -9,10 +9,11 @@ use Rattle.cops_replication.specs.declared.sender.Sender.{Sender}
 use Rattle.cops_scenario.specs.Scenario.{AScenario, homes_of}
 use Rattle.cops_serve.specs.declared.front_end.FrontEnd.{FrontEnd}
 
--- the scenario's clients, and a sender and a receiver for each data centre, all with empty shares; nobody has greeted, there was no
+-- a cluster of the scenario's format, its clients, and a sender and a receiver for each data centre, all with empty shares; nobody has greeted, there was no
 -- call, and no session has ended
 pub record IsOpened (s : AScenario) (f : FrontEnd) : Type 0 where
   pub turns : f.turns ≡ s.turns
+  pub format : f.cluster.format ≡ s.format
   pub place : f.cluster.place ≡ s.place
   pub clients : AreClientsAt (homes_of s) (length (homes_of s)) f.clients.items
   pub senders : AreSenders s.place.dcs (s.place.dcs - 1) s.link f.senders.items

@@ -1,16 +1,37 @@
 -- The cluster's outcomes as replies.
-use Rattle.std.specs.Prelude.{◌≡◌}
+use Rattle.std.specs.Prelude.{◌≡◌, ℕ, List, Option, Some, None}
+use Rattle.cops_types.specs.declared.format.Format.{Format}
+use Rattle.cops_types.specs.declared.format.Format.TheVariants.{One}
+use Rattle.cops_types.specs.declared.refusal.Refusal.TheVariants.{Memory}
+use Rattle.cops_types.specs.Format.{Fits}
 use Rattle.cops_node.specs.declared.outcome.Outcome.{Outcome}
-use Rattle.cops_node.specs.declared.outcome.Outcome.TheVariants.{PutDone, Got, Missed, Yes, Wait, Refused}
+use Rattle.cops_node.specs.declared.outcome.Outcome.TheVariants.{PutDone, Deleted, Got, Gone, Missed, Yes, Wait, Refused}
 use Rattle.cops_net.specs.declared.reply.Reply.{Reply}
 use Rattle.cops_net.specs.declared.reply.Reply.TheVariants as replied
+use Rattle.cops_net.specs.Answers.{IsPutReply, IsDelReply}
 
 -- the reply tells this outcome, which is one that a client may be told
 abbrev pub IsReplyTo : Outcome → Reply → Type 0
 IsReplyTo (PutDone version) reply = reply ≡ replied.PutDone version
+IsReplyTo (Deleted version) reply = reply ≡ replied.Deleted version
 IsReplyTo (Got value version) reply = reply ≡ replied.Got value version
+IsReplyTo (Gone version) reply = reply ≡ replied.Gone version
 IsReplyTo Missed reply = reply ≡ replied.Missed
 IsReplyTo Yes reply = reply ≡ replied.Yes
 IsReplyTo Wait reply = reply ≡ replied.Wait
 IsReplyTo (Refused refusal) reply = reply ≡ replied.Refused refusal
 IsReplyTo _ reply = ⊥
+
+-- the same in a format: in format 1, where no node has a deletion, one that is found all the same is told as want of memory
+abbrev pub IsReplyIn : Format → Outcome → Reply → Type 0
+IsReplyIn One (Gone version) reply = reply ≡ replied.Refused Memory
+IsReplyIn _ outcome reply = IsReplyTo outcome reply
+
+-- it tells of a deletion that was done only where the format has deletions
+abbrev pub IsOutcomeIn : Format → Outcome → Type 0
+IsOutcomeIn format outcome = (version : ℕ) → outcome ≡ Deleted version → Fits format None
+
+-- a reply to a write of this content: a put, or without a value a deletion
+abbrev pub IsWriteReply : Format → Option (List ℕ) → Reply → Type 0
+IsWriteReply format (Some value) = IsPutReply
+IsWriteReply format None = IsDelReply format

@@ -55,9 +55,9 @@ pub record IsServed (sessions : ℕ) (s : AScenario) (text : List ℕ) : Type 0 
   pub opened : FrontEnd
   pub is_opened : IsOpened s opened
   pub front_end : FrontEnd
-  pub served : AreServed (λ (f : FrontEnd). f.calls.items) Ends sessions opened front_end
+  pub served : AreServed s.format (λ (f : FrontEnd). f.calls.items) Ends sessions opened front_end
   pub count : front_end.ended ≡ sessions
-  pub calls : AreSessions sessions front_end.calls.items
+  pub calls : AreSessions s.format sessions front_end.calls.items
   pub report : IsReportOn s front_end text
 
 -- how serving so many sessions ends, by the status: accepted of a scenario's text, where the writer gained such a report, or faulty

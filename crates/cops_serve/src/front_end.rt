@@ -4,13 +4,15 @@ ghost use Rattle.std.specs.Prelude.{◌≡◌, ◌<◌, vec_len};
 ghost use Rattle.cops_serve.specs.Seats.{AreSeated};
 
 use crate::replicating::{receive_each, send_each};
-use crate::replying::{Replies, check_replies, get_replies, not_yet, put_replies};
+use crate::replying::{Replies, check_replies, get_replies, not_yet, write_replies};
+use crate::writing::written;
 use cops_cluster::{Client, Cluster};
 use cops_net::{Call, Reply, Session};
 use cops_node::Outcome;
 use cops_replication::{Receiver, Sender};
 use cops_types::{
-    GateHeld, Key, KeyRoom, Memory, NodeStatus, OpenGate, Refusal, Value, ValueRoom, Version,
+    Format, GateHeld, Key, KeyRoom, Memory, NodeStatus, OpenGate, Refusal, Value, ValueRoom,
+    Version,
 };
 use std::alloc::{AllocError, Global};
 use std::sync::Wait;
@@ -38,11 +40,12 @@ impl Room {
     }
 }
 
-/// A cluster behind the front door: its clients, one of whom has greeted in a session; the senders and receivers that
-/// replicate what was put, on this thread, after each session, in at most so many rounds of turns; the calls so far;
-/// and how many sessions have ended.
+/// A cluster behind the front door: its format; its clients, one of whom has greeted in a session; the senders and
+/// receivers that replicate what was put, on this thread, after each session, in at most so many rounds of turns; the
+/// calls so far; and how many sessions have ended.
 #[derive(Drop)]
 pub struct FrontEnd {
+    pub(crate) format: Format,
     pub(crate) turns: u32,
     pub(crate) cluster: Cluster,
     pub(crate) clients: Vec<Client>,
@@ -53,16 +56,18 @@ pub struct FrontEnd {
     pub(crate) ended: u64,
     pub(crate) room: Option<Room>,
     pub(crate) alloc: Global,
+    ghost in_format: { format ≡ cluster.format },
     ghost at_home: { ForSome greeted (λ g. (g.client < vec_len clients) × (g.dc < cluster.place.dcs)) },
     ghost seated: { AreSeated cluster.clients cluster.place.dcs clients.items receivers.items },
 }
 
 impl FrontEnd {
     ghost use Rattle.cops_types.specs.declared.limits.TheConstants.{MAX_DCS};
-    ghost use Rattle.std.specs.Prelude.{◌≡◌, ◌<◌, ◌++◌, ◌∷◌, [], ℕ, IfNone, IfSome, vec_len, vec_capacity};
-    ghost use Rattle.cops_cluster.specs.Outcomes.{IsGetOutcome, IsPutOutcome};
+    ghost use Rattle.std.specs.Prelude.{◌≡◌, ◌<◌, ◌++◌, ◌∷◌, [], ℕ, IfNone, IfSome, option_copied, vec_len, vec_capacity};
+    ghost use Rattle.cops_cluster.specs.Outcomes.{IsGetOutcome, IsWriteOutcome};
     ghost use Rattle.cops_net.specs.Answers.{IsCheckReply};
-    ghost use Rattle.cops_serve.specs.FrontEnd.{Checks, GetsAs, IsHome, IsSame, IsUnnoted, PutsAs};
+    ghost use Rattle.cops_serve.specs.FrontEnd.{Checks, GetsAs, IsHome, IsSame, IsUnnoted, Writes, WritesAs};
+    ghost use Rattle.cops_serve.specs.Replying.{IsOutcomeIn, IsWriteReply};
 
     /// Keeps a call with its answer. All else stays.
     fn note(&mut self, call: Call)
@@ -87,11 +92,13 @@ impl FrontEnd {
         }
     }
 
-    /// The client that has greeted puts a value: the outcome of the cluster's put, which the client's share and context
-    /// show. It is refused where nobody has greeted, and for want of memory. No other client changes.
-    fn put_outcome<R: Wait>(&mut self, rt: &R, key: &Key, value: &Value) -> Outcome
-        ensures outcome { IsPutOutcome result }
-        ensures done { PutsAs self.old key.now value.now result self.new }
+    /// The client that has greeted writes a content, which without a value is a deletion: the outcome of the cluster's
+    /// call, which the client's share and context show. It is refused where nobody has greeted, and for want of memory.
+    /// No other client changes.
+    fn write_outcome<R: Wait>(&mut self, rt: &R, key: &Key, content: Option<&Value>) -> Outcome
+        ensures outcome { IsWriteOutcome (option_copied content.entry) result }
+        ensures in_format { IsOutcomeIn self.old.cluster.format result }
+        ensures done { WritesAs self.old key.now (option_copied content.entry) result self.new }
         ensures same { IsUnnoted self.old self.new }
     {
         let Some(greeted) = self.greeted else {
@@ -100,16 +107,18 @@ impl FrontEnd {
         let Some(client) = self.clients.get_mut(usize::from(greeted.client)) else {
             unreachable!()
         };
-        let Ok(key) = key.clone() else {
-            return Outcome::Refused(Refusal::Memory);
-        };
-        let Ok(value) = value.clone() else {
-            return Outcome::Refused(Refusal::Memory);
-        };
-        match self.cluster.put(rt, client, &OpenGate, key, value) {
-            Ok(outcome) => outcome,
-            Err(GateHeld) => unreachable!(),
-        }
+        written(rt, &self.cluster, client, key, content)
+    }
+
+    /// The same as a reply.
+    fn write_reply<R: Wait>(&mut self, rt: &R, key: &Key, content: Option<&Value>) -> Replies
+        ensures twice { result.told ≡ result.kept }
+        ensures reply { IsWriteReply self.old.cluster.format (option_copied content.entry) result.told }
+        ensures done { Writes self.old key.now (option_copied content.entry) result.told self.new }
+        ensures same { IsUnnoted self.old self.new }
+    {
+        let outcome = self.write_outcome(rt, key, content);
+        write_replies(&outcome)
     }
 
     /// The client that has greeted gets the value of a key: the outcome of the cluster's get, which the client's share
@@ -173,9 +182,11 @@ impl FrontEnd {
 }
 
 impl Session for FrontEnd {
-    ghost use Rattle.cops_serve.specs.FrontEnd.{Checks, Ends, Gets, HasRoom, Hellos, IsSame, Puts, Statuses};
+    ghost use Rattle.cops_serve.specs.FrontEnd.{Checks, Dels, Ends, Gets, HasRoom, Hellos, IsSame, Puts, Statuses};
 
     ghost calls = { λ f. f.calls.items };
+
+    ghost format = { λ f. f.cluster.format };
 
     ghost ended = { λ f. f.ended };
 
@@ -187,6 +198,8 @@ impl Session for FrontEnd {
 
     ghost puts = { Puts };
 
+    ghost dels = { Dels };
+
     ghost gets = { Gets };
 
     ghost dep_checks = { Checks };
@@ -197,6 +210,10 @@ impl Session for FrontEnd {
 
     fn calls(&self) -> &[Call] {
         &self.calls
+    }
+
+    fn format(&self) -> Format {
+        self.format
     }
 
     fn room(&mut self) -> Result<(), Memory> {
@@ -221,10 +238,21 @@ impl Session for FrontEnd {
     }
 
     fn put<R: Wait>(&mut self, rt: &R, key: Key, value: Value) -> Reply {
-        let outcome = self.put_outcome(rt, &key, &value);
-        let replies = put_replies(&outcome);
+        let replies = self.write_reply(rt, &key, Some(&value));
         let answer = replies.kept;
         self.note(Call::Put { key, value, answer });
+        replies.told
+    }
+
+    fn del<R: Wait>(&mut self, rt: &R, key: &Key) -> Reply {
+        let replies = self.write_reply(rt, key, None);
+        let Some(room) = self.room.take() else {
+            unreachable!()
+        };
+        self.note(Call::Del {
+            key: room.key.copy(key),
+            answer: replies.kept,
+        });
         replies.told
     }
 
@@ -233,7 +261,7 @@ impl Session for FrontEnd {
         let Some(room) = self.room.take() else {
             unreachable!()
         };
-        let replies = get_replies(room.value, outcome);
+        let replies = get_replies(self.format, room.value, outcome);
         self.note(Call::Get {
             key: room.key.copy(key),
             answer: replies.kept,

@@ -13,6 +13,7 @@ mod opening;
 mod replicating;
 mod replying;
 mod serving;
+mod writing;
 
 pub use fault::ServeFault;
 pub use front_end::FrontEnd;

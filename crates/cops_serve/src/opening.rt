@@ -27,6 +27,7 @@ impl FrontEnd {
             shares,
         )?;
         Ok(FrontEnd {
+            format: scenario.format(),
             turns: scenario.turns(),
             cluster,
             clients,

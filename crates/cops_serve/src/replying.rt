@@ -1,15 +1,16 @@
 //! A cluster's answers as replies.
-ghost use Rattle.std.specs.Prelude.{◌≡◌};
-ghost use Rattle.cops_cluster.specs.Outcomes.{IsAskOutcome, IsGetOutcome, IsPutOutcome};
+ghost use Rattle.std.specs.Prelude.{◌≡◌, ◌⊎◌};
+ghost use Rattle.cops_cluster.specs.Outcomes.{IsAskOutcome, IsDelOutcome, IsGetOutcome, IsPutOutcome};
 ghost use Rattle.cops_cluster.specs.Receiving.{outcome_of};
-ghost use Rattle.cops_net.specs.Answers.{IsCheckReply, IsGetReply, IsPutReply};
-ghost use Rattle.cops_node.specs.declared.outcome.Outcome.TheVariants.{Wait as NotYet};
-ghost use Rattle.cops_serve.specs.Replying.{IsReplyTo};
+ghost use Rattle.cops_net.specs.Answers.{IsCheckReply, IsGetReply};
+ghost use Rattle.cops_net.specs.declared.reply.Reply.{Reply as Answer};
+ghost use Rattle.cops_node.specs.declared.outcome.Outcome.TheVariants.{Gone as FoundGone, Wait as NotYet};
+ghost use Rattle.cops_serve.specs.Replying.{IsReplyIn, IsReplyTo};
 
 use cops_cluster::Asked;
 use cops_net::Reply;
 use cops_node::Outcome;
-use cops_types::ValueRoom;
+use cops_types::{Format, Refusal, ValueRoom, Version};
 
 /// An answer, twice: to be kept and to be told.
 #[derive(Drop)]
@@ -18,47 +19,71 @@ pub(crate) struct Replies {
     pub(crate) told: Reply,
 }
 
-/// The replies to a put, which tell its outcome.
-pub(crate) fn put_replies(outcome: &Outcome) -> Replies
-    requires { IsPutOutcome outcome.now }
+/// The replies to a put or a deletion, which tell its outcome.
+pub(crate) fn write_replies(outcome: &Outcome) -> Replies
+    requires { IsPutOutcome outcome.now ⊎ IsDelOutcome outcome.now }
     ensures same { result.told ≡ result.kept }
     ensures told { IsReplyTo outcome.now result.told }
-    ensures answer { IsPutReply result.told }
 {
     match outcome {
         Outcome::PutDone(version) => Replies {
             kept: Reply::PutDone(*version),
             told: Reply::PutDone(*version),
         },
-        Outcome::Refused(refusal) => Replies {
-            kept: Reply::Refused(*refusal),
-            told: Reply::Refused(*refusal),
+        Outcome::Deleted(version) => Replies {
+            kept: Reply::Deleted(*version),
+            told: Reply::Deleted(*version),
         },
+        Outcome::Refused(refusal) => refused(*refusal),
         _ => unreachable!(),
     }
 }
 
-/// The replies to a get, which tell its outcome.
-pub(crate) fn get_replies(room: ValueRoom, outcome: Outcome) -> Replies
+/// The replies to a get of this format, which tell its outcome. In format 1, where no node has a deletion, a get that
+/// found one is refused for want of memory.
+pub(crate) fn get_replies(format: Format, room: ValueRoom, outcome: Outcome) -> Replies
     requires { IsGetOutcome outcome }
     ensures same { result.told ≡ result.kept }
-    ensures told { IsReplyTo outcome result.told }
-    ensures answer { IsGetReply result.told }
+    ensures told { IsReplyIn format outcome result.told }
+    ensures answer { IsGetReply format result.told }
 {
     match outcome {
         Outcome::Got(value, version) => Replies {
             kept: Reply::Got(room.copy(&value), version),
             told: Reply::Got(value, version),
         },
+        Outcome::Gone(version) => gone(format, version),
         Outcome::Missed => Replies {
             kept: Reply::Missed,
             told: Reply::Missed,
         },
-        Outcome::Refused(refusal) => Replies {
-            kept: Reply::Refused(refusal),
-            told: Reply::Refused(refusal),
-        },
+        Outcome::Refused(refusal) => refused(refusal),
         _ => unreachable!(),
+    }
+}
+
+/// The replies to a get that found a deletion of this version.
+fn gone(format: Format, version: Version) -> Replies
+    ensures same { result.told ≡ result.kept }
+    ensures told { IsReplyIn format (FoundGone version) result.told }
+    ensures answer { IsGetReply format result.told }
+{
+    match format {
+        Format::One => refused(Refusal::Memory),
+        Format::Two => Replies {
+            kept: Reply::Gone(version),
+            told: Reply::Gone(version),
+        },
+    }
+}
+
+/// The replies to what was refused.
+fn refused(refusal: Refusal) -> Replies
+    ensures { (result.kept ≡ Answer.Refused refusal) × (result.told ≡ Answer.Refused refusal) }
+{
+    Replies {
+        kept: Reply::Refused(refusal),
+        told: Reply::Refused(refusal),
     }
 }
 
@@ -91,10 +116,7 @@ fn outcome_replies(outcome: &Outcome) -> Replies
             told: Reply::Yes,
         },
         Outcome::Wait => not_yet(),
-        Outcome::Refused(refusal) => Replies {
-            kept: Reply::Refused(*refusal),
-            told: Reply::Refused(*refusal),
-        },
+        Outcome::Refused(refusal) => refused(*refusal),
         _ => unreachable!(),
     }
 }

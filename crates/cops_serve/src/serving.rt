@@ -126,9 +126,9 @@ fn attended<R: Net<Listener = TcpListener, Stream = TcpStream> + Wait>(
     scenario: &Scenario,
     door: Door,
 ) -> Result<FrontEnd, ServeFault>
-    ensures calls { IfOk result (λ f. AreSessions door.sessions f.calls.items) }
+    ensures calls { IfOk result (λ f. AreSessions scenario.now.format door.sessions f.calls.items) }
     ensures served { IfOk result (λ f. (opened : AFrontEnd) × IsOpened scenario.now opened
-        × AreServed (λ (g : AFrontEnd). g.calls.items) Ends door.sessions opened f) }
+        × AreServed scenario.now.format (λ (g : AFrontEnd). g.calls.items) Ends door.sessions opened f) }
     ensures count { IfOk result (λ f. f.ended ≡ door.sessions) }
 {
     let Ok(mut front_end) = FrontEnd::open(alloc, scenario) else {
@@ -146,9 +146,10 @@ fn attend<R: Net<Listener = TcpListener, Stream = TcpStream> + Wait>(
     front_end: &mut FrontEnd,
 ) -> Result<(), ServeFault>
     ensures calls { IfOk result (λ _. (gained : List Call)
-        × (front_end.new.calls.items ≡ front_end.old.calls.items ++ gained) × AreSessions door.sessions gained) }
+        × (front_end.new.calls.items ≡ front_end.old.calls.items ++ gained)
+        × AreSessions front_end.old.cluster.format door.sessions gained) }
     ensures served { IfOk result (λ _.
-        AreServed (λ (f : AFrontEnd). f.calls.items) Ends door.sessions front_end.old front_end.new) }
+        AreServed front_end.old.cluster.format (λ (f : AFrontEnd). f.calls.items) Ends door.sessions front_end.old front_end.new) }
     ensures count { IfOk result (λ _.
         front_end.old.ended + door.sessions < 2 ^ 64 → front_end.new.ended ≡ front_end.old.ended + door.sessions) }
 {

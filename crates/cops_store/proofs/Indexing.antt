@@ -1,5 +1,5 @@
 -- What a store finds by its maps, and that they go on to be an index after one more pair.
-use Rattle.std.proofs.Common.{◌≡◌, ◌<◌, ◌≤◌, ℕ, zero, suc, ◌+◌, Bool, true, false, cond, if◌then◌else◌, nat_eq, nat_lt, List, [], ◌∷◌, ◌++◌, map, length, slice_get, Option, None, Some, is_some, ◌&&◌, refl, sym, ap, ◌∙◌, arith, subst, lt-ltb}
+use Rattle.std.proofs.Common.{◌≡◌, ◌<◌, ℕ, zero, suc, ◌+◌, Bool, true, false, cond, nat_eq, nat_lt, List, [], ◌∷◌, ◌++◌, length, slice_get, Option, None, Some, is_some, ◌&&◌, refl, sym, ap, ◌∙◌, arith, subst}
 use Rattle.std.specs.Cmp.Lexicographic.{nat_list_eq_equiv}
 use Rattle.std.specs.List.{IsDistinct, position, position_or_len}
 use Rattle.std.specs.Map.{keys_of, lookup}
@@ -12,7 +12,7 @@ use Rattle.std.proofs.lemmas.Slice.Eq.{bytes_eq-Decides}
 use Rattle.cops_store.specs.declared.place.Place.{Place}
 use Rattle.cops_store.specs.declared.settled.Settled.{Settled}
 use Rattle.cops_store.specs.declared.settled.Settled.TheVariants.{Shown, Older, Repeat}
-use Rattle.cops_store.specs.Places.{is_above, pick, chosen}
+use Rattle.cops_store.specs.Places.{pick, chosen}
 use Rattle.cops_store.specs.Store.{Stored, has_pair, with_settled, shown}
 use Rattle.cops_store.specs.Settling.{has_key, shown_keys, settling, shown_or_older}
 use Rattle.cops_store.specs.Index.{Keys, Pairs, IsIndex, ShowsAt, key_at, stored_at, settled_in}
@@ -41,7 +41,7 @@ shown_at keys pairs key at h e =
 pub missed_at : (keys : Keys) (pairs : Pairs) (key : List ℕ) (at : ℕ) → IsIndex keys pairs → Some at ≡ lookup (bytes_eq key) keys → None ≡ slice_get pairs at → shown (settled_in keys pairs) key ≡ None
 missed_at keys pairs key at h e none = shown_at keys pairs key at h e ∙ ap (option_map (stored_at keys)) (sym none)
 
-pub got : (keys : Keys) (pairs : Pairs) (key : List ℕ) (at : ℕ) (p : Place × List ℕ) → IsIndex keys pairs → Some at ≡ lookup (bytes_eq key) keys → Some p ≡ slice_get pairs at
+pub got : (keys : Keys) (pairs : Pairs) (key : List ℕ) (at : ℕ) (p : Place × Option (List ℕ)) → IsIndex keys pairs → Some at ≡ lookup (bytes_eq key) keys → Some p ≡ slice_get pairs at
     → shown (settled_in keys pairs) key ≡ Some (record { key = key; value = p.1; version = p.0.version })
 got keys pairs key at p h e there =
     let is : shown (settled_in keys pairs) key ≡ Some (stored_at keys p) = shown_at keys pairs key at h e ∙ ap (option_map (stored_at keys)) (sym there) in
@@ -66,7 +66,7 @@ length_push : {A : Type 0} (xs : List A) (x : A) → length (xs ++ x ∷ []) ≡
 length_push [] x = refl
 length_push (y ∷ xs) x = (let e = length_push xs x in omega (arith, e))
 
-module _ (keys : Keys) (pairs : Pairs) (key value : List ℕ) (version : ℕ) (h : IsIndex keys pairs) where
+module _ (keys : Keys) (pairs : Pairs) (key : List ℕ) (value : Option (List ℕ)) (version : ℕ) (h : IsIndex keys pairs) where
   abbrev old : List Stored
   old = settled_in keys pairs
 
@@ -108,10 +108,10 @@ module _ (keys : Keys) (pairs : Pairs) (key value : List ℕ) (version : ℕ) (h
       stored : slice_get old at ≡ option_map (stored_at keys) (slice_get pairs at)
       stored = slice_get-map (stored_at keys) pairs at
 
-      from : (p : Place × List ℕ) → slice_get pairs at ≡ Some p → shown old key ≡ Some (stored_at keys p)
+      from : (p : Place × Option (List ℕ)) → slice_get pairs at ≡ Some p → shown old key ≡ Some (stored_at keys p)
       from p e = s.1 ∙ stored ∙ ap (option_map (stored_at keys)) e
 
-      by : (p : Place × List ℕ) → slice_get pairs at ≡ Some p → (b : Bool) → nat_lt version p.0.version ≡ b
+      by : (p : Place × Option (List ℕ)) → slice_get pairs at ≡ Some p → (b : Bool) → nat_lt version p.0.version ≡ b
           → ((pick b at (length pairs)).0 ≡ shown_or_older one (shown old key)) × ShowsAt (old ++ one ∷ []) key (Some (pick b at (length pairs)).1)
       by p e true lt = (
         sym (ap (shown_or_older one) (from p e) ∙ ap (λ c. cond c Older Shown) lt),
@@ -125,7 +125,7 @@ module _ (keys : Keys) (pairs : Pairs) (key value : List ℕ) (version : ℕ) (h
         (last_within, shown_new ∙ ap (λ t. Some (later t one)) (from p e) ∙ ap (λ c. Some (cond c (stored_at keys p) one)) lt ∙ sym last_place),
       )
 
-      go : (o : Option (Place × List ℕ)) → slice_get pairs at ≡ o → IsRight (Some at)
+      go : (o : Option (Place × Option (List ℕ))) → slice_get pairs at ≡ o → IsRight (Some at)
       go None e = absurd (let there = slice_there old at s.0 in let gone = ap is_some (stored ∙ ap (option_map (stored_at keys)) e) in let f : true ≡ false = sym there ∙ gone in cc)
       go (Some p) e = rw e (by p e (nat_lt version p.0.version) refl)
 
@@ -197,10 +197,10 @@ module _ (keys : Keys) (pairs : Pairs) (key value : List ℕ) (version : ℕ) (h
   pub answer_after : has_pair old (record { key = key; version = version }) ≡ false → (chosen pairs version at_key).0 ≡ settling old one
   answer_after new = right.0 ∙ sym (ap (λ b. cond b Repeat (shown_or_older one (shown old key))) new)
 
-  abbrev with_pair : Pairs → Place → List ℕ → Pairs
+  abbrev with_pair : Pairs → Place → Option (List ℕ) → Pairs
   with_pair es p v = insert_entry (λ (a b : Place). nat_eq a.key b.key && nat_eq a.version b.version) es p v
 
-  new_last : (es : Pairs) (p : Place) (v : List ℕ) → lookup (λ (q : Place). nat_eq p.key q.key && nat_eq p.version q.version) es ≡ None
+  new_last : (es : Pairs) (p : Place) (v : Option (List ℕ)) → lookup (λ (q : Place). nat_eq p.key q.key && nat_eq p.version q.version) es ≡ None
       → with_pair es p v ≡ es ++ (p, v) ∷ []
   new_last [] p v e = refl
   new_last (x ∷ es) p v e = go (nat_eq p.key x.0.key && nat_eq p.version x.0.version) e (λ r. new_last es p v r)

@@ -1,18 +1,16 @@
 -- Keys by their places, also after one more key, and pairs whose keys have places.
-use Rattle.std.proofs.Common.{◌≡◌, ◌<◌, ◌≤◌, ℕ, zero, suc, ◌+◌, Bool, true, false, ◌&&◌, ◌||◌, ◌==◌, not, cond, List, [], ◌∷◌, ◌++◌, map, length, Option, None, Some, is_some, refl, sym, ap, ◌∙◌, arith, subst, eqb-true, eq-eqb, get_or}
+use Rattle.std.proofs.Common.{◌≡◌, ◌<◌, ◌≤◌, ℕ, zero, suc, ◌+◌, Bool, true, false, ◌&&◌, ◌||◌, not, cond, List, [], ◌∷◌, ◌++◌, length, Option, Some, is_some, refl, sym, ap, ◌∙◌, arith, eqb-true, eq-eqb}
 use Rattle.std.specs.Bool.{one_answer}
 use Rattle.std.specs.Cmp.{unsigned_Decides}
-use Rattle.std.specs.Cmp.Lexicographic.{nat_list_eq_equiv}
-use Rattle.std.specs.List.{AllByRecursion, IsDistinct, list_any, position_or_len}
+use Rattle.std.specs.List.{AllByRecursion, IsDistinct, position_or_len}
 use Rattle.std.specs.Map.{keys_of, lookup}
 use Rattle.std.specs.Prelude.{nat_eq, slice_index_or}
 use Rattle.std.specs.Str.{bytes_eq}
 use Rattle.std.proofs.lemmas.Slice.Eq.{bytes_eq-Decides}
 use Rattle.std.proofs.lemmas.Map.Entries.{length-keys_of}
 use Rattle.indexmap.specs.IndexMap.{insert_entry}
-use Rattle.cops_types.specs.Dep.{is_same_dep}
 use Rattle.cops_store.specs.declared.place.Place.{Place}
-use Rattle.cops_store.specs.Store.{Stored, has_pair}
+use Rattle.cops_store.specs.Store.{has_pair}
 use Rattle.cops_store.specs.Index.{Keys, Pairs, key_at, stored_at, settled_in}
 
 apart : (a b : ℕ) → (a ≡ b → ⊥) → nat_eq a b ≡ false
@@ -54,7 +52,7 @@ at_only (x ∷ names) key d j l = go (bytes_eq key x) refl j l (λ i h. at_only 
 
 -- each pair's key has a place
 abbrev pub ArePlaced : Keys → Pairs → Type 0
-ArePlaced keys pairs = AllByRecursion (λ (p : Place × List ℕ). p.0.key < length keys) pairs
+ArePlaced keys pairs = AllByRecursion (λ (p : Place × Option (List ℕ)). p.0.key < length keys) pairs
 
 -- a key's pairs are those at its place
 abbrev pub IsAt : Keys → List ℕ → ℕ → Type 0
@@ -132,6 +130,6 @@ settled_kept keys key shown (p ∷ pairs) placed =
     let rest = settled_kept keys key shown pairs placed.1 in
     λ i. here i ∷ rest i
 
-pub placed_on : (keys keys' : Keys) (pairs : Pairs) → length keys ≤ length keys' → ArePlaced keys pairs → (p : Place × List ℕ) → p.0.key < length keys' → ArePlaced keys' (pairs ++ p ∷ [])
+pub placed_on : (keys keys' : Keys) (pairs : Pairs) → length keys ≤ length keys' → ArePlaced keys pairs → (p : Place × Option (List ℕ)) → p.0.key < length keys' → ArePlaced keys' (pairs ++ p ∷ [])
 placed_on keys keys' [] h placed p l = (l, tt)
 placed_on keys keys' (q ∷ pairs) h placed p l = (let a = placed.0 in omega (arith, a, h), placed_on keys keys' pairs h placed.1 p l)

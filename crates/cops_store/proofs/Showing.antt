@@ -3,10 +3,8 @@ use Rattle.std.proofs.Common.{◌≡◌, ℕ, ◌+◌, Bool, true, false, ◌&&�
 use borrow.Author.Tests.{ltb-true, ltb-false}
 use Rattle.std.specs.Cmp.Lexicographic.{nat_list_eq_equiv}
 use Rattle.std.specs.Str.{bytes_eq}
-use Rattle.std.specs.List.{list_any}
-use Rattle.cops_types.specs.Dep.{is_same_dep}
 use Rattle.std.proofs.lemmas.Slice.Eq.{bytes_eq-Decides}
-use Rattle.cops_store.specs.Store.{Stored, stored_pair, newer, shown, has_pair}
+use Rattle.cops_store.specs.Store.{Stored, newer, shown, has_pair}
 use Rattle.cops_store.specs.Settling.{has_key, shown_keys}
 
 -- of what is shown and a pair that is settled after it, the one with the greater version
@@ -74,7 +72,7 @@ has_key_append (x ∷ xs) s k = go (bytes_eq k x.key) (has_key_append xs s k)
     go true e = refl
     go false e = e
 
--- one key more shows a value where nothing was settled on the pair's key
+-- one key more shows something where nothing was settled on the pair's key
 pub keys_append : (xs : List Stored) (s : Stored) → length (shown_keys (xs ++ s ∷ [])) ≡ length (shown_keys xs) + cond (has_key xs s.key) 0 1
 keys_append [] s = refl
 keys_append (x ∷ xs) s =

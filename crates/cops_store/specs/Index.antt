@@ -11,14 +11,14 @@ use Rattle.cops_store.specs.declared.place.Place.{Place}
 abbrev pub Keys : Type 0
 Keys = List (List ℕ × ℕ)
 
--- pairs, each with its value
+-- pairs, each with its content
 abbrev pub Pairs : Type 0
-Pairs = List (Place × List ℕ)
+Pairs = List (Place × Option (List ℕ))
 
 abbrev pub key_at : Keys → ℕ → List ℕ
 key_at keys i = slice_index_or (keys_of keys) i []
 
-abbrev pub stored_at : Keys → Place × List ℕ → Stored
+abbrev pub stored_at : Keys → Place × Option (List ℕ) → Stored
 stored_at keys p = record { key = key_at keys p.0.key; value = p.1; version = p.0.version }
 
 -- the settled pairs, as callers see them
@@ -33,6 +33,6 @@ ShowsAt settled key (Some at) = (at < length settled) × (shown settled key ≡ 
 -- no key is there twice; each pair's key is there, each key has its place, and no other key is there
 pub record IsIndex (keys : Keys) (pairs : Pairs) : Type 0 where
   pub distinct : IsDistinct bytes_eq (keys_of keys)
-  pub placed : AllByRecursion (λ (p : Place × List ℕ). p.0.key < length keys) pairs
+  pub placed : AllByRecursion (λ (p : Place × Option (List ℕ)). p.0.key < length keys) pairs
   pub shows : (key : List ℕ) → ShowsAt (settled_in keys pairs) key (lookup (bytes_eq key) keys)
   pub count : length keys ≡ length (shown_keys (settled_in keys pairs))

@@ -5,7 +5,7 @@ use Rattle.cops_store.specs.declared.settled.Settled.{Settled}
 use Rattle.cops_store.specs.declared.settled.Settled.TheVariants.{Shown, Older}
 
 -- the pair that is there has a greater version
-abbrev pub is_above : ℕ → Option (Place × List ℕ) → Bool
+abbrev pub is_above : ℕ → Option (Place × Option (List ℕ)) → Bool
 is_above version None = false
 is_above version (Some p) = nat_lt version p.0.version
 
@@ -15,6 +15,6 @@ pick true at new = (Older, at)
 pick false at new = (Shown, new)
 
 -- what settling a new pair answers, and the place of what its key shows then, from the place of what it shows now
-abbrev pub chosen : List (Place × List ℕ) → ℕ → Option ℕ → Settled × ℕ
+abbrev pub chosen : List (Place × Option (List ℕ)) → ℕ → Option ℕ → Settled × ℕ
 chosen pairs version None = (Shown, length pairs)
 chosen pairs version (Some at) = pick (is_above version (slice_get pairs at)) at (length pairs)

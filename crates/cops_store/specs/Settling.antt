@@ -14,7 +14,7 @@ pub record AStore : Type 0 where
 abbrev pub has_key : List Stored → List ℕ → Bool
 has_key settled key = list_any (λ s. bytes_eq key s.key) settled
 
--- the keys that show a value, each once
+-- the keys that show something, each once
 abbrev pub shown_keys : List Stored → List (List ℕ)
 shown_keys [] = []
 shown_keys (s ∷ settled) = if has_key settled s.key then shown_keys settled else s.key ∷ shown_keys settled

@@ -1,12 +1,13 @@
--- What a store holds: the pairs of a key and a version that were settled, with their values.
+-- What a store holds: the pairs of a key and a version that were settled, with their contents.
 use Rattle.std.specs.Prelude.{ℕ, ◌++◌, Bool, if◌then◌else◌, List, [], ◌∷◌, nat_lt, bytes_eq, Option, None, Some}
 use Rattle.std.specs.List.{list_any}
 use Rattle.cops_types.specs.declared.dep.Dep.{Dep}
 use Rattle.cops_types.specs.Dep.{is_same_dep}
 
+-- where there is no value, a deletion
 pub record Stored : Type 0 where
   pub key : List ℕ
-  pub value : List ℕ
+  pub value : Option (List ℕ)
   pub version : ℕ
 
 abbrev pub stored_pair : Stored → Dep

@@ -8,13 +8,13 @@ use indexmap::IndexMap;
 use std::alloc::Global;
 use std::marker::Model;
 
-/// The settled pairs of a node with their values, in the order in which they were settled. Each call costs look-ups in
-/// maps, whatever the number of pairs.
+/// The settled pairs of a node with their contents, in the order in which they were settled: where there is no value,
+/// a deletion. Each call costs look-ups in maps, whatever the number of pairs.
 #[derive(Drop)]
 pub struct Store {
     /// Each key with the place of the pair that it shows.
     keys: IndexMap<Key, usize>,
-    pairs: IndexMap<Place, Value>,
+    pairs: IndexMap<Place, Option<Value>>,
 }
 
 impl Model for Store {
@@ -31,7 +31,7 @@ impl Model for Store {
 }
 
 impl Store {
-    ghost use Rattle.std.specs.Prelude.{◌≡◌, length, [], true, false, IsOk, IfOk, OnOk, OnErr};
+    ghost use Rattle.std.specs.Prelude.{◌≡◌, length, [], true, false, IsOk, IfOk, OnOk, OnErr, option_copied};
     ghost use Rattle.std.specs.Option.{option_map};
     ghost use Rattle.cops_store.specs.Store.{Stored, has_pair, with_settled, shown};
     ghost use Rattle.cops_store.specs.Settling.{shown_keys, settling};
@@ -56,16 +56,17 @@ impl Store {
         }
     }
 
-    /// What the key shows: the greatest version that was settled on it, with its value. None where nothing was.
-    pub fn get(&self, key: &Key) -> Option<(&Value, Version)>
-        ensures { option_map (λ r. record { key = key.now; value = r.0.now; version = r.1 }) result ≡ shown self.now.settled key.now }
+    /// What the key shows: the greatest version that was settled on it, with its value, or without one where that is a
+    /// deletion. None where nothing was settled on it.
+    pub fn get(&self, key: &Key) -> Option<(Option<&Value>, Version)>
+        ensures { option_map (λ r. record { key = key.now; value = option_copied r.0; version = r.1 }) result ≡ shown self.now.settled key.now }
     {
         let at = *self.keys.get(key)?;
         let (place, value) = self.pairs.get_index(at)?;
-        Some((value, place.version))
+        Some((value.as_ref(), place.version))
     }
 
-    /// How many keys show a value.
+    /// How many keys show a value or a deletion.
     pub fn keys(&self) -> usize
         ensures { result ≡ length (shown_keys self.now.settled) }
     {
@@ -90,9 +91,14 @@ impl Store {
         Ok(())
     }
 
-    /// Settles a pair. A pair that is settled already changes nothing, and takes no memory. Another goes last, and its
-    /// key shows it unless a greater version on the key is shown. A refusal changes nothing.
-    pub fn settle(&mut self, key: Key, value: Value, version: Version) -> Result<Settled, Memory>
+    /// Settles a pair, without a value a deletion. A pair that is settled already changes nothing, and takes no memory.
+    /// Another goes last, and its key shows it unless a greater version on the key is shown. A refusal changes nothing.
+    pub fn settle(
+        &mut self,
+        key: Key,
+        value: Option<Value>,
+        version: Version,
+    ) -> Result<Settled, Memory>
         ensures ok { IfOk result (λ settled. settled ≡ settling self.old.settled (record { key = key; value = value; version = version })) }
         ensures after { OnOk result (self.new.settled ≡ with_settled self.old.settled (record { key = key; value = value; version = version })) }
         ensures err { OnErr result (self.new.settled ≡ self.old.settled) }
@@ -107,7 +113,7 @@ impl Store {
     }
 
     /// Settles a pair that is not settled yet.
-    fn add(&mut self, key: Key, value: Value, version: Version) -> Settled
+    fn add(&mut self, key: Key, value: Option<Value>, version: Version) -> Settled
         requires room { self.old.room ≡ true }
         requires new { has_pair self.old.settled (record { key = key; version = version }) ≡ false }
         ensures answer { result ≡ settling self.old.settled (record { key = key; value = value; version = version }) }
@@ -125,7 +131,7 @@ impl Store {
 
 /// What settling a new pair answers, and the place of what its key shows then, from the place of what it shows now.
 fn chosen(
-    pairs: &IndexMap<Place, Value>,
+    pairs: &IndexMap<Place, Option<Value>>,
     shown: Option<usize>,
     version: Version,
 ) -> (Settled, usize)
@@ -138,7 +144,7 @@ fn chosen(
 }
 
 /// Whether the pair at this place has a greater version.
-fn is_above(pairs: &IndexMap<Place, Value>, at: usize, version: Version) -> bool
+fn is_above(pairs: &IndexMap<Place, Option<Value>>, at: usize, version: Version) -> bool
     ensures { result ≡ is_above version (slice_get pairs.now.entries at) }
 {
     match pairs.get_index(at) {

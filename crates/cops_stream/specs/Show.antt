@@ -1,10 +1,13 @@
 -- What showing a trace's bytes answers, and what it writes.
-use Rattle.std.specs.Prelude.{◌≡◌, ℕ, ◌≤◌, List, [], ◌∷◌, ◌++◌, length, codes, Option, Some, None, unwrap_or, Ok, Err}
+use Rattle.std.specs.Prelude.{◌≡◌, ℕ, ◌<◌, ◌≤◌, ◌^◌, ◌⊎◌, List, [], ◌∷◌, ◌++◌, length, codes, Option, Some, None, unwrap_or, Ok, Err}
 use Rattle.std.specs.List.{flat_map, AllByRecursion}
 use Rattle.std.specs.Io.KnownBytes.{Appends}
+use Rattle.cops_types.specs.declared.format.Format.{Format}
 use Rattle.cops_types.specs.declared.format.Format.TheVariants.{One}
+use Rattle.cops_types.specs.Format.{number_of}
 use Rattle.cops_types.specs.Texts.{◌⧺◌}
 use Rattle.cops_wire.specs.declared.message.Message.{Message}
+use Rattle.cops_wire.specs.declared.message.Message.TheVariants.{TraceHead}
 use Rattle.cops_wire.specs.Grammar.{grammar}
 use Rattle.cops_wire.specs.Legal.{IsMessage}
 use Rattle.cops_wire.specs.Message.{parts, spelled}
@@ -30,18 +33,33 @@ lines_of ms = flat_map line_of ms
 abbrev pub frames_of : List Message → List ℕ
 frames_of ms = flat_map spelled ms
 
--- These messages are legal, and their frames stand at the front of the bytes, one behind the other, and end at or
--- before this place.
-pub record StandBefore (bytes : List ℕ) (end : ℕ) (ms : List Message) : Type 0 where
-  pub legal : AllByRecursion (λ m. IsMessage (grammar One) (parts m)) ms
+-- a head that names the format stands at the front of the bytes
+pub record HasHead (bytes : List ℕ) (format : Format) : Type 0 where
+  pub clients : ℕ
+  pub few : clients < 2 ^ 16
+  pub rest : List ℕ
+  pub front : bytes ≡ spelled (TraceHead (number_of format) clients) ++ rest
+
+-- the format that the frames are read in: that which the head names, or format 1 where no head names one
+abbrev pub AreReadIn : List ℕ → Format → Type 0
+AreReadIn bytes format = HasHead bytes format ⊎ ((format ≡ One) × ((other : Format) → HasHead bytes other → ⊥))
+
+-- These messages are legal in the format, and their frames stand at the front of the bytes, one behind the other, and end
+-- at or before this place.
+pub record StandBefore (format : Format) (bytes : List ℕ) (end : ℕ) (ms : List Message) : Type 0 where
+  pub legal : AllByRecursion (λ m. IsMessage (grammar format) (parts m)) ms
   pub rest : List ℕ
   pub front : bytes ≡ frames_of ms ++ rest
   pub ends : length (frames_of ms) ≤ end
 
 -- they are all that do: with one more message this does not hold
-pub record AreShown (bytes : List ℕ) (end : ℕ) (ms : List Message) : Type 0 where
-  pub stand : StandBefore bytes end ms
-  pub all : (m : Message) → StandBefore bytes end (ms ++ m ∷ []) → ⊥
+pub record AreAllBefore (format : Format) (bytes : List ℕ) (end : ℕ) (ms : List Message) : Type 0 where
+  pub stand : StandBefore format bytes end ms
+  pub all : (m : Message) → StandBefore format bytes end (ms ++ m ∷ []) → ⊥
+
+-- they are all, in the format that the frames are read in
+abbrev pub AreShown : List ℕ → ℕ → List Message → Type 0
+AreShown bytes end ms = (format : Format) × AreReadIn bytes format × AreAllBefore format bytes end ms
 
 -- the bytes have this fault first, or are a trace's text
 abbrev pub HasFirst : List ℕ → Option TraceFault → Type 0

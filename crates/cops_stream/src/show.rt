@@ -8,13 +8,13 @@ ghost use Rattle.cops_wire.specs.declared.message.Message.{Message as AMessage};
 ghost use Rattle.cops_command.specs.Status.{number};
 ghost use Rattle.cops_command.specs.declared.status.Status.TheVariants.{Failed as EndsFailed};
 ghost use Rattle.cops_stream.specs.declared.show.TheConstants.{GATHERED};
-ghost use Rattle.cops_stream.specs.NextLine.{AppendsNext};
-ghost use Rattle.cops_stream.specs.Show.{HasFirst, Shows, AreShown, end_of, line_of, lines_of};
+ghost use Rattle.cops_stream.specs.NextLine.{AppendsNext, named};
+ghost use Rattle.cops_stream.specs.Show.{AreAllBefore, AreReadIn, HasFirst, Shows, AreShown, end_of, line_of, lines_of};
 
 use cops_command::{PIECE, Status, failed, print, read_all};
 use cops_trace::{Trace, TraceFault, fault_line, read_trace};
-use cops_types::{Counted, Memory, write_text};
-use cops_wire::{Decoded, Message, WireFault, decode, show};
+use cops_types::{Counted, Format, Memory, write_text};
+use cops_wire::{Decoded, Message, WireFault, decode, decode_in, show};
 use std::alloc::Global;
 use std::io::{Read, Write};
 
@@ -98,9 +98,52 @@ fn show_frames<W: Write>(
     ensures failed { result ≡ Ok false → Failed (failures out.old) (failures out.new) }
     ensures heard { (result ≡ Ok false) ⊎ (failures out.new ≡ failures out.old) }
 {
+    let format = format_of(alloc, bytes)?;
+    show_frames_in(format, alloc, bytes, end, out)
+}
+
+/// The format that the frames are read in: that which the head names, or format 1 where no head names one.
+fn format_of(alloc: Global, bytes: &[u8]) -> Result<Format, Memory>
+    ensures { IfOk result (AreReadIn bytes.now) }
+{
+    match decode(alloc, bytes) {
+        Ok(decoded) => {
+            let format = named(&decoded.message);
+            drop(decoded);
+            Ok(format.unwrap_or(Format::One))
+        }
+        Err(fault) => match fault {
+            WireFault::Memory => Err(Memory),
+            _ => Ok(Format::One),
+        },
+    }
+}
+
+/// The format that a message names, where it is a head that names one.
+fn named(message: &Message) -> Option<Format>
+    ensures { result ≡ named message.now }
+{
+    match message {
+        Message::TraceHead { format, .. } => Format::of_number(*format),
+        _ => None,
+    }
+}
+
+/// Writes the lines of the frames of a format.
+fn show_frames_in<W: Write>(
+    format: Format,
+    alloc: Global,
+    bytes: &[u8],
+    end: u64,
+    out: &mut Counted<W>,
+) -> Result<bool, Memory>
+    ensures written { result ≡ Ok true → (ms : List AMessage) × AreAllBefore format bytes.now end ms × Appends (W.contents (inner out.old)) (W.contents (inner out.new)) (lines_of ms) }
+    ensures failed { result ≡ Ok false → Failed (failures out.old) (failures out.new) }
+    ensures heard { (result ≡ Ok false) ⊎ (failures out.new ≡ failures out.old) }
+{
     let mut text = Vec::new(alloc);
     let mut at = 0;
-    while let Some(used) = append_next(alloc, &bytes[at..], end - at as u64, &mut text)? {
+    while let Some(used) = append_next(format, alloc, &bytes[at..], end - at as u64, &mut text)? {
         at += used;
         if !write_long(out, &mut text) {
             return Ok(false);
@@ -112,18 +155,19 @@ fn show_frames<W: Write>(
     }
 }
 
-/// Appends the line of the frame at the front and tells the frame's length, where a whole one stands there that ends at
-/// or before this place.
+/// Appends the line of the frame of a format at the front and tells the frame's length, where a whole one stands there
+/// that ends at or before this place.
 fn append_next(
+    format: Format,
     alloc: Global,
     bytes: &[u8],
     end: u64,
     text: &mut Vec<u8>,
 ) -> Result<Option<usize>, Memory>
-    ensures next { IfOk result (AppendsNext bytes.now end text.old.items text.new.items) }
+    ensures next { IfOk result (AppendsNext format bytes.now end text.old.items text.new.items) }
     ensures used { IfOk result (λ next. IfSome next (λ used. (0 < used) × (used ≤ length bytes.now) × (used ≤ end))) }
 {
-    match decode(alloc, bytes) {
+    match decode_in(format, alloc, bytes) {
         Ok(decoded) => append_ending(alloc, &decoded, end, text),
         Err(fault) => match fault {
             WireFault::Memory => Err(Memory),

@@ -6,23 +6,23 @@ use Rattle.cops_types.specs.Histories.{Sessions}
 use Rattle.cops_node.specs.declared.outcome.Outcome.{Outcome}
 use Rattle.cops_node.specs.declared.outcome.Outcome.TheVariants.{Refused}
 use Rattle.cops_core.specs.declared.event.Event.{Event}
-use Rattle.cops_core.specs.World.{Setting, World, Happens, opening}
+use Rattle.cops_core.specs.World.{Act, Setting, World, Happens, act_of, opening}
 use Rattle.cops_book.specs.declared.entry.Entry.{Entry}
 use Rattle.cops_tie.specs.Tie.{Placed, event_of, Continues, Follows, IsTiedTo}
 use Rattle.cops_tie.specs.Untied.{IsTied, StopsAt, IsUntied}
 use Rattle.cops_tie.proofs.Ordering.{NeverFalls, Rises, one_order}
 
--- a refused event changes nothing
+-- a refused act changes nothing
 abbrev pub RefusedStays : Type 0
-RefusedStays = (s : Setting) (w new : World) (event : Event) (refused : Refusal) → Happens s w event (Refused refused) new → new ≡ w
+RefusedStays = (s : Setting) (w new : World) (act : Act) (refused : Refusal) → Happens s w act (Refused refused) new → new ≡ w
 
-happens_once : (law : RefusedStays) (s : Setting) (w a b : World) (event : Event) (outcome : Outcome) → Happens s w event outcome a → Happens s w event outcome b → a ≡ b
-happens_once law s w a b event outcome (inl f) (inl g) = ap (λ (r : Outcome × World). r.1) (sym f ∙ g)
-happens_once law s w a b event outcome (inl f) (inr g) = law s w a event Memory (subst (λ (o : Outcome). Happens s w event o a) g.0 (inl f)) ∙ sym g.1
-happens_once law s w a b event outcome (inr f) g = f.1 ∙ sym (law s w b event Memory (subst (λ (o : Outcome). Happens s w event o b) f.0 g))
+happens_once : (law : RefusedStays) (s : Setting) (w a b : World) (act : Act) (outcome : Outcome) → Happens s w act outcome a → Happens s w act outcome b → a ≡ b
+happens_once law s w a b act outcome (inl f) (inl g) = ap (λ (r : Outcome × World). r.1) (sym f ∙ g)
+happens_once law s w a b act outcome (inl f) (inr g) = law s w a act Memory (subst (λ (o : Outcome). Happens s w act o a) g.0 (inl f)) ∙ sym g.1
+happens_once law s w a b act outcome (inr f) g = f.1 ∙ sym (law s w b act Memory (subst (λ (o : Outcome). Happens s w act o b) f.0 g))
 
 continues_once : (law : RefusedStays) (s : Setting) (w : World) (p : Placed) (a b : World) → Continues s w p a → Continues s w p b → a ≡ b
-continues_once law s w p a b f g = happens_once law s w a b (event_of p) p.entry.outcome f.happens g.happens
+continues_once law s w p a b f g = happens_once law s w a b (act_of (event_of p)) p.entry.outcome f.happens g.happens
 
 follows_once : (law : RefusedStays) (s : Setting) (w : World) (ps : List Placed) (a b : World) → Follows s w ps a → Follows s w ps b → a ≡ b
 follows_once law s w [] a b f g = f ∙ sym g

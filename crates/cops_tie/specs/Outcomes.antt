@@ -5,17 +5,18 @@ use Rattle.cops_types.specs.declared.refusal.Refusal.TheVariants.{Memory, ClockE
 use Rattle.cops_types.specs.Histories.{Sessions, Operation, write, read, missed}
 use Rattle.cops_node.specs.declared.outcome.Outcome.TheVariants.{Refused}
 use Rattle.cops_core.specs.declared.event.Event.{Event}
-use Rattle.cops_core.specs.declared.event.Event.TheVariants.{Put as PutBy, Get as GetBy}
-use Rattle.cops_core.specs.World.{Setting, World, happens}
+use Rattle.cops_core.specs.declared.event.Event.TheVariants.{Put as PutBy, Del as DelBy, Get as GetBy}
+use Rattle.cops_core.specs.World.{Setting, World, act_of, happens}
 use Rattle.cops_core.specs.declared.script.ScriptOp.{ScriptOp}
-use Rattle.cops_core.specs.declared.script.ScriptOp.TheVariants.{Put, Get}
+use Rattle.cops_core.specs.declared.script.ScriptOp.TheVariants.{Put, Del, Get}
 use Rattle.cops_core.specs.declared.script.ScriptedClient.{ScriptedClient}
 use Rattle.cops_tie.specs.declared.outcome.ClientOutcome.{ClientOutcome}
 use Rattle.cops_tie.specs.declared.outcome.ClientOutcome.TheVariants.{Done, Stopped}
 
--- a script's operation was seen so: a put of its key and value, at whatever version; a get of its key, whatever it returned
+-- a script's operation was seen so: a put of its key and value, or a deletion of its key, at whatever version; a get of its key, whatever it returned
 abbrev pub IsSeenAs : ScriptOp → Operation → Type 0
 IsSeenAs (Put key value) (write k content version) = (k ≡ key) × (content ≡ Some value)
+IsSeenAs (Del key) (write k content version) = (k ≡ key) × (content ≡ None)
 IsSeenAs (Get key) (read k content version) = k ≡ key
 IsSeenAs (Get key) (missed k) = k ≡ key
 IsSeenAs _ _ = ⊥
@@ -28,12 +29,13 @@ pub record IsFrontOf (script : List ScriptOp) (session : List Operation) : Type 
 -- the world's event that a client's operation is
 abbrev pub event_for : ℕ → ScriptOp → Event
 event_for client (Put key value) = PutBy client key value
+event_for client (Del key) = DelBy client key
 event_for client (Get key) = GetBy client key
 
 -- there is a next operation, and the world refuses it so
 abbrev pub RefusesNext : Setting → World → ℕ → Option ScriptOp → Refusal → Type 0
 RefusesNext s w client None refused = ⊥
-RefusesNext s w client (Some op) refused = (happens s w (event_for client op)).0 ≡ Refused refused
+RefusesNext s w client (Some op) refused = (happens s w (act_of (event_for client op))).0 ≡ Refused refused
 
 -- a client may have stopped so before this operation: for want of memory, or as the world refuses it
 abbrev pub IsStop : Setting → World → ℕ → Option ScriptOp → Refusal → Type 0

@@ -3,10 +3,10 @@ use Rattle.std.specs.Prelude.{◌≡◌, ℕ, ◌+◌, ◌<◌, ◌/◌, ◌%◌
 use Rattle.std.specs.List.Sorted.{IsPermutation}
 use Rattle.cops_types.specs.Histories.{Sessions}
 use Rattle.cops_node.specs.declared.event.NodeEvent.{NodeEvent}
-use Rattle.cops_node.specs.declared.event.NodeEvent.TheVariants.{Put, Get, Deliver, Ask, Mark, Settle}
+use Rattle.cops_node.specs.declared.event.NodeEvent.TheVariants.{Put, Del, Get, Deliver, Ask, Mark, Settle}
 use Rattle.cops_core.specs.declared.event.Event.{Event}
-use Rattle.cops_core.specs.declared.event.Event.TheVariants.{Put as PutBy, Get as GetBy, Deliver as DeliverTo, Ask as AskAt, Mark as MarkAt, Settle as SettleAt}
-use Rattle.cops_core.specs.World.{Setting, World, Happens, context_in, home, opening, primary, sent}
+use Rattle.cops_core.specs.declared.event.Event.TheVariants.{Put as PutBy, Del as DelBy, Get as GetBy, Deliver as DeliverTo, Ask as AskAt, Mark as MarkAt, Settle as SettleAt}
+use Rattle.cops_core.specs.World.{Setting, World, Happens, act_of, context_in, home, opening, primary, sent}
 use Rattle.cops_types.specs.NodeNumber.{place_of}
 use Rattle.cops_book.specs.declared.entry.Entry.{Entry}
 
@@ -27,6 +27,7 @@ placed nodes n (book ∷ books) = map (λ e. record { dc = n / nodes; place = n 
 -- the world's event that a node's event is
 abbrev pub event_at : ℕ → NodeEvent → Event
 event_at dc (Put client key value deps) = PutBy client key value
+event_at dc (Del client key deps) = DelBy client key
 event_at dc (Get client key) = GetBy client key
 event_at dc (Deliver put) = DeliverTo dc put.version
 event_at dc (Ask key version) = AskAt dc key version
@@ -39,6 +40,7 @@ event_of p = event_at p.dc p.entry.event
 -- the place of the key's node, or of the node that gave the version
 abbrev pub place_asked : Setting → NodeEvent → ℕ
 place_asked s (Put client key value deps) = primary s key
+place_asked s (Del client key deps) = primary s key
 place_asked s (Get client key) = primary s key
 place_asked s (Deliver put) = primary s put.key
 place_asked s (Ask key version) = primary s key
@@ -49,9 +51,10 @@ place_asked s (Settle version) = place_of version
 abbrev pub IsHomeOf : Setting → ℕ → ℕ → Type 0
 IsHomeOf s dc client = (client < length s.homes) × (home s client ≡ dc)
 
--- what the node was told is what the world has: a put's dependencies are its client's context, and a delivered put is the issued one
+-- what the node was told is what the world has: the dependencies of a put or a deletion are its client's context, and a delivered put is the issued one
 abbrev pub IsFrom : Setting → World → ℕ → NodeEvent → Type 0
 IsFrom s w dc (Put client key value deps) = IsHomeOf s dc client × (deps ≡ context_in w client)
+IsFrom s w dc (Del client key deps) = IsHomeOf s dc client × (deps ≡ context_in w client)
 IsFrom s w dc (Get client key) = IsHomeOf s dc client
 IsFrom s w dc (Deliver put) = sent w.issued put.version ≡ Some put
 IsFrom s w dc _ = Unit {0}
@@ -60,7 +63,7 @@ IsFrom s w dc _ = Unit {0}
 pub record Continues (s : Setting) (w : World) (p : Placed) (next : World) : Type 0 where
   pub place : place_asked s p.entry.event ≡ p.place
   pub from : IsFrom s w p.dc p.entry.event
-  pub happens : Happens s w (event_of p) p.entry.outcome next
+  pub happens : Happens s w (act_of (event_of p)) p.entry.outcome next
 
 -- the ticket does not come again
 abbrev pub IsBelow : Placed → List Placed → Type 0

@@ -3,7 +3,7 @@ ghost use Rattle.std.specs.Prelude.{◌≡◌, ◌≢◌, ◌≤◌, ◌↔◌, 
 ghost use Rattle.cops_types.specs.declared.refusal.Refusal.TheVariants.{Memory as OutOfMemory};
 ghost use Rattle.cops_types.specs.OpRefs.{seen as seen_op};
 ghost use Rattle.cops_node.specs.declared.outcome.Outcome.TheVariants.{Refused};
-ghost use Rattle.cops_core.specs.World.{happens};
+ghost use Rattle.cops_core.specs.World.{act_of, happens};
 ghost use Rattle.cops_tie.specs.Outcomes.{AreOutcomes, IsFrontOf, IsOutcome, IsSeenAs, IsStop, event_for};
 
 use crate::outcome::ClientOutcome;
@@ -83,10 +83,18 @@ fn is_seen_as(op: &ScriptOp, seen: &OpRef<'_>) -> bool
             ScriptOp::Put { key, value },
             OpRef::Put {
                 key: k,
-                value: v,
+                value: Some(v),
                 ..
             },
         ) => k.is(key) && v.is(value),
+        (
+            ScriptOp::Del { key },
+            OpRef::Put {
+                key: k,
+                value: None,
+                ..
+            },
+        ) => k.is(key),
         (ScriptOp::Get { key }, OpRef::Got { key: k, .. }) => k.is(key),
         (ScriptOp::Get { key }, OpRef::Missed { key: k }) => k.is(key),
         _ => false,
@@ -124,7 +132,7 @@ fn is_refused(
     refused: Refusal,
 ) -> Result<bool, Memory>
     requires { refused ≢ OutOfMemory }
-    ensures is { IfOk result (λ is. IsTrue is ↔ ((happens world.old.setting world.old.world (event_for client op.now)).0 ≡ Refused refused)) }
+    ensures is { IfOk result (λ is. IsTrue is ↔ ((happens world.old.setting world.old.world (act_of (event_for client op.now))).0 ≡ Refused refused)) }
     ensures stays { IfOk result (λ is. IsTrue is → world.new ≡ world.old) }
 {
     let event = event_for(client, op)?;
@@ -134,7 +142,7 @@ fn is_refused(
 /// The same of an event.
 fn is_event_refused(world: &mut World, event: &Event, refused: Refusal) -> Result<bool, Memory>
     requires { refused ≢ OutOfMemory }
-    ensures is { IfOk result (λ is. IsTrue is ↔ ((happens world.old.setting world.old.world event.now).0 ≡ Refused refused)) }
+    ensures is { IfOk result (λ is. IsTrue is ↔ ((happens world.old.setting world.old.world (act_of event.now)).0 ≡ Refused refused)) }
     ensures stays { IfOk result (λ is. IsTrue is → world.new ≡ world.old) }
 {
     every_interleaving_is_accepted();
@@ -157,6 +165,10 @@ fn event_for(client: u16, op: &ScriptOp) -> Result<Event, AllocError>
             client,
             key: key.clone()?,
             value: value.clone()?,
+        },
+        ScriptOp::Del { key } => Event::Del {
+            client,
+            key: key.clone()?,
         },
         ScriptOp::Get { key } => Event::Get {
             client,

@@ -1,6 +1,6 @@
 //! Whether the entries of all books are one run of the world in which the clients saw what a trace says.
 ghost use Rattle.std.specs.Prelude.{◌≡◌, ◌<◌, ◌≤◌, ◌*◌, ◌+◌, ◌∷◌, ◌↔◌, [], List, drop, slice_index_or, AllPairs, length, map, IfOk, IfErr, IfSome, IfNone, IsTrue, OnOk, Some};
-ghost use Rattle.cops_core.specs.World.{Happens, World as AWorld, context_in, opening, sent};
+ghost use Rattle.cops_core.specs.World.{Happens, World as AWorld, act_of, context_in, opening, sent};
 ghost use Rattle.cops_types.specs.Histories.{op_at};
 ghost use Rattle.cops_types.specs.Verdicts.{HasAcceptedVerdict};
 ghost use Rattle.cops_trace.specs.Text.{sessions_of};
@@ -28,8 +28,9 @@ pub struct TiedRun {
 
 /// The world's events of a run whose books these are: `Untied` where the entries of all books, in order of their
 /// tickets, are no run of a world of this setting, or one whose clients saw something else than the trace says. Each
-/// entry of a put has to have its client's context, each delivered put has to be the issued one, and each entry has to
-/// stand with the node that the world asks. The condition: there is one book for each node, in order of node numbers.
+/// entry of a put or a deletion has to have its client's context, each delivered put has to be the issued one, and each
+/// entry has to stand with the node that the world asks. The condition: there is one book for each node, in order of
+/// node numbers.
 pub fn tie(
     alloc: Global,
     setting: &Setting,
@@ -183,8 +184,8 @@ fn continued(
 /// Whether the world answers the event so, which it then has met.
 fn is_answered(world: &mut World, event: &Event, answer: &Outcome) -> Result<bool, Memory>
     ensures setting { world.new.setting ≡ world.old.setting }
-    ensures yes { IfOk result (λ is. IsTrue is → Happens world.old.setting world.old.world event.now answer.now world.new.world) }
-    ensures no { IfOk result (λ is. ¬ IsTrue is → (mid : AWorld) → Happens world.old.setting world.old.world event.now answer.now mid → ⊥) }
+    ensures yes { IfOk result (λ is. IsTrue is → Happens world.old.setting world.old.world (act_of event.now) answer.now world.new.world) }
+    ensures no { IfOk result (λ is. ¬ IsTrue is → (mid : AWorld) → Happens world.old.setting world.old.world (act_of event.now) answer.now mid → ⊥) }
 {
     if answer.is_memory() {
         return Ok(true);
@@ -212,6 +213,7 @@ fn place_of_event(setting: &Setting, event: &NodeEvent) -> u8
 {
     match event {
         NodeEvent::Put { key, .. } => setting.primary(key),
+        NodeEvent::Del { key, .. } => setting.primary(key),
         NodeEvent::Get { key, .. } => setting.primary(key),
         NodeEvent::Deliver(put) => setting.primary(&put.key),
         NodeEvent::Ask { key, .. } => setting.primary(key),
@@ -225,16 +227,28 @@ fn is_told(setting: &Setting, world: &World, dc: u8, event: &NodeEvent) -> Resul
     ensures { IfOk result (λ is. IsTrue is ↔ IsFrom setting.now world.now.world dc event.now) }
 {
     match event {
-        NodeEvent::Put { client, deps, .. } => {
-            if !is_home(setting, dc, *client) {
-                return Ok(false);
-            }
-            has_context(world, *client, deps)
-        }
+        NodeEvent::Put { client, deps, .. } => is_own(setting, world, dc, *client, deps),
+        NodeEvent::Del { client, deps, .. } => is_own(setting, world, dc, *client, deps),
         NodeEvent::Get { client, .. } => Ok(is_home(setting, dc, *client)),
         NodeEvent::Deliver(put) => Ok(is_sent(world, put)),
         NodeEvent::Ask { .. } | NodeEvent::Mark { .. } | NodeEvent::Settle { .. } => Ok(true),
     }
+}
+
+/// Whether it is the client's data centre, and these are the pairs of its context.
+fn is_own(
+    setting: &Setting,
+    world: &World,
+    dc: u8,
+    client: u16,
+    deps: &Deps,
+) -> Result<bool, Memory>
+    ensures { IfOk result (λ is. IsTrue is ↔ (IsHomeOf setting.now dc client × (deps.now ≡ context_in world.now.world client))) }
+{
+    if !is_home(setting, dc, client) {
+        return Ok(false);
+    }
+    has_context(world, client, deps)
 }
 
 /// Whether it is the client's data centre.
@@ -279,6 +293,10 @@ fn world_event(dc: u8, event: &NodeEvent) -> Result<Event, AllocError>
             client: *client,
             key: key.clone()?,
             value: value.clone()?,
+        },
+        NodeEvent::Del { client, key, .. } => Event::Del {
+            client: *client,
+            key: key.clone()?,
         },
         NodeEvent::Get { client, key } => Event::Get {
             client: *client,

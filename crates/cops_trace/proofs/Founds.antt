@@ -20,12 +20,14 @@ use Rattle.cops_trace.specs.declared.found.Item.{Item}
 use Rattle.cops_trace.specs.declared.found.Item.TheVariants.{Head, Op as Entry, End}
 use Rattle.cops_trace.specs.declared.found.Found.{Found}
 use Rattle.cops_trace.specs.declared.found.Found.TheVariants.{Gives}
-use Rattle.cops_trace.specs.Text.{ATrace}
+use Rattle.cops_trace.specs.Text.{ATrace, turn}
 use Rattle.cops_trace.specs.Counts.{ACounts, AreCountsOf, progress_from}
 use Rattle.cops_trace.specs.Next.{FrameIs, Progress, Stands, format_next, found_among, found_in, later_message, record_found, unread}
 use Rattle.cops_trace.specs.Parsing.{progress_with, IsBegunAs, ItemHasRoom}
 use Rattle.cops_trace.specs.Reading.{ItemHasTurn}
-use Rattle.cops_trace.proofs.Items.{given, record_means}
+use Rattle.cops_types.specs.Operations.{operation_of}
+use Rattle.cops_trace.proofs.Growth.{op_in_format}
+use Rattle.cops_trace.proofs.Items.{given, op_fits, record_means, stood}
 
 fault_answer : (f : WireFault) (P : Result (Parts × ℕ) WireFault → Type 0) → f ≢ wire.Memory → Answers (Err f) P → P (Err f)
 fault_answer wire.Memory P ne h = absurd (ne refl)
@@ -80,7 +82,9 @@ stands_after at (Some t) None rest found h s = absurd h
 pub item_room : (at : ℕ) (b : Option ATrace) (rest : List ℕ) (i : Item) (used : ℕ) → Stands (option_map (progress_with at) b) rest (Gives i used) → ItemHasRoom i b
 item_room at b rest (Head format clients) used s = tt
 item_room at None rest (Entry client op) used s = (given None s.frame (Entry client op) used s.found_is).0
-item_room at (Some t) rest (Entry client op) used s = (given (Some (progress_with at t)) s.frame (Entry client op) used s.found_is).0
+item_room at (Some t) rest (Entry client op) used s =
+    let p = Some (progress_with at t) in
+    ((given p s.frame (Entry client op) used s.found_is).0, op_in_format t.format (operation_of op) (op_fits t.format client (turn client t.records) (operation_of op) (stood p rest (Entry client op) used s).legal))
 item_room at b rest End used s = tt
 
 pub item_turn : (at : ℕ) (b : Option ACounts) (rest : List ℕ) (i : Item) (used : ℕ) → Stands (option_map (progress_from at) b) rest (Gives i used) → ItemHasTurn i b

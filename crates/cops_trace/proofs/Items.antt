@@ -6,7 +6,7 @@ use Rattle.std.proofs.lemmas.List.{length-append}
 use Rattle.cops_types.specs.declared.limits.TheConstants.{MAX_CLIENT_OPS, MAX_OPS}
 use Rattle.cops_types.specs.Format.{format_of_number, longest_body, most_value, number_of}
 use Rattle.cops_types.specs.declared.format.Format.{Format}
-use Rattle.cops_types.specs.declared.format.Format.TheVariants.{One}
+use Rattle.cops_types.specs.declared.format.Format.TheVariants.{One, Two}
 use Rattle.cops_types.proofs.Formats.{number_again, number_is}
 use Rattle.cops_wire.specs.declared.fault.WireFault.{WireFault}
 use Rattle.cops_wire.specs.declared.fault.WireFault.TheVariants as wire
@@ -19,7 +19,7 @@ use Rattle.cops_wire.specs.Answer.{IsAnswer, IsBytes, IsShort}
 use Rattle.cops_wire.specs.Grammar.{grammar, Parts, spelling}
 use Rattle.cops_wire.specs.Legal.{IsMessage}
 use Rattle.cops_wire.specs.Message.{parts, spelled}
-use Rattle.cops_wire.proofs.Messages.{parts-same}
+use Rattle.cops_wire.proofs.Messages.{first-in-second, parts-same}
 use Rattle.cops_wire.proofs.Codec.{same_answer, spelling_answered, answer_splits, spelling_bounds}
 use Rattle.cops_wire.proofs.Frames.{answer_stays}
 use Rattle.cops_types.specs.Histories.{Operation, write, read, missed}
@@ -144,7 +144,8 @@ one_item p i j h k e =
 -- an encoding in a format is the one encoding of its message
 pub spelled_in : (format : Format) (m : Message) → IsMessage (grammar format) (parts m) → spelling (grammar format) (parts m) ≡ spelled m
 unfolding spelled
-spelled_in One m legal = refl
+spelled_in One m legal = sym (first-in-second m legal).1
+spelled_in Two m legal = refl
 
 -- the item's message is legal in the format that is read next
 abbrev pub IsLegalItem : Option Progress → Item → Type 0
@@ -256,7 +257,7 @@ waits_short (Some p) (Err x) e = ap (λ (y : WireFault). Err y) (unread_waits p.
 
 -- the most bytes of a frame of any format
 pub frame_most : (format : Format) → 4 + longest_body format ≤ 32772
-frame_most One = omega arith
+frame_most format = omega arith
 
 short_len : (format : Format) (rest : List ℕ) → IsShort (grammar format) rest → length rest ≤ 32772
 short_len format rest (inl h) = omega arith
@@ -352,19 +353,23 @@ pub op_fits : (format : Format) (c i : ℕ) (op : Operation) → IsMessage (gram
 op_fits format c i (write key (Some value) version) h = ((omega (arith, h.1.1.0.1), h.1.1.0.2), h.1.1.1.0.2, h.1.1.1.1.0)
 op_fits format c i (read key (Some value) version) h = ((omega (arith, h.1.1.0.1), h.1.1.0.2), h.1.1.1.0.2, h.1.1.1.1.0)
 op_fits format c i (missed key) h = (omega (arith, h.1.1.0.1), h.1.1.0.2)
-op_fits format c i (write key None version) h = absurd (omega (arith, h.1.1.0.1))
-op_fits format c i (read key None version) h = absurd (omega (arith, h.1.1.0.1))
+op_fits One c i (write key None version) h = absurd h
+op_fits One c i (read key None version) h = absurd h
+op_fits Two c i (write key None version) h = ((omega (arith, h.1.1.0.1), h.1.1.0.2), tt, h.1.1.1.0)
+op_fits Two c i (read key None version) h = ((omega (arith, h.1.1.0.1), h.1.1.0.2), tt, h.1.1.1.0)
 
 -- a value's length has two bytes
 value_most : (format : Format) → most_value format < 65536
-value_most One = omega arith
+value_most format = omega arith
 
 pub op_legal : (format : Format) (c i : ℕ) (op : Operation) → c < 2 ^ 16 → i < 2 ^ 32 → IsOp format op → IsMessage (grammar format) (parts (record_message c i op))
 op_legal format c i (write key (Some value) version) cl il h = (cl, (il, ((omega (arith, h.0.1), omega (arith, h.0.0), h.0.1), ((omega (arith, h.1, value_most format), omega arith, h.1), (h.2, tt)))))
 op_legal format c i (read key (Some value) version) cl il h = (cl, (il, ((omega (arith, h.0.1), omega (arith, h.0.0), h.0.1), ((omega (arith, h.1, value_most format), omega arith, h.1), (h.2, tt)))))
 op_legal format c i (missed key) cl il h = (cl, (il, ((omega (arith, h.1), omega (arith, h.0), h.1), tt)))
-op_legal format c i (write key None version) cl il h = absurd h
-op_legal format c i (read key None version) cl il h = absurd h
+op_legal One c i (write key None version) cl il h = absurd h.1
+op_legal One c i (read key None version) cl il h = absurd h.1
+op_legal Two c i (write key None version) cl il h = (cl, (il, ((omega (arith, h.0.1), omega (arith, h.0.0), h.0.1), (h.2, tt))))
+op_legal Two c i (read key None version) cl il h = (cl, (il, ((omega (arith, h.0.1), omega (arith, h.0.0), h.0.1), (h.2, tt))))
 
 pub front_with : (b : Option ATrace) (i : Item) → Allows (progress_at b) i → is_end i ≡ false → front (with_item i b) ≡ front b ++ spelled (item_message (progress_at b) i)
 front_with None (Head format clients) h k = beginning-none format clients

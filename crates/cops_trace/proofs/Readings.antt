@@ -5,12 +5,12 @@ use Rattle.std.proofs.lemmas.Bool.{ne_eqb}
 use Rattle.std.proofs.lemmas.List.{length-append, append-nil}
 use Rattle.std.specs.List.{AllByRecursion}
 use Rattle.cops_types.specs.declared.op.Op.{Op}
-use Rattle.cops_types.specs.declared.op.Op.TheVariants.{Put, Got, Missed}
+use Rattle.cops_types.specs.declared.op.Op.TheVariants.{Put, Del, Got, Gone, Missed}
 use Rattle.cops_types.specs.Histories.{Operation, write, read, missed}
 use Rattle.cops_types.specs.Operations.{operation_of}
 use Rattle.cops_types.specs.declared.limits.TheConstants.{MAX_CLIENT_OPS, MAX_OPS}
 use Rattle.cops_types.specs.declared.format.Format.{Format}
-use Rattle.cops_types.specs.declared.format.Format.TheVariants.{One}
+use Rattle.cops_types.specs.declared.format.Format.TheVariants.{One, Two}
 use Rattle.cops_wire.specs.Grammar.{grammar}
 use Rattle.cops_wire.specs.Legal.{IsMessage}
 use Rattle.cops_wire.specs.declared.message.Message.{Message}
@@ -95,16 +95,16 @@ same_items b (i ∷ is) (j ∷ js) x y h k s t e =
 op_of : Operation → Op
 op_of (write key (Some value) version) = Put key value version
 op_of (read key (Some value) version) = Got key value version
-op_of (write key None version) = Missed key
-op_of (read key None version) = Missed key
+op_of (write key None version) = Del key version
+op_of (read key None version) = Gone key version
 op_of (missed key) = Missed key
 
 op_is : (format : Format) (op : Operation) → IsOp format op → op ≡ operation_of (op_of op)
 unfolding op_of
 op_is format (write key (Some value) version) h = refl
 op_is format (read key (Some value) version) h = refl
-op_is format (write key None version) h = absurd h
-op_is format (read key None version) h = absurd h
+op_is format (write key None version) h = refl
+op_is format (read key None version) h = refl
 op_is format (missed key) h = refl
 
 abbrev entries : List ARecord → List Item
@@ -147,6 +147,7 @@ entries_after f c earlier (r ∷ rs) named =
 
 head_legal : (format : Format) (clients : ℕ) → clients < 2 ^ 16 → IsLegalItem None (Head format clients)
 head_legal One clients few = (omega arith, (few, tt))
+head_legal Two clients few = (omega arith, (few, tt))
 
 pub end_legal : (t : ATrace) → IsTrace t → IsLegalItem (Some (progress_of t)) End
 end_legal t h = (omega (arith, h.all), tt)

@@ -37,10 +37,10 @@ stopped_more r piece (Some e) h = go r.ended h
 
 -- so many frames of a format are far fewer bytes than the greatest number
 frames_most : (format : Format) (frames at : ℕ) → frames ≤ MAX_OPS + 2 → at ≤ (4 + longest_body format) * frames → at ≤ 524352065544
-frames_most One frames at few h = omega (arith, few, h)
+frames_most format frames at few h = omega (arith, few, h)
 
 frames_more : (format : Format) (frames next at used : ℕ) → next ≡ frames + 1 → at ≤ (4 + longest_body format) * frames → used ≤ 4 + longest_body format → at + used ≤ (4 + longest_body format) * next
-frames_more One frames next at used one h fits = omega (arith, one, h, fits)
+frames_more format frames next at used one h fits = omega (arith, one, h, fits)
 
 -- the place stays far below the greatest number
 pub within_reach : (c : Option ACounts) (e : Bool) (at : ℕ) → IsWithinReach c e at → at ≤ 524352065544
@@ -50,7 +50,7 @@ within_reach (Some c) true at h = frames_most c.format (c.total + 2) at (omega (
 
 -- and is within reach after an item
 pub reach_after : (at used : ℕ) (c : Option ACounts) (i : Item) → let p = option_map (progress_from at) c in Allows p i → IsWithinReach c false at → used ≤ 4 + longest_body (format_next p) → IsWithinReach (counts_with i c) (is_end i) (at + used)
-reach_after at used None (Head One clients) allowed h fits = (omega arith, omega (arith, h.0, fits))
+reach_after at used None (Head format clients) allowed h fits = (omega arith, omega (arith, h.0, fits))
 reach_after at used None (Entry client op) allowed h fits = absurd allowed
 reach_after at used None End allowed h fits = absurd allowed
 reach_after at used (Some c) (Head format clients) allowed h fits = absurd allowed

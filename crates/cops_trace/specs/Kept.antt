@@ -2,6 +2,7 @@
 use Rattle.std.specs.Prelude.{◌≡◌, ℕ, ◌<◌, ◌==◌, List, [], ◌∷◌, ◌++◌, length, count_by, slice_index_or}
 use Rattle.cops_types.specs.declared.format.Format.{Format}
 use Rattle.cops_types.specs.declared.limits.TheConstants.{MAX_CLIENT_OPS, MAX_OPS}
+use Rattle.cops_types.specs.Format.{IsInFormat}
 use Rattle.cops_types.specs.Histories.{Sessions, Operation, missed}
 use Rattle.cops_trace.specs.Text.{ARecord, ATrace, IsTrace, sessions_of, turn}
 
@@ -34,3 +35,7 @@ IsFull t client = (turn client t.records < MAX_CLIENT_OPS × length t.records < 
 -- the client may have one more record
 abbrev pub MayGrow : ATrace → ℕ → Type 0
 MayGrow t client = (client < t.clients) × (turn client t.records < MAX_CLIENT_OPS) × (length t.records < MAX_OPS)
+
+-- it may have this one: the operation is in the trace's format too
+abbrev pub MayHave : ATrace → ARecord → Type 0
+MayHave t r = MayGrow t r.client × IsInFormat t.format r.op

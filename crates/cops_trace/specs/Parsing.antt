@@ -9,7 +9,7 @@ use Rattle.cops_trace.specs.declared.found.Item.TheVariants.{Head, Op as Entry, 
 use Rattle.cops_trace.specs.declared.found.Found.TheVariants.{Gives, Waits, Fails}
 use Rattle.cops_trace.specs.Text.{ATrace, IsTrace, turn, text}
 use Rattle.cops_trace.specs.Answer.{Begins, front, HasFault}
-use Rattle.cops_trace.specs.Kept.{MayGrow, grown}
+use Rattle.cops_trace.specs.Kept.{MayHave, grown}
 use Rattle.cops_trace.specs.Counts.{ACounts, AreCountsOf}
 use Rattle.cops_trace.specs.Next.{Progress, Stands}
 use Rattle.cops_trace.specs.Reading.{Reading}
@@ -44,7 +44,7 @@ after item used s = record { begun = with_item item s.begun; at = s.at + used; e
 abbrev pub ItemHasRoom : Item → Option ATrace → Type 0
 ItemHasRoom (Head format clients) begun = Unit {0}
 ItemHasRoom (Entry client op) None = ⊥
-ItemHasRoom (Entry client op) (Some t) = MayGrow t client
+ItemHasRoom (Entry client op) (Some t) = MayHave t (record { client = client; op = operation_of op })
 ItemHasRoom End begun = Unit {0}
 
 -- the counts are those of the trace that was begun

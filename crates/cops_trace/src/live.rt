@@ -4,7 +4,7 @@ use crate::record::Record;
 use crate::trace::{Trace, legal};
 use crate::writer::{TraceWriter, Unwritten};
 use crate::writing::text_of;
-use cops_types::{Counted, write_text};
+use cops_types::{Counted, Format, write_text};
 use std::alloc::Global;
 use std::io::Write;
 use std::snapshot::Snapshot;
@@ -29,19 +29,27 @@ impl<W: Write> LiveTrace<W> {
     ghost use Rattle.std.specs.Prelude.{◌≡◌, ◌↔◌, ◌++◌, ℕ, [], ◌∷◌, IfErr, IfOk, IsTrue};
     ghost use Rattle.std.specs.Io.KnownBytes.{Appends};
     ghost use Rattle.cops_types.specs.Counted.{failures, inner};
+    ghost use Rattle.cops_types.specs.Format.{IsInFormat};
+    ghost use Rattle.cops_types.specs.Operations.{operation_of};
     ghost use Rattle.cops_trace.specs.Counts.{HasTurn};
     ghost use Rattle.cops_trace.specs.Live.{Gains, HasBegun, IsCutBy, IsCutShort, IsEndedBy, IsFrontOf, IsHeardBy, IsLeftBy, IsLive};
     ghost use Rattle.cops_trace.specs.Text.{record_of, text};
 
-    /// Writes the head of the first format and so many clients. Where it is not written, the writer comes back.
-    pub fn new(alloc: Global, writer: Counted<W>, clients: u16) -> Result<Self, Unwritten<W>>
+    /// Writes the head of a format and so many clients. Where it is not written, the writer comes back.
+    pub fn new(
+        format: Format,
+        alloc: Global,
+        writer: Counted<W>,
+        clients: u16,
+    ) -> Result<Self, Unwritten<W>>
         ensures begun { IfOk result (λ l. l.begun.value ≡ writer) }
+        ensures format { IfOk result (λ l. l.writer.counts.format ≡ format) }
         ensures live { IfOk result (IsLive W.contents) }
         ensures err { IfErr result (λ u. IsCutBy u.fault (W.contents (inner writer)) (W.contents (inner u.writer))) }
         ensures heard { IfErr result (λ u. IsHeardBy u.fault (failures writer) (failures u.writer)) }
     {
         let begun = Snapshot::of(&writer);
-        match TraceWriter::new(alloc, writer, clients) {
+        match TraceWriter::new(format, alloc, writer, clients) {
             Ok(writer) => LiveTrace::kept(writer, Vec::new(alloc), begun),
             Err(unwritten) => Err(unwritten),
         }
@@ -71,6 +79,13 @@ impl<W: Write> LiveTrace<W> {
         }
     }
 
+    /// The format that the head names.
+    pub fn format(&self) -> Format
+        ensures { result ≡ self.now.writer.counts.format }
+    {
+        self.writer.format()
+    }
+
     /// How many records were written.
     pub fn len(&self) -> usize
         ensures { result ≡ self.now.writer.counts.total }
@@ -85,11 +100,14 @@ impl<W: Write> LiveTrace<W> {
         self.writer.has_turn(client)
     }
 
-    /// Writes the next record, whose client may have one more. Where it is not written, the writer comes back.
+    /// Writes the next record, an operation of the format, whose client may have one more. Where it is not written, the
+    /// writer comes back.
     pub fn add(self, next: &Record) -> Result<Self, Unwritten<W>>
         requires live { IsLive W.contents self }
         requires turn { HasTurn self.writer.counts next.now.client }
+        requires format { IsInFormat self.writer.counts.format (operation_of next.now.op) }
         ensures begun { IfOk result (λ l. l.begun ≡ self.begun) }
+        ensures format { IfOk result (λ l. l.writer.counts.format ≡ self.writer.counts.format) }
         ensures live { IfOk result (IsLive W.contents) }
         ensures gains { IfOk result (Gains (record_of next.now ∷ []) self) }
         ensures err { IfErr result (λ u. IsCutBy u.fault (W.contents (inner self.begun.value)) (W.contents (inner u.writer))) }
@@ -100,7 +118,7 @@ impl<W: Write> LiveTrace<W> {
             text,
             begun,
         } = self;
-        legal(&next.op.as_ref());
+        legal(writer.format(), &next.op.as_ref());
         match writer.op(next.client, &next.op) {
             Ok(()) => LiveTrace::kept(writer, text, begun),
             Err(fault) => Err(writer.give_up(fault)),

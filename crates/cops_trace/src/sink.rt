@@ -9,7 +9,7 @@ use std::alloc::Global;
 pub trait Sink: Drop {
     ghost use Rattle.std.specs.Prelude.{[], IfOk, OnOk};
     ghost use Rattle.cops_trace.specs.Text.{ATrace};
-    ghost use Rattle.cops_trace.specs.Kept.{MayGrow, grown};
+    ghost use Rattle.cops_trace.specs.Kept.{MayHave, grown};
     ghost use Rattle.cops_types.specs.OpViews.{viewed};
 
     /// Whether it took the head and the records of this trace, and no more.
@@ -19,9 +19,9 @@ pub trait Sink: Drop {
     fn begin(format: Format, alloc: Global, clients: u16) -> Result<Self, Memory>
         ensures { IfOk result (λ sink. took sink (record { format = format; clients = clients; records = [] })) };
 
-    /// Takes a record: a client's next operation, which is seen where its bytes lie.
+    /// Takes a record: a client's next operation, which is of the head's format and is seen where its bytes lie.
     fn take(&mut self, client: u16, op: &OpView<'_>) -> Result<(), Memory>
-        requires { (t : ATrace) × took self.old t × MayGrow t client }
+        requires { (t : ATrace) × took self.old t × MayHave t (record { client = client; op = viewed op.now }) }
         ensures { (t : ATrace) → took self.old t → OnOk result (took self.new (grown t (record { client = client; op = viewed op.now }))) };
 
     /// Whether it is of use to foresee operations.

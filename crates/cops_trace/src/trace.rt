@@ -1,12 +1,13 @@
-ghost use Rattle.std.specs.Prelude.{◌≡◌, ◌++◌, IfOk, OnOk};
+ghost use Rattle.std.specs.Prelude.{◌≡◌, ◌++◌, IfOk, OnOk, option_copied};
 ghost use Rattle.cops_types.specs.declared.format.Format.TheVariants.{One};
+ghost use Rattle.cops_types.specs.Format.{Fits, IsInFormat};
 ghost use Rattle.cops_types.specs.OpRefs.{seen};
 ghost use Rattle.cops_types.specs.OpViews.{viewed};
 ghost use Rattle.cops_wire.specs.Message.{spelled};
 ghost use Rattle.cops_wire.specs.Records.{record_message};
-ghost use Rattle.cops_trace.specs.Text.{IsOp};
+ghost use Rattle.cops_trace.specs.Text.{IsContent, IsOp};
 
-use cops_types::{Format, History, Memory, Op, OpName, OpRef, OpView, TypeFault};
+use cops_types::{Format, History, Memory, Op, OpName, OpRef, OpView, TypeFault, Value};
 use cops_wire::{encode, record_message};
 use std::alloc::Global;
 use std::marker::Model;
@@ -39,7 +40,7 @@ impl Trace {
     ghost use Rattle.cops_types.specs.OpViews.{viewed};
     ghost use Rattle.cops_types.specs.Operations.{operation_of};
 
-    /// A trace of the first format and of so many clients, without operations.
+    /// A trace of format 1 and of so many clients, without operations.
     pub fn new(alloc: Global, clients: u16) -> Result<Self, Memory>
         ensures { IfOk result (λ trace. trace ≡ record { format = One; clients = clients; records = [] }) }
     {
@@ -47,7 +48,7 @@ impl Trace {
     }
 
     /// A trace of a format and of so many clients, without operations.
-    pub(crate) fn new_in(format: Format, alloc: Global, clients: u16) -> Result<Self, Memory>
+    pub fn new_in(format: Format, alloc: Global, clients: u16) -> Result<Self, Memory>
         ensures { IfOk result (λ trace. trace ≡ record { format = format; clients = clients; records = [] }) }
     {
         let history = History::new(alloc, clients)?;
@@ -59,15 +60,16 @@ impl Trace {
     }
 
     /// The format.
-    pub(crate) fn format(&self) -> Format
+    pub fn format(&self) -> Format
         ensures { result ≡ self.now.format }
     {
         self.format
     }
 
-    /// Adds an operation: `UnknownClient` where there is no such client, then `TooManyOps` where the client has
-    /// 1,000,000 operations or there are 16,000,000. A fault changes nothing.
+    /// Adds an operation of the trace's format: `UnknownClient` where there is no such client, then `TooManyOps` where
+    /// the client has 1,000,000 operations or there are 16,000,000. A fault changes nothing.
     pub fn push(&mut self, client: u16, op: Op) -> Result<(), TypeFault>
+        requires { IsInFormat self.old.format (operation_of op) }
         ensures ok { OnOk result (self.new ≡ grown self.old (record { client = client; op = operation_of op })) }
         ensures err { OnErr result (self.new ≡ self.old) }
         ensures unknown { IsErrOf result TypeFault.UnknownClient ↔ (self.old.clients ≤ client) }
@@ -76,7 +78,7 @@ impl Trace {
     {
         self.history.reserve(client)?;
         self.arrivals.reserve(1)?;
-        legal(&op.as_ref());
+        legal(self.format, &op.as_ref());
         self.history.push(client, op)?;
         self.arrivals.push_reserved(client);
         Ok(())
@@ -84,6 +86,7 @@ impl Trace {
 
     /// The same with an operation that is seen: what of it is new is copied.
     pub(crate) fn push_seen(&mut self, client: u16, op: &OpView<'_>) -> Result<(), TypeFault>
+        requires { IsInFormat self.old.format (viewed op.now) }
         ensures ok { OnOk result (self.new ≡ grown self.old (record { client = client; op = viewed op.now })) }
         ensures err { OnErr result (self.new ≡ self.old) }
         ensures unknown { IsErrOf result TypeFault.UnknownClient ↔ (self.old.clients ≤ client) }
@@ -92,7 +95,7 @@ impl Trace {
     {
         self.history.reserve(client)?;
         self.arrivals.reserve(1)?;
-        legal_view(op);
+        legal_view(self.format, op);
         match self.history.push_seen(client, op) {
             Ok(()) => {}
             Err(Memory) => return Err(TypeFault::Memory),
@@ -194,9 +197,10 @@ pub(crate) fn append_record(
     appended
 }
 
-/// An operation has an encoding in the first format: its key, value and version are within their ranges.
-pub(crate) fn legal(op: &OpRef<'_>)
-    ensures { IsOp One (seen op.now) }
+/// An operation of a format has an encoding in it: its key, value and version are within their ranges.
+pub(crate) fn legal(format: Format, op: &OpRef<'_>)
+    requires { IsInFormat format (seen op.now) }
+    ensures { IsOp format (seen op.now) }
 {
     match op {
         OpRef::Put {
@@ -210,7 +214,7 @@ pub(crate) fn legal(op: &OpRef<'_>)
             version,
         } => {
             let _key = key.as_bytes();
-            let _value = value.as_bytes();
+            legal_content(format, *value);
             let _version = version.as_u64();
         }
         OpRef::Missed { key } => {
@@ -219,9 +223,20 @@ pub(crate) fn legal(op: &OpRef<'_>)
     }
 }
 
+/// What a put may write in a format has an encoding in it.
+fn legal_content(_format: Format, content: Option<&Value>)
+    requires { Fits _format (option_copied content) }
+    ensures { IsContent _format (option_copied content.entry) }
+{
+    if let Some(value) = content {
+        let _bytes = value.as_bytes();
+    }
+}
+
 /// The same of an operation that is seen.
-fn legal_view(op: &OpView<'_>)
-    ensures { IsOp One (viewed op.now) }
+fn legal_view(_format: Format, op: &OpView<'_>)
+    requires { IsInFormat _format (viewed op.now) }
+    ensures { IsOp _format (viewed op.now) }
 {
     match op {
         OpView::Put {
@@ -236,6 +251,10 @@ fn legal_view(op: &OpView<'_>)
         } => {
             let _key = key.as_bytes();
             let _value = value.as_bytes();
+            let _version = version.as_u64();
+        }
+        OpView::Del { key, version } | OpView::Gone { key, version } => {
+            let _key = key.as_bytes();
             let _version = version.as_u64();
         }
         OpView::Missed { key } => {

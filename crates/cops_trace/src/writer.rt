@@ -32,23 +32,28 @@ impl<W: Write> TraceWriter<W> {
     ghost use Rattle.cops_types.specs.Failures.{Failed};
     ghost use Rattle.cops_types.specs.Operations.{operation_of};
     ghost use Rattle.cops_types.specs.Counted.{failures, inner};
-    ghost use Rattle.cops_types.specs.declared.format.Format.TheVariants.{One};
+    ghost use Rattle.cops_types.specs.Format.{IsInFormat};
     ghost use Rattle.cops_wire.specs.Legal.{IsLegalMessage};
     ghost use Rattle.cops_wire.specs.Message.{spelled};
     ghost use Rattle.cops_trace.specs.Counts.{HasTurn, counted, nothing};
     ghost use Rattle.cops_trace.specs.Writing.{IsUnwritten, end_frame, head_frame, more_written, record_frame};
 
-    /// Writes the head of the first format and so many clients. Where it is not written, the writer comes back.
-    pub fn new(alloc: Global, writer: Counted<W>, clients: u16) -> Result<Self, Unwritten<W>>
-        ensures ok { IfOk result (λ w. Appends (W.contents (inner writer)) (W.contents (inner w.writer)) (head_frame One clients)) }
-        ensures counts { IfOk result (λ w. (w.counts ≡ nothing One clients) × (w.written ≡ more_written 0 (length (head_frame One clients)))) }
+    /// Writes the head of a format and so many clients. Where it is not written, the writer comes back.
+    pub fn new(
+        format: Format,
+        alloc: Global,
+        writer: Counted<W>,
+        clients: u16,
+    ) -> Result<Self, Unwritten<W>>
+        ensures ok { IfOk result (λ w. Appends (W.contents (inner writer)) (W.contents (inner w.writer)) (head_frame format clients)) }
+        ensures counts { IfOk result (λ w. (w.counts ≡ nothing format clients) × (w.written ≡ more_written 0 (length (head_frame format clients)))) }
         ensures failed { IfErr result (λ u. u.fault ≢ WriteFault.Memory → Failed (failures writer) (failures u.writer)) }
         ensures heard { IfOk result (λ w. failures w.writer ≡ failures writer) }
         ensures quiet { IfErr result (λ u. u.fault ≡ WriteFault.Memory → failures u.writer ≡ failures writer) }
-        ensures frame { IfOk result (λ w. w.frame.items ≡ head_frame One clients) }
-        ensures err { IfErr result (λ u. IsUnwritten (head_frame One clients) 0 (W.contents (inner writer)) (W.contents (inner u.writer)) u.fault) }
+        ensures frame { IfOk result (λ w. w.frame.items ≡ head_frame format clients) }
+        ensures err { IfErr result (λ u. IsUnwritten (head_frame format clients) 0 (W.contents (inner writer)) (W.contents (inner u.writer)) u.fault) }
     {
-        let Ok(counts) = Counts::new(Format::One, alloc, clients) else {
+        let Ok(counts) = Counts::new(format, alloc, clients) else {
             let fault = WriteFault::Memory;
             return Err(Unwritten { writer, fault });
         };
@@ -68,10 +73,11 @@ impl<W: Write> TraceWriter<W> {
         }
     }
 
-    /// Writes the next record of a client, which is there and has one operation fewer than it may have at least, as
-    /// have all.
+    /// Writes the next record of a client, an operation of the format. The client is there and has one operation fewer
+    /// than it may have at least, as have all.
     pub fn op(&mut self, client: u16, op: &Op) -> Result<(), WriteFault>
-        requires { HasTurn self.old.counts client }
+        requires turn { HasTurn self.old.counts client }
+        requires format { IsInFormat self.old.counts.format (operation_of op.now) }
         ensures ok { OnOk result (Appends (W.contents (inner self.old.writer)) (W.contents (inner self.new.writer)) (record_frame self.old.counts client (operation_of op.now))) }
         ensures counts { OnOk result (self.new.counts ≡ counted self.old.counts client) }
         ensures written { OnOk result (self.new.written ≡ more_written self.old.written (length (record_frame self.old.counts client (operation_of op.now)))) }
@@ -94,6 +100,13 @@ impl<W: Write> TraceWriter<W> {
         ensures { IsTrue result ↔ HasTurn self.now.counts client }
     {
         self.counts.has_turn(client)
+    }
+
+    /// The format that the head names.
+    pub fn format(&self) -> Format
+        ensures { result ≡ self.now.counts.format }
+    {
+        self.counts.format()
     }
 
     /// How many records were written.

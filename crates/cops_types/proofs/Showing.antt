@@ -19,7 +19,7 @@ use Rattle.cops_types.specs.declared.versioned_put.VersionedPut.{VersionedPut}
 use Rattle.cops_types.specs.Entries.{EntryLists, HasValue, ListsEntries, value_in, value_put}
 use Rattle.cops_types.specs.Lists.{item_at, number_at, with_item}
 use Rattle.cops_types.specs.Recorded.{AreNumbered}
-use Rattle.cops_types.specs.Slots.{AreKept, IsFrom, IsThere, get_number_in, get_numbers_in, put_shown, source_shown, got_shown, shown, shown_by, versioned}
+use Rattle.cops_types.specs.Slots.{AreKept, IsFrom, IsThere, get_number_in, get_numbers_in, put_shown, source_shown, got_shown, shown, shown_by, versioned, content_of}
 use Rattle.cops_types.specs.Blocks.{KeptBlocks}
 use Rattle.cops_types.proofs.Sessions.{at_or_other, more_items, none_of}
 use Rattle.cops_types.proofs.Telling.{item_came, item_stays, map-same}
@@ -205,7 +205,7 @@ module _ (puts puts' : List KeptPut) (gets gets' : List KeptGot) (more_puts : Is
 
 module _ (puts : List KeptPut) (gets : List KeptGot) (slots : List (List Slot)) (kept : AreKept puts gets slots) where
   -- a put stands under its name
-  pub put_at : (n : ℕ) (p : KeptPut) → slice_get puts n ≡ Some p → item_at (shown_by puts gets slots) p.name ≡ Some (Put p.key p.value p.version)
+  pub put_at : (n : ℕ) (p : KeptPut) → slice_get puts n ≡ Some p → item_at (shown_by puts gets slots) p.name ≡ Some (Put p.key (content_of p.has_value p.value) p.version)
   put_at n p at = item_at-shown puts gets slots p.name ∙ ap (option_map (shown puts gets)) (kept.named n p at) ∙ ap (λ (o : Option KeptPut). Some (put_shown o)) at
 
   -- a put's number is that of its name
@@ -223,10 +223,10 @@ module _ (puts : List KeptPut) (gets : List KeptGot) (slots : List (List Slot)) 
       ap (item_at slots) same ∙ kept.named n p.0 p.1
 
   -- it stands for a put
-  pub put_of : (name : OpName) (n : ℕ) → item_at slots name ≡ Some (PutSlot n) → (key version : ℕ) × (value : List ℕ) × (item_at (shown_by puts gets slots) name ≡ Some (Put key value version))
+  pub put_of : (name : OpName) (n : ℕ) → item_at slots name ≡ Some (PutSlot n) → (key version : ℕ) × (value : Option (List ℕ)) × (item_at (shown_by puts gets slots) name ≡ Some (Put key value version))
   put_of name n at =
       let p = kept.back name n at in
-      (p.0.key, p.0.version, p.0.value, ap (item_at (shown_by puts gets slots)) (sym p.2) ∙ put_at n p.0 p.1)
+      (p.0.key, p.0.version, content_of p.0.has_value p.0.value, ap (item_at (shown_by puts gets slots)) (sym p.2) ∙ put_at n p.0 p.1)
 
   -- the put that a slot names is there
   pub source_of : (name : OpName) (n : ℕ) → item_at slots name ≡ Some (SourcedSlot n)
@@ -248,7 +248,7 @@ module _ (puts : List KeptPut) (gets : List KeptGot) (slots : List (List Slot)) 
   has_value (GotRef key value version) from = tt
   has_value (SourcedRef key put value version) from =
       let at = put_at put.number from.0 from.1 in
-      let there : item_at (shown_by puts gets slots) put.name ≡ Some (Put from.0.key from.0.value from.0.version) = ap (item_at (shown_by puts gets slots)) (sym from.2) ∙ at in
+      let there : item_at (shown_by puts gets slots) put.name ≡ Some (Put from.0.key (content_of from.0.has_value from.0.value) from.0.version) = ap (item_at (shown_by puts gets slots)) (sym from.2) ∙ at in
       sym from.3 ∙ sym (ap value_in there)
   has_value (MissedRef key) from = tt
 
@@ -262,7 +262,7 @@ module _ (puts : List KeptPut) (gets : List KeptGot) (slots : List (List Slot)) 
       let p = found puts put.number inside in
       let both : Some put.name ≡ Some p.0.name = sym at ∙ slice_get-map (λ (q : KeptPut). q.name) puts put.number ∙ ap (option_map (λ (q : KeptPut). q.name)) p.1 in
       let name : put.name ≡ p.0.name = cc in
-      let there : Some (Put p.0.key p.0.value p.0.version) ≡ Some (Put key (value_put (shown_by puts gets slots) put.name) version) =
+      let there : Some (Put p.0.key (content_of p.0.has_value p.0.value) p.0.version) ≡ Some (Put key (value_put (shown_by puts gets slots) put.name) version) =
       sym (put_at put.number p.0 p.1) ∙ ap (item_at (shown_by puts gets slots)) (sym name) ∙ source in
       let same_key : p.0.key ≡ key = cc in
       let same_version : p.0.version ≡ version = cc in
@@ -274,17 +274,17 @@ names_versioned [] = refl
 names_versioned (p ∷ puts) = ap (λ (l : List OpName). p.name ∷ l) (names_versioned puts)
 
 -- what does not stand for a put
-no_sourced_put : (number : ℕ) (o : Option KeptPut) (key : ℕ) (value : List ℕ) (version : ℕ) → source_shown number o ≡ Put key value version → ⊥
+no_sourced_put : (number : ℕ) (o : Option KeptPut) (key : ℕ) (value : Option (List ℕ)) (version : ℕ) → source_shown number o ≡ Put key value version → ⊥
 no_sourced_put number (Some p) key value version is = cc
 no_sourced_put number None key value version is = cc
 
-no_got_put : (o : Option KeptGot) (key : ℕ) (value : List ℕ) (version : ℕ) → got_shown o ≡ Put key value version → ⊥
+no_got_put : (o : Option KeptGot) (key : ℕ) (value : Option (List ℕ)) (version : ℕ) → got_shown o ≡ Put key value version → ⊥
 no_got_put (Some g) key value version is = cc
 no_got_put None key value version is = cc
 
 module _ (puts : List KeptPut) (gets : List KeptGot) where
   -- what stands for a put is a put's slot
-  slot_of_put : (o : Option Slot) (key : ℕ) (value : List ℕ) (version : ℕ) → option_map (shown puts gets) o ≡ Some (Put key value version) → (n : ℕ) × (o ≡ Some (PutSlot n))
+  slot_of_put : (o : Option Slot) (key : ℕ) (value : Option (List ℕ)) (version : ℕ) → option_map (shown puts gets) o ≡ Some (Put key value version) → (n : ℕ) × (o ≡ Some (PutSlot n))
   slot_of_put None key value version is = cc
   slot_of_put (Some (PutSlot n)) key value version is = (n, refl)
   slot_of_put (Some (SourcedSlot n)) key value version is = let e : source_shown n (slice_get puts n) ≡ Put key value version = cc in absurd (no_sourced_put n (slice_get puts n) key value version e)
@@ -293,7 +293,7 @@ module _ (puts : List KeptPut) (gets : List KeptGot) where
 
   -- where no put's slot is, no put's entry is
   pub no_put_shown : (slots : List (List Slot)) (name : OpName) → ((n : ℕ) → item_at slots name ≡ Some (PutSlot n) → ⊥)
-      → (key version : ℕ) (value : List ℕ) → item_at (shown_by puts gets slots) name ≡ Some (Put key value version) → ⊥
+      → (key version : ℕ) (value : Option (List ℕ)) → item_at (shown_by puts gets slots) name ≡ Some (Put key value version) → ⊥
   no_put_shown slots name none key version value at = let slot = slot_of_put (item_at slots name) key value version (sym (item_at-shown puts gets slots name) ∙ at) in none slot.0 slot.1
 
   module _ (slots : List (List Slot)) (kept : AreKept puts gets slots) where
@@ -308,13 +308,13 @@ module _ (puts : List KeptPut) (gets : List KeptGot) where
             let inside : there.0 < length puts = omega (arith, there.1, length-map puts versioned) in
             let q = found puts there.0 inside in
             let same : versioned q.0 ≡ p = sym (versioned_at there.0 q.0 p q.1) ∙ there.2 in
-            subst (λ (r : VersionedPut). (key : ℕ) × (value : List ℕ) × (item_at (shown_by puts gets slots) r.name ≡ Some (Put key value r.version))) same
-            (q.0.key, q.0.value, put_at puts gets slots kept there.0 q.0 q.1)),
+            subst (λ (r : VersionedPut). (key : ℕ) × (value : Option (List ℕ)) × (item_at (shown_by puts gets slots) r.name ≡ Some (Put key value r.version))) same
+            (q.0.key, content_of q.0.has_value q.0.value, put_at puts gets slots kept there.0 q.0 q.1)),
         (λ there.
             let shown_there = sym (item_at-shown puts gets slots p.name) ∙ there.2 in
             let slot = slot_of_put (item_at slots p.name) there.0 there.1 p.version shown_there in
             let q = kept.back p.name slot.0 slot.1 in
-            let both : Some (Put q.0.key q.0.value q.0.version) ≡ Some (Put there.0 there.1 p.version) =
+            let both : Some (Put q.0.key (content_of q.0.has_value q.0.value) q.0.version) ≡ Some (Put there.0 there.1 p.version) =
             sym (ap (λ (o : Option KeptPut). Some (put_shown o)) q.1) ∙ sym (ap (option_map (shown puts gets)) slot.1) ∙ shown_there in
             let version : q.0.version ≡ p.version = cc in
             let inside : slot.0 < length (map versioned puts) = omega (arith, slice_get_within puts slot.0 q.0 q.1, length-map puts versioned) in
@@ -337,19 +337,19 @@ module _ (puts : List KeptPut) (gets : List KeptGot) (slots : List (List Slot)) 
     pub numbers_put : (n : ℕ) → (number ≡ Some n) ↔ (slice_get (map (λ (p : KeptPut). p.name) puts) n ≡ Some name)
     numbers_put n = ((λ is. named_at puts gets slots kept name n ((tells n).0 is)), (λ at. (tells n).1 (put_named puts gets slots kept name n at)))
 
-    pub number_is_put : IfSome number (λ _. (key version : ℕ) × (value : List ℕ) × (item_at (shown_by puts gets slots) name ≡ Some (Put key value version)))
+    pub number_is_put : IfSome number (λ _. (key version : ℕ) × (value : Option (List ℕ)) × (item_at (shown_by puts gets slots) name ≡ Some (Put key value version)))
     number_is_put = told number (λ n is. put_of puts gets slots kept name n ((tells n).0 is))
       where
-        told : (o : Option ℕ) → ((n : ℕ) → o ≡ Some n → (key version : ℕ) × (value : List ℕ) × (item_at (shown_by puts gets slots) name ≡ Some (Put key value version)))
-            → IfSome o (λ _. (key version : ℕ) × (value : List ℕ) × (item_at (shown_by puts gets slots) name ≡ Some (Put key value version)))
+        told : (o : Option ℕ) → ((n : ℕ) → o ≡ Some n → (key version : ℕ) × (value : Option (List ℕ)) × (item_at (shown_by puts gets slots) name ≡ Some (Put key value version)))
+            → IfSome o (λ _. (key version : ℕ) × (value : Option (List ℕ)) × (item_at (shown_by puts gets slots) name ≡ Some (Put key value version)))
         told (Some n) so = so n refl
         told None so = tt
 
-    pub no_number_no_put : IfNone number ((key version : ℕ) (value : List ℕ) → item_at (shown_by puts gets slots) name ≢ Some (Put key value version))
+    pub no_number_no_put : IfNone number ((key version : ℕ) (value : Option (List ℕ)) → item_at (shown_by puts gets slots) name ≢ Some (Put key value version))
     no_number_no_put = told number (λ none. no_put_shown puts gets slots name (λ n at. let gone : None ≡ Some n = none ∙ (tells n).1 at in cc))
       where
-        told : (o : Option ℕ) → (None ≡ o → (key version : ℕ) (value : List ℕ) → item_at (shown_by puts gets slots) name ≢ Some (Put key value version))
-            → IfNone o ((key version : ℕ) (value : List ℕ) → item_at (shown_by puts gets slots) name ≢ Some (Put key value version))
+        told : (o : Option ℕ) → (None ≡ o → (key version : ℕ) (value : Option (List ℕ)) → item_at (shown_by puts gets slots) name ≢ Some (Put key value version))
+            → IfNone o ((key version : ℕ) (value : Option (List ℕ)) → item_at (shown_by puts gets slots) name ≢ Some (Put key value version))
         told (Some n) so = tt
         told None so = so refl
 
@@ -364,15 +364,15 @@ module _ (puts : List KeptPut) (gets : List KeptGot) (slots : List (List Slot)) 
 abbrev pub entries_of : List KeptGot → List Entry
 entries_of gets = map (λ (g : KeptGot). got_shown (Some g)) gets
 
-got_entry : (o : Option KeptGot) (key version : ℕ) (value : List ℕ) → got_shown o ≡ Got key value version → option_map (λ (g : KeptGot). got_shown (Some g)) o ≡ Some (Got key value version)
+got_entry : (o : Option KeptGot) (key version : ℕ) (value : Option (List ℕ)) → got_shown o ≡ Got key value version → option_map (λ (g : KeptGot). got_shown (Some g)) o ≡ Some (Got key value version)
 got_entry (Some g) key version value is = ap (λ (e : Entry). Some e) is
 got_entry None key version value is = cc
 
-no_put_got : (o : Option KeptPut) (key : ℕ) (value : List ℕ) (version : ℕ) → put_shown o ≡ Got key value version → ⊥
+no_put_got : (o : Option KeptPut) (key : ℕ) (value : Option (List ℕ)) (version : ℕ) → put_shown o ≡ Got key value version → ⊥
 no_put_got (Some p) key value version is = cc
 no_put_got None key value version is = cc
 
-no_sourced_got : (number : ℕ) (o : Option KeptPut) (key : ℕ) (value : List ℕ) (version : ℕ) → source_shown number o ≡ Got key value version → ⊥
+no_sourced_got : (number : ℕ) (o : Option KeptPut) (key : ℕ) (value : Option (List ℕ)) (version : ℕ) → source_shown number o ≡ Got key value version → ⊥
 no_sourced_got number (Some p) key value version is = cc
 no_sourced_got number None key value version is = cc
 
@@ -413,7 +413,7 @@ under_or_at (suc n) (suc m) lt = elim (under_or_at n m (omega (arith, lt))) [ in
 
 module _ (puts : List KeptPut) (gets : List KeptGot) where
   -- what stands for such a get is its slot
-  got_slot_of : (o : Option Slot) (key version : ℕ) (value : List ℕ) → option_map (shown puts gets) o ≡ Some (Got key value version) → (n : ℕ) × (o ≡ Some (GotSlot n))
+  got_slot_of : (o : Option Slot) (key version : ℕ) (value : Option (List ℕ)) → option_map (shown puts gets) o ≡ Some (Got key value version) → (n : ℕ) × (o ≡ Some (GotSlot n))
   got_slot_of None key version value is = cc
   got_slot_of (Some (PutSlot n)) key version value is = let e : put_shown (slice_get puts n) ≡ Got key value version = cc in absurd (no_put_got (slice_get puts n) key value version e)
   got_slot_of (Some (SourcedSlot n)) key version value is = let e : source_shown n (slice_get puts n) ≡ Got key value version = cc in absurd (no_sourced_got n (slice_get puts n) key value version e)
@@ -421,7 +421,7 @@ module _ (puts : List KeptPut) (gets : List KeptGot) where
   got_slot_of (Some (MissedSlot k)) key version value is = cc
 
   -- each of them has a number
-  pub kept_gets : (slots : List (List Slot)) (name : OpName) (key version : ℕ) (value : List ℕ) → item_at (shown_by puts gets slots) name ≡ Some (Got key value version)
+  pub kept_gets : (slots : List (List Slot)) (name : OpName) (key version : ℕ) (value : Option (List ℕ)) → item_at (shown_by puts gets slots) name ≡ Some (Got key value version)
       → (n : ℕ) × (slice_get (entries_of gets) n ≡ Some (Got key value version))
   kept_gets slots name key version value at =
       let shown_there = sym (item_at-shown puts gets slots name) ∙ at in
@@ -433,14 +433,14 @@ module _ (puts : List KeptPut) (gets : List KeptGot) where
   module _ (slots : List (List Slot)) (kept : AreKept puts gets slots) (name : OpName) where
     -- the number that a name's slot tells
     pub numbers_get : (number : Option ℕ) → ((n : ℕ) → (number ≡ Some n) ↔ (item_at slots name ≡ Some (GotSlot n)))
-        → IfSome number (λ n. (key version : ℕ) × (value : List ℕ) × (item_at (shown_by puts gets slots) name ≡ Some (Got key value version))
+        → IfSome number (λ n. (key version : ℕ) × (value : Option (List ℕ)) × (item_at (shown_by puts gets slots) name ≡ Some (Got key value version))
         × (slice_get (entries_of gets) n ≡ Some (Got key value version)))
     numbers_get (Some n) tells =
         let at = (tells n).0 refl in
         let g = found gets n (kept.there name (GotSlot n) at) in (
           g.0.key,
           g.0.version,
-          g.0.value,
+          content_of g.0.has_value g.0.value,
           item_at-shown puts gets slots name ∙ ap (option_map (shown puts gets)) at ∙ ap (λ (o : Option KeptGot). Some (got_shown o)) g.1,
           slice_get-map (λ (g : KeptGot). got_shown (Some g)) gets n ∙ ap (option_map (λ (g : KeptGot). got_shown (Some g))) g.1,
         )
@@ -448,7 +448,7 @@ module _ (puts : List KeptPut) (gets : List KeptGot) where
 
     -- where it tells none, no such get is there
     pub no_number_no_get : (number : Option ℕ) → ((n : ℕ) → (number ≡ Some n) ↔ (item_at slots name ≡ Some (GotSlot n)))
-        → IfNone number ((key version : ℕ) (value : List ℕ) → item_at (shown_by puts gets slots) name ≢ Some (Got key value version))
+        → IfNone number ((key version : ℕ) (value : Option (List ℕ)) → item_at (shown_by puts gets slots) name ≢ Some (Got key value version))
     no_number_no_get (Some n) tells = tt
     no_number_no_get None tells = λ key version value at.
         let slot = got_slot_of (item_at slots name) key version value (sym (item_at-shown puts gets slots name) ∙ at) in

@@ -1,6 +1,6 @@
 -- What is told of an entry by its name, and when the one entry is the source of the other.
 use Rattle.std.proofs.Common.{◌≡◌, ◌<◌, ℕ, List, [], length, map, get_or, slice_get, Bor, Option, Some, None, refl, sym, ap, ◌∙◌, inl, inr}
-use Rattle.std.specs.Prelude.{◌⊎◌, ◌≢◌, IfSome, IfNone}
+use Rattle.std.specs.Prelude.{◌⊎◌, ◌≢◌, IfSome, IfNone, option_copied}
 use Rattle.std.specs.Option.{option_map}
 use Rattle.std.proofs.lemmas.Option.{slice_get-get_or, slice_get-map}
 use Rattle.cops_types.specs.declared.op.OpName.{OpName}
@@ -42,14 +42,14 @@ module _ (keys : List (List ℕ)) (all : EntryLists) (name : OpName) where
       ∙ ap (option_map key_of) (told_as e (told keys all e) at refl)
 
   -- what is no put's entry is no put
-  pub no_put : (e : Entry) → Some e ≡ item_at all name → ((key : ℕ) (value : List ℕ) (version : ℕ) → e ≡ Put key value version → ⊥) → (version : ℕ) → ¬ PutsVersion (told_by keys all) name version
+  pub no_put : (e : Entry) → Some e ≡ item_at all name → ((key : ℕ) (value : Option (List ℕ)) (version : ℕ) → e ≡ Put key value version → ⊥) → (version : ℕ) → ¬ PutsVersion (told_by keys all) name version
   no_put (Put key value own) at not version puts = not key value own refl
   no_put (Got key value own) at not version puts = let both = told_as (Got key value own) _ at refl ∙ puts.2 in cc
   no_put (Sourced key put own) at not version puts = let both = told_as (Sourced key put own) _ at refl ∙ puts.2 in cc
   no_put (Missed key) at not version puts = let both = told_as (Missed key) _ at refl ∙ puts.2 in cc
 
   -- and what is no entry of a get that returned a value is no such get
-  pub no_got : (e : Entry) → Some e ≡ item_at all name → ((key : ℕ) (value : List ℕ) (version : ℕ) → e ≡ Got key value version → ⊥) → ((key : ℕ) (put : NumberedPut) (version : ℕ) → e ≡ Sourced key put version → ⊥)
+  pub no_got : (e : Entry) → Some e ≡ item_at all name → ((key : ℕ) (value : Option (List ℕ)) (version : ℕ) → e ≡ Got key value version → ⊥) → ((key : ℕ) (put : NumberedPut) (version : ℕ) → e ≡ Sourced key put version → ⊥)
       → (version : ℕ) → ¬ GetsVersion (told_by keys all) name version
   no_got (Put key value own) at not nor version gets = let both = told_as (Put key value own) _ at refl ∙ gets.2 in cc
   no_got (Got key value own) at not nor version gets = not key value own refl
@@ -57,34 +57,34 @@ module _ (keys : List (List ℕ)) (all : EntryLists) (name : OpName) where
   no_got (Missed key) at not nor version gets = let both = told_as (Missed key) _ at refl ∙ gets.2 in cc
 
   -- the same of what is referred to
-  pub no_put_there : (e : EntryRef) → Some (referred e) ≡ item_at all name → ((key : ℕ) (value : Bor Value) (version : Bor Version) → e ≡ PutRef key value version → ⊥)
+  pub no_put_there : (e : EntryRef) → Some (referred e) ≡ item_at all name → ((key : ℕ) (value : Option (Bor Value)) (version : Bor Version) → e ≡ PutRef key value version → ⊥)
       → (version : ℕ) → ¬ PutsVersion (told_by keys all) name version
   no_put_there (PutRef key value own) at not = absurd (not key value own refl)
-  no_put_there (GotRef key value own) at not = no_put (Got key value.now own.now) at (λ k v w e. cc)
+  no_put_there (GotRef key value own) at not = no_put (Got key (option_copied value) own.now) at (λ k v w e. cc)
   no_put_there (SourcedRef key put value own) at not = no_put (Sourced key put own.now) at (λ k v w e. cc)
   no_put_there (MissedRef key) at not = no_put (Missed key) at (λ k v w e. cc)
 
-  pub no_got_there : (e : EntryRef) → Some (referred e) ≡ item_at all name → ((key : ℕ) (value : Bor Value) (version : Bor Version) → e ≡ GotRef key value version → ⊥)
-      → ((key : ℕ) (put : NumberedPut) (value : Bor Value) (version : Bor Version) → e ≡ SourcedRef key put value version → ⊥) → (version : ℕ) → ¬ GetsVersion (told_by keys all) name version
-  no_got_there (PutRef key value own) at not nor = no_got (Put key value.now own.now) at (λ k v w e. cc) (λ k p w e. cc)
+  pub no_got_there : (e : EntryRef) → Some (referred e) ≡ item_at all name → ((key : ℕ) (value : Option (Bor Value)) (version : Bor Version) → e ≡ GotRef key value version → ⊥)
+      → ((key : ℕ) (put : NumberedPut) (value : Option (Bor Value)) (version : Bor Version) → e ≡ SourcedRef key put value version → ⊥) → (version : ℕ) → ¬ GetsVersion (told_by keys all) name version
+  no_got_there (PutRef key value own) at not nor = no_got (Put key (option_copied value) own.now) at (λ k v w e. cc) (λ k p w e. cc)
   no_got_there (GotRef key value own) at not nor = absurd (not key value own refl)
   no_got_there (SourcedRef key put value own) at not nor = absurd (nor key put value own refl)
   no_got_there (MissedRef key) at not nor = no_got (Missed key) at (λ k v w e. cc) (λ k p w e. cc)
 
 -- an entry that names its source stands for a get of what that put wrote
-module _ (keys : List (List ℕ)) (all : EntryLists) (put : NumberedPut) (number : ℕ) (value : List ℕ) (version : ℕ) (at : item_at all put.name ≡ Some (Put number value version)) where
-  pub named_told : (key : List ℕ) → get_or keys number [] ≡ key → told keys all (Sourced number put version) ≡ read key (Some value) version
-  named_told key is = λ j. read (is j) (Some (ap value_in at j)) version
+module _ (keys : List (List ℕ)) (all : EntryLists) (put : NumberedPut) (number : ℕ) (value : Option (List ℕ)) (version : ℕ) (at : item_at all put.name ≡ Some (Put number value version)) where
+  pub named_told : (key : List ℕ) → get_or keys number [] ≡ key → told keys all (Sourced number put version) ≡ read key value version
+  named_told key is = λ j. read (is j) (ap value_in at j) version
 
   pub named_sound : AreSound keys all → IsSound keys all (Sourced number put version)
   named_sound sound = record {
     key = (sound put.name (Put number value version) at).key;
-    source = at ∙ ap (λ (v : List ℕ). Some (Put number v version)) (sym (ap value_in at));
+    source = at ∙ ap (λ (v : Option (List ℕ)). Some (Put number v version)) (sym (ap value_in at));
   }
 
 -- an entry that stands for a put of the key of that number
-put_entry : (keys : List (List ℕ)) (all : EntryLists) (key : ℕ) (value : List ℕ) (version : ℕ) → AreDistinct keys → key < length keys
-    → (found : Option Entry) → ((e : Entry) → found ≡ Some e → key_number_of e < length keys) → option_map (told keys all) found ≡ Some (write (get_or keys key []) (Some value) version) → found ≡ Some (Put key value version)
+put_entry : (keys : List (List ℕ)) (all : EntryLists) (key : ℕ) (value : Option (List ℕ)) (version : ℕ) → AreDistinct keys → key < length keys
+    → (found : Option Entry) → ((e : Entry) → found ≡ Some e → key_number_of e < length keys) → option_map (told keys all) found ≡ Some (write (get_or keys key []) value version) → found ≡ Some (Put key value version)
 put_entry keys all key value version distinct inside None numbered is = cc
 put_entry keys all key value version distinct inside (Some (Put k v w)) numbered is =
     let same : get_or keys k [] ≡ get_or keys key [] = cc in
@@ -96,12 +96,12 @@ put_entry keys all key value version distinct inside (Some (Got k v w)) numbered
 put_entry keys all key value version distinct inside (Some (Sourced k p w)) numbered is = cc
 put_entry keys all key value version distinct inside (Some (Missed k)) numbered is = cc
 
-module _ (keys : List (List ℕ)) (all : EntryLists) (put got : OpName) (key : ℕ) (value : List ℕ) (version : ℕ) (was_got : Some (read (get_or keys key []) (Some value) version) ≡ op_at (told_by keys all) got) where
+module _ (keys : List (List ℕ)) (all : EntryLists) (put got : OpName) (key : ℕ) (value : Option (List ℕ)) (version : ℕ) (was_got : Some (read (get_or keys key []) value version) ≡ op_at (told_by keys all) got) where
   -- a put of that key, value and version is the get's source
   pub source_there : item_at all put ≡ Some (Put key value version) → SourceStep (told_by keys all) put got
   source_there at = record {
     key = get_or keys key [];
-    content = Some value;
+    content = value;
     version = version;
     put = op_at-told keys all put ∙ ap (option_map (told keys all)) at;
     got = sym was_got;
@@ -110,31 +110,31 @@ module _ (keys : List (List ℕ)) (all : EntryLists) (put got : OpName) (key : �
   -- and the source is such a put
   pub source_found : AreSound keys all → AreDistinct keys → key < length keys → SourceStep (told_by keys all) put got → item_at all put ≡ Some (Put key value version)
   source_found sound distinct inside s =
-      let same : Some (read s.key s.content s.version) ≡ Some (read (get_or keys key []) (Some value) version) = sym s.got ∙ sym was_got in
-      let as_put : Some (write s.key s.content s.version) ≡ Some (write (get_or keys key []) (Some value) version) = cc in
+      let same : Some (read s.key s.content s.version) ≡ Some (read (get_or keys key []) value version) = sym s.got ∙ sym was_got in
+      let as_put : Some (write s.key s.content s.version) ≡ Some (write (get_or keys key []) value version) = cc in
       put_entry keys all key value version distinct inside (item_at all put) (λ e at. (sound put e at).key) (sym (op_at-told keys all put) ∙ s.put ∙ as_put)
 
 -- a put or a get that found nothing has no source
 pub no_source : (keys : List (List ℕ)) (all : EntryLists) (put got : OpName) (e : Entry) → Some e ≡ item_at all got
-    → ((key : ℕ) × (value : List ℕ) × (version : ℕ) × (e ≡ Put key value version)) ⊎ ((key : ℕ) × (e ≡ Missed key)) → SourceStep (told_by keys all) put got → ⊥
+    → ((key : ℕ) × (value : Option (List ℕ)) × (version : ℕ) × (e ≡ Put key value version)) ⊎ ((key : ℕ) × (e ≡ Missed key)) → SourceStep (told_by keys all) put got → ⊥
 no_source keys all put got e at is s =
     elim is [
-      | inl p ↦ let both = told_as keys all got e (write (get_or keys p.0 []) (Some p.1) p.2) at (ap (told keys all) p.3) ∙ s.got in cc
+      | inl p ↦ let both = told_as keys all got e (write (get_or keys p.0 []) p.1 p.2) at (ap (told keys all) p.3) ∙ s.got in cc
       | inr p ↦ let both = told_as keys all got e (missed (get_or keys p.0 [])) at (ap (told keys all) p.1) ∙ s.got in cc
     ]
 
 -- the same of what is referred to
 pub no_source_there : (keys : List (List ℕ)) (all : EntryLists) (put got : OpName) (e : EntryRef) → Some (referred e) ≡ item_at all got
-    → ((key : ℕ) × (value : Bor Value) × (version : Bor Version) × (e ≡ PutRef key value version)) ⊎ ((key : ℕ) × (e ≡ MissedRef key)) → SourceStep (told_by keys all) put got → ⊥
+    → ((key : ℕ) × (value : Option (Bor Value)) × (version : Bor Version) × (e ≡ PutRef key value version)) ⊎ ((key : ℕ) × (e ≡ MissedRef key)) → SourceStep (told_by keys all) put got → ⊥
 no_source_there keys all put got e at is =
     no_source keys all put got (referred e) at (elim is [
-      | inl p ↦ inl (p.0, p.1.now, p.2.now, ap referred p.3)
+      | inl p ↦ inl (p.0, option_copied p.1, p.2.now, ap referred p.3)
       | inr p ↦ inr (p.0, ap referred p.1)
     ])
 
 -- what stands for a put is a put's entry
 entry_of_put : (keys : List (List ℕ)) (all : EntryLists) (found : Option Entry) (key : List ℕ) (content : Option (List ℕ)) (version : ℕ) → option_map (told keys all) found ≡ Some (write key content version)
-    → (number : ℕ) × (own : List ℕ) × (found ≡ Some (Put number own version))
+    → (number : ℕ) × (own : Option (List ℕ)) × (found ≡ Some (Put number own version))
 entry_of_put keys all None key content version is = cc
 entry_of_put keys all (Some (Put k v w)) key content version is = let same : w ≡ version = cc in (k, v, ap (λ (n : ℕ). Some (Put k v n)) same)
 entry_of_put keys all (Some (Got k v w)) key content version is = cc
@@ -145,7 +145,7 @@ entry_of_put keys all (Some (Missed k)) key content version is = cc
 pub all_puts : (keys : List (List ℕ)) (all : EntryLists) (puts : List VersionedPut) → ListsEntries all puts → AreAllPuts (told_by keys all) puts
 all_puts keys all puts lists = record {
   members = λ p. (
-    (λ there. let e = (lists.members p).0 there in (get_or keys e.0 [], Some e.1, op_at-told keys all p.name ∙ ap (option_map (told keys all)) e.2)),
+    (λ there. let e = (lists.members p).0 there in (get_or keys e.0 [], e.1, op_at-told keys all p.name ∙ ap (option_map (told keys all)) e.2)),
     (λ put. (lists.members p).1 (entry_of_put keys all (item_at all p.name) put.0 put.1 p.version (sym (op_at-told keys all p.name) ∙ put.2))),
   );
   once = lists.once;
@@ -161,18 +161,18 @@ names_sources keys all sound names got (Some n) named =
     let version = named.3 in
     let at = named.4 in
     let entry = Sourced key (record { name = put; number = n }) version in
-    let was_got = told_as keys all got entry (read (get_or keys key []) (Some (value_put all put)) version) (sym at) refl in
+    let was_got = told_as keys all got entry (read (get_or keys key []) (value_put all put) version) (sym at) refl in
     (put, named.1, source_there keys all put got key (value_put all put) version was_got (sound got entry at).source)
 names_sources keys all sound names got None named = tt
 
 module _ (keys : List (List ℕ)) (all : EntryLists) (name : OpName) where
   -- where there is a put's entry, there is a put
-  pub puts_of : (number : Option ℕ) → IfSome number (λ _. (key version : ℕ) × (value : List ℕ) × (item_at all name ≡ Some (Put key value version))) → IfSome number (λ _. Puts (told_by keys all) name)
-  puts_of (Some n) put = (put.1, (get_or keys put.0 [], Some put.2, op_at-told keys all name ∙ ap (option_map (told keys all)) put.3))
+  pub puts_of : (number : Option ℕ) → IfSome number (λ _. (key version : ℕ) × (value : Option (List ℕ)) × (item_at all name ≡ Some (Put key value version))) → IfSome number (λ _. Puts (told_by keys all) name)
+  puts_of (Some n) put = (put.1, (get_or keys put.0 [], put.2, op_at-told keys all name ∙ ap (option_map (told keys all)) put.3))
   puts_of None put = tt
 
   -- and where there is none, there is none
-  pub no_puts_of : (number : Option ℕ) → IfNone number ((key version : ℕ) (value : List ℕ) → item_at all name ≢ Some (Put key value version)) → IfNone number (¬ Puts (told_by keys all) name)
+  pub no_puts_of : (number : Option ℕ) → IfNone number ((key version : ℕ) (value : Option (List ℕ)) → item_at all name ≢ Some (Put key value version)) → IfNone number (¬ Puts (told_by keys all) name)
   no_puts_of (Some n) none = tt
   no_puts_of None none = λ puts. let e = entry_of_put keys all (item_at all name) puts.1.0 puts.1.1 puts.0 (sym (op_at-told keys all name) ∙ puts.1.2) in none e.0 puts.0 e.1 e.2
 
@@ -180,10 +180,10 @@ module _ (keys : List (List ℕ)) (all : EntryLists) (name : OpName) where
 
 module _ (keys : List (List ℕ)) (all : EntryLists) (sound : AreSound keys all) (got : OpName) where
   -- a get that returned something has its source, or is kept with it
-  got_or_sourced : (version : ℕ) → GetsVersion (told_by keys all) got version → ((key own : ℕ) × (value : List ℕ) × (item_at all got ≡ Some (Got key value own))) ⊎ ((put : OpName) × SourceStep (told_by keys all) put got)
+  got_or_sourced : (version : ℕ) → GetsVersion (told_by keys all) got version → ((key own : ℕ) × (value : Option (List ℕ)) × (item_at all got ≡ Some (Got key value own))) ⊎ ((put : OpName) × SourceStep (told_by keys all) put got)
   got_or_sourced version gets_version = by_entry (item_at all got) refl
     where
-      by_entry : (o : Option Entry) → item_at all got ≡ o → ((key own : ℕ) × (value : List ℕ) × (item_at all got ≡ Some (Got key value own))) ⊎ ((put : OpName) × SourceStep (told_by keys all) put got)
+      by_entry : (o : Option Entry) → item_at all got ≡ o → ((key own : ℕ) × (value : Option (List ℕ)) × (item_at all got ≡ Some (Got key value own))) ⊎ ((put : OpName) × SourceStep (told_by keys all) put got)
       by_entry None at = let none = none_told keys all got (sym at) in let there = gets_version.2 in absurd cc
       by_entry (Some (Put key value own)) at = let both = told_as keys all got (Put key value own) _ (sym at) refl ∙ gets_version.2 in absurd cc
       by_entry (Some (Got key value own)) at = inl (key, own, value, at)
@@ -192,7 +192,7 @@ module _ (keys : List (List ℕ)) (all : EntryLists) (sound : AreSound keys all)
           inr (put.name, source_there keys all put.name got key (value_put all put.name) own (told_as keys all got (Sourced key put own) _ (sym at) refl) source)
       by_entry (Some (Missed key)) at = let both = told_as keys all got (Missed key) _ (sym at) refl ∙ gets_version.2 in absurd cc
 
-  pub sourced_unless_open : (number : Option ℕ) → IfNone number ((key version : ℕ) (value : List ℕ) → item_at all got ≢ Some (Got key value version))
+  pub sourced_unless_open : (number : Option ℕ) → IfNone number ((key version : ℕ) (value : Option (List ℕ)) → item_at all got ≢ Some (Got key value version))
       → IfNone number ((version : ℕ) → GetsVersion (told_by keys all) got version → (put : OpName) × SourceStep (told_by keys all) put got)
   sourced_unless_open (Some n) none = tt
   sourced_unless_open None none = λ version gets_version. elim (got_or_sourced version gets_version) [
@@ -206,7 +206,7 @@ module _ (keys : List (List ℕ)) (all : EntryLists) (gets : List Entry) where
 
   -- the one of a number is an entry's
   pub numbers_open : (got : OpName) (number : Option ℕ)
-      → IfSome number (λ n. (key version : ℕ) × (value : List ℕ) × (item_at all got ≡ Some (Got key value version)) × (slice_get gets n ≡ Some (Got key value version)))
+      → IfSome number (λ n. (key version : ℕ) × (value : Option (List ℕ)) × (item_at all got ≡ Some (Got key value version)) × (slice_get gets n ≡ Some (Got key value version)))
       → IfSome number (IsOpen got)
   numbers_open got (Some n) at = (
     told keys all (Got at.0 at.2 at.1),
@@ -217,7 +217,7 @@ module _ (keys : List (List ℕ)) (all : EntryLists) (gets : List Entry) where
 
   -- each get that returned something is one of them, or has its source
   pub open_or_sourced : AreSound keys all
-      → ((name : OpName) (key version : ℕ) (value : List ℕ) → item_at all name ≡ Some (Got key value version) → (n : ℕ) × (slice_get gets n ≡ Some (Got key value version)))
+      → ((name : OpName) (key version : ℕ) (value : Option (List ℕ)) → item_at all name ≡ Some (Got key value version) → (n : ℕ) × (slice_get gets n ≡ Some (Got key value version)))
       → (got : OpName) (version : ℕ) → GetsVersion (told_by keys all) got version
       → ((n : ℕ) × IsOpen got n) ⊎ ((put : OpName) × SourceStep (told_by keys all) put got)
   open_or_sourced sound kept got version gets_version = elim (got_or_sourced keys all sound got version gets_version) [

@@ -1,5 +1,5 @@
 -- What entries stand for, as one more comes.
-use Rattle.std.proofs.Common.{◌≡◌, ◌≢◌, ℕ, zero, suc, ◌<◌, List, [], ◌∷◌, ◌++◌, map, length, get_or, replicate, slice_get, Some, refl, sym, ap, ◌∙◌, subst, arith, get_or-set_same, get_or-set_other, inl, inr}
+use Rattle.std.proofs.Common.{◌≡◌, ◌≢◌, ℕ, zero, suc, ◌<◌, List, [], ◌∷◌, ◌++◌, map, length, get_or, replicate, slice_get, Some, refl, sym, ap, ◌∙◌, subst, arith, get_or-set_same, get_or-set_other, inl, inr, Option}
 use Rattle.std.specs.Prelude.{◌⊎◌}
 use Rattle.std.specs.Option.{option_map}
 use Rattle.std.proofs.Math.ListN.{set, get_or-map}
@@ -69,16 +69,16 @@ module _ (keys new : List (List ℕ)) (places : KeepsPlaces keys new) (all : Ent
 
   -- an entry stands for the same operation
   told-same : (e : Entry) → IsSound keys all e → told new (with_item all client entry) e ≡ told keys all e
-  told-same (Put key value version) s = ap (λ (k : List ℕ). write k (Some value) version) (places.same key s.key)
-  told-same (Got key value version) s = ap (λ (k : List ℕ). read k (Some value) version) (places.same key s.key)
-  told-same (Sourced key put version) s = λ j. read (places.same key s.key j) (Some (value-same put.name key version s.source j)) version
+  told-same (Put key value version) s = ap (λ (k : List ℕ). write k value version) (places.same key s.key)
+  told-same (Got key value version) s = ap (λ (k : List ℕ). read k value version) (places.same key s.key)
+  told-same (Sourced key put version) s = λ j. read (places.same key s.key j) (value-same put.name key version s.source j) version
   told-same (Missed key) s = ap (λ (k : List ℕ). missed k) (places.same key s.key)
 
   source-same : (e : Entry) → HasSource all e → HasSource (with_item all client entry) e
   source-same (Put key value version) s = tt
   source-same (Got key value version) s = tt
   source-same (Sourced key put version) s =
-      item_stays all client entry inside put.name (Put key (value_put all put.name) version) s ∙ ap (λ (v : List ℕ). Some (Put key v version)) (sym (value-same put.name key version s))
+      item_stays all client entry inside put.name (Put key (value_put all put.name) version) s ∙ ap (λ (v : Option (List ℕ)). Some (Put key v version)) (sym (value-same put.name key version s))
   source-same (Missed key) s = tt
 
   -- and is sound

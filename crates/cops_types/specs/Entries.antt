@@ -1,5 +1,5 @@
 -- Entries: operations as a history keeps them, which name their keys by number, and some gets' values by the put that wrote them.
-use Rattle.std.specs.Prelude.{◌≡◌, ◌≢◌, ◌↔◌, ◌<◌, ◌≤◌, ◌+◌, ◌⊎◌, ◌++◌, ◌∷◌, ℕ, List, [], length, map, Option, Some, slice_get, slice_index_or, Bool, true, false, Contains, AllPairs}
+use Rattle.std.specs.Prelude.{◌≡◌, ◌≢◌, ◌↔◌, ◌<◌, ◌≤◌, ◌+◌, ◌⊎◌, ◌++◌, ◌∷◌, ℕ, List, [], length, map, Option, Some, None, option_copied, slice_get, slice_index_or, Bool, true, false, Contains, AllPairs}
 use Rattle.cops_types.specs.declared.entry.Entry.{Entry}
 use Rattle.cops_types.specs.declared.entry.Entry.TheVariants.{Put, Got, Sourced, Missed}
 use Rattle.cops_types.specs.declared.entry.EntryRef.{EntryRef}
@@ -31,20 +31,20 @@ key_number_of (Got key value version) = key
 key_number_of (Sourced key put version) = key
 key_number_of (Missed key) = key
 
--- the value, where the entry is a put
-abbrev pub value_in : Option Entry → List ℕ
+-- the content, where the entry is a put
+abbrev pub value_in : Option Entry → Option (List ℕ)
 value_in (Some (Put key value version)) = value
-value_in _ = []
+value_in _ = None
 
--- the value that the put of that name wrote
-abbrev pub value_put : EntryLists → OpName → List ℕ
+-- the content that the put of that name wrote
+abbrev pub value_put : EntryLists → OpName → Option (List ℕ)
 value_put all put = value_in (item_at all put)
 
 -- the operation that an entry stands for
 abbrev pub told : List (List ℕ) → EntryLists → Entry → Operation
-told keys all (Put key value version) = write (slice_index_or keys key []) (Some value) version
-told keys all (Got key value version) = read (slice_index_or keys key []) (Some value) version
-told keys all (Sourced key put version) = read (slice_index_or keys key []) (Some (value_put all put.name)) version
+told keys all (Put key value version) = write (slice_index_or keys key []) value version
+told keys all (Got key value version) = read (slice_index_or keys key []) value version
+told keys all (Sourced key put version) = read (slice_index_or keys key []) (value_put all put.name) version
 told keys all (Missed key) = missed (slice_index_or keys key [])
 
 -- the history that the entries stand for
@@ -71,14 +71,14 @@ IsNumbered names _ = Unit {0}
 
 -- the entry that is referred to
 abbrev pub referred : EntryRef → Entry
-referred (PutRef key value version) = Put key value.now version.now
-referred (GotRef key value version) = Got key value.now version.now
+referred (PutRef key value version) = Put key (option_copied value) version.now
+referred (GotRef key value version) = Got key (option_copied value) version.now
 referred (SourcedRef key put value version) = Sourced key put version.now
 referred (MissedRef key) = Missed key
 
 -- the value of the put that it names stands with it
 abbrev pub HasValue : EntryLists → EntryRef → Type 0
-HasValue all (SourcedRef key put value version) = value.now ≡ value_put all put.name
+HasValue all (SourcedRef key put value version) = option_copied value ≡ value_put all put.name
 HasValue all _ = Unit {0}
 
 -- what stays as room is made
@@ -111,5 +111,5 @@ KeepsNumbers old new = (name : OpName) (entry : Entry) → item_at old.all name 
 
 -- all entries of puts by their names and versions, each once
 pub record ListsEntries (all : EntryLists) (puts : List VersionedPut) : Type 0 where
-  pub members : (p : VersionedPut) → Contains puts p ↔ ((key : ℕ) × (value : List ℕ) × (item_at all p.name ≡ Some (Put key value p.version)))
+  pub members : (p : VersionedPut) → Contains puts p ↔ ((key : ℕ) × (value : Option (List ℕ)) × (item_at all p.name ≡ Some (Put key value p.version)))
   pub once : AllPairs (λ p q. p.name ≢ q.name) puts

@@ -1,13 +1,15 @@
 -- The operation that an `Op` is, what it is on, and what a get returned.
-use Rattle.std.specs.Prelude.{ℕ, List, Option, Some}
+use Rattle.std.specs.Prelude.{ℕ, List, Option, Some, None}
 use Rattle.cops_types.specs.Histories.{Sessions, Operation, write, read, missed, IsGot}
 use Rattle.cops_types.specs.declared.op.Op.{Op}
-use Rattle.cops_types.specs.declared.op.Op.TheVariants.{Put, Got, Missed}
+use Rattle.cops_types.specs.declared.op.Op.TheVariants.{Put, Del, Got, Gone, Missed}
 use Rattle.cops_types.specs.declared.op.OpName.{OpName}
 
 abbrev pub operation_of : Op → Operation
 operation_of (Put key value version) = write key (Some value) version
+operation_of (Del key version) = write key None version
 operation_of (Got key value version) = read key (Some value) version
+operation_of (Gone key version) = read key None version
 operation_of (Missed key) = missed key
 
 -- the key that an operation is on

@@ -15,6 +15,7 @@ code_of refusal.DepsOpen = 8
 code_of refusal.Memory = 9
 code_of refusal.UnknownDc = 10
 code_of refusal.SessionFull = 11
+code_of refusal.NotInFormat = 12
 code_of refusal.NotGreeted = 16
 code_of refusal.BadProfile = 17
 code_of refusal.WrongKind = 18

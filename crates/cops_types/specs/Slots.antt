@@ -1,5 +1,5 @@
 -- Slots: what stands in a session for an operation, and the lists of puts and of gets whose numbers they name.
-use Rattle.std.specs.Prelude.{◌≡◌, ◌<◌, ℕ, List, length, map, Option, Some, None, slice_get}
+use Rattle.std.specs.Prelude.{◌≡◌, ◌<◌, ℕ, List, length, map, Bool, true, false, Option, Some, None, option_copied, slice_get}
 use Rattle.cops_types.specs.declared.entry.Entry.{Entry}
 use Rattle.cops_types.specs.declared.entry.Entry.TheVariants.{Put, Got, Sourced, Missed}
 use Rattle.cops_types.specs.declared.entry.EntryRef.{EntryRef}
@@ -13,8 +13,13 @@ use Rattle.cops_types.specs.declared.versioned_put.VersionedPut.{VersionedPut}
 use Rattle.cops_types.specs.Entries.{EntryLists}
 use Rattle.cops_types.specs.Lists.{item_at}
 
+-- what is kept with a flag whether there is a value
+abbrev pub content_of : Bool → List ℕ → Option (List ℕ)
+content_of true value = Some value
+content_of false value = None
+
 abbrev pub put_shown : Option KeptPut → Entry
-put_shown (Some p) = Put p.key p.value p.version
+put_shown (Some p) = Put p.key (content_of p.has_value p.value) p.version
 put_shown None = Missed 0
 
 abbrev pub source_shown : ℕ → Option KeptPut → Entry
@@ -22,7 +27,7 @@ source_shown number (Some p) = Sourced p.key (record { name = p.name; number = n
 source_shown number None = Missed 0
 
 abbrev pub got_shown : Option KeptGot → Entry
-got_shown (Some g) = Got g.key g.value g.version
+got_shown (Some g) = Got g.key (content_of g.has_value g.value) g.version
 got_shown None = Missed 0
 
 -- the entry that a slot stands for
@@ -67,5 +72,5 @@ pub record AreKept (puts : List KeptPut) (gets : List KeptGot) (slots : List (Li
 
 -- the put that it names is the one of that number, with the value that stands with it
 abbrev pub IsFrom : List KeptPut → EntryRef → Type 0
-IsFrom puts (SourcedRef key put value version) = (kept : KeptPut) × (slice_get puts put.number ≡ Some kept) × (kept.name ≡ put.name) × (kept.value ≡ value.now)
+IsFrom puts (SourcedRef key put value version) = (kept : KeptPut) × (slice_get puts put.number ≡ Some kept) × (kept.name ≡ put.name) × (content_of kept.has_value kept.value ≡ option_copied value)
 IsFrom puts _ = Unit {0}

@@ -9,8 +9,9 @@ use crate::blocks::Blocks;
 use crate::entry::{Entry, EntryRef, NumberedPut};
 use crate::fault::Memory;
 use crate::op::OpName;
+use crate::op_ref::is_same_content;
 use crate::op_view::ValueView;
-use crate::slot::{KeptGot, KeptPut, Slot};
+use crate::slot::{KeptGot, KeptPut, Slot, flagged};
 use crate::value::Value;
 use crate::version::Version;
 use crate::versioned_put::VersionedPut;
@@ -48,7 +49,7 @@ impl Model for Entries {
 
 impl Entries {
     ghost use Rattle.cops_types.specs.declared.op.OpName.{OpName};
-    ghost use Rattle.std.specs.Prelude.{◌≡◌, ◌≢◌, ◌<◌, ◌≤◌, ◌↔◌, ℕ, List, length, map, slice_get, slice_index_or, [], Some, OnOk, IfOk, IfSome, IfNone, IsOk, IsTrue, replicate, true, false, vec_capacity};
+    ghost use Rattle.std.specs.Prelude.{◌≡◌, ◌≢◌, ◌<◌, ◌≤◌, ◌↔◌, ℕ, List, length, map, slice_get, slice_index_or, [], Option, Some, OnOk, IfOk, IfSome, IfNone, IsOk, IsTrue, replicate, true, false, vec_capacity, option_copied};
     ghost use Rattle.std.specs.Option.{option_map};
     ghost use Rattle.cops_types.specs.Lists.{item_at, number_at, with_item};
     ghost use Rattle.cops_types.specs.Entries.{GainsEntry, HasSource, HasValue, IsNumbered, KeepsEntries, KeepsNumbers, ListsEntries, referred, value_put};
@@ -94,7 +95,7 @@ impl Entries {
     /// How many gets are kept with what they returned: the number of the next one.
     pub(crate) fn gets(&self) -> usize
         ensures count { result ≡ length self.now.gets }
-        ensures kept { (name : OpName) (key version : ℕ) (value : List ℕ) → item_at self.now.all name ≡ Some (Got key value version)
+        ensures kept { (name : OpName) (key version : ℕ) (value : Option (List ℕ)) → item_at self.now.all name ≡ Some (Got key value version)
             → (n : ℕ) × (slice_get self.now.gets n ≡ Some (Got key value version)) }
         ensures numbered { AreNumbered self.now.get_numbers (length self.now.gets) }
     {
@@ -111,9 +112,9 @@ impl Entries {
     /// The number of the get of that name, if it is kept with what it returned.
     #[inline(always)]
     pub(crate) fn get_number(&self, name: OpName) -> Option<u32>
-        ensures number { IfSome result (λ n. (key version : ℕ) × (value : List ℕ) × (item_at self.now.all name ≡ Some (Got key value version))
+        ensures number { IfSome result (λ n. (key version : ℕ) × (value : Option (List ℕ)) × (item_at self.now.all name ≡ Some (Got key value version))
             × (slice_get self.now.gets n ≡ Some (Got key value version))) }
-        ensures none { IfNone result ((key version : ℕ) (value : List ℕ) → item_at self.now.all name ≢ Some (Got key value version)) }
+        ensures none { IfNone result ((key version : ℕ) (value : Option (List ℕ)) → item_at self.now.all name ≢ Some (Got key value version)) }
         ensures numbered { result ≡ number_at self.now.get_numbers name }
     {
         got_number_at(&self.sessions, name)
@@ -132,8 +133,8 @@ impl Entries {
     #[inline(always)]
     pub(crate) fn put_number(&self, name: OpName) -> Option<u32>
         ensures number { (n : ℕ) → (result ≡ Some n) ↔ (slice_get self.now.names n ≡ Some name) }
-        ensures put { IfSome result (λ _. (key version : ℕ) × (value : List ℕ) × (item_at self.now.all name ≡ Some (Put key value version))) }
-        ensures none { IfNone result ((key version : ℕ) (value : List ℕ) → item_at self.now.all name ≢ Some (Put key value version)) }
+        ensures put { IfSome result (λ _. (key version : ℕ) × (value : Option (List ℕ)) × (item_at self.now.all name ≡ Some (Put key value version))) }
+        ensures none { IfNone result ((key version : ℕ) (value : Option (List ℕ)) → item_at self.now.all name ≢ Some (Put key value version)) }
     {
         number_at(&self.sessions, name)
     }
@@ -147,10 +148,10 @@ impl Entries {
         source_number_at(&self.sessions, name)
     }
 
-    /// The value of the put of that name, if there is one.
-    fn put_value(&self, name: OpName) -> Option<&Value>
-        ensures value { IfSome result (λ value. value.now ≡ value_put self.now.all name) }
-        ensures none { IfNone result ((key version : ℕ) (value : List ℕ) → item_at self.now.all name ≢ Some (Put key value version)) }
+    /// What the put of that name wrote, if there is one.
+    fn put_value(&self, name: OpName) -> Option<Option<&Value>>
+        ensures value { IfSome result (λ value. option_copied value ≡ value_put self.now.all name) }
+        ensures none { IfNone result ((key version : ℕ) (value : Option (List ℕ)) → item_at self.now.all name ≢ Some (Put key value version)) }
     {
         match self.get(name)? {
             EntryRef::Put { value, .. } => Some(value),
@@ -163,10 +164,10 @@ impl Entries {
         &self,
         name: OpName,
         key: u32,
-        value: &ValueView<'_>,
+        value: Option<&Value>,
         version: Version,
     ) -> bool
-        ensures { IsTrue result ↔ (item_at self.now.all name ≡ Some (Put key value.now version)) }
+        ensures { IsTrue result ↔ (item_at self.now.all name ≡ Some (Put key (option_copied value.entry) version)) }
     {
         match self.get(name) {
             Some(
@@ -175,7 +176,7 @@ impl Entries {
                     value: put_value,
                     version: put_version,
                 },
-            ) => put_key == key && *put_version == version && put_value.is_seen(value),
+            ) => put_key == key && *put_version == version && is_same_content(put_value, value),
             _ => false,
         }
     }
@@ -189,7 +190,7 @@ impl Entries {
             return true;
         }
         match self.put_value(other) {
-            Some(value) => self.is_put(put, key, &value.as_view(), version),
+            Some(value) => self.is_put(put, key, value, version),
             None => false,
         }
     }
@@ -199,14 +200,14 @@ impl Entries {
         &self,
         number: u32,
         key: u32,
-        value: &ValueView<'_>,
+        value: Option<&ValueView<'_>>,
         version: Version,
     ) -> Option<NumberedPut>
-        ensures put { IfSome result (λ put. item_at self.now.all put.name ≡ Some (Put key value.now version)) }
+        ensures put { IfSome result (λ put. item_at self.now.all put.name ≡ Some (Put key (option_copied value.entry) version)) }
         ensures number { IfSome result (λ put. slice_get self.now.names put.number ≡ Some put.name) }
     {
         let put = self.puts.get(number as usize)?;
-        if put.version == version && put.key == key && put.value.is_seen(value) {
+        if put.version == version && put.key == key && put.has_content(value) {
             let name = put.name;
             return Some(NumberedPut { name, number });
         }
@@ -215,11 +216,9 @@ impl Entries {
 
     /// Whether the put of that number is there, bears this version and wrote as many bytes. It looks at both ends of
     /// what is kept of it, which may lie in two lines of a processor's caches.
-    pub(crate) fn may_be_put(&self, number: u32, value: &ValueView<'_>, version: Version) -> bool {
+    pub(crate) fn may_be_put(&self, number: u32, bytes: usize, version: Version) -> bool {
         match self.puts.get(number as usize) {
-            Some(put) => {
-                put.version == version && put.value.as_bytes().len() == value.as_bytes().len()
-            }
+            Some(put) => put.version == version && put.value.as_bytes().len() == bytes,
             None => false,
         }
     }
@@ -312,7 +311,7 @@ impl Entries {
 
     /// Adds a put.
     #[inline(always)]
-    fn push_put(&mut self, client: u16, key: u32, value: Value, version: Version)
+    fn push_put(&mut self, client: u16, key: u32, value: Option<Value>, version: Version)
         requires inside { client < length self.old.all }
         requires room { slice_index_or self.old.room client false ≡ true }
         requires few { length (slice_index_or self.old.all client []) < MAX_CLIENT_OPS }
@@ -329,9 +328,11 @@ impl Entries {
             index: slot_count(&self.sessions, client) as u32,
         };
         push_slot(&mut self.sessions, client, Slot::Put(number));
+        let (has_value, value) = flagged(*self.puts.allocator(), value);
         self.puts.push_reserved(KeptPut {
             name,
             key,
+            has_value,
             version,
             value,
         });
@@ -339,7 +340,7 @@ impl Entries {
 
     /// Adds a get of which it is kept what it returned.
     #[inline(always)]
-    fn push_got(&mut self, client: u16, key: u32, value: Value, version: Version)
+    fn push_got(&mut self, client: u16, key: u32, value: Option<Value>, version: Version)
         requires inside { client < length self.old.all }
         requires room { slice_index_or self.old.room client false ≡ true }
         requires few { length (slice_index_or self.old.all client []) < MAX_CLIENT_OPS }
@@ -352,8 +353,10 @@ impl Entries {
     {
         let number = self.gets.len() as u32;
         push_slot(&mut self.sessions, client, Slot::Got(number));
+        let (has_value, value) = flagged(*self.gets.allocator(), value);
         self.gets.push_reserved(KeptGot {
             key,
+            has_value,
             version,
             value,
         });
@@ -479,7 +482,7 @@ fn refer<'a>(puts: &'a [KeptPut], gets: &'a [KeptGot], slot: Slot) -> EntryRef<'
             let put = &puts[number as usize];
             EntryRef::Put {
                 key: put.key,
-                value: &put.value,
+                value: put.content(),
                 version: &put.version,
             }
         }
@@ -491,7 +494,7 @@ fn refer<'a>(puts: &'a [KeptPut], gets: &'a [KeptGot], slot: Slot) -> EntryRef<'
                     name: put.name,
                     number,
                 },
-                value: &put.value,
+                value: put.content(),
                 version: &put.version,
             }
         }
@@ -499,7 +502,7 @@ fn refer<'a>(puts: &'a [KeptPut], gets: &'a [KeptGot], slot: Slot) -> EntryRef<'
             let got = &gets[number as usize];
             EntryRef::Got {
                 key: got.key,
-                value: &got.value,
+                value: got.content(),
                 version: &got.version,
             }
         }

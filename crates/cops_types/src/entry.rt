@@ -12,19 +12,19 @@ pub(crate) struct NumberedPut {
 /// An operation that a history gains: its key is named by its number.
 #[derive(Debug, Drop)]
 pub(crate) enum Entry {
-    /// A put, which was given this version.
+    /// A put, which was given this version: without a value it is a deletion.
     Put {
         key: u32,
-        value: Value,
+        value: Option<Value>,
         version: Version,
     },
-    /// A get that returned this value.
+    /// A get that returned this value, or without one found a deletion.
     Got {
         key: u32,
-        value: Value,
+        value: Option<Value>,
         version: Version,
     },
-    /// A get that returned the value of that put.
+    /// A get that returned what that put wrote.
     Sourced {
         key: u32,
         put: NumberedPut,
@@ -41,19 +41,19 @@ pub(crate) enum Entry {
 pub(crate) enum EntryRef<'a> {
     Put {
         key: u32,
-        value: &'a Value,
+        value: Option<&'a Value>,
         version: &'a Version,
     },
     Got {
         key: u32,
-        value: &'a Value,
+        value: Option<&'a Value>,
         version: &'a Version,
     },
-    /// With the value that the put wrote.
+    /// With what the put wrote.
     Sourced {
         key: u32,
         put: NumberedPut,
-        value: &'a Value,
+        value: Option<&'a Value>,
         version: &'a Version,
     },
     Missed {

@@ -207,8 +207,8 @@ impl Coming {
     /// An operation of which nothing is guessed yet.
     fn of(op: &OpView<'_>) -> Self {
         let version = match op {
-            OpView::Got { version, .. } => Some(*version),
-            OpView::Put { .. } | OpView::Missed { .. } => None,
+            OpView::Got { version, .. } | OpView::Gone { version, .. } => Some(*version),
+            OpView::Put { .. } | OpView::Del { .. } | OpView::Missed { .. } => None,
         };
         Coming {
             key_place: spread(op.key()),
@@ -242,9 +242,9 @@ fn key_that_may_be(guess: Option<u32>, keys: &KeySet, key: &KeyView<'_>) -> Opti
 fn put_that_may_be(guess: Option<u32>, entries: &Entries, op: &OpView<'_>) -> Option<u32> {
     let number = guess?;
     match op {
-        OpView::Got { value, version, .. } if entries.may_be_put(number, value, *version) => {
-            Some(number)
-        }
+        OpView::Got { value, version, .. }
+            if entries.may_be_put(number, value.as_bytes().len(), *version) => { Some(number) }
+        OpView::Gone { version, .. } if entries.may_be_put(number, 0, *version) => Some(number),
         _ => None,
     }
 }

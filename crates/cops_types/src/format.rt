@@ -1,22 +1,26 @@
-ghost use Rattle.std.specs.Prelude.{◌≡◌};
-ghost use Rattle.cops_types.specs.Format.{format_of_number, number_of, most_value, most_deps, longest_body};
+ghost use Rattle.std.specs.Prelude.{◌≡◌, ◌↔◌, IsTrue, option_copied};
+ghost use Rattle.cops_types.specs.Format.{format_of_number, number_of, most_value, most_deps, longest_body, Fits};
 
 use crate::limits::{MAX_BODY, MAX_DEPS, MAX_VALUE};
+use crate::value::Value;
 
 /// A format of frames and traces: which kinds of messages it has, and their limits.
 #[derive(Clone, Copy, Debug, PartialEq, Eq)]
 pub enum Format {
-    /// The first format.
+    /// The first format, which has no deletions.
     One,
+    /// The second one, which has deletions.
+    Two,
 }
 
 impl Format {
-    /// The number that names the format: 1.
+    /// The number that names the format: 1 or 2.
     pub fn number(self) -> u16
         ensures { result ≡ number_of self }
     {
         match self {
             Format::One => 1,
+            Format::Two => 2,
         }
     }
 
@@ -26,6 +30,7 @@ impl Format {
     {
         match number {
             1 => Some(Format::One),
+            2 => Some(Format::Two),
             _ => None,
         }
     }
@@ -34,26 +39,30 @@ impl Format {
     pub fn most_value(self) -> usize
         ensures { result ≡ most_value self }
     {
-        match self {
-            Format::One => MAX_VALUE,
-        }
+        MAX_VALUE
     }
 
     /// The most pairs that dependencies have.
     pub fn most_deps(self) -> usize
         ensures { result ≡ most_deps self }
     {
-        match self {
-            Format::One => MAX_DEPS,
-        }
+        MAX_DEPS
     }
 
     /// The most bytes that a frame's body has.
     pub fn longest_body(self) -> usize
         ensures { result ≡ longest_body self }
     {
+        MAX_BODY
+    }
+
+    /// Whether a put may write this in the format: None is a deletion, which is of format 2.
+    pub fn fits(self, content: Option<&Value>) -> bool
+        ensures { IsTrue result ↔ Fits self (option_copied content.entry) }
+    {
         match self {
-            Format::One => MAX_BODY,
+            Format::One => content.is_some(),
+            Format::Two => true,
         }
     }
 }

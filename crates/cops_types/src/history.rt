@@ -1,4 +1,4 @@
-ghost use Rattle.std.specs.Prelude.{◌≡◌, ◌<◌, ◌+◌, ℕ, List, [], Some, IfOk, IfSome, OnErr, OnOk, length, slice_get, slice_index_or};
+ghost use Rattle.std.specs.Prelude.{◌≡◌, ◌<◌, ◌+◌, ℕ, List, [], Some, IfOk, IfSome, OnErr, OnOk, length, option_copied, slice_get, slice_index_or};
 ghost use Rattle.cops_types.specs.declared.limits.TheConstants.{MAX_CLIENT_OPS, MAX_OPS};
 ghost use Rattle.cops_types.specs.declared.entry.Entry.TheVariants.{Put};
 ghost use Rattle.cops_types.specs.Entries.{AreSound, HasSource, IsNumbered, IsSound, key_number_of, told};
@@ -295,8 +295,8 @@ impl History {
     }
 
     /// How many gets are open: their puts the history had not found as they came. They are numbered from 0 in the order
-    /// in which they came, each with a number of its own, which it keeps. Each other get that returned something has its
-    /// source in the history.
+    /// in which they came, each with a number of its own, which it keeps. Each other get that returned something has
+    /// its source in the history.
     pub fn open_gets(&self) -> usize
         ensures count { result ≡ length self.now.gets }
         ensures few { result ≤ count_of self.now.sessions }
@@ -315,7 +315,7 @@ impl History {
         let got = self.entries.kept_get(number)?;
         Some(OpRef::Got {
             key: self.keys.key(got.key),
-            value: &got.value,
+            value: got.content(),
             version: &got.version,
         })
     }
@@ -477,7 +477,7 @@ impl History {
                 key,
                 value,
                 version,
-            } => self.entries.is_put(put, key, &value.as_view(), *version),
+            } => self.entries.is_put(put, key, value, *version),
             EntryRef::Put { .. } | EntryRef::Missed { .. } => false,
         }
     }
@@ -506,7 +506,15 @@ fn entry_of(keys: &mut KeySet, foresight: &mut Foresight, entries: &Entries, op:
             foresight.note_put(version, entries.puts());
             Entry::Put {
                 key: number_of(keys, foresight, key, known),
-                value,
+                value: Some(value),
+                version,
+            }
+        }
+        Op::Del { key, version } => {
+            foresight.note_put(version, entries.puts());
+            Entry::Put {
+                key: number_of(keys, foresight, key, known),
+                value: None,
                 version,
             }
         }
@@ -516,7 +524,11 @@ fn entry_of(keys: &mut KeySet, foresight: &mut Foresight, entries: &Entries, op:
             version,
         } => {
             let key = number_of(keys, foresight, key, known);
-            got_entry(foresight, entries, guess.put, key, value, version)
+            got_entry(foresight, entries, guess.put, key, Some(value), version)
+        }
+        Op::Gone { key, version } => {
+            let key = number_of(keys, foresight, key, known);
+            got_entry(foresight, entries, guess.put, key, None, version)
         }
         Op::Missed { key } => Entry::Missed {
             key: number_of(keys, foresight, key, known),
@@ -556,7 +568,16 @@ fn entry_of_seen(
             foresight.note_put(*version, entries.puts());
             Ok(Entry::Put {
                 key,
-                value,
+                value: Some(value),
+                version: *version,
+            })
+        }
+        OpView::Del { key, version } => {
+            let key = number_of_seen(alloc, keys, foresight, key, known)?;
+            foresight.note_put(*version, entries.puts());
+            Ok(Entry::Put {
+                key,
+                value: None,
                 version: *version,
             })
         }
@@ -571,7 +592,11 @@ fn entry_of_seen(
             // (once the key is added nothing may fail; the copy goes where the put is found)
             let value = value.to_value(alloc)?;
             let key = number_of_seen(alloc, keys, foresight, key, None)?;
-            Ok(got_entry(foresight, entries, guess.put, key, value, *version))
+            Ok(got_entry(foresight, entries, guess.put, key, Some(value), *version))
+        }
+        OpView::Gone { key, version } => {
+            let key = number_of_seen(alloc, keys, foresight, key, known)?;
+            Ok(got_entry(foresight, entries, guess.put, key, None, *version))
         }
         OpView::Missed { key } => {
             let key = number_of_seen(alloc, keys, foresight, key, known)?;
@@ -588,15 +613,26 @@ fn got_entry(
     entries: &Entries,
     guess: Option<u32>,
     key: u32,
-    value: Value,
+    value: Option<Value>,
     version: Version,
 ) -> Entry
-    ensures told { (keys : List (List ℕ)) → told keys entries.now.all result ≡ read (slice_index_or keys key []) (Some value) version }
+    ensures told { (keys : List (List ℕ)) → told keys entries.now.all result ≡ read (slice_index_or keys key []) value version }
     ensures key { key_number_of result ≡ key }
     ensures source { HasSource entries.now.all result }
     ensures numbered { IsNumbered entries.now.names result }
 {
-    match source_of(foresight, entries, guess, key, &value.as_view(), version) {
+    let source = match &value {
+        Some(value) => source_of(
+            foresight,
+            entries,
+            guess,
+            key,
+            Some(&value.as_view()),
+            version,
+        ),
+        None => source_of(foresight, entries, guess, key, None, version),
+    };
+    match source {
         Some(put) => Entry::Sourced { key, put, version },
         None => Entry::Got {
             key,
@@ -622,11 +658,11 @@ fn known_got_entry(
     ensures source { IfOk result (HasSource entries.now.all) }
     ensures numbered { IfOk result (IsNumbered entries.now.names) }
 {
-    match source_of(foresight, entries, guess, key, value, version) {
+    match source_of(foresight, entries, guess, key, Some(value), version) {
         Some(put) => Ok(Entry::Sourced { key, put, version }),
         None => Ok(Entry::Got {
             key,
-            value: value.to_value(alloc)?,
+            value: Some(value.to_value(alloc)?),
             version,
         }),
     }
@@ -692,18 +728,18 @@ fn number_of_seen(
     Ok(number_of(keys, foresight, copied, None))
 }
 
-/// The put that a get of the key of that number returned, where it is guessed right: it wrote the key and the value
-/// with this version.
+/// The put that a get of the key of that number returned, where it is guessed right: it wrote this to the key with this
+/// version.
 #[inline(always)]
 fn source_of(
     foresight: &Foresight,
     entries: &Entries,
     guess: Option<u32>,
     key: u32,
-    value: &ValueView<'_>,
+    value: Option<&ValueView<'_>>,
     version: Version,
 ) -> Option<NumberedPut>
-    ensures put { IfSome result (λ put. item_at entries.now.all put.name ≡ Some (Put key value.now version)) }
+    ensures put { IfSome result (λ put. item_at entries.now.all put.name ≡ Some (Put key (option_copied value.entry) version)) }
     ensures number { IfSome result (λ put. slice_get entries.now.names put.number ≡ Some put.name) }
 {
     let number = match guess {

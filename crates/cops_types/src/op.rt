@@ -1,3 +1,4 @@
+use crate::format::Format;
 use crate::key::Key;
 use crate::op_ref::OpRef;
 use crate::op_view::{KeyView, OpView};
@@ -15,10 +16,20 @@ pub enum Op {
         value: Value,
         version: Version,
     },
+    /// A deletion, which was given this version.
+    Del {
+        key: Key,
+        version: Version,
+    },
     /// A get that returned a value, and the version of the put that wrote it.
     Got {
         key: Key,
         value: Value,
+        version: Version,
+    },
+    /// A get that found a deletion of this version.
+    Gone {
+        key: Key,
         version: Version,
     },
     /// A get that found nothing.
@@ -53,16 +64,36 @@ impl Clone for Op {
                 value: value.clone()?,
                 version: *version,
             }),
+            Op::Del { key, version } => Ok(Op::Del {
+                key: key.clone()?,
+                version: *version,
+            }),
+            Op::Gone { key, version } => Ok(Op::Gone {
+                key: key.clone()?,
+                version: *version,
+            }),
             Op::Missed { key } => Ok(Op::Missed { key: key.clone()? }),
         }
     }
 }
 
 impl Op {
-    ghost use Rattle.std.specs.Prelude.{◌≡◌};
+    ghost use Rattle.std.specs.Prelude.{◌≡◌, ◌↔◌, IsTrue};
+    ghost use Rattle.cops_types.specs.Format.{IsInFormat};
     ghost use Rattle.cops_types.specs.OpRefs.{seen};
     ghost use Rattle.cops_types.specs.OpViews.{viewed};
     ghost use Rattle.cops_types.specs.Operations.{key_of, operation_of};
+
+    /// Whether the format has such an operation: a deletion, and a get that found one, are of format 2.
+    pub fn in_format(&self, format: Format) -> bool
+        ensures { IsTrue result ↔ IsInFormat format (operation_of self.now) }
+    {
+        match self {
+            Op::Put { value, .. } | Op::Got { value, .. } => format.fits(Some(value)),
+            Op::Del { .. } | Op::Gone { .. } => format.fits(None),
+            Op::Missed { .. } => true,
+        }
+    }
 
     /// The operation, seen where it lies.
     pub fn as_ref(&self) -> OpRef<'_>
@@ -75,7 +106,17 @@ impl Op {
                 version,
             } => OpRef::Put {
                 key,
-                value,
+                value: Some(value),
+                version,
+            },
+            Op::Del { key, version } => OpRef::Put {
+                key,
+                value: None,
+                version,
+            },
+            Op::Gone { key, version } => OpRef::Got {
+                key,
+                value: None,
                 version,
             },
             Op::Got {
@@ -84,7 +125,7 @@ impl Op {
                 version,
             } => OpRef::Got {
                 key,
-                value,
+                value: Some(value),
                 version,
             },
             Op::Missed { key } => OpRef::Missed { key },
@@ -96,7 +137,11 @@ impl Op {
         ensures { result ≡ key_of (operation_of self.now) }
     {
         match self {
-            Op::Put { key, .. } | Op::Got { key, .. } | Op::Missed { key } => key.as_view(),
+            Op::Put { key, .. }
+            | Op::Del { key, .. }
+            | Op::Got { key, .. }
+            | Op::Gone { key, .. }
+            | Op::Missed { key } => key.as_view(),
         }
     }
 
@@ -121,6 +166,14 @@ impl Op {
             } => OpView::Got {
                 key: key.as_view(),
                 value: value.as_view(),
+                version: *version,
+            },
+            Op::Del { key, version } => OpView::Del {
+                key: key.as_view(),
+                version: *version,
+            },
+            Op::Gone { key, version } => OpView::Gone {
+                key: key.as_view(),
                 version: *version,
             },
             Op::Missed { key } => OpView::Missed { key: key.as_view() },

@@ -1,4 +1,5 @@
-ghost use Rattle.std.specs.Prelude.{◌≡◌, ◌↔◌, IfOk, IsTrue};
+ghost use Rattle.std.specs.Prelude.{◌≡◌, ◌↔◌, ℕ, List, Option, IfOk, IsTrue, option_copied};
+ghost use Rattle.cops_types.specs.Histories.{read, write};
 ghost use Rattle.cops_types.specs.OpRefs.{seen};
 ghost use Rattle.cops_types.specs.Operations.{operation_of};
 
@@ -11,16 +12,16 @@ use std::alloc::AllocError;
 /// An operation of a history, seen where its parts lie.
 #[derive(Clone, Copy, Debug)]
 pub enum OpRef<'a> {
-    /// A put, which was given this version.
+    /// A put, which was given this version: without a value it is a deletion.
     Put {
         key: &'a Key,
-        value: &'a Value,
+        value: Option<&'a Value>,
         version: &'a Version,
     },
-    /// A get that returned a value, and the version of the put that wrote it.
+    /// A get that returned a value and the version of its put, or without a value one that found a deletion.
     Got {
         key: &'a Key,
-        value: &'a Value,
+        value: Option<&'a Value>,
         version: &'a Version,
     },
     /// A get that found nothing.
@@ -37,20 +38,36 @@ impl OpRef<'_> {
         match self {
             OpRef::Put {
                 key,
-                value,
+                value: Some(value),
                 version,
             } => Ok(Op::Put {
                 key: Key::clone(key)?,
                 value: Value::clone(value)?,
                 version: **version,
             }),
+            OpRef::Put {
+                key,
+                value: None,
+                version,
+            } => Ok(Op::Del {
+                key: Key::clone(key)?,
+                version: **version,
+            }),
             OpRef::Got {
                 key,
-                value,
+                value: Some(value),
                 version,
             } => Ok(Op::Got {
                 key: Key::clone(key)?,
                 value: Value::clone(value)?,
+                version: **version,
+            }),
+            OpRef::Got {
+                key,
+                value: None,
+                version,
+            } => Ok(Op::Gone {
+                key: Key::clone(key)?,
                 version: **version,
             }),
             OpRef::Missed { key } => Ok(Op::Missed {
@@ -87,9 +104,49 @@ impl OpRef<'_> {
                     value: other_value,
                     version: other_version,
                 },
-            ) => **version == **other_version && key.is(other_key) && value.is(other_value),
+            ) => {
+                **version == **other_version
+                    && key.is(other_key)
+                    && is_same_content(*value, *other_value)
+            }
             (OpRef::Missed { key }, OpRef::Missed { key: other_key }) => key.is(other_key),
             _ => false,
         }
+    }
+
+    /// Whether it is a put, and the other a get that returned it: its key, its value or that it is a deletion, and its
+    /// version.
+    pub fn is_source_of(&self, got: &OpRef<'_>) -> bool
+        ensures { IsTrue result ↔ ((key : List ℕ) × (content : Option (List ℕ)) × (version : ℕ)
+            × (seen self.now ≡ write key content version) × (seen got.now ≡ read key content version)) }
+    {
+        match (self, got) {
+            (
+                OpRef::Put {
+                    key,
+                    value,
+                    version,
+                },
+                OpRef::Got {
+                    key: got_key,
+                    value: got_value,
+                    version: got_version,
+                },
+            ) if **version == **got_version => {
+                key.is(got_key) && is_same_content(*value, *got_value)
+            }
+            _ => false,
+        }
+    }
+}
+
+/// Whether the two are one value, or no value both.
+pub(crate) fn is_same_content(content: Option<&Value>, other: Option<&Value>) -> bool
+    ensures { IsTrue result ↔ (option_copied content.entry ≡ option_copied other.entry) }
+{
+    match (content, other) {
+        (Some(value), Some(other)) => value.is(other),
+        (None, None) => true,
+        _ => false,
     }
 }

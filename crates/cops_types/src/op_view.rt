@@ -119,10 +119,20 @@ pub enum OpView<'a> {
         value: ValueView<'a>,
         version: Version,
     },
+    /// A deletion, which was given this version.
+    Del {
+        key: KeyView<'a>,
+        version: Version,
+    },
     /// A get that returned a value, and the version of the put that wrote it.
     Got {
         key: KeyView<'a>,
         value: ValueView<'a>,
+        version: Version,
+    },
+    /// A get that found a deletion of this version.
+    Gone {
+        key: KeyView<'a>,
         version: Version,
     },
     /// A get that found nothing.
@@ -141,7 +151,11 @@ impl<'a> OpView<'a> {
         ensures { result.now ≡ key_of (viewed self.now) }
     {
         match self {
-            OpView::Put { key, .. } | OpView::Got { key, .. } | OpView::Missed { key } => key,
+            OpView::Put { key, .. }
+            | OpView::Del { key, .. }
+            | OpView::Got { key, .. }
+            | OpView::Gone { key, .. }
+            | OpView::Missed { key } => key,
         }
     }
 }

@@ -4,11 +4,12 @@ use crate::value::Value;
 use crate::version::Version;
 use std::alloc::AllocError;
 
-/// A put as it is sent to the other data centres: with its nearest dependencies (COPS, section 4.3).
+/// A put as it is sent to the other data centres, with its nearest dependencies (COPS, section 4.3): without a value it
+/// is a deletion.
 #[derive(Debug, Drop)]
 pub struct PutRecord {
     pub key: Key,
-    pub value: Value,
+    pub value: Option<Value>,
     pub version: Version,
     pub deps: Deps,
 }
@@ -22,14 +23,17 @@ impl Clone for PutRecord {
     fn clone(&self) -> Result<PutRecord, AllocError> {
         Ok(PutRecord {
             key: self.key.clone()?,
-            value: self.value.clone()?,
+            value: match &self.value {
+                Some(value) => Some(value.clone()?),
+                None => None,
+            },
             version: self.version,
             deps: self.deps.clone()?,
         })
     }
 }
 
-/// What a node tells of itself: its clock, how many keys show a value, how many pairs are settled, and how many puts
+/// What a node tells of itself: its clock, how many keys show a put, how many pairs are settled, and how many puts
 /// are held.
 #[derive(Clone, Copy, Debug, PartialEq, Eq)]
 pub struct NodeStatus {

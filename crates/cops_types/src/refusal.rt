@@ -1,7 +1,7 @@
 //! Why an event, or a client's message, was refused.
 
 /// Why an event, or a client's message, was refused. The numbers are its codes, in outcomes and in messages: those up
-/// to `SessionFull` are the cluster's, and the others are the front door's own.
+/// to `NotInFormat` are the cluster's, and the others are the front door's own.
 #[derive(Clone, Copy, Debug, PartialEq, Eq)]
 pub enum Refusal {
     /// The clock can rise no further.
@@ -26,6 +26,8 @@ pub enum Refusal {
     UnknownDc = 10,
     /// The client has 1,000,000 operations, or there are 16,000,000.
     SessionFull = 11,
+    /// The format has no deletions.
+    NotInFormat = 12,
     /// No greeting was answered yet.
     NotGreeted = 16,
     /// The greeting names another profile.

@@ -84,6 +84,15 @@ impl Value {
         }
     }
 
+    /// The value without bytes. It takes no memory.
+    pub(crate) fn empty(alloc: Global) -> Self
+        ensures { result ≡ [] }
+    {
+        Value {
+            bytes: SmallVec::new(alloc),
+        }
+    }
+
     /// A copy of what is seen.
     pub(crate) fn of(alloc: Global, seen: &ValueView<'_>) -> Result<Self, AllocError>
         ensures { IfOk result (λ value. value ≡ seen.now) }

@@ -2,7 +2,7 @@
 use Rattle.std.proofs.Common.{◌≡◌, ℕ, ◌+◌, ◌^◌, ◌<◌, ◌≤◌, List, length, Option, Some, None, Result, Ok, Err, refl, sym, ap, subst, ◌∙◌, arith}
 use Rattle.std.proofs.lemmas.List.{length-append}
 use Rattle.cops_types.specs.declared.format.Format.{Format}
-use Rattle.cops_types.specs.declared.format.Format.TheVariants.{One}
+use Rattle.cops_types.specs.declared.format.Format.TheVariants.{One, Two}
 use Rattle.cops_types.specs.Format.{most_deps, longest_body}
 use Rattle.cops_wire.specs.declared.fault.WireFault.{WireFault}
 use Rattle.cops_wire.specs.declared.fault.WireFault.TheVariants.{Memory}
@@ -23,14 +23,15 @@ use Rattle.cops_wire.proofs.Frames.{frame_answers, only_answer}
 -- the messages of each format fit their frames
 pub grammar_ok : (format : Format) → IsGrammar (grammar format)
 grammar_ok One = (omega arith, refl)
+grammar_ok Two = (omega arith, refl)
 
 -- a place in a frame is a number of 32 bits
 pub places_fit : (format : Format) → 4 + longest_body format < 2 ^ 32
-places_fit One = omega arith
+places_fit format = omega arith
 
 -- dependencies of each format are dependencies
 pub most_deps_le : (format : Format) → most_deps format ≤ 256
-most_deps_le One = omega arith
+most_deps_le format = omega arith
 
 known_left : (o : Option (List Field)) (bytes : List ℕ) (left : ℕ) → IsBytes bytes → known_fields_at o bytes ≡ Err (faults.BadField left) → left ≤ length bytes
 known_left None bytes left fits e = absurd cc

@@ -2,9 +2,10 @@
 use Rattle.std.proofs.Common.{◌≡◌, ℕ, zero, suc, cond, eqb, List, [], ◌∷◌, refl, sym, ap, ◌∙◌}
 use Rattle.cops_types.specs.declared.dep.Dep.{Dep}
 use Rattle.cops_wire.specs.declared.message.Message.{Message}
-use Rattle.cops_wire.specs.declared.message.Message.TheVariants.{Hello, HelloOk, Put, Get, PutDone, Got, Missed, Refused, PutAfter, DepCheck, DepYes, DepWait, Status, StatusIs, Bye, ByeOk, TraceHead, TracePut, TraceGot, TraceMissed, TraceEnd}
+use Rattle.cops_wire.specs.declared.message.Message.TheVariants.{Hello, HelloOk, Put, Get, PutDone, Got, Missed, Refused, PutAfter, DepCheck, DepYes, DepWait, Status, StatusIs, Bye, ByeOk, TraceHead, TracePut, TraceGot, TraceMissed, TraceEnd, Del, Deleted, Gone, DelAfter, TraceDel, TraceGone}
 use Rattle.cops_wire.specs.Field.{Content, of_number, of_bytes, of_pairs}
-use Rattle.cops_wire.specs.Grammar.{Parts}
+use Rattle.cops_wire.specs.Grammar.{Parts, grammar_one, grammar_two, spelling}
+use Rattle.cops_wire.specs.Legal.{IsMessage}
 use Rattle.cops_wire.specs.Message.{parts}
 
 -- what stands at a place
@@ -48,7 +49,13 @@ message_of p =
     cond (eqb p.kind 18) (TracePut (number (at 0)) (number (at 1)) (bytes (at 2)) (bytes (at 3)) (number (at 4))) (
     cond (eqb p.kind 19) (TraceGot (number (at 0)) (number (at 1)) (bytes (at 2)) (bytes (at 3)) (number (at 4))) (
     cond (eqb p.kind 20) (TraceMissed (number (at 0)) (number (at 1)) (bytes (at 2))) (
-    (TraceEnd (number (at 0)))))))))))))))))))))))
+    cond (eqb p.kind 21) (TraceEnd (number (at 0))) (
+    cond (eqb p.kind 22) (Del (number (at 0)) (bytes (at 1))) (
+    cond (eqb p.kind 23) (Deleted (number (at 0)) (number (at 1))) (
+    cond (eqb p.kind 24) (Gone (number (at 0)) (number (at 1))) (
+    cond (eqb p.kind 25) (DelAfter (bytes (at 0)) (number (at 1)) (deps (at 2))) (
+    cond (eqb p.kind 26) (TraceDel (number (at 0)) (number (at 1)) (bytes (at 2)) (number (at 3))) (
+    (TraceGone (number (at 0)) (number (at 1)) (bytes (at 2)) (number (at 3)))))))))))))))))))))))))))))
 
 back : (m : Message) → message_of (parts m) ≡ m
 back (Hello profile client) = refl
@@ -56,3 +63,13 @@ back _ = refl
 
 pub parts-same : (m n : Message) → parts m ≡ parts n → m ≡ n
 parts-same m n e = sym (back m) ∙ ap message_of e ∙ back n
+
+-- a message of format 1 has the same spelling in format 2
+pub first-in-second : (m : Message) → IsMessage grammar_one (parts m) → IsMessage grammar_two (parts m) × (spelling grammar_two (parts m) ≡ spelling grammar_one (parts m))
+first-in-second (Del seq key) legal = absurd legal
+first-in-second (Deleted seq version) legal = absurd legal
+first-in-second (Gone seq version) legal = absurd legal
+first-in-second (DelAfter key version deps) legal = absurd legal
+first-in-second (TraceDel client index key version) legal = absurd legal
+first-in-second (TraceGone client index key version) legal = absurd legal
+first-in-second _ legal = (legal, refl)

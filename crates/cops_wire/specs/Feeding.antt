@@ -15,6 +15,11 @@ pub record Fed : Type 0 where
   pub rest : List ℕ
   pub fault : Option WireFault
 
+-- it reads what is not given out yet in this format; after a fault it stays as it is
+abbrev pub in_format : Fed → Option WireFault → Format → Fed
+in_format fed None format = record fed { format = format }
+in_format fed (Some fault) format = fed
+
 -- The fault stands at the front of the rest, whatever may still come.
 abbrev pub IsStopped : Grammar → List ℕ → WireFault → Type 0
 IsStopped g rest Memory = ⊥

@@ -1,7 +1,7 @@
 -- The grammar of a format: its kinds of messages with their fields, and how long a frame's body may be.
 use Rattle.std.specs.Prelude.{ℕ, ◌==◌, if◌then◌else◌, List, [], ◌∷◌, ◌++◌, length, Option, Some, None, unwrap_or}
 use Rattle.cops_types.specs.declared.format.Format.{Format}
-use Rattle.cops_types.specs.declared.format.Format.TheVariants.{One}
+use Rattle.cops_types.specs.declared.format.Format.TheVariants.{One, Two}
 use Rattle.cops_types.specs.Format.{most_value, most_deps, longest_body}
 use Rattle.cops_wire.specs.Field.{Field, Content, u8, u16, u32, u64, number, number_in, string, version, pairs, key, spelled_number, spelled_all}
 
@@ -16,6 +16,18 @@ value format = string u16 0 (most_value format)
 -- dependencies of the format
 abbrev pub deps : Format → Field
 deps format = pairs (most_deps format)
+
+-- the kinds that format 2 has and format 1 has not: those of deletions
+abbrev pub kinds_of_deletions : Format → List (ℕ × List Field)
+kinds_of_deletions One = []
+kinds_of_deletions Two =
+    (22, number u32 ∷ key ∷ [])
+    ∷ (23, number u32 ∷ version ∷ [])
+    ∷ (24, number u32 ∷ version ∷ [])
+    ∷ (25, key ∷ version ∷ deps Two ∷ [])
+    ∷ (26, number u16 ∷ number u32 ∷ key ∷ version ∷ [])
+    ∷ (27, number u16 ∷ number u32 ∷ key ∷ version ∷ [])
+    ∷ []
 
 -- the table of kinds
 abbrev pub grammar : Format → Grammar
@@ -42,13 +54,16 @@ grammar format = record {
       ∷ (19, number u16 ∷ number u32 ∷ key ∷ value format ∷ version ∷ [])
       ∷ (20, number u16 ∷ number u32 ∷ key ∷ [])
       ∷ (21, number u32 ∷ [])
-      ∷ [];
+      ∷ kinds_of_deletions format;
   longest = longest_body format;
 }
 
--- the grammar of format 1
+-- the grammars of both formats
 abbrev pub grammar_one : Grammar
 grammar_one = grammar One
+
+abbrev pub grammar_two : Grammar
+grammar_two = grammar Two
 
 -- the fields of the first row of a kind
 abbrev pub row_of : ℕ → List (ℕ × List Field) → Option (List Field)

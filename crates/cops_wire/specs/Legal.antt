@@ -4,7 +4,7 @@ use Rattle.std.specs.Int.{byte_len}
 use Rattle.cops_types.specs.Deps.{ArePairs}
 use Rattle.cops_types.specs.Version.{IsVersion}
 use Rattle.cops_wire.specs.Field.{Size, u16, width, Field, Content, number, number_in, string, version, pairs, of_number, of_bytes, of_pairs}
-use Rattle.cops_wire.specs.Grammar.{Grammar, Parts, fields_of, grammar_one}
+use Rattle.cops_wire.specs.Grammar.{Grammar, Parts, fields_of, grammar_two}
 use Rattle.cops_wire.specs.Message.{parts}
 use Rattle.cops_wire.specs.declared.message.Message.{Message}
 
@@ -31,6 +31,6 @@ AllLegal _ _ = ⊥
 abbrev pub IsMessage : Grammar → Parts → Type 0
 IsMessage g p = MatchOption (fields_of g p.kind) ⊥ (λ fields. AllLegal fields p.contents)
 
--- what stands in a message is legal in format 1
+-- what stands in a message is legal in format 2, which has all messages
 abbrev pub IsLegalMessage : Message → Type 0
-IsLegalMessage m = IsMessage grammar_one (parts m)
+IsLegalMessage m = IsMessage grammar_two (parts m)

@@ -1,9 +1,9 @@
 -- Each message of the program as a kind and what stands in its fields.
 use Rattle.std.specs.Prelude.{ℕ, List, [], ◌∷◌}
 use Rattle.cops_wire.specs.declared.message.Message.{Message}
-use Rattle.cops_wire.specs.declared.message.Message.TheVariants.{Hello, HelloOk, Put, Get, PutDone, Got, Missed, Refused, PutAfter, DepCheck, DepYes, DepWait, Status, StatusIs, Bye, ByeOk, TraceHead, TracePut, TraceGot, TraceMissed, TraceEnd}
+use Rattle.cops_wire.specs.declared.message.Message.TheVariants.{Hello, HelloOk, Put, Get, PutDone, Got, Missed, Refused, PutAfter, DepCheck, DepYes, DepWait, Status, StatusIs, Bye, ByeOk, TraceHead, TracePut, TraceGot, TraceMissed, TraceEnd, Del, Deleted, Gone, DelAfter, TraceDel, TraceGone}
 use Rattle.cops_wire.specs.Field.{of_number, of_bytes, of_pairs}
-use Rattle.cops_wire.specs.Grammar.{Parts, grammar_one, spelling}
+use Rattle.cops_wire.specs.Grammar.{Parts, grammar_two, spelling}
 
 abbrev pub parts : Message → Parts
 parts (Hello profile client) = record { kind = 1; contents = of_number profile ∷ of_number client ∷ [] }
@@ -27,7 +27,13 @@ parts (TracePut client index key value version) = record { kind = 18; contents =
 parts (TraceGot client index key value version) = record { kind = 19; contents = of_number client ∷ of_number index ∷ of_bytes key ∷ of_bytes value ∷ of_number version ∷ [] }
 parts (TraceMissed client index key) = record { kind = 20; contents = of_number client ∷ of_number index ∷ of_bytes key ∷ [] }
 parts (TraceEnd ops) = record { kind = 21; contents = of_number ops ∷ [] }
+parts (Del seq key) = record { kind = 22; contents = of_number seq ∷ of_bytes key ∷ [] }
+parts (Deleted seq version) = record { kind = 23; contents = of_number seq ∷ of_number version ∷ [] }
+parts (Gone seq version) = record { kind = 24; contents = of_number seq ∷ of_number version ∷ [] }
+parts (DelAfter key version deps) = record { kind = 25; contents = of_bytes key ∷ of_number version ∷ of_pairs deps ∷ [] }
+parts (TraceDel client index key version) = record { kind = 26; contents = of_number client ∷ of_number index ∷ of_bytes key ∷ of_number version ∷ [] }
+parts (TraceGone client index key version) = record { kind = 27; contents = of_number client ∷ of_number index ∷ of_bytes key ∷ of_number version ∷ [] }
 
--- the bytes of a message of format 1
+-- the bytes of a message: those of format 2, which has all messages
 unfoldable pub spelled : Message → List ℕ
-spelled m = spelling grammar_one (parts m)
+spelled m = spelling grammar_two (parts m)

@@ -6,7 +6,7 @@ use Rattle.std.specs.Fmt.{digit_glyph}
 use Rattle.cops_types.specs.declared.dep.Dep.{Dep}
 use Rattle.cops_types.specs.Texts.{◌⧺◌, version_text}
 use Rattle.cops_wire.specs.declared.message.Message.{Message}
-use Rattle.cops_wire.specs.declared.message.Message.TheVariants.{Hello, HelloOk, Put, Get, PutDone, Got, Missed, Refused, PutAfter, DepCheck, DepYes, DepWait, Status, StatusIs, Bye, ByeOk, TraceHead, TracePut, TraceGot, TraceMissed, TraceEnd}
+use Rattle.cops_wire.specs.declared.message.Message.TheVariants.{Hello, HelloOk, Put, Get, PutDone, Got, Missed, Refused, PutAfter, DepCheck, DepYes, DepWait, Status, StatusIs, Bye, ByeOk, TraceHead, TracePut, TraceGot, TraceMissed, TraceEnd, Del, Deleted, Gone, DelAfter, TraceDel, TraceGone}
 
 -- a byte that stands as it is: a letter or digit of ASCII, `-`, `.` or `_`
 abbrev pub is_plain : ℕ → Bool
@@ -51,3 +51,9 @@ shown (TracePut client index key value version) = codes "TracePut client=" ⧺ d
 shown (TraceGot client index key value version) = codes "TraceGot client=" ⧺ decimal client ⧺ codes " index=" ⧺ decimal index ⧺ codes " key=" ⧺ bytes_text key ⧺ codes " value=" ⧺ bytes_text value ⧺ codes " version=" ⧺ version_text version
 shown (TraceMissed client index key) = codes "TraceMissed client=" ⧺ decimal client ⧺ codes " index=" ⧺ decimal index ⧺ codes " key=" ⧺ bytes_text key
 shown (TraceEnd ops) = codes "TraceEnd ops=" ⧺ decimal ops
+shown (Del seq key) = codes "Del seq=" ⧺ decimal seq ⧺ codes " key=" ⧺ bytes_text key
+shown (Deleted seq version) = codes "Deleted seq=" ⧺ decimal seq ⧺ codes " version=" ⧺ version_text version
+shown (Gone seq version) = codes "Gone seq=" ⧺ decimal seq ⧺ codes " version=" ⧺ version_text version
+shown (DelAfter key version deps) = codes "DelAfter key=" ⧺ bytes_text key ⧺ codes " version=" ⧺ version_text version ⧺ codes " deps=" ⧺ deps_text deps
+shown (TraceDel client index key version) = codes "TraceDel client=" ⧺ decimal client ⧺ codes " index=" ⧺ decimal index ⧺ codes " key=" ⧺ bytes_text key ⧺ codes " version=" ⧺ version_text version
+shown (TraceGone client index key version) = codes "TraceGone client=" ⧺ decimal client ⧺ codes " index=" ⧺ decimal index ⧺ codes " key=" ⧺ bytes_text key ⧺ codes " version=" ⧺ version_text version

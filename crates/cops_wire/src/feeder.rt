@@ -9,7 +9,7 @@ use cops_types::{Format, Memory};
 use std::alloc::Global;
 use std::marker::Model;
 
-/// Reads messages of format 1 from a stream that comes in pieces: what came and is not read is the rest.
+/// Reads messages of a format from a stream that comes in pieces: what came and is not read is the rest.
 #[derive(Debug, Drop)]
 pub struct Feeder {
     alloc: Global,
@@ -33,9 +33,9 @@ impl Feeder {
     ghost use Rattle.std.specs.Prelude.{◌≡◌, ◌++◌, ◌↔◌, [], None, OnOk, OnErr, IfSome, Ok, Err};
     ghost use Rattle.cops_wire.specs.Grammar.{grammar};
     ghost use Rattle.cops_wire.specs.Answer.{IsShort};
-    ghost use Rattle.cops_wire.specs.Feeding.{IsNext};
+    ghost use Rattle.cops_wire.specs.Feeding.{IsNext, in_format};
 
-    /// A feeder that was given nothing.
+    /// A feeder that was given nothing, and reads format 1.
     pub fn new(alloc: Global) -> Self
         ensures { result ≡ record { format = Format.One; rest = []; fault = None } }
     {
@@ -54,6 +54,15 @@ impl Feeder {
     {
         self.buffer.feed(piece)?;
         Ok(())
+    }
+
+    /// Has what is not given out yet read in this format. After a fault was answered it changes nothing.
+    pub fn set_format(&mut self, format: Format)
+        ensures { self.new ≡ in_format self.old self.old.fault format }
+    {
+        if self.fault.is_none() {
+            self.format = format;
+        }
     }
 
     /// The message at the front of the rest, which is taken off, or nothing while the front is no whole frame. A fault

@@ -5,7 +5,7 @@ ghost use Rattle.cops_types.specs.Format.{longest_body};
 ghost use Rattle.cops_wire.specs.declared.fault.WireFault.{WireFault};
 ghost use Rattle.cops_wire.specs.declared.message.Message.{Message};
 ghost use Rattle.cops_wire.specs.Answer.{IsBytes, IsAnswer, IsShort, BeginsWithKnown, BeginsWithTaking, IsFromFields};
-ghost use Rattle.cops_wire.specs.Grammar.{grammar, Parts, spelling};
+ghost use Rattle.cops_wire.specs.Grammar.{grammar, grammar_one, grammar_two, Parts, spelling};
 ghost use Rattle.cops_wire.specs.Legal.{IsMessage};
 ghost use Rattle.cops_wire.specs.Message.{parts};
 ghost use Rattle.cops_wire.specs.Reading.{frame_at};
@@ -14,6 +14,11 @@ ghost use Rattle.cops_wire.specs.Reading.{frame_at};
 pub fn one_spelling()
     ensures { (format : Format) (m n : Message) (x y : List ℕ) → IsMessage (grammar format) (parts m) → IsMessage (grammar format) (parts n)
         → spelling (grammar format) (parts m) ++ x ≡ spelling (grammar format) (parts n) ++ y → (m ≡ n) × (x ≡ y) }
+{}
+
+/// Each spelling of a message in format 1 is its spelling in format 2.
+pub fn first_is_in_second()
+    ensures { (m : Message) → IsMessage grammar_one (parts m) → IsMessage grammar_two (parts m) × (spelling grammar_two (parts m) ≡ spelling grammar_one (parts m)) }
 {}
 
 /// Bytes have at most one answer.

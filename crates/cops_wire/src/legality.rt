@@ -1,7 +1,7 @@
 //! Whether a message is one of a format.
 ghost use Rattle.std.specs.Prelude.{◌↔◌, IsTrue};
-ghost use Rattle.cops_wire.specs.Grammar.{grammar};
-ghost use Rattle.cops_wire.specs.Legal.{IsLegalMessage, IsMessage};
+ghost use Rattle.cops_wire.specs.Grammar.{grammar, grammar_one};
+ghost use Rattle.cops_wire.specs.Legal.{IsMessage};
 ghost use Rattle.cops_wire.specs.Message.{parts};
 
 use crate::limits::Limits;
@@ -9,9 +9,22 @@ use crate::message::Message;
 use crate::table::kinds;
 use cops_types::Format;
 
-/// Whether each field is within its range in format 1.
+/// A test of a message of a group: format 1 has none of the group of deletions.
+macro_rules! in_group {
+    (deletion $limits:ident, $test:expr) => {
+        match $limits.format {
+            Format::One => false,
+            Format::Two => $test,
+        }
+    };
+    ($group:ident $limits:ident, $test:expr) => {
+        $test
+    };
+}
+
+/// Whether format 1 has the message's kind, and each field is within its range there.
 pub fn legal(message: &Message) -> bool
-    ensures { IsTrue result ↔ IsLegalMessage message.now }
+    ensures { IsTrue result ↔ IsMessage grammar_one (parts message.now) }
 {
     legal_in(Format::One, message)
 }
@@ -23,7 +36,7 @@ pub fn legal_in(format: Format, message: &Message) -> bool
     macro_rules! test {
         ($message:ident, $limits:ident; $($group:ident { $($number:literal => $name:ident { $($field:ident: $type:ident($($arg:literal),*)),* }),* })*) => {
             match $message {
-                $($(Message::$name { $($field),* } => true $(& $limits.$type($($arg,)* $field))*,)*)*
+                $($(Message::$name { $($field),* } => in_group!($group $limits, true $(& $limits.$type($($arg,)* $field))*),)*)*
             }
         };
     }

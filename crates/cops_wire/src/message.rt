@@ -114,4 +114,39 @@ pub enum Message {
     TraceEnd {
         ops: u32,
     },
+    /// A client's deletion. This kind and those after it are of format 2.
+    Del {
+        seq: u32,
+        key: Key,
+    },
+    /// The version that a deletion was given.
+    Deleted {
+        seq: u32,
+        version: Version,
+    },
+    /// A get that found a deletion, and its version.
+    Gone {
+        seq: u32,
+        version: Version,
+    },
+    /// A deletion on its way to another data centre, with the dependencies that must be there first.
+    DelAfter {
+        key: Key,
+        version: Version,
+        deps: Deps,
+    },
+    /// A record of a trace: a deletion, and the version that it was given.
+    TraceDel {
+        client: u16,
+        index: u32,
+        key: Key,
+        version: Version,
+    },
+    /// A record of a trace: a get that found a deletion.
+    TraceGone {
+        client: u16,
+        index: u32,
+        key: Key,
+        version: Version,
+    },
 }

@@ -3,7 +3,7 @@ ghost use Rattle.std.specs.Prelude.{◌≡◌, ◌≤◌, length, take, drop, If
 ghost use Rattle.cops_wire.specs.Field.{u8, u16, u32, u64, key};
 ghost use Rattle.cops_types.specs.declared.limits.TheConstants.{MAX_KEY};
 ghost use Rattle.cops_types.specs.Format.{most_value, most_deps};
-ghost use Rattle.cops_wire.specs.Grammar.{grammar, value, deps};
+ghost use Rattle.cops_wire.specs.Grammar.{grammar, grammar_two, value, deps};
 ghost use Rattle.cops_wire.specs.Kind.{IsOneOf, kind_of};
 ghost use Rattle.cops_wire.specs.Reading.{GivesField, GivesNumber, GivesContents, number_at, number_in_at, string_at, version_at, pair_at, pairs_at, deps_at, GivesPart};
 
@@ -62,6 +62,8 @@ const REPLICATION: &[u8] = kinds!(group replication numbers);
 const TRACE: &[u8] = kinds!(group trace numbers);
 
 const RECORD: &[u8] = kinds!(group record numbers);
+
+const DELETION: &[u8] = kinds!(group deletion numbers);
 
 /// A match on the kind, which is one of the group's, that reads the fields from left to right.
 macro_rules! read {
@@ -366,5 +368,26 @@ impl<'a> Rest<'a> {
     {
         let rest = self;
         kinds!(group record read kind rest)
+    }
+
+    fn deletion(&mut self, kind: u8) -> Result<Message, ReadFault>
+        requires { IsOneOf DELETION.now kind }
+        ensures contents { GivesContents (grammar self.old.format) kind self.old.bytes.now result self.new.bytes.now }
+        ensures kind { IfOk result (λ m. kind_of m ≡ kind) }
+    {
+        match self.format {
+            Format::One => Err(ReadFault::UnknownKind),
+            Format::Two => self.deletion_of_two(kind),
+        }
+    }
+
+    fn deletion_of_two(&mut self, kind: u8) -> Result<Message, ReadFault>
+        requires kind { IsOneOf DELETION.now kind }
+        requires format { self.old.format ≡ Format.Two }
+        ensures contents { GivesContents grammar_two kind self.old.bytes.now result self.new.bytes.now }
+        ensures kind { IfOk result (λ m. kind_of m ≡ kind) }
+    {
+        let rest = self;
+        kinds!(group deletion read kind rest)
     }
 }

@@ -17,7 +17,7 @@ pub struct TraceRecord {
     pub op: Op,
 }
 
-/// The message of a client's operation at this place of its session. It is always legal.
+/// The message of a client's operation at this place of its session. It is always legal in format 2.
 pub fn record_message(client: u16, index: u32, op: Op) -> Message
     ensures value { result ≡ record_message client index (operation_of op) }
     ensures legal { IsLegalMessage (record_message client index (operation_of op)) }
@@ -48,6 +48,24 @@ pub fn record_message(client: u16, index: u32, op: Op) -> Message
                 index,
                 key,
                 value,
+                version,
+            }
+        }
+        Op::Del { key, version } => {
+            key_in_range(&key, &version);
+            Message::TraceDel {
+                client,
+                index,
+                key,
+                version,
+            }
+        }
+        Op::Gone { key, version } => {
+            key_in_range(&key, &version);
+            Message::TraceGone {
+                client,
+                index,
+                key,
                 version,
             }
         }
@@ -92,6 +110,18 @@ pub fn record_of_message(message: Message) -> Option<TraceRecord>
             (client, index, op)
         }
         Message::TraceMissed { client, index, key } => (client, index, Op::Missed { key }),
+        Message::TraceDel {
+            client,
+            index,
+            key,
+            version,
+        } => (client, index, Op::Del { key, version }),
+        Message::TraceGone {
+            client,
+            index,
+            key,
+            version,
+        } => (client, index, Op::Gone { key, version }),
         other => {
             drop(other);
             return None;
@@ -106,7 +136,15 @@ fn in_range(key: &Key, value: &Value, version: &Version)
     ensures value { IsValue value.now }
     ensures version { IsVersion version.now }
 {
-    let _key = key.as_bytes();
     let _value = value.as_bytes();
+    key_in_range(key, version);
+}
+
+/// A key and a version are within their ranges.
+fn key_in_range(key: &Key, version: &Version)
+    ensures key { IsKey key.now }
+    ensures version { IsVersion version.now }
+{
+    let _key = key.as_bytes();
     let _version = version.as_u64();
 }

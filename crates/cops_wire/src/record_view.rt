@@ -2,7 +2,7 @@
 ghost use Rattle.std.specs.Prelude.{◌≡◌, ◌<◌, ◌≤◌, Ok, IfOk, IfSome, length};
 ghost use Rattle.cops_types.specs.Format.{longest_body};
 ghost use Rattle.cops_wire.specs.Answer.{IsAnswer};
-ghost use Rattle.cops_wire.specs.Grammar.{grammar};
+ghost use Rattle.cops_wire.specs.Grammar.{grammar, grammar_two};
 ghost use Rattle.cops_wire.specs.Kind.{contents_of, kind_of};
 ghost use Rattle.cops_wire.specs.Message.{parts};
 ghost use Rattle.cops_wire.specs.Reading.{body_at, contents_at, frame_at};
@@ -87,6 +87,53 @@ impl<'a> Rest<'a> {
         })
     }
 
+    /// The deletion whose fields stand at the front.
+    fn del_view(&mut self, used: usize) -> Result<RecordView<'a>, ReadFault>
+        requires { self.old.format ≡ Format.Two }
+        ensures { IfOk result (λ r. (kind_of (seen_message r) ≡ 26) × (r.used ≡ used) × (contents_at grammar_two 26 self.old.bytes.now ≡ Ok (contents_of (seen_message r), self.new.bytes.now))) }
+    {
+        let client = self.u16()?;
+        let index = self.u32()?;
+        let key = self.key_view()?;
+        let version = self.version()?;
+        let op = OpView::Del { key, version };
+        Ok(RecordView {
+            client,
+            index,
+            op,
+            used,
+        })
+    }
+
+    /// The get that found a deletion, whose fields stand at the front.
+    fn gone_view(&mut self, used: usize) -> Result<RecordView<'a>, ReadFault>
+        requires { self.old.format ≡ Format.Two }
+        ensures { IfOk result (λ r. (kind_of (seen_message r) ≡ 27) × (r.used ≡ used) × (contents_at grammar_two 27 self.old.bytes.now ≡ Ok (contents_of (seen_message r), self.new.bytes.now))) }
+    {
+        let client = self.u16()?;
+        let index = self.u32()?;
+        let key = self.key_view()?;
+        let version = self.version()?;
+        let op = OpView::Gone { key, version };
+        Ok(RecordView {
+            client,
+            index,
+            op,
+            used,
+        })
+    }
+
+    /// The record of this kind, one of those of format 2 alone, whose fields stand at the front.
+    fn deletion_view(&mut self, kind: u8, used: usize) -> Result<RecordView<'a>, ReadFault>
+        ensures { IfOk result (λ r. (kind_of (seen_message r) ≡ kind) × (r.used ≡ used) × (contents_at (grammar self.old.format) kind self.old.bytes.now ≡ Ok (contents_of (seen_message r), self.new.bytes.now))) }
+    {
+        match (self.format, kind) {
+            (Format::Two, 26) => self.del_view(used),
+            (Format::Two, 27) => self.gone_view(used),
+            _ => Err(ReadFault::UnknownKind),
+        }
+    }
+
     /// The record of this kind whose fields stand at the front.
     #[inline(always)]
     fn record_view(&mut self, kind: u8, used: usize) -> Result<RecordView<'a>, ReadFault>
@@ -96,7 +143,7 @@ impl<'a> Rest<'a> {
             18 => self.put_view(used),
             19 => self.got_view(used),
             20 => self.missed_view(used),
-            _ => Err(ReadFault::UnknownKind),
+            _ => self.deletion_view(kind, used),
         }
     }
 }

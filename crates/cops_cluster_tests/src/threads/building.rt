@@ -1,7 +1,7 @@
 //! What the tests of clusters share.
 use cops_cluster::{Cluster, Opened};
 use cops_place::Place;
-use cops_types::{Key, TypeFault, Value};
+use cops_types::{Format, Key, TypeFault, Value};
 use std::alloc::Global;
 use std::test::Fail;
 
@@ -28,4 +28,11 @@ pub fn opened(alloc: Global, dcs: u8, is_split: bool, homes: &[u8]) -> Result<Op
     let homes = Vec::from_slice(alloc, homes)?;
     let place = place(alloc, dcs, is_split)?;
     Ok(Cluster::open(alloc, place, homes)?)
+}
+
+/// A cluster of a format with one node in each of so many data centres, and with clients in these.
+pub fn opened_in(format: Format, alloc: Global, dcs: u8, homes: &[u8]) -> Result<Opened, Fail> {
+    let homes = Vec::from_slice(alloc, homes)?;
+    let place = place(alloc, dcs, false)?;
+    Ok(Cluster::open_in(format, alloc, place, homes)?)
 }

@@ -3,7 +3,7 @@ use cops_cluster::*;
 use cops_node::{Node, Outcome};
 use cops_testing::{HoldsSteps, Meeting};
 use cops_types::{
-    Dep, Deps, Gate, GateHeld, OpenGate, Point, PutRecord, Refusal, TypeFault, Version,
+    Dep, Deps, Format, Gate, GateHeld, OpenGate, Point, PutRecord, Refusal, TypeFault, Version,
 };
 use std::alloc::Global;
 use std::process::Abort;
@@ -12,10 +12,13 @@ use std::test::Fail;
 use std::thread;
 use std::thread::Threads;
 
-/// A word for what an outcome tells. A put and a get have theirs where the version is this one, and the value 1.
+/// A word for what an outcome tells. A put, a deletion and a get have theirs where the version is this one, and the
+/// value 1.
 fn word(outcome: &Outcome, of: Version) -> &'static str {
     match outcome {
         Outcome::PutDone(version) if *version == of => "put",
+        Outcome::Deleted(version) if *version == of => "deleted",
+        Outcome::Gone(version) if *version == of => "gone",
         Outcome::Got(value, version) if *version == of && value.as_bytes() == b"1".as_slice() => {
             "got"
         }
@@ -27,6 +30,7 @@ fn word(outcome: &Outcome, of: Version) -> &'static str {
         Outcome::Refused(Refusal::UnknownDc) => "no data centre",
         Outcome::Refused(Refusal::UnknownClient) => "no client",
         Outcome::Refused(Refusal::NoYes) => "no yes",
+        Outcome::Refused(Refusal::NotInFormat) => "no deletions",
         _ => "other",
     }
 }
@@ -53,6 +57,19 @@ fn put<R: Wait, G: Gate>(
 ) -> Result<&'static str, TypeFault> {
     let (key, value) = pair(alloc, byte)?;
     Ok(told(cluster.put(rt, client, gate, key, value), of))
+}
+
+/// What is told of a deletion of a key, which is to have this version.
+fn del<R: Wait>(
+    rt: &R,
+    alloc: Global,
+    cluster: &Cluster,
+    client: &mut Client,
+    byte: u8,
+    of: Version,
+) -> Result<&'static str, TypeFault> {
+    let key = key(alloc, byte)?;
+    Ok(told(cluster.del(rt, client, &OpenGate, key), of))
 }
 
 /// What is told of a get of a key, which is to have this version.
@@ -104,8 +121,68 @@ fn a_client_gets_what_it_put(rt: HostRuntime) -> Result<(), Fail> {
     Ok(told?)
 }
 
-/// Whether the answer tells that a put was done. It is let go.
-/// Whether a put and a get of the second client of another cluster are refused where there is one client.
+/// A client gets what it deleted as gone, also a key that it never put, and puts again.
+fn finds_what_it_deleted<R: Wait + Abort>(
+    rt: &R,
+    alloc: Global,
+    cluster: &Cluster,
+    client: &mut Client,
+) -> Result<(), TypeFault> {
+    let (first, second) = (Version::new(1, 0)?, Version::new(2, 0)?);
+    let (third, fourth) = (Version::new(3, 0)?, Version::new(4, 0)?);
+    assert!(*rt; put(rt, alloc, cluster, client, &OpenGate, b'x', first)? == "put");
+    assert!(*rt; del(rt, alloc, cluster, client, b'x', second)? == "deleted");
+    assert!(*rt; get(rt, alloc, cluster, client, b'x', second)? == "gone");
+    assert!(*rt; del(rt, alloc, cluster, client, b'y', third)? == "deleted");
+    assert!(*rt; get(rt, alloc, cluster, client, b'y', third)? == "gone");
+    assert!(*rt; put(rt, alloc, cluster, client, &OpenGate, b'x', fourth)? == "put");
+    assert!(*rt; get(rt, alloc, cluster, client, b'x', fourth)? == "got");
+    assert!(*rt; client.share().entries().len() == 7);
+    Ok(())
+}
+
+/// Where the cluster's format has no deletions, one is refused and makes no entry.
+fn deletes_nothing<R: Wait + Abort>(
+    rt: &R,
+    alloc: Global,
+    cluster: &Cluster,
+    client: &mut Client,
+) -> Result<(), TypeFault> {
+    let of = Version::new(1, 0)?;
+    assert!(*rt; put(rt, alloc, cluster, client, &OpenGate, b'x', of)? == "put");
+    assert!(*rt; del(rt, alloc, cluster, client, b'x', of)? == "no deletions");
+    assert!(*rt; client.share().entries().len() == 1);
+    assert!(*rt; get(rt, alloc, cluster, client, b'x', of)? == "got");
+    Ok(())
+}
+
+/// The first of them of the only client of a cluster of format 2, and the second where it is of format 1.
+fn only_client_deletes<R: Wait + Abort>(
+    rt: &R,
+    alloc: Global,
+    format: Format,
+    opened: &mut Opened,
+) -> Result<(), TypeFault> {
+    assert!(*rt; opened.clients.len() == 1);
+    match format {
+        Format::One => deletes_nothing(rt, alloc, &opened.cluster, &mut opened.clients[0]),
+        Format::Two => finds_what_it_deleted(rt, alloc, &opened.cluster, &mut opened.clients[0]),
+    }
+}
+
+#[test]
+fn a_client_deletes_in_format_2(rt: HostRuntime) -> Result<(), Fail> {
+    for format in [Format::One, Format::Two] {
+        let mut opened = opened_in(format, rt.alloc(), 1, &[0])?;
+        let told = only_client_deletes(&rt, rt.alloc(), format, &mut opened);
+        drop(opened);
+        told?;
+    }
+    Ok(())
+}
+
+/// Whether a put, a deletion and a get of the second client of another cluster are refused where there is one client,
+/// whatever the format of the cluster.
 fn of_another<R: Wait>(
     rt: &R,
     alloc: Global,
@@ -115,8 +192,9 @@ fn of_another<R: Wait>(
     let of = Version::new(1, 0)?;
     let client = other.clients.get_mut(1).ok_or("no second client")?;
     let put = put(rt, alloc, &here.cluster, client, &OpenGate, b'x', of)?;
+    let del = del(rt, alloc, &here.cluster, client, b'x', of)?;
     let get = get(rt, alloc, &here.cluster, client, b'x', of)?;
-    Ok(put == "no client" && get == "no client")
+    Ok(put == "no client" && del == "no client" && get == "no client")
 }
 
 /// Whether such a client is refused.
@@ -136,6 +214,7 @@ fn a_client_that_is_not_there_is_refused(rt: HostRuntime) -> Result<(), Fail> {
     Ok(())
 }
 
+/// Whether the answer tells that a put was done. It is let go.
 fn is_done(answer: Result<Outcome, GateHeld>) -> bool {
     let is_done = matches!(&answer, Ok(Outcome::PutDone(_)));
     drop(answer);
@@ -238,7 +317,7 @@ fn put_of(
     let (key, value) = pair(alloc, byte)?;
     Ok(PutRecord {
         key,
-        value,
+        value: Some(value),
         version,
         deps,
     })
@@ -335,6 +414,49 @@ fn comes_over<R: Wait + Abort>(
 fn a_put_comes_into_another_data_centre(rt: HostRuntime) -> Result<(), Fail> {
     let mut opened = opened(rt.alloc(), 2, false, &[0, 1])?;
     let told = comes_over(&rt, rt.alloc(), &mut opened);
+    drop(opened);
+    Ok(told?)
+}
+
+/// A deletion of x at this version, which depends on nothing.
+fn deletion_of_x(alloc: Global, version: Version) -> Result<PutRecord, TypeFault> {
+    let deps = Deps::new(Vec::new(alloc))?;
+    let key = key(alloc, b'x')?;
+    Ok(PutRecord {
+        key,
+        value: None,
+        version,
+        deps,
+    })
+}
+
+/// A deletion comes into data centre 1, where client 0 then finds it.
+fn deletion_comes_over<R: Wait + Abort>(
+    rt: &R,
+    alloc: Global,
+    opened: &mut Opened,
+) -> Result<(), TypeFault> {
+    let of = Version::new(1, 0)?;
+    let Opened {
+        cluster,
+        clients,
+        shares,
+    } = opened;
+    assert!(*rt; clients.len() == 1 && shares.len() == 2);
+    let deletion = deletion_of_x(alloc, of)?;
+    let share = &mut shares[1];
+    assert!(*rt; told(cluster.deliver(rt, share, &OpenGate, 1, deletion), of) == "waits");
+    assert!(*rt; get(rt, alloc, cluster, &mut clients[0], b'x', of)? == "missed");
+    assert!(*rt; settle(rt, cluster, share, 1, of) == "settled");
+    assert!(*rt; get(rt, alloc, cluster, &mut clients[0], b'x', of)? == "gone");
+    assert!(*rt; ask(rt, alloc, cluster, share, of)? == "yes");
+    Ok(())
+}
+
+#[test]
+fn a_deletion_comes_into_another_data_centre(rt: HostRuntime) -> Result<(), Fail> {
+    let mut opened = opened_in(Format::Two, rt.alloc(), 2, &[1])?;
+    let told = deletion_comes_over(&rt, rt.alloc(), &mut opened);
     drop(opened);
     Ok(told?)
 }

@@ -1,10 +1,10 @@
-use crate::threads::building::{key, opened, pair};
+use crate::threads::building::{key, opened_in, pair};
 use cops_cluster::*;
 use cops_link::*;
 use cops_node::{NodeEvent, Outcome};
 use cops_replication::*;
 use cops_testing::{HoldsAnswers, HoldsSteps};
-use cops_types::{Gate, GateHeld, Memory, OpenGate, PutRecord, TypeFault};
+use cops_types::{Format, Gate, GateHeld, Memory, OpenGate, PutRecord, TypeFault};
 use std::alloc::Global;
 use std::sync::Wait;
 use std::test::Fail;
@@ -72,7 +72,7 @@ fn with_receiver(alloc: Global, opened: Opened, links: Vec<LinkOut>) -> Result<S
 fn set_up(alloc: Global, link: LinkOut) -> Result<Scene, Fail> {
     let mut links = Vec::new(alloc);
     links.push(link)?;
-    let opened = opened(alloc, 2, false, &[0, 1])?;
+    let opened = opened_in(Format::Two, alloc, 2, &[0, 1])?;
     with_receiver(alloc, opened, links)
 }
 
@@ -106,11 +106,15 @@ fn joined(alloc: Global, capacity: usize) -> Result<Both, Fail> {
     }
 }
 
-/// Whether a get shows a value. The answer is let go.
-fn is_got(answer: Result<Outcome, GateHeld>) -> bool {
-    let is_got = matches!(&answer, Ok(Outcome::Got(_, _)));
+/// What a get shows: 1 for a value, 2 for a deletion. The answer is let go.
+fn shown(answer: Result<Outcome, GateHeld>) -> u32 {
+    let shown = match &answer {
+        Ok(Outcome::Got(_, _)) => 1,
+        Ok(Outcome::Gone(_)) => 2,
+        _ => 0,
+    };
     drop(answer);
-    is_got
+    shown
 }
 
 impl Scene {
@@ -124,6 +128,16 @@ impl Scene {
         Ok(())
     }
 
+    /// The writer deletes a key.
+    fn del<R: Wait>(&mut self, rt: &R, alloc: Global, byte: u8) -> Result<(), TypeFault> {
+        let Some(writer) = self.clients.get_mut(0) else {
+            return Ok(());
+        };
+        let key = key(alloc, byte)?;
+        drop(self.cluster.del(rt, writer, &OpenGate, key));
+        Ok(())
+    }
+
     /// The writer puts `1` at each of these keys, one after the other: each put depends on the one before.
     fn put_all<R: Wait>(&mut self, rt: &R, alloc: Global, keys: &[u8]) -> Result<(), TypeFault> {
         for byte in keys {
@@ -132,14 +146,14 @@ impl Scene {
         Ok(())
     }
 
-    /// Whether the key shows a value to the reader.
-    fn shows<R: Wait>(&mut self, rt: &R, alloc: Global, byte: u8) -> bool {
+    /// What the key shows to the reader: 1 for a value, 2 for a deletion.
+    fn shows<R: Wait>(&mut self, rt: &R, alloc: Global, byte: u8) -> u32 {
         let Some(reader) = self.clients.get_mut(1) else {
-            return false;
+            return 0;
         };
         match key(alloc, byte) {
-            Ok(key) => is_got(self.cluster.get(rt, reader, &OpenGate, key)),
-            Err(_) => false,
+            Ok(key) => shown(self.cluster.get(rt, reader, &OpenGate, key)),
+            Err(_) => 0,
         }
     }
 
@@ -160,11 +174,10 @@ impl Scene {
         ]
     }
 
-    /// Three turns of the receiver, whether the key then shows a value to the reader, and how many entries the share
-    /// has.
+    /// Three turns of the receiver, what the key then shows to the reader, and how many entries the share has.
     fn told<R: Wait>(&mut self, rt: &R, alloc: Global, byte: u8) -> [u32; 5] {
         let [first, second, third] = self.turns(rt, &OpenGate);
-        let shown = u32::from(self.shows(rt, alloc, byte));
+        let shown = self.shows(rt, alloc, byte);
         [first, second, third, shown, self.entries()]
     }
 
@@ -301,6 +314,27 @@ fn a_put_comes_into_the_other_data_centre(rt: HostRuntime) -> Result<(), Fail> {
     Ok(())
 }
 
+/// Whether a put and the deletion of its key come over in one turn, and are settled in the next.
+fn deletion_comes_over<R: Wait>(
+    rt: &R,
+    alloc: Global,
+    joined: &mut Both,
+) -> Result<bool, TypeFault> {
+    joined.scene.put(rt, alloc, b'x')?;
+    joined.scene.del(rt, alloc, b'x')?;
+    let sent = joined.sends(rt);
+    Ok(sent == [2, 0] && joined.scene.told(rt, alloc, b'x') == [2, 3, 0, 2, 6])
+}
+
+#[test]
+fn a_deletion_comes_into_the_other_data_centre(rt: HostRuntime) -> Result<(), Fail> {
+    let mut joined = joined(rt.alloc(), 16)?;
+    let come_over = deletion_comes_over(&rt, rt.alloc(), &mut joined);
+    drop(joined);
+    assert!(rt; come_over?);
+    Ok(())
+}
+
 /// Whether a put waits in one turn for the put that comes after it, and is settled in the next.
 fn waits<R: Wait>(rt: &R, alloc: Global, scene: &mut Scene) -> bool {
     scene.told(rt, alloc, b'y') == [1, 4, 0, 1, 7]
@@ -418,7 +452,7 @@ fn drains<R: Wait>(rt: &R, scene: &mut Scene) -> [u32; 3] {
 
 /// Whether three turns are too few for three puts that come backwards, and one more is enough.
 fn reaches_limit<R: Wait>(rt: &R, alloc: Global, scene: &mut Scene) -> bool {
-    drains(rt, scene) == [TURN_LIMIT, TURN_LIMIT, 0] && scene.shows(rt, alloc, b'z')
+    drains(rt, scene) == [TURN_LIMIT, TURN_LIMIT, 0] && scene.shows(rt, alloc, b'z') == 1
 }
 
 #[test]

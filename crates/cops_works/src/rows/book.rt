@@ -63,6 +63,7 @@ fn mark_text(alloc: Global, version: Version, dep: u16) -> Result<String, Error>
 fn event_text(alloc: Global, event: &NodeEvent) -> Result<String, Error> {
     match event {
         NodeEvent::Put { client, .. } => of_client(alloc, "put of client ", *client),
+        NodeEvent::Del { client, .. } => of_client(alloc, "deletion of client ", *client),
         NodeEvent::Get { client, .. } => of_client(alloc, "get of client ", *client),
         NodeEvent::Deliver(put) => about(alloc, "deliver ", put.version),
         NodeEvent::Ask { version, .. } => about(alloc, "ask ", *version),

@@ -48,19 +48,16 @@ fn marked(alloc: Global, held: &mut Held, words: &[&str]) -> Result<String, Erro
     }
 }
 
-/// `KEY=VALUE at VERSION`.
+/// `KEY=VALUE at VERSION`, or `del KEY at VERSION`.
 fn put_text(alloc: Global, put: &PutRecord) -> Result<String, Error> {
-    let (key, value) = (put.key.as_bytes(), put.value.as_bytes());
-    text(
-        alloc,
-        &[
-            Bytes(key),
-            Word("="),
-            Bytes(value),
-            Word(" at "),
-            At(put.version),
-        ],
-    )
+    let (key, at) = (Bytes(put.key.as_bytes()), At(put.version));
+    match &put.value {
+        Some(value) => {
+            let value = Bytes(value.as_bytes());
+            text(alloc, &[key, Word("="), value, Word(" at "), at])
+        }
+        None => text(alloc, &[Word("del "), key, Word(" at "), at]),
+    }
 }
 
 fn take(alloc: Global, held: &mut Held, words: &[&str]) -> Result<String, Error> {

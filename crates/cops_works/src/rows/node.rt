@@ -32,6 +32,7 @@ fn taken(node: &mut Node, event: NodeEvent) -> Outcome {
             value,
             deps,
         } => node.put(client, key, value, deps),
+        NodeEvent::Del { client, key, deps } => node.del(client, key, deps),
         NodeEvent::Get { client, key } => {
             let outcome = node.get(client, &key);
             drop(key);

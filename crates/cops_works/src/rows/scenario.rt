@@ -59,6 +59,7 @@ fn op_text(alloc: Global, op: &ScriptOp) -> Result<String, Error> {
             let (key, value) = (key.as_bytes(), value.as_bytes());
             text(alloc, &[Word("put "), Bytes(key), Word("="), Bytes(value)])
         }
+        ScriptOp::Del { key } => text(alloc, &[Word("del "), Bytes(key.as_bytes())]),
         ScriptOp::Get { key } => text(alloc, &[Word("get "), Bytes(key.as_bytes())]),
     }
 }
@@ -104,17 +105,16 @@ fn client_put<'a>(
     text(alloc, &parts)
 }
 
-fn client_get(alloc: Global, client: u16, key: &Key) -> Result<String, Error> {
+/// What a client does with a key.
+fn client_does<'a>(
+    alloc: Global,
+    client: u16,
+    what: &'a str,
+    key: &'a Key,
+) -> Result<String, Error> {
     let client = u64::from(client);
-    text(
-        alloc,
-        &[
-            Word("client "),
-            Number(client),
-            Word(": get "),
-            Bytes(key.as_bytes()),
-        ],
-    )
+    let key = Bytes(key.as_bytes());
+    text(alloc, &[Word("client "), Number(client), Word(what), key])
 }
 
 /// An event about a version at a data centre.
@@ -144,7 +144,8 @@ fn mark_text(alloc: Global, dc: u8, version: Version, dep: u16) -> Result<String
 fn event_text(alloc: Global, event: &Event) -> Result<String, Error> {
     match event {
         Event::Put { client, key, value } => client_put(alloc, *client, key, value),
-        Event::Get { client, key } => client_get(alloc, *client, key),
+        Event::Del { client, key } => client_does(alloc, *client, ": del ", key),
+        Event::Get { client, key } => client_does(alloc, *client, ": get ", key),
         Event::Deliver { dc, version } => about(alloc, "deliver ", *dc, *version),
         Event::Ask { dc, version, .. } => about(alloc, "ask ", *dc, *version),
         Event::Mark { dc, version, dep } => mark_text(alloc, *dc, *version, *dep),
@@ -187,6 +188,7 @@ fn ask(alloc: Global, scenario: &Scenario, what: &str, rest: &[&str]) -> Result<
         return Err(no_row());
     }
     let number = match what {
+        "format" => u64::from(scenario.format().number()),
         "retries" => u64::from(scenario.retries()),
         "repeat" => u64::from(scenario.repeat()),
         "hold" => u64::from(scenario.hold()),

@@ -4,6 +4,7 @@ use crate::words::Part::{Count, Word};
 use crate::words::{key, no_row, only_key, pair, text, value, value_at, version, word, yes_or_no};
 use anyhow::Error;
 use cops_store::{Settled, Store};
+use cops_types::Dep;
 use std::alloc::Global;
 
 /// How many keys there are, and how many pairs.
@@ -12,19 +13,28 @@ fn counts(alloc: Global, store: &Store) -> Result<String, Error> {
     text(alloc, &[keys, Word(" keys, "), pairs, Word(" pairs")])
 }
 
+fn told(alloc: Global, settled: Settled) -> Result<String, Error> {
+    let told = match settled {
+        Settled::Shown => "Shown",
+        Settled::Older => "Older",
+        Settled::Repeat => "Repeat",
+    };
+    word(alloc, told)
+}
+
+/// A put `KEY VALUE VERSION` is settled, or a deletion `KEY VERSION`.
 fn settle(alloc: Global, store: &mut Store, words: &[&str]) -> Result<String, Error> {
+    if let [_, _] = words {
+        let Dep { key, version } = pair(alloc, words)?;
+        return told(alloc, store.settle(key, None, version)?);
+    }
     let [name, bytes, at] = words else {
         return Err(no_row());
     };
     let version = version(at)?;
     let key = key(alloc, name)?;
     let value = value(alloc, bytes)?;
-    let settled = match store.settle(key, value, version)? {
-        Settled::Shown => "Shown",
-        Settled::Older => "Older",
-        Settled::Repeat => "Repeat",
-    };
-    word(alloc, settled)
+    told(alloc, store.settle(key, Some(value), version)?)
 }
 
 fn has(alloc: Global, store: &Store, words: &[&str]) -> Result<String, Error> {

@@ -1,6 +1,7 @@
 //! Rows of what the books of a run are told to be.
 
 use crate::rows::book::entries_text;
+use crate::rows::trace::add;
 use crate::words::Part::{Count, Word};
 use crate::words::{no_row, node_event, op, outcome, parts, text, u16_of, u64_of, word};
 use anyhow::{Error, bail};
@@ -21,7 +22,7 @@ pub struct Run {
 
 /// A run of a scenario, in which nothing has happened.
 fn run_of(alloc: Global, scenario: &Scenario) -> Result<Run, Error> {
-    let trace = Trace::new(alloc, scenario.clients().len() as u16)?;
+    let trace = Trace::new_in(scenario.format(), alloc, scenario.clients().len() as u16)?;
     let setting = scenario.setting(alloc)?;
     Ok(Run {
         setting,
@@ -85,7 +86,7 @@ fn record(alloc: Global, trace: &mut Trace, words: &[&str]) -> Result<String, Er
     };
     let client = u16_of(client)?;
     let op = op(alloc, rest)?;
-    trace.push(client, op)?;
+    add(trace, client, op)?;
     text(alloc, &[Count(trace.len()), Word(" records")])
 }
 

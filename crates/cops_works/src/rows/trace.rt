@@ -3,13 +3,13 @@
 use crate::rows::history::op_at;
 use crate::words::Part::{Count, Number, Word};
 use crate::words::{
-    bytes, digits, line_of, no_row, op, text, u16_of, u64_of, usize_of, word, yes_or_no,
+    bytes, digits, format_of, line_of, no_row, op, text, u16_of, u64_of, usize_of, word, yes_or_no,
 };
 use anyhow::{Error, bail};
 use cops_trace::{
     Partial, Trace, TraceFault, WriteFault, fault_line, read_so_far, read_trace, write_trace,
 };
-use cops_types::{Counted, FailingReader, FailingWriter};
+use cops_types::{Counted, FailingReader, FailingWriter, Op};
 use std::alloc::Global;
 
 /// How many clients there are, and how many records.
@@ -28,12 +28,13 @@ fn kept(alloc: Global, trace: &mut Option<Trace>, read: Trace) -> Result<String,
     told
 }
 
-/// Begins a trace anew.
+/// Begins a trace anew: of so many clients, and of format 1, or of the one behind them.
 fn begin(alloc: Global, trace: &mut Option<Trace>, words: &[&str]) -> Result<String, Error> {
-    let [clients] = words else {
-        return Err(no_row());
+    let opened = match words {
+        [clients] => Trace::new(alloc, u16_of(clients)?)?,
+        [clients, format] => Trace::new_in(format_of(format)?, alloc, u16_of(clients)?)?,
+        _ => return Err(no_row()),
     };
-    let opened = Trace::new(alloc, u16_of(clients)?)?;
     kept(alloc, trace, opened)
 }
 
@@ -167,13 +168,22 @@ fn short(alloc: Global, trace: &Trace, words: &[&str]) -> Result<String, Error> 
     short_line(alloc, &told, &taken)
 }
 
+/// Adds an operation to a trace that may have it in its format.
+pub fn add(trace: &mut Trace, client: u16, op: Op) -> Result<(), Error> {
+    if !op.in_format(trace.format()) {
+        drop(op);
+        bail!("the format has no such operation");
+    }
+    Ok(trace.push(client, op)?)
+}
+
 fn push(alloc: Global, trace: &mut Trace, words: &[&str]) -> Result<String, Error> {
     let [client, rest @ ..] = words else {
         return Err(no_row());
     };
     let client = u16_of(client)?;
     let op = op(alloc, rest)?;
-    trace.push(client, op)?;
+    add(trace, client, op)?;
     counts(alloc, trace)
 }
 
@@ -184,6 +194,7 @@ fn ask(alloc: Global, trace: &Trace, what: &str, rest: &[&str]) -> Result<String
     }
     match what {
         "counts" => counts(alloc, trace),
+        "format" => text(alloc, &[Number(u64::from(trace.format().number()))]),
         "empty" => yes_or_no(alloc, trace.is_empty()),
         "write" => write(alloc, trace),
         _ => Err(no_row()),

@@ -1,9 +1,14 @@
 //! Rows of frames.
 
 use crate::words::Part::{Count, Number, Word};
-use crate::words::{bytes, digits, lossy, no_row, text, u8_of, u32_of, u64_of, word, yes_or_no};
+use crate::words::{
+    bytes, digits, format_of, lossy, no_row, text, u8_of, u32_of, u64_of, word, yes_or_no,
+};
 use anyhow::{Error, bail};
-use cops_wire::{Decoded, Feeder, Message, body_len, decode, encode, kind, legal, show};
+use cops_types::Format;
+use cops_wire::{
+    Decoded, Feeder, Message, body_len, decode, decode_in, encode, kind, legal, legal_in, show,
+};
 use std::alloc::Global;
 
 /// The line of a message.
@@ -13,8 +18,17 @@ fn line(alloc: Global, message: &Message) -> Result<String, Error> {
     lossy(alloc, &line)
 }
 
-/// The frame at the front of the bytes of one word.
+/// The frame of a format at the front of the bytes of a word.
+fn front_in(alloc: Global, format: Format, word: &str) -> Result<Decoded, Error> {
+    let bytes = bytes(alloc, word)?;
+    Ok(decode_in(format, alloc, &bytes)?)
+}
+
+/// The frame at the front of the bytes of one word, in format 1, or in the format of the word before it.
 fn front(alloc: Global, words: &[&str]) -> Result<Decoded, Error> {
+    if let [format, word] = words {
+        return front_in(alloc, format_of(format)?, word);
+    }
     let [word] = words else {
         return Err(no_row());
     };
@@ -50,7 +64,7 @@ fn measures(alloc: Global, words: &[&str]) -> Result<String, Error> {
 
 /// The bytes of a message.
 fn spelled(alloc: Global, message: &Message) -> Result<Vec<u8>, Error> {
-    if !legal(message) {
+    if !legal_in(Format::Two, message) {
         bail!("not legal");
     }
     let mut spelling = Vec::new(alloc);
@@ -174,11 +188,32 @@ fn message(words: &[&str]) -> Result<Message, Error> {
     }
 }
 
+/// Whether the message of format 2 at the front is legal in a format.
+fn is_in_format(alloc: Global, words: &[&str]) -> Result<String, Error> {
+    let [format, word] = words else {
+        return Err(no_row());
+    };
+    let format = format_of(format)?;
+    let front = front_in(alloc, Format::Two, word)?;
+    let is = legal_in(format, &front.message);
+    drop(front);
+    yes_or_no(alloc, is)
+}
+
 fn is_legal(alloc: Global, words: &[&str]) -> Result<String, Error> {
     let message = message(words)?;
     let is = legal(&message);
     drop(message);
     yes_or_no(alloc, is)
+}
+
+/// What comes next to the feeder is of a format.
+fn set_format(alloc: Global, feeder: &mut Feeder, words: &[&str]) -> Result<String, Error> {
+    let [format] = words else {
+        return Err(no_row());
+    };
+    feeder.set_format(format_of(format)?);
+    word(alloc, "set")
 }
 
 /// Begins a feeder anew.
@@ -198,11 +233,13 @@ pub fn answer(alloc: Global, feeder: &mut Feeder, words: &[&str]) -> Result<Stri
     match *what {
         "new" => begin(alloc, feeder, rest),
         "feed" => feed(alloc, feeder, rest),
+        "format" => set_format(alloc, feeder, rest),
         "flood" => flood(alloc, feeder, rest),
         "show" => show_frame(alloc, rest),
         "decode" => measures(alloc, rest),
         "spell" => spell(alloc, rest),
         "legal" => is_legal(alloc, rest),
+        "in" => is_in_format(alloc, rest),
         _ => Err(no_row()),
     }
 }

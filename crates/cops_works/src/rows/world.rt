@@ -3,12 +3,13 @@
 use crate::rows::place;
 use crate::words::Part::{Count, Word};
 use crate::words::{
-    add_behind, no_row, outcome_text, parts, session_text, text, told_outcome, u8_of, u32_of,
-    world_event,
+    add_behind, format_of, no_row, outcome_text, parts, session_text, text, told_outcome, u8_of,
+    u32_of, world_event,
 };
 use anyhow::{Error, bail};
 use cops_core::{Event, World};
 use cops_node::Outcome;
+use cops_types::Format;
 use std::alloc::Global;
 
 /// The clients of a word `DATA_CENTRE`, or `DATA_CENTRE*COUNT` for so many at it.
@@ -33,16 +34,21 @@ fn homes(alloc: Global, word: &str) -> Result<Vec<u8>, Error> {
     Ok(homes)
 }
 
-fn open(alloc: Global, words: &[&str; 3]) -> Result<World, Error> {
+fn open(alloc: Global, format: Format, words: &[&str; 3]) -> Result<World, Error> {
     let [dcs, splits, clients] = words;
     let place = place::open(alloc, dcs, splits)?;
     let homes = homes(alloc, clients)?;
-    Ok(World::open(alloc, place, homes)?)
+    Ok(World::open_in(format, alloc, place, homes)?)
 }
 
-/// Begins a world anew.
-fn begin(alloc: Global, world: &mut Option<World>, words: &[&str; 3]) -> Result<String, Error> {
-    let opened = open(alloc, words)?;
+/// Begins a world of a format anew.
+fn begin(
+    alloc: Global,
+    world: &mut Option<World>,
+    format: Format,
+    words: &[&str; 3],
+) -> Result<String, Error> {
+    let opened = open(alloc, format, words)?;
     let count = opened.history().clients();
     drop(world.replace(opened));
     text(alloc, &[Count(count), Word(" clients")])
@@ -129,7 +135,11 @@ fn ask_any(alloc: Global, world: &mut World, words: &[&str]) -> Result<String, E
 /// The answer to a call.
 pub fn answer(alloc: Global, world: &mut Option<World>, words: &[&str]) -> Result<String, Error> {
     if let ["open", dcs, splits, clients] = words {
-        return begin(alloc, world, &[*dcs, *splits, *clients]);
+        return begin(alloc, world, Format::One, &[*dcs, *splits, *clients]);
+    }
+    if let ["open", dcs, splits, clients, format] = words {
+        let format = format_of(format)?;
+        return begin(alloc, world, format, &[*dcs, *splits, *clients]);
     }
     match world {
         Some(world) => ask_any(alloc, world, words),

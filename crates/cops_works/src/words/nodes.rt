@@ -1,5 +1,5 @@
-//! The events of a node: `put CLIENT KEY VALUE DEPS`, `get CLIENT KEY`, `deliver KEY VALUE VERSION DEPS`, `ask KEY
-//! VERSION`, `mark VERSION DEP`, `settle VERSION`.
+//! The events of a node: `put CLIENT KEY VALUE DEPS`, `del CLIENT KEY DEPS`, `get CLIENT KEY`, `deliver KEY VALUE
+//! VERSION DEPS`, and without a value of a deletion, `ask KEY VERSION`, `mark VERSION DEP`, `settle VERSION`.
 
 use crate::words::reading::{deps, key, mark, no_row, only_version, pair, put, u16_of, value};
 use anyhow::Error;
@@ -21,6 +21,16 @@ fn put_event(alloc: Global, words: &[&str]) -> Result<NodeEvent, Error> {
         value,
         deps,
     })
+}
+
+fn del_event(alloc: Global, words: &[&str]) -> Result<NodeEvent, Error> {
+    let [client, name, pairs] = words else {
+        return Err(no_row());
+    };
+    let client = u16_of(client)?;
+    let deps = deps(alloc, pairs)?;
+    let key = key(alloc, name)?;
+    Ok(NodeEvent::Del { client, key, deps })
 }
 
 fn get_event(alloc: Global, words: &[&str]) -> Result<NodeEvent, Error> {
@@ -54,6 +64,7 @@ pub fn node_event(alloc: Global, words: &[&str]) -> Result<NodeEvent, Error> {
     };
     match *what {
         "put" => put_event(alloc, rest),
+        "del" => del_event(alloc, rest),
         "get" => get_event(alloc, rest),
         "deliver" => Ok(NodeEvent::Deliver(put(alloc, rest)?)),
         "ask" => ask_event(alloc, rest),

@@ -9,7 +9,7 @@ use cops_types::Refusal;
 use std::alloc::Global;
 
 /// The refusals of a node and of the world.
-const REFUSALS: [Refusal; 11] = [
+const REFUSALS: [Refusal; 12] = [
     Refusal::ClockExhausted,
     Refusal::ContextFull,
     Refusal::UnknownClient,
@@ -21,12 +21,15 @@ const REFUSALS: [Refusal; 11] = [
     Refusal::Memory,
     Refusal::UnknownDc,
     Refusal::SessionFull,
+    Refusal::NotInFormat,
 ];
 
 /// The words of an outcome, as a run prints them; what a get found stands there with its value.
 pub fn outcome_text(alloc: Global, outcome: &Outcome) -> Result<String, Error> {
     match outcome {
         Outcome::PutDone(version) => text(alloc, &[Word("done "), At(*version)]),
+        Outcome::Deleted(version) => text(alloc, &[Word("deleted "), At(*version)]),
+        Outcome::Gone(version) => text(alloc, &[Word("gone "), At(*version)]),
         Outcome::Got(value, version) => {
             let value = Bytes(value.as_bytes());
             text(alloc, &[Word("got "), value, Word(" at "), At(*version)])
@@ -55,6 +58,16 @@ pub fn told_outcome(alloc: Global, outcome: Outcome) -> Result<String, Error> {
 fn done(words: &[&str]) -> Result<Outcome, Error> {
     let version = only_version(words)?;
     Ok(Outcome::PutDone(version))
+}
+
+fn deleted(words: &[&str]) -> Result<Outcome, Error> {
+    let version = only_version(words)?;
+    Ok(Outcome::Deleted(version))
+}
+
+fn gone(words: &[&str]) -> Result<Outcome, Error> {
+    let version = only_version(words)?;
+    Ok(Outcome::Gone(version))
 }
 
 fn found(alloc: Global, words: &[&str]) -> Result<Outcome, Error> {
@@ -103,7 +116,9 @@ pub fn outcome(alloc: Global, words: &[&str]) -> Result<Outcome, Error> {
     };
     match *what {
         "done" => done(rest),
+        "deleted" => deleted(rest),
         "got" => found(alloc, rest),
+        "gone" => gone(rest),
         "refused" => refused(rest),
         word => plain(word, rest),
     }

@@ -1,7 +1,7 @@
 //! What words stand for: numbers, keys, values, versions, dependencies, operations.
 
 use anyhow::{Error, anyhow};
-use cops_types::{Dep, Deps, Key, Op, PutRecord, Value, Version};
+use cops_types::{Dep, Deps, Format, Key, Op, PutRecord, Value, Version};
 use std::alloc::Global;
 
 /// The fault of words that are no row.
@@ -37,6 +37,14 @@ pub fn u64_of(word: &str) -> Result<u64, Error> {
 /// The number of these digits, as a length or an index.
 pub fn usize_of(word: &str) -> Result<usize, Error> {
     Ok(u64_of(word)? as usize)
+}
+
+/// The format of this number.
+pub fn format_of(word: &str) -> Result<Format, Error> {
+    match Format::of_number(u16_of(word)?) {
+        Some(format) => Ok(format),
+        None => Err(no_row()),
+    }
 }
 
 /// The key of these bytes.
@@ -131,20 +139,41 @@ pub fn deps(alloc: Global, word: &str) -> Result<Deps, Error> {
 }
 
 /// The put `KEY VALUE VERSION DEPS`.
-pub fn put(alloc: Global, words: &[&str]) -> Result<PutRecord, Error> {
-    let [name, bytes, at, pairs] = words else {
-        return Err(no_row());
-    };
+fn valued_put(alloc: Global, words: &[&str; 4]) -> Result<PutRecord, Error> {
+    let [name, bytes, at, pairs] = words;
     let version = version(at)?;
     let deps = deps(alloc, pairs)?;
     let key = key(alloc, name)?;
     let value = value(alloc, bytes)?;
     Ok(PutRecord {
         key,
-        value,
+        value: Some(value),
         version,
         deps,
     })
+}
+
+/// The deletion `KEY VERSION DEPS`.
+fn deletion(alloc: Global, words: &[&str; 3]) -> Result<PutRecord, Error> {
+    let [name, at, pairs] = words;
+    let version = version(at)?;
+    let deps = deps(alloc, pairs)?;
+    let key = key(alloc, name)?;
+    Ok(PutRecord {
+        key,
+        value: None,
+        version,
+        deps,
+    })
+}
+
+/// The put `KEY VALUE VERSION DEPS`, or the deletion `KEY VERSION DEPS`.
+pub fn put(alloc: Global, words: &[&str]) -> Result<PutRecord, Error> {
+    match words {
+        [name, bytes, at, pairs] => valued_put(alloc, &[*name, *bytes, *at, *pairs]),
+        [name, at, pairs] => deletion(alloc, &[*name, *at, *pairs]),
+        _ => Err(no_row()),
+    }
 }
 
 /// A put `KEY VALUE VERSION`, or else a get that found it.
@@ -170,7 +199,18 @@ fn valued_op(alloc: Global, is_put: bool, words: &[&str]) -> Result<Op, Error> {
     }
 }
 
-/// What a client did: `put KEY VALUE VERSION`, `got KEY VALUE VERSION` or `missed KEY`.
+/// A deletion `KEY VERSION`, or else a get that found it.
+fn valueless_op(alloc: Global, is_deletion: bool, words: &[&str]) -> Result<Op, Error> {
+    let Dep { key, version } = pair(alloc, words)?;
+    if is_deletion {
+        Ok(Op::Del { key, version })
+    } else {
+        Ok(Op::Gone { key, version })
+    }
+}
+
+/// What a client did: `put KEY VALUE VERSION`, `del KEY VERSION`, `got KEY VALUE VERSION`, `gone KEY VERSION` or
+/// `missed KEY`.
 pub fn op(alloc: Global, words: &[&str]) -> Result<Op, Error> {
     let [what, rest @ ..] = words else {
         return Err(no_row());
@@ -178,6 +218,8 @@ pub fn op(alloc: Global, words: &[&str]) -> Result<Op, Error> {
     match *what {
         "put" => valued_op(alloc, true, rest),
         "got" => valued_op(alloc, false, rest),
+        "del" => valueless_op(alloc, true, rest),
+        "gone" => valueless_op(alloc, false, rest),
         "missed" => Ok(Op::Missed {
             key: only_key(alloc, rest)?,
         }),

@@ -13,9 +13,13 @@ pub fn yes_or_no(alloc: Global, is: bool) -> Result<String, Error> {
     word(alloc, answer)
 }
 
-/// `VALUE at VERSION`.
-pub fn value_at(alloc: Global, value: &Value, version: Version) -> Result<String, Error> {
-    text(alloc, &[Bytes(value.as_bytes()), Word(" at "), At(version)])
+/// `VALUE at VERSION`, or `deleted at VERSION`.
+pub fn value_at(alloc: Global, value: Option<&Value>, version: Version) -> Result<String, Error> {
+    let value = match value {
+        Some(value) => Bytes(value.as_bytes()),
+        None => Word("deleted"),
+    };
+    text(alloc, &[value, Word(" at "), At(version)])
 }
 
 /// `KEY@VERSION`.
@@ -48,19 +52,40 @@ fn done_text<'a>(
     )
 }
 
+/// What was done with a deletion: `KEY at VERSION`.
+fn bare_text<'a>(
+    alloc: Global,
+    done: &'a str,
+    key: &'a Key,
+    version: Version,
+) -> Result<String, Error> {
+    let key = Bytes(key.as_bytes());
+    text(alloc, &[Word(done), key, Word(" at "), At(version)])
+}
+
 /// The text of what a client did.
 pub fn op_text(alloc: Global, op: &OpRef<'_>) -> Result<String, Error> {
     match op {
         OpRef::Put {
             key,
-            value,
+            value: Some(value),
             version,
         } => done_text(alloc, "put ", key, value, **version),
+        OpRef::Put {
+            key,
+            value: None,
+            version,
+        } => bare_text(alloc, "del ", key, **version),
         OpRef::Got {
             key,
-            value,
+            value: Some(value),
             version,
         } => done_text(alloc, "got ", key, value, **version),
+        OpRef::Got {
+            key,
+            value: None,
+            version,
+        } => bare_text(alloc, "gone ", key, **version),
         OpRef::Missed { key } => text(alloc, &[Word("missed "), Bytes(key.as_bytes())]),
     }
 }

@@ -1,5 +1,5 @@
-//! The events of a world: `put CLIENT KEY VALUE`, `get CLIENT KEY`, `deliver DATA_CENTRE VERSION`, `ask DATA_CENTRE KEY
-//! VERSION`, `mark DATA_CENTRE VERSION DEP`, `settle DATA_CENTRE VERSION`.
+//! The events of a world: `put CLIENT KEY VALUE`, `del CLIENT KEY`, `get CLIENT KEY`, `deliver DATA_CENTRE VERSION`,
+//! `ask DATA_CENTRE KEY VERSION`, `mark DATA_CENTRE VERSION DEP`, `settle DATA_CENTRE VERSION`.
 
 use crate::words::reading::{key, no_row, pair, u8_of, u16_of, value, version};
 use anyhow::Error;
@@ -15,6 +15,15 @@ fn put(alloc: Global, words: &[&str]) -> Result<Event, Error> {
     let key = key(alloc, name)?;
     let value = value(alloc, bytes)?;
     Ok(Event::Put { client, key, value })
+}
+
+fn del(alloc: Global, words: &[&str]) -> Result<Event, Error> {
+    let [client, name] = words else {
+        return Err(no_row());
+    };
+    let client = u16_of(client)?;
+    let key = key(alloc, name)?;
+    Ok(Event::Del { client, key })
 }
 
 fn get(alloc: Global, words: &[&str]) -> Result<Event, Error> {
@@ -70,6 +79,7 @@ pub fn world_event(alloc: Global, words: &[&str]) -> Result<Event, Error> {
     };
     match *what {
         "put" => put(alloc, rest),
+        "del" => del(alloc, rest),
         "get" => get(alloc, rest),
         "deliver" => deliver(rest),
         "ask" => ask(alloc, rest),

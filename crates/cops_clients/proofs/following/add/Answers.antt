@@ -1,25 +1,25 @@
 use Rattle.std.proofs.Common.{◌≡◌, ◌+◌, ◌≤◌, List, [], ◌∷◌, ◌++◌, Some, None, length, get_or, slice_get, map, take, ap, sym, subst, ◌∙◌, arith, true≢false}
 use Rattle.std.proofs.lemmas.List.{map_push, take_more}
 use Rattle.std.proofs.lemmas.Option.{get_or_from_slice_get, slice_get_past}
-use Rattle.cops_trace.specs.Counts.{HasTurn}
 use Rattle.cops_trace.specs.Live.{Gains}
 use Rattle.cops_trace.specs.Text.{ARecord, record_of}
 use Rattle.cops_trace.specs.declared.record.Record.{Record}
+use Rattle.cops_clients.specs.Live.{MayCome}
 use Rattle.cops_clients.proofs.Gaining.{gains_more}
 use Rattle.cops_clients.proofs.following.add.Goals as goal
 
-pub returns-then-not-has_turn-clause-follows : goal.returns-then-not-has_turn-clause-follows
-returns-then-not-has_turn-clause-follows g c =
+pub returns-then-not-may_come-clause-follows : goal.returns-then-not-may_come-clause-follows
+returns-then-not-may_come-clause-follows g c =
     let at = c.loop-record.record-index in
     let x = c.record-item.result in
     let records = c.records-records.ensures in
     record {
       count = at;
       gains = subst (λ (rs : List Record). Gains (map record_of (take at rs)) c.args.live c.loop-record.live) records c.loop-record.invariant.gains;
-      full = λ r there turn.
+      full = λ r there may.
           let here : slice_get c.records-records.result.now at ≡ Some r = ap (λ (rs : List Record). slice_get rs at) records ∙ there in
           let same : r ≡ x = sym (get_or_from_slice_get c.records-records.result.now at r x here) ∙ sym c.record-item.is in
-          absurd (true≢false (sym (c.has_turn.ensures.1 (subst (λ (q : Record). HasTurn c.loop-record.live.writer.counts q.client) same turn)) ∙ c.if-not-has_turn.true));
+          absurd (true≢false (sym (c.may_come.ensures.1 (subst (λ (q : Record). MayCome q c.loop-record.live) same may)) ∙ c.if-not-may_come.true));
     }
 
 pub loop-record-preserved : goal.loop-record-preserved
@@ -45,6 +45,6 @@ returns-clause-follows g c =
     record {
       count = at;
       gains = subst (λ (rs : List Record). Gains (map record_of (take at rs)) c.args.live c.loop-record.live) records c.loop-record.invariant.gains;
-      full = λ r there turn.
+      full = λ r there may.
           let gone : None ≡ Some r = sym (slice_get_past c.records-records.result.now at past) ∙ ap (λ (rs : List Record). slice_get rs at) records ∙ there in cc;
     }

@@ -8,4 +8,8 @@ returns-in-Ok-clone-clause-held g c =
 
 pub returns-in-Ok-clone-2-clause-held : goal.returns-in-Ok-clone-2-clause-held
 returns-in-Ok-clone-2-clause-held g c =
-    on_err_weaker c.get.result (λ may. at_key c.cluster-in-Get.result.now c.args.stage.now.cluster (g.G.Gate.may_hold c.args.gate.now) c.args.client.now.dc c.args.client.now.number c.in-Ok-clone-2.key c.cluster-in-Get.ensures may) c.get.ensures.held
+    on_err_weaker c.del.result (λ may. at_key c.cluster-in-Del.result.now c.args.stage.now.cluster (g.G.Gate.may_hold c.args.gate.now) c.args.client.now.dc c.args.client.now.number c.in-Ok-clone-2.key c.cluster-in-Del.ensures may) c.del.ensures.held
+
+pub returns-in-Ok-clone-3-clause-held : goal.returns-in-Ok-clone-3-clause-held
+returns-in-Ok-clone-3-clause-held g c =
+    on_err_weaker c.get.result (λ may. at_key c.cluster-in-Get.result.now c.args.stage.now.cluster (g.G.Gate.may_hold c.args.gate.now) c.args.client.now.dc c.args.client.now.number c.in-Ok-clone-3.key c.cluster-in-Get.ensures may) c.get.ensures.held

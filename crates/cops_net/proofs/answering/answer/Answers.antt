@@ -4,16 +4,18 @@ use Rattle.cops_net.proofs.Turning.{handed_turn, own_turn}
 use Rattle.cops_net.proofs.answering.answer.Goals as goal
 
 pub returns-then-not-is_handed-clause-ok : goal.returns-then-not-is_handed-clause-ok
-returns-then-not-is_handed-clause-ok g c = (
-  [],
-  sym (append-nil _),
-  own_turn c.args.greeted c.args.message c.own_reply-reply.result (sym c.is_handed.ensures ∙ c.if-not-is_handed.true) c.own_reply-reply.ensures.reply c.own_reply-reply.ensures.no_welcome,
-)
+returns-then-not-is_handed-clause-ok g c =
+    let format = g.S.Session.format c.args.session.now in
+    let own = rw c.format.ensures at (sym c.is_handed.ensures ∙ c.if-not-is_handed.true) in
+    let e = c.own_reply-reply.ensures in
+    ([], sym (append-nil _), own_turn format c.args.greeted c.args.message c.own_reply-reply.result own e.reply e.no_welcome (e.legal format))
 
 pub returns-in-Ok-clause-ok : goal.returns-in-Ok-clause-ok
 returns-in-Ok-clause-ok g c =
+    let format = g.S.Session.format c.args.session.now in
+    let handed = rw c.format.ensures at (sym c.is_handed.ensures ∙ c.if-not-is_handed.false) in
     let t = c.ask.ensures.told in (
       t.0 ∷ [],
       t.1 ∙ ap (λ x. x ++ t.0 ∷ []) c.in-Ok.ensures.kept,
-      handed_turn c.args.greeted c.args.message t.0 c.ask.result (sym c.is_handed.ensures ∙ c.if-not-is_handed.false) t.2 t.3 t.4,
+      handed_turn format c.args.greeted c.args.message t.0 c.ask.result handed t.2 t.3 t.4 (rw c.in-Ok.ensures.kept_format at c.ask.ensures.legal),
     )

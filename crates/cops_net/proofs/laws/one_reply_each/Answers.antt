@@ -3,4 +3,4 @@ use Rattle.cops_net.proofs.Lists.{one_reply}
 use Rattle.cops_net.proofs.laws.one_reply_each.Goals as goal
 
 pub returns : goal.returns
-returns c = one_reply false
+returns c = λ format. one_reply format false

@@ -6,6 +6,7 @@ use Rattle.cops_net.proofs.listening.listen_with_idle.Given as goal
 abbrev pub invariant-loop : goal.invariant-loop
 invariant-loop g l =
     let calls = g.S.Session.calls in
-    (gained : List Call) × (calls l.session ≡ calls l.fn.session ++ gained) × AreSessions l.counter gained
-    × AreServed calls g.S.Session.ends l.counter l.fn.session l.session
+    (gained : List Call) × (calls l.session ≡ calls l.fn.session ++ gained) × AreSessions (g.S.Session.format l.fn.session) l.counter gained
+    × AreServed (g.S.Session.format l.fn.session) calls g.S.Session.ends l.counter l.fn.session l.session
+    × (g.S.Session.format l.session ≡ g.S.Session.format l.fn.session)
     × (g.S.Session.ended l.fn.session + l.counter < 2 ^ 64 → g.S.Session.ended l.session ≡ g.S.Session.ended l.fn.session + l.counter)

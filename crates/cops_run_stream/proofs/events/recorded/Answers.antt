@@ -1,7 +1,7 @@
 use Rattle.std.proofs.Common.{List, ◌++◌, ◌<◌, length, take, slice_index_or, sym, ap, ◌∙◌, arith}
 use Rattle.cops_node.specs.declared.outcome.Outcome.{Outcome}
 use Rattle.cops_core.specs.declared.event.Event.{Event}
-use Rattle.cops_types.specs.declared.format.Format.TheVariants.{One}
+use Rattle.cops_core.specs.Acts.{act_of}
 use Rattle.cops_trace.specs.Text.{ARecord, ATrace}
 use Rattle.cops_run_stream.specs.Running.{all_seen, saw}
 use Rattle.cops_run_stream.proofs.Recording.{seen_next}
@@ -16,8 +16,8 @@ loop-n-preserved c =
     let outcome = c.index-outcomes-n.result in
     let inside : n < length outcomes = omega (arith, c.loop-n-test.true, c.requires) in
     c.in_ok-record.ensures
-    ∙ ap (λ (t : ATrace). record { format = t.format; clients = t.clients; records = t.records ++ saw event outcome }) c.loop-n.invariant
-    ∙ ap (λ (rs : List ARecord). record { format = One; clients = c.args.clients; records = rs })
-    (ap (λ (e : Event). all_seen (take n events) (take n outcomes) ++ saw e outcome) c.index-events-n.is
-    ∙ ap (λ (o : Outcome). all_seen (take n events) (take n outcomes) ++ saw (slice_index_or events n event) o) c.index-outcomes-n.is
+    ∙ ap (λ (t : ATrace). record { format = t.format; clients = t.clients; records = t.records ++ saw (act_of event) outcome }) c.loop-n.invariant
+    ∙ ap (λ (rs : List ARecord). record { format = c.args.format; clients = c.args.clients; records = rs })
+    (ap (λ (e : Event). all_seen (take n events) (take n outcomes) ++ saw (act_of e) outcome) c.index-events-n.is
+    ∙ ap (λ (o : Outcome). all_seen (take n events) (take n outcomes) ++ saw (act_of (slice_index_or events n event)) o) c.index-outcomes-n.is
     ∙ sym (seen_next events outcomes n event outcome c.loop-n-test.true inside))

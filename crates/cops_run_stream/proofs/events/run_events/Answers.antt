@@ -21,6 +21,6 @@ returns c =
     let lines = c.in_ok-lines.lines.items in
     let trace = c.in_ok-trace.trace in
     let run = event_run s c.args.events.now c.in_ok-outcomes.outcomes.items lines trace (length c.clients.result.now)
-    c.in_ok-outcomes.ensures (ap length c.clients.ensures.clients) (rw c.deref-2.ensures.value at c.in_ok-trace.ensures) (rw c.deref.ensures.value at c.in_ok-lines.ensures) in
+    c.in_ok-outcomes.ensures (ap length c.clients.ensures.clients) (rw (c.format.ensures.value, c.deref-2.ensures.value) at c.in_ok-trace.ensures) (rw c.deref.ensures.value at c.in_ok-lines.ensures) in
     left_of s c.in_ok-reported_left.field-0 trace lines (subst (λ (events : Option (List Event)). IsRunOf s events lines trace) (sym c.requires) run.0) run.1
     c.in_ok-reported_left.ensures.trace c.in_ok-reported_left.ensures.text

@@ -7,4 +7,4 @@ use Rattle.cops_scenario.proofs.event.events.Given as goal
 abbrev pub invariant-loop-item : goal.invariant-loop-item
 invariant-loop-item l =
     (length l.events.items ≡ l.item-index) × (length l.item-items ≤ l.most)
-    × (map view (take l.item-index l.item-items) ≡ map event_json l.events.items) × All IsLegalEvent l.events.items
+    × (map view (take l.item-index l.item-items) ≡ map event_json l.events.items) × All (IsLegalEvent l.format) l.events.items

@@ -9,7 +9,7 @@ use Rattle.cops_scenario.proofs.event.script_op.Goals as goal
 
 pub returns-in_err-list-in-put-clause-none : goal.returns-in_err-list-in-put-clause-none
 returns-in_err-list-in-put-clause-none c = λ err op legal e.
-    no_pair c.in_ok-name.name.now (view c.in_ok-name.of.now) c.in-put.is (λ k v key value x. c.in_err-list-in-put.ensures.none (text_json k ∷ text_json v ∷ []) (lit≤ tt) x) op legal
+    no_pair c.in_ok-name.name.now (view c.in_ok-name.of.now) c.in-put.is (λ k v key value x. c.in_err-list-in-put.ensures.none (text_json k ∷ text_json v ∷ []) (lit≤ tt) x) c.args.format op legal
     (sym c.in_ok-name.ensures.json ∙ e)
 
 pub returns-in_err-key-in-put-clause-none : goal.returns-in_err-key-in-put-clause-none
@@ -17,4 +17,4 @@ returns-in_err-key-in-put-clause-none c = λ err op legal e.
     let parts = map view c.in_ok-list-in-put.field-0.now in
     let none : (k v : List ℕ) → IsKey k → IsValue v → map view c.in_ok-list-in-put.field-0.now ≢ text_json k ∷ text_json v ∷ [] = search rules in
     no_pair c.in_ok-name.name.now (view c.in_ok-name.of.now) c.in-put.is
-    (λ k v key value x. none k v key value (same_list parts (text_json k ∷ text_json v ∷ []) (sym c.in_ok-list-in-put.ensures.json ∙ x))) op legal (sym c.in_ok-name.ensures.json ∙ e)
+    (λ k v key value x. none k v key value (same_list parts (text_json k ∷ text_json v ∷ []) (sym c.in_ok-list-in-put.ensures.json ∙ x))) c.args.format op legal (sym c.in_ok-name.ensures.json ∙ e)

@@ -22,7 +22,7 @@ returns-in_err-item-items-clause-none c = λ err ds cs listed told few each. c.i
 pub returns-in_err-client-clause-none : goal.returns-in_err-client-clause-none
 returns-in_err-client-clause-none c = λ err ds cs listed told few each.
     let items = c.in_ok-item-items.item-items.now in
-    let none : (x : ScriptedClient) → IsLegalClient c.args.dcs x → TellsClient (view c.item-item.result) x → ⊥ = search rules in
+    let none : (x : ScriptedClient) → IsLegalClient c.args.format c.args.dcs x → TellsClient (view c.item-item.result) x → ⊥ = search rules in
     let same = same_list ds (map view items) (sym listed ∙ c.in_ok-item-items.ensures.json) in
-    no_such_client (IsLegalClient c.args.dcs) items c.loop-item.item-index c.item-item.result cs c.loop-item-test.true c.item-item.is none
+    no_such_client (IsLegalClient c.args.format c.args.dcs) items c.loop-item.item-index c.item-item.result cs c.loop-item-test.true c.item-item.is none
     (subst (λ (l : List Data). TellClients l cs) same told) each

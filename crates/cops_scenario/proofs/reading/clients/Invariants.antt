@@ -8,4 +8,4 @@ use Rattle.cops_scenario.proofs.reading.clients.Given as goal
 abbrev pub invariant-loop-item : goal.invariant-loop-item
 invariant-loop-item l =
     (length l.clients.items ≡ l.item-index) × (length l.item-items ≤ 64) × All (IsClientOf l.dcs) l.clients.items
-    × TellClients (map view (take l.item-index l.item-items)) l.clients.items × All (IsLegalClient l.dcs) l.clients.items
+    × TellClients (map view (take l.item-index l.item-items)) l.clients.items × All (IsLegalClient l.format l.dcs) l.clients.items

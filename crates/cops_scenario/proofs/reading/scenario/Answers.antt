@@ -4,7 +4,7 @@ use Rattle.serde_json.specs.Data.{Data}
 use Rattle.serde_json.specs.View.{view}
 use Rattle.cops_core.specs.declared.event.Event.{Event}
 use Rattle.cops_scenario.specs.File.{AreRightBefore, AreUnscripted, IsRight, TellClients, list_json}
-use Rattle.cops_scenario.specs.declared.fault.Field.TheVariants.{Root, DataCentres, Splits, Link, Turns, Retries, Repeat, Hold, Clients, Events}
+use Rattle.cops_scenario.specs.declared.fault.Field.TheVariants.{Root, Format as FormatField, DataCentres, Splits, Link, Turns, Retries, Repeat, Hold, Clients, Events}
 use Rattle.cops_scenario.proofs.Order.{before_clients, before_events}
 use Rattle.cops_scenario.proofs.Scripts.{are_events}
 use Rattle.cops_scenario.proofs.reading.scenario.Goals as goal
@@ -13,6 +13,7 @@ pub returns-in_err-clients-clause-first : goal.returns-in_err-clients-clause-fir
 returns-in_err-clients-clause-first c = λ field e.
     let root = view c.args.root.now in
     let whole : IsRight root Root = search rules in
+    let format : IsRight root FormatField = search rules in
     let dcs : IsRight root DataCentres = search rules in
     let splits : IsRight root Splits = search rules in
     let link : IsRight root Link = search rules in
@@ -21,7 +22,7 @@ returns-in_err-clients-clause-first c = λ field e.
     let repeat : IsRight root Repeat = search rules in
     let hold : IsRight root Hold = search rules in
     let is : Clients ≡ field = search rules in
-    subst (AreRightBefore root) is (before_clients root whole dcs splits link turns retries repeat hold)
+    subst (AreRightBefore root) is (before_clients root whole format dcs splits link turns retries repeat hold)
 
 pub returns-in_err-events-clause-first : goal.returns-in_err-events-clause-first
 returns-in_err-events-clause-first c = λ field e.
@@ -29,6 +30,7 @@ returns-in_err-events-clause-first c = λ field e.
     let told : (ds : List Data) × (view c.in-Some.listed.now ≡ list_json ds) × TellClients ds c.in_ok-clients.clients.items = search rules in
     let right : IsRight root Clients = (told.0, c.in_ok-clients.clients.items, search rules, told.2, search rules, search rules) in
     let whole : IsRight root Root = search rules in
+    let format : IsRight root FormatField = search rules in
     let dcs : IsRight root DataCentres = search rules in
     let splits : IsRight root Splits = search rules in
     let link : IsRight root Link = search rules in
@@ -36,7 +38,7 @@ returns-in_err-events-clause-first c = λ field e.
     let retries : IsRight root Retries = search rules in
     let repeat : IsRight root Repeat = search rules in
     let hold : IsRight root Hold = search rules in
-    let earlier = before_clients root whole dcs splits link turns retries repeat hold in
+    let earlier = before_clients root whole format dcs splits link turns retries repeat hold in
     let is : Events ≡ field = search rules in
     before_events root field is earlier right
 

@@ -1,26 +1,19 @@
-use Rattle.std.proofs.Common.{rules, refl, ◌≡◌, ◌<◌, List, [], length, slice_set, slice_index_or, sym, ap, ◌∙◌, subst, nat_lt, Some}
+use Rattle.std.proofs.Common.{rules, refl, ◌≡◌, ◌<◌, List, [], length, slice_set, slice_index_or, sym, ap, ◌∙◌, subst, nat_lt, None, Some}
 use Rattle.std.proofs.lemmas.List.{set-get_or}
-use denote.Enum.Bare.{same_true}
-use Rattle.cops_types.specs.contracts.refusal.Refusal.{the_type}
 use Rattle.cops_types.specs.declared.dep.Dep.{Dep}
 use Rattle.cops_types.proofs.Sessions.{at_error}
 use Rattle.cops_types.specs.Histories.{with_op, read, missed}
 use Rattle.cops_types.specs.Format.{most_deps}
 use Rattle.cops_context.specs.Context.{with_pair}
-use Rattle.cops_node.specs.declared.outcome.Outcome.TheVariants.{Got as Answered, Missed as Nothing}
+use Rattle.cops_node.specs.declared.outcome.Outcome.TheVariants.{Got as Answered, Gone, Missed as Nothing}
 use Rattle.cops_core.specs.World.{context_in}
 use Rattle.cops_core.specs.contracts.state.State.{the_view}
-use Rattle.cops_core.proofs.Events.{admitted, entered, client_there, client_home, home_asked, dc_there, place_there, with_parts, put_back, got_stays, gets_at, keeps_no_get}
-use Rattle.cops_core.proofs.Memory.{none_refused, get_may_fail}
+use Rattle.cops_core.proofs.Events.{admitted, entered, client_there, client_home, home_asked, dc_there, place_there, with_parts, put_back, got_stays, gets_at, keeps_no_get, same_clients}
+use Rattle.cops_core.proofs.Memory.{get_may_fail}
 use Rattle.cops_core.proofs.state.State.try_get.Goals as goal
 
-pub has_room-requires : goal.has_room-requires
-has_room-requires c =
-    client_there (entered c.primary-place.ensures.setting c.self.view_is c.requires (none_refused (the_view c.self.inside) c.args.client (c.in-Err.ensures.memory (same_true the_type (search rules) _ _ (sym c.eq.ensures ∙ c.if-eq.true)))))
-
-pub has_room-requires-2 : goal.has_room-requires-2
-has_room-requires-2 c =
-    client_there (entered c.primary-place.ensures.setting c.self.view_is c.requires (admitted c.in_default.ensures.same c.in_default.ensures.ok))
+pub admit_get-requires : goal.admit_get-requires
+admit_get-requires c = same_clients c.primary-place.ensures.setting c.self.view_is c.requires
 
 pub reserve-requires : goal.reserve-requires
 reserve-requires c =
@@ -57,11 +50,29 @@ returns-in_ok-clone-in-Got-clause-ok c =
     let made = with_parts w c.home.result c.primary-place.result c.get.new.self w.issued in
     let value = c.in-Got.value in
     let version = c.in-Got.version in
-    let contexts = c.add.ensures ∙ (λ i. slice_set (c.reserve.ensures.same i) client (with_pair (slice_index_or (c.reserve.ensures.same i) client []) (record { key = c.in_ok-pair_key.ensures.cases i; version = version }))) in
-    let recorded : c.record.new.history.sessions ≡ with_op c.admit.new.history.sessions client (read c.in_ok-op_key.op_key (Some c.in_ok-clone-in-Got.field-0) version) = search rules in
+    let contexts = c.add.ensures ∙ (λ i. slice_set (c.reserve.ensures.same i) client (with_pair (slice_index_or (c.reserve.ensures.same i) client []) (record { key = c.in_ok-copy.ensures.cases i; version = version }))) in
+    let recorded : c.record.new.history.sessions ≡ with_op c.admit_get.new.history.sessions client (read c.in_ok-op_key.op_key (Some c.in_ok-clone-in-Got.field-0) version) = search rules in
     let sessions = recorded ∙ (λ i. with_op (c.in_default.ensures.same i) client (read (c.in_ok-op_key.ensures.cases i) (Some (c.in_ok-clone-in-Got.ensures.cases i)) version)) in
     gets_at a c.args.key.now c.home.result c.primary-place.result (Answered value version) c.node-node.result.now c.get.new.self (made c.add.new.self.pairs c.record.new.history.sessions)
-    (ap (λ f. nat_lt (length (context_in w client)) (most_deps f)) (sym c.format-format.ensures.format) ∙ sym c.has_room-2.ensures ∙ c.if-not-has_room-2.false) c.home.ensures c.primary-place.ensures.count c.node-node.ensures.value c.in-Got.ensures.happens
+    (ap (λ f. nat_lt (length (context_in w client)) (most_deps f)) (sym c.format-format.ensures.format) ∙ c.in_default.ensures.room) c.home.ensures c.primary-place.ensures.count c.node-node.ensures.value c.in-Got.ensures.happens
+    (λ i. made (contexts i) (sessions i))
+
+pub add-requires-in-Gone-clause-known : goal.add-requires-in-Gone-clause-known
+add-requires-in-Gone-clause-known c =
+    subst (λ (p : List (List Dep)). c.args.client < length p) (sym c.reserve.ensures.same) (client_there (entered c.primary-place.ensures.setting c.self.view_is c.requires (admitted c.in_default.ensures.same c.in_default.ensures.ok)))
+
+pub returns-in-Gone-clause-ok : goal.returns-in-Gone-clause-ok
+returns-in-Gone-clause-ok c =
+    let a = entered c.primary-place.ensures.setting c.self.view_is c.requires (admitted c.in_default.ensures.same c.in_default.ensures.ok) in
+    let w = the_view c.self.inside in
+    let client = c.args.client in
+    let made = with_parts w c.home.result c.primary-place.result c.get.new.self w.issued in
+    let version = c.in-Gone.version in
+    let contexts = c.add-in-Gone.ensures ∙ (λ i. slice_set (c.reserve.ensures.same i) client (with_pair (slice_index_or (c.reserve.ensures.same i) client []) (record { key = c.in_ok-copy.ensures.cases i; version = version }))) in
+    let recorded : c.record-in-Gone.new.history.sessions ≡ with_op c.admit_get.new.history.sessions client (read c.in_ok-op_key.op_key None version) = search rules in
+    let sessions = recorded ∙ (λ i. with_op (c.in_default.ensures.same i) client (read (c.in_ok-op_key.ensures.cases i) None version)) in
+    gets_at a c.args.key.now c.home.result c.primary-place.result (Gone version) c.node-node.result.now c.get.new.self (made c.add-in-Gone.new.self.pairs c.record-in-Gone.new.history.sessions)
+    (ap (λ f. nat_lt (length (context_in w client)) (most_deps f)) (sym c.format-format.ensures.format) ∙ c.in_default.ensures.room) c.home.ensures c.primary-place.ensures.count c.node-node.ensures.value c.in-Gone.ensures.happens
     (λ i. made (contexts i) (sessions i))
 
 pub returns-in-Missed-clause-ok : goal.returns-in-Missed-clause-ok
@@ -71,23 +82,23 @@ returns-in-Missed-clause-ok c =
     let client = c.args.client in
     let made = with_parts w c.home.result c.primary-place.result c.get.new.self w.issued in
     let contexts = c.reserve.ensures.same ∙ sym (set-get_or w.contexts client []) in
-    let recorded : c.record-in-Missed.new.history.sessions ≡ with_op c.admit.new.history.sessions client (missed c.in_ok-op_key.op_key) = search rules in
+    let recorded : c.record-in-Missed.new.history.sessions ≡ with_op c.admit_get.new.history.sessions client (missed c.in_ok-op_key.op_key) = search rules in
     let sessions = recorded ∙ (λ i. with_op (c.in_default.ensures.same i) client (missed (c.in_ok-op_key.ensures.cases i))) in
     gets_at a c.args.key.now c.home.result c.primary-place.result Nothing c.node-node.result.now c.get.new.self (made c.reserve.new.self.pairs c.record-in-Missed.new.history.sessions)
-    (ap (λ f. nat_lt (length (context_in w client)) (most_deps f)) (sym c.format-format.ensures.format) ∙ sym c.has_room-2.ensures ∙ c.if-not-has_room-2.false) c.home.ensures c.primary-place.ensures.count c.node-node.ensures.value c.in-Missed.ensures.happens
+    (ap (λ f. nat_lt (length (context_in w client)) (most_deps f)) (sym c.format-format.ensures.format) ∙ c.in_default.ensures.room) c.home.ensures c.primary-place.ensures.count c.node-node.ensures.value c.in-Missed.ensures.happens
     (λ i. made (contexts i) (sessions i))
 
 pub returns-in_default-get : goal.returns-in_default-get
 returns-in_default-get c =
     let a = entered c.primary-place.ensures.setting c.self.view_is c.requires (admitted c.in_default.ensures.same c.in_default.ensures.ok) in
     let w = the_view c.self.inside in
-    let few = ap (λ f. nat_lt (length (context_in w c.args.client)) (most_deps f)) (sym c.format-format.ensures.format) ∙ sym c.has_room-2.ensures ∙ c.if-not-has_room-2.false in
+    let few = ap (λ f. nat_lt (length (context_in w c.args.client)) (most_deps f)) (sym c.format-format.ensures.format) ∙ c.in_default.ensures.room in
     let dc = c.home.result in
     let place = c.primary-place.result in
     let made = with_parts w dc place c.get.new.self w.issued in
-    let kept = keeps_no_get w dc place c.args.client c.args.key.now c.get.result c.get.new.self c.in_default-get.not-Got c.in_default-get.not-Missed in
+    let kept = keeps_no_get w dc place c.args.client c.args.key.now c.get.result c.get.new.self c.in_default-get.not-Got c.in_default-get.not-Gone c.in_default-get.not-Missed in
     record {
-      ok = gets_at a c.args.key.now dc place c.get.result c.node-node.result.now c.get.new.self (made c.reserve.new.self.pairs c.admit.new.history.sessions)
+      ok = gets_at a c.args.key.now dc place c.get.result c.node-node.result.now c.get.new.self (made c.reserve.new.self.pairs c.admit_get.new.history.sessions)
           few c.home.ensures c.primary-place.ensures.count c.node-node.ensures.value c.get.ensures.happens
           ((λ i. made (c.reserve.ensures.same i) (c.in_default.ensures.same i)) ∙ sym kept);
       err = tt;

@@ -3,7 +3,7 @@ use Rattle.std.specs.Result.{is_ok}
 use Rattle.std.proofs.lemmas.Grind.{common_steps}
 use Rattle.std.proofs.lemmas.List.{take_all, take_more}
 use Rattle.cops_core.specs.Memory.{Answers, AnswersEach}
-use Rattle.cops_core.specs.World.{Setting, Event}
+use Rattle.cops_core.specs.World.{Setting, Event, act_of}
 use Rattle.cops_core.proofs.Running.{answers_more, run_answered}
 use Rattle.cops_core.proofs.world.World.run.Goals as goal
 use Rattle.cops_core.proofs.world.World.run.Goals.{After-unwrap}
@@ -18,8 +18,8 @@ loop-event-preserved c =
     let i = c.loop-event.event-index in
     let taken : take (i + 1) c.args.events.now ≡ take i c.args.events.now ++ c.event-item.result ∷ [] =
     take_more c.args.events.now i c.event-item.result c.loop-event-test.true ∙ ap (λ (e : Event). take i c.args.events.now ++ e ∷ []) (sym c.event-item.is) in
-    let answers : Answers s c.loop-event.self.world c.event-item.result c.answer.result c.answer.new.self.world =
-    subst (λ (x : Setting). Answers x c.loop-event.self.world c.event-item.result c.answer.result c.answer.new.self.world) c.loop-event.invariant.setting
+    let answers : Answers s c.loop-event.self.world (act_of c.event-item.result) c.answer.result c.answer.new.self.world =
+    subst (λ (x : Setting). Answers x c.loop-event.self.world (act_of c.event-item.result) c.answer.result c.answer.new.self.world) c.loop-event.invariant.setting
     (c.answer.ensures.event, c.answer.ensures.memory) in
     let ran = answers_more s (take i c.args.events.now) c.loop-event.outcomes.items c.args.self.now.world c.loop-event.self.world c.answer.new.self.world c.event-item.result c.answer.result c.loop-event.invariant.ran answers in
     record {

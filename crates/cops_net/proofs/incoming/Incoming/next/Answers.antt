@@ -13,14 +13,14 @@ returns-then-count-eq0-clause-next g c =
     let bytes = c.in-Ok.ensures.bytes in
     let end : IsAtEnd (g.I.Read.remaining (inner c.read.new.self)) = bytes.1 c.if-count-eq0.true (omega arith) in
     let none : take c.in-Ok.count c.read.new.buf ≡ [] = ap (λ n. take n c.read.new.buf) c.if-count-eq0.true in
-    let f = rw c.in_default.is at c.in_ok-message.ensures in
+    let f = rw c.in_default.is at c.in_ok-message.ensures.front in
     let came = r.0 ++ take c.in-Ok.count c.read.new.buf in
     let input : c.loop-message.self.feeder.rest ≡ c.args.self.now.feeder.rest ++ came =
     r.2 ∙ ap (λ (x : List ℕ). c.args.self.now.feeder.rest ++ x) (sym (append-nil r.0) ∙ ap (λ (x : List ℕ). r.0 ++ x) (sym none)) in (
       came,
       consumed _ _ _ _ _ r.1 bytes.0,
-      subst (λ (x : List ℕ). IsTaken (IsAtEnd (g.I.Read.remaining (inner c.read.new.self))) x c.at_end.result c.front.new.self.feeder.rest) input
-          (taken_at_end _ c.loop-message.self.feeder.rest c.front.new.self.feeder.rest c.front.new.self.waiting c.at_end.result
+      subst (λ (x : List ℕ). IsTaken c.args.format (IsAtEnd (g.I.Read.remaining (inner c.read.new.self))) x c.at_end.result c.front.new.self.feeder.rest) input
+          (taken_at_end c.args.format _ c.loop-message.self.feeder.rest c.front.new.self.feeder.rest c.front.new.self.waiting c.at_end.result
           (c.front.new.self.counts ∙ ap length f.1) c.at_end.ensures.none c.at_end.ensures.some f.0 end),
     )
 

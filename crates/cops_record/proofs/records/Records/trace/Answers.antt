@@ -11,8 +11,8 @@ want_of_memory-requires c =
     let r = c.record-item.result in
     let items = c.deref-record-items.ensures.value in
     let inside : i < length c.self.inside.records.items = omega (arith, c.loop-record-test.true, ap length items) in
-    let room = room_before c.self.inside.seats.items c.self.inside.records.items c.self.inside.reserved _ i r c.self.invariant inside (c.record-item.is ∙ ap (λ l. get_or l i r) items) in
-    let same : c.loop-record.trace ≡ front (record { records = c.self.inside.records.items; seats = c.self.inside.seats.items }) i = c.loop-record.invariant.1 ∙ ap (λ (s : State). front s i) (sym c.self.view_is) in
+    let room = room_before c.self.inside.format c.self.inside.seats.items c.self.inside.records.items c.self.inside.reserved _ i r c.self.invariant inside (c.record-item.is ∙ ap (λ l. get_or l i r) items) in
+    let same : c.loop-record.trace ≡ front (record { format = c.self.inside.format; records = c.self.inside.records.items; seats = c.self.inside.seats.items }) i = c.loop-record.invariant.1 ∙ ap (λ (s : State). front s i) (sym c.self.view_is) in
     only_memory c.in-Err.fault _ _ c.in-Err.ensures.only c.in-Err.ensures.unknown c.in-Err.ensures.too_many
     (λ le. absurd (omega (arith, room.0, le, ap (λ (t : ATrace). t.clients) same)))
     (λ full. full.1 (subst (λ (t : ATrace). turn r.client t.records < MAX_CLIENT_OPS × length t.records < MAX_OPS) (sym same) (room.1, room.2)))

@@ -2,8 +2,5 @@ use Rattle.cops_serve.proofs.Changes.{noted}
 use Rattle.cops_serve.proofs.front_end.FrontEndSession.put.Goals as goal
 
 pub returns-clause-done : goal.returns-clause-done
-returns-clause-done g c = (
-  c.put_outcome-outcome.result,
-  c.put_replies-replies.ensures.told,
-  noted c.args.self.now c.put_outcome-outcome.new.self c.note.new.self _ _ c.put_outcome-outcome.ensures.done c.note.ensures.same,
-)
+returns-clause-done g c =
+    let d = c.write_reply-replies.ensures.done in (d.0, d.1, noted c.args.self.now c.write_reply-replies.new.self c.note.new.self _ _ d.2 c.note.ensures.same)

@@ -1,9 +1,6 @@
-use Rattle.std.proofs.Common.{sym, ap, ◌∙◌}
-use Rattle.std.specs.Prelude.{◌++◌, ◌∷◌, []}
-use Rattle.indexmap.specs.IndexMap.{insert_entry}
-use Rattle.indexmap.proofs.CallerLemmas.{insert_entry-new}
+use Rattle.std.proofs.Common.{ap, ◌∙◌}
 use Rattle.cops_store.specs.Places.{chosen}
-use Rattle.cops_store.proofs.Indexing.{index_is, settled_is, answer_after, none_there_yet, with_pair_at}
+use Rattle.cops_store.proofs.Indexing.{index_is, settled_is, answer_after, with_pair_at}
 use Rattle.cops_store.proofs.store.Store.add.Goals as goal
 
 pub invariant_of-self : goal.invariant_of-self

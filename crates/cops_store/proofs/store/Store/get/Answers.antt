@@ -1,4 +1,4 @@
-use Rattle.std.proofs.Common.{sym, ap, ◌∙◌}
+use Rattle.std.proofs.Common.{sym}
 use Rattle.cops_store.proofs.Indexing.{missed, missed_at, got}
 use Rattle.cops_store.proofs.store.Store.get.Goals as goal
 
@@ -13,5 +13,5 @@ returns-in_err-place c =
 
 pub returns : goal.returns
 returns c =
-    rw (← c.self.view_is)
+    rw (← c.self.view_is, c.as_ref.ensures.value)
     (sym (got c.self.inside.keys.entries c.self.inside.pairs.entries c.args.key.now c.in_ok-at.field-0.now (c.in_ok-place.place.now, c.in_ok-place.value.now) c.self.invariant c.in_ok-at.ensures.value c.in_ok-place.ensures.entry))

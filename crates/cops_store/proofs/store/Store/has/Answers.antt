@@ -1,4 +1,4 @@
-use Rattle.std.proofs.Common.{sym, ap, ◌∙◌, subst}
+use Rattle.std.proofs.Common.{sym, ◌∙◌, subst}
 use Rattle.cops_store.proofs.Showing.{nothing_shown}
 use Rattle.cops_store.proofs.Placing.{IsAt, found_pair, is_at}
 use Rattle.cops_store.proofs.Indexing.{found_at, none_there, missed}

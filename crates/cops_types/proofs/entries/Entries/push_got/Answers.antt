@@ -1,4 +1,4 @@
-use Rattle.std.proofs.Common.{◌≡◌, ◌++◌, ◌∷◌, [], List, map, length, arith, ap, ◌∙◌, refl, subst, sym}
+use Rattle.std.proofs.Common.{◌≡◌, ◌++◌, ◌∷◌, [], List, map, length, arith, ap, ◌∙◌, subst, sym}
 use Rattle.cops_types.specs.Blocks.{KeptBlocks}
 use Rattle.cops_types.specs.declared.entry.Entry.TheVariants.{Got}
 use Rattle.cops_types.specs.declared.slot.Slot.TheVariants.{Got as GotSlot}
@@ -27,7 +27,7 @@ invariant_of-self c =
     let slots = map (λ (b : KeptBlocks). b.items) sessions in
     let there = has_slots puts gets sessions c.args.client (rw (← c.self.view_is) at c.requires.inside) in
     let number : c.len-number.result ≡ length gets = omega (arith, c.len-number.ensures, c.self.inside.gets.ok.0) in
-    let got : KeptGot = record { key = c.args.key; version = c.args.version; value = c.args.value } in
+    let got : KeptGot = record { key = c.args.key; has_value = c.flagged-has_value.result.0; version = c.args.version; value = c.flagged-has_value.result.1 } in
     let now = c.push_slot.ensures.slots ∙ ap (λ n. with_item slots c.args.client (GotSlot n)) number in
     subst (λ (l : List KeptGot). AreKept puts l (map (λ (b : KeptBlocks). b.items) c.push_slot.new.sessions.items)) (sym c.push_reserved.ensures.items)
     (subst (AreKept puts (gets ++ got ∷ [])) (sym now) (kept_with_got puts gets slots c.self.invariant c.args.client there got))
@@ -40,9 +40,9 @@ returns-clause-all c =
     let slots = map (λ (b : KeptBlocks). b.items) sessions in
     let there = has_slots puts gets sessions c.args.client (rw (← c.self.view_is) at c.requires.inside) in
     let number : c.len-number.result ≡ length gets = omega (arith, c.len-number.ensures, c.self.inside.gets.ok.0) in
-    let got : KeptGot = record { key = c.args.key; version = c.args.version; value = c.args.value } in
+    let got : KeptGot = record { key = c.args.key; has_value = c.flagged-has_value.result.0; version = c.args.version; value = c.flagged-has_value.result.1 } in
     let now = c.push_slot.ensures.slots ∙ ap (λ n. with_item slots c.args.client (GotSlot n)) number in
-    rw (← c.self.view_is) ((λ j. shown_by puts (c.push_reserved.ensures.items j) (now j)) ∙ all_with_got puts gets slots c.self.invariant c.args.client there got (Got c.args.key c.args.value c.args.version) refl)
+    rw (← c.self.view_is) ((λ j. shown_by puts (c.push_reserved.ensures.items j) (now j)) ∙ all_with_got puts gets slots c.self.invariant c.args.client there got (Got c.args.key c.args.value c.args.version) (ap (λ v. Got c.args.key v c.args.version) c.flagged-has_value.ensures))
 
 pub returns-clause-numbers : goal.returns-clause-numbers
 returns-clause-numbers c =

@@ -35,7 +35,7 @@ invariant_of-self c =
     let slots = map (λ (b : KeptBlocks). b.items) sessions in
     let there = has_slots puts gets sessions c.args.client (rw (← c.self.view_is) at c.requires.inside) in
     let number : c.len-number.result ≡ length puts = omega (arith, c.len-number.ensures, c.self.inside.puts.ok.0) in
-    let put : KeptPut = record { name = record { client = c.args.client; index = c.slot_count.result }; key = c.args.key; version = c.args.version; value = c.args.value } in
+    let put : KeptPut = record { name = record { client = c.args.client; index = c.slot_count.result }; key = c.args.key; has_value = c.flagged-has_value.result.0; version = c.args.version; value = c.flagged-has_value.result.1 } in
     let index = c.slot_count.ensures ∙ ap (λ (l : List KeptBlocks). length (get_or (map (λ b. b.items) l) c.args.client [])) c.deref.ensures.value in
     let now = c.push_slot.ensures.slots ∙ ap (λ n. with_item slots c.args.client (PutSlot n)) number in
     subst (λ (l : List KeptPut). AreKept l gets (map (λ (b : KeptBlocks). b.items) c.push_slot.new.sessions.items)) (sym c.push_reserved.ensures.items)
@@ -49,10 +49,10 @@ returns-clause-all c =
     let slots = map (λ (b : KeptBlocks). b.items) sessions in
     let there = has_slots puts gets sessions c.args.client (rw (← c.self.view_is) at c.requires.inside) in
     let number : c.len-number.result ≡ length puts = omega (arith, c.len-number.ensures, c.self.inside.puts.ok.0) in
-    let put : KeptPut = record { name = record { client = c.args.client; index = c.slot_count.result }; key = c.args.key; version = c.args.version; value = c.args.value } in
+    let put : KeptPut = record { name = record { client = c.args.client; index = c.slot_count.result }; key = c.args.key; has_value = c.flagged-has_value.result.0; version = c.args.version; value = c.flagged-has_value.result.1 } in
     let index = c.slot_count.ensures ∙ ap (λ (l : List KeptBlocks). length (get_or (map (λ b. b.items) l) c.args.client [])) c.deref.ensures.value in
     let now = c.push_slot.ensures.slots ∙ ap (λ n. with_item slots c.args.client (PutSlot n)) number in
-    rw (← c.self.view_is) ((λ j. shown_by (c.push_reserved.ensures.items j) gets (now j)) ∙ all_with_put puts gets slots c.self.invariant c.args.client there put refl index (Put c.args.key c.args.value c.args.version) refl)
+    rw (← c.self.view_is) ((λ j. shown_by (c.push_reserved.ensures.items j) gets (now j)) ∙ all_with_put puts gets slots c.self.invariant c.args.client there put refl index (Put c.args.key c.args.value c.args.version) (ap (λ v. Put c.args.key v c.args.version) c.flagged-has_value.ensures))
 
 pub returns-clause-numbers : goal.returns-clause-numbers
 returns-clause-numbers c =

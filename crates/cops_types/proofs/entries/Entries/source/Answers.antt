@@ -1,3 +1,5 @@
+use Rattle.std.specs.Prelude.{option_copied}
+use Rattle.cops_types.specs.Slots.{content_of}
 use Rattle.std.proofs.Common.{◌≡◌, ◌<◌, List, map, Some, length, get_or, refl, ap, sym, ◌∙◌, subst}
 use Rattle.std.proofs.lemmas.Option.{slice_get_read, slice_get-map}
 use Rattle.std.proofs.lemmas.Bool.{eqb-true}
@@ -8,8 +10,8 @@ use Rattle.cops_types.specs.declared.slot.KeptPut.{KeptPut}
 use Rattle.cops_types.proofs.Showing.{put_at}
 use Rattle.cops_types.proofs.entries.Entries.source.Goals as goal
 
-pub returns-then-is_seen-clause-put : goal.returns-then-is_seen-clause-put
-returns-then-is_seen-clause-put c =
+pub returns-then-has_content-clause-put : goal.returns-then-has_content-clause-put
+returns-then-has_content-clause-put c =
     let puts = c.self.inside.puts.items in
     let slots = map (λ (b : KeptBlocks). b.items) c.self.inside.sessions.items in
     let put = c.in_ok-put.put.now in
@@ -18,12 +20,12 @@ returns-then-is_seen-clause-put c =
     let at = slice_get_read puts (length puts) c.args.number put refl inside is in
     let key : put.key ≡ c.args.key = c.if-put-key.true in
     let version : put.version ≡ c.args.version = eqb-true put.version c.args.version (sym c.if-eq.ensures) in
-    let value : put.value ≡ c.args.value.now = c.if-is_seen.ensures.0 refl in
-    let same : Some (Put put.key put.value put.version) ≡ Some (Put c.args.key c.args.value.now c.args.version) = cc in
+    let value : content_of put.has_value put.value ≡ option_copied c.args.value = c.if-has_content.ensures.0 refl in
+    let same : Some (Put put.key (content_of put.has_value put.value) put.version) ≡ Some (Put c.args.key (option_copied c.args.value) c.args.version) = cc in
     rw (← c.self.view_is) (put_at puts c.self.inside.gets.items slots c.self.invariant c.args.number put at ∙ same)
 
-pub returns-then-is_seen-clause-number : goal.returns-then-is_seen-clause-number
-returns-then-is_seen-clause-number c =
+pub returns-then-has_content-clause-number : goal.returns-then-has_content-clause-number
+returns-then-has_content-clause-number c =
     let puts = c.self.inside.puts.items in
     let put = c.in_ok-put.put.now in
     let inside : c.args.number < length puts = subst (λ (l : List KeptPut). c.args.number < length l) c.deref.ensures.value c.in_ok-put.ensures.lookup.3.0 in

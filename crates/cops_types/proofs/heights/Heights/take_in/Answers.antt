@@ -1,4 +1,4 @@
-use Rattle.std.proofs.Common.{◌≡◌, ℕ, List, [], Option, Some, max, refl, sym, ap, ◌∙◌, inl, inr, arith, slice_index_or, slice_set}
+use Rattle.std.proofs.Common.{◌≡◌, ℕ, List, [], Option, max, refl, sym, ap, ◌∙◌, inl, inr, arith, slice_index_or, slice_set}
 use Rattle.std.specs.Prelude.{◌⊎◌}
 use Rattle.cops_types.specs.Histories.{read}
 use Rattle.cops_types.specs.declared.entry.Entry.{Entry}
@@ -22,10 +22,10 @@ pub returns-in-Missed : goal.returns-in-Missed
 returns-in-Missed c = λ keys all h op is was. took_missed h c.args.client op (omega (arith, c.requires.height, was.clients)) c.args.self.now _ was _ (sym is ∙ ap (told keys all) c.in-Missed.is) refl refl refl
 
 -- a get stands for a get, whether its put is named or not
-as_got : (keys : List (List ℕ)) (all : EntryLists) (e : Entry) (v : ℕ) → ((k : ℕ) × (x : List ℕ) × (e ≡ Got k x v)) ⊎ ((k : ℕ) × (put : NumberedPut) × (e ≡ Sourced k put v))
+as_got : (keys : List (List ℕ)) (all : EntryLists) (e : Entry) (v : ℕ) → ((k : ℕ) × (x : Option (List ℕ)) × (e ≡ Got k x v)) ⊎ ((k : ℕ) × (put : NumberedPut) × (e ≡ Sourced k put v))
     → (key : List ℕ) × (content : Option (List ℕ)) × (told keys all e ≡ read key content v)
-as_got keys all e v (inl g) = (slice_index_or keys g.0 [], Some g.1, ap (told keys all) g.2)
-as_got keys all e v (inr g) = (slice_index_or keys g.0 [], Some (value_put all g.1.name), ap (told keys all) g.2)
+as_got keys all e v (inl g) = (slice_index_or keys g.0 [], g.1, ap (told keys all) g.2)
+as_got keys all e v (inr g) = (slice_index_or keys g.0 [], value_put all g.1.name, ap (told keys all) g.2)
 
 pub returns-in-Got : goal.returns-in-Got
 returns-in-Got c = λ keys all h op is was.

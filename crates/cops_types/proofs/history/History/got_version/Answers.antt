@@ -1,3 +1,4 @@
+use Rattle.std.specs.Prelude.{option_copied}
 use Rattle.std.proofs.Common.{[], Some, get_or, sym, ap}
 use Rattle.cops_types.specs.Histories.{read}
 use Rattle.cops_types.specs.Entries.{referred, told, value_put}
@@ -13,7 +14,7 @@ returns-in-Got-clause-got c =
     let keys = c.self.inside.keys.keys in
     let all = c.self.inside.entries.all in
     let key = get_or keys c.in-Got.key [] in
-    rw (← c.self.view_is) (key, Some c.in-Got.value.now, sym (told_as keys all c.args.name (referred c.in_ok-version.field-0) (read key (Some c.in-Got.value.now) c.in-Got.version.now) c.in_ok-version.ensures.entry (ap (λ e. told keys all (referred e)) c.in-Got.is)))
+    rw (← c.self.view_is) (key, option_copied c.in-Got.value, sym (told_as keys all c.args.name (referred c.in_ok-version.field-0) (read key (option_copied c.in-Got.value) c.in-Got.version.now) c.in_ok-version.ensures.entry (ap (λ e. told keys all (referred e)) c.in-Got.is)))
 
 pub returns-in-Sourced-clause-got : goal.returns-in-Sourced-clause-got
 returns-in-Sourced-clause-got c =
@@ -21,7 +22,7 @@ returns-in-Sourced-clause-got c =
     let all = c.self.inside.entries.all in
     let key = get_or keys c.in-Sourced.key [] in
     let value = value_put all c.in-Sourced.put.name in
-    rw (← c.self.view_is) (key, Some value, sym (told_as keys all c.args.name (referred c.in_ok-version.field-0) (read key (Some value) c.in-Sourced.version.now) c.in_ok-version.ensures.entry (ap (λ e. told keys all (referred e)) c.in-Sourced.is)))
+    rw (← c.self.view_is) (key, value, sym (told_as keys all c.args.name (referred c.in_ok-version.field-0) (read key value c.in-Sourced.version.now) c.in_ok-version.ensures.entry (ap (λ e. told keys all (referred e)) c.in-Sourced.is)))
 
 pub returns-in_default-clause-none : goal.returns-in_default-clause-none
 returns-in_default-clause-none c =

@@ -1,3 +1,4 @@
+use Rattle.std.specs.Prelude.{option_copied}
 use Rattle.std.proofs.Common.{◌≡◌, [], get_or, Some, None, sym, ap, ◌∙◌, subst, true≢false}
 use Rattle.cops_types.specs.Histories.{read}
 use Rattle.cops_types.specs.Entries.{IsSound, referred, told, value_put}
@@ -21,7 +22,7 @@ returns-in-Sourced-clause-source c =
     let all = c.self.inside.entries.all in
     let value = value_put all c.in-Sourced.source.name in
     let sound = subst (λ e. IsSound keys all (referred e)) c.in-Sourced.is (c.self.invariant.sound c.args.got (referred c.in-Some.entry) (sym c.in-Some.ensures.entry)) in
-    let got = told_as keys all c.args.got (referred c.in-Some.entry) (read (get_or keys c.in-Sourced.key []) (Some value) c.in-Sourced.version.now) c.in-Some.ensures.entry (ap (λ e. told keys all (referred e)) c.in-Sourced.is) in
+    let got = told_as keys all c.args.got (referred c.in-Some.entry) (read (get_or keys c.in-Sourced.key []) value c.in-Sourced.version.now) c.in-Some.ensures.entry (ap (λ e. told keys all (referred e)) c.in-Sourced.is) in
     rw (← c.self.view_is) (
       (λ yes. source_there keys all c.args.put c.args.got c.in-Sourced.key value c.in-Sourced.version.now got (c.is_same_put.ensures.0 yes)),
       (λ s. c.is_same_put.ensures.1 (source_found keys all c.args.put c.args.got c.in-Sourced.key value c.in-Sourced.version.now got c.self.invariant.sound c.self.invariant.distinct sound.key s)),
@@ -35,11 +36,10 @@ returns-in-Got-clause-source c =
     let keys = c.self.inside.keys.keys in
     let all = c.self.inside.entries.all in
     let sound = subst (λ e. IsSound keys all (referred e)) c.in-Got.is (c.self.invariant.sound c.args.got (referred c.in-Some.entry) (sym c.in-Some.ensures.entry)) in
-    let is_put = rw c.as_view.ensures at c.is_put.ensures in
-    let got = told_as keys all c.args.got (referred c.in-Some.entry) (read (get_or keys c.in-Got.key []) (Some c.in-Got.value.now) c.in-Got.version.now) c.in-Some.ensures.entry (ap (λ e. told keys all (referred e)) c.in-Got.is) in
+    let got = told_as keys all c.args.got (referred c.in-Some.entry) (read (get_or keys c.in-Got.key []) (option_copied c.in-Got.value) c.in-Got.version.now) c.in-Some.ensures.entry (ap (λ e. told keys all (referred e)) c.in-Got.is) in
     rw (← c.self.view_is) (
-      (λ yes. source_there keys all c.args.put c.args.got c.in-Got.key c.in-Got.value.now c.in-Got.version.now got (is_put.0 yes)),
-      (λ s. is_put.1 (source_found keys all c.args.put c.args.got c.in-Got.key c.in-Got.value.now c.in-Got.version.now got c.self.invariant.sound c.self.invariant.distinct sound.key s)),
+      (λ yes. source_there keys all c.args.put c.args.got c.in-Got.key (option_copied c.in-Got.value) c.in-Got.version.now got (c.is_put.ensures.0 yes)),
+      (λ s. c.is_put.ensures.1 (source_found keys all c.args.put c.args.got c.in-Got.key (option_copied c.in-Got.value) c.in-Got.version.now got c.self.invariant.sound c.self.invariant.distinct sound.key s)),
     )
 
 pub returns-in-Got-clause-limit : goal.returns-in-Got-clause-limit

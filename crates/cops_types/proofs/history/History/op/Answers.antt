@@ -1,3 +1,4 @@
+use Rattle.std.specs.Prelude.{option_copied}
 use Rattle.std.proofs.Common.{[], Some, get_or, ◌≡◌, ap, ◌∙◌, subst, sym}
 use Rattle.cops_types.specs.Histories.{write, read, missed}
 use Rattle.cops_types.specs.Entries.{HasValue, told, key_number_of, referred, value_put}
@@ -14,7 +15,7 @@ returns-in-Put-clause-operation c =
     let keys = c.self.inside.keys.keys in
     let all = c.self.inside.entries.all in
     let key = sym (c.key-key.ensures ∙ ap (λ n. get_or keys n []) (c.key.ensures ∙ ap (λ e. key_number_of (referred e)) c.in-Put.is)) in
-    rw (← c.self.view_is) (told_as keys all c.args.name (referred c.in_ok-entry.entry) (write c.key-key.result.now (Some c.in-Put.value.now) c.in-Put.version.now) c.in_ok-entry.ensures.entry (ap (λ e. told keys all (referred e)) c.in-Put.is ∙ (λ j. write (key j) (Some c.in-Put.value.now) c.in-Put.version.now)))
+    rw (← c.self.view_is) (told_as keys all c.args.name (referred c.in_ok-entry.entry) (write c.key-key.result.now (option_copied c.in-Put.value) c.in-Put.version.now) c.in_ok-entry.ensures.entry (ap (λ e. told keys all (referred e)) c.in-Put.is ∙ (λ j. write (key j) (option_copied c.in-Put.value) c.in-Put.version.now)))
 
 pub returns-in-Put-clause-limit : goal.returns-in-Put-clause-limit
 returns-in-Put-clause-limit c = limit_at c.self.inside.keys.keys c.self.inside.entries.all c.args.name (referred c.in_ok-entry.entry) c.self.invariant.limits (sym c.in_ok-entry.ensures.entry)
@@ -24,7 +25,7 @@ returns-in-Got-clause-operation c =
     let keys = c.self.inside.keys.keys in
     let all = c.self.inside.entries.all in
     let key = sym (c.key-key.ensures ∙ ap (λ n. get_or keys n []) (c.key.ensures ∙ ap (λ e. key_number_of (referred e)) c.in-Got.is)) in
-    rw (← c.self.view_is) (told_as keys all c.args.name (referred c.in_ok-entry.entry) (read c.key-key.result.now (Some c.in-Got.value.now) c.in-Got.version.now) c.in_ok-entry.ensures.entry (ap (λ e. told keys all (referred e)) c.in-Got.is ∙ (λ j. read (key j) (Some c.in-Got.value.now) c.in-Got.version.now)))
+    rw (← c.self.view_is) (told_as keys all c.args.name (referred c.in_ok-entry.entry) (read c.key-key.result.now (option_copied c.in-Got.value) c.in-Got.version.now) c.in_ok-entry.ensures.entry (ap (λ e. told keys all (referred e)) c.in-Got.is ∙ (λ j. read (key j) (option_copied c.in-Got.value) c.in-Got.version.now)))
 
 pub returns-in-Got-clause-limit : goal.returns-in-Got-clause-limit
 returns-in-Got-clause-limit c = limit_at c.self.inside.keys.keys c.self.inside.entries.all c.args.name (referred c.in_ok-entry.entry) c.self.invariant.limits (sym c.in_ok-entry.ensures.entry)
@@ -34,8 +35,8 @@ returns-in-Sourced-clause-operation c =
     let keys = c.self.inside.keys.keys in
     let all = c.self.inside.entries.all in
     let key = sym (c.key-key.ensures ∙ ap (λ n. get_or keys n []) (c.key.ensures ∙ ap (λ e. key_number_of (referred e)) c.in-Sourced.is)) in
-    let value : c.in-Sourced.value.now ≡ value_put all c.in-Sourced.put.name = subst (HasValue all) c.in-Sourced.is c.in_ok-entry.ensures.value in
-    rw (← c.self.view_is) (told_as keys all c.args.name (referred c.in_ok-entry.entry) (read c.key-key.result.now (Some c.in-Sourced.value.now) c.in-Sourced.version.now) c.in_ok-entry.ensures.entry (ap (λ e. told keys all (referred e)) c.in-Sourced.is ∙ (λ j. read (key j) (Some (sym value j)) c.in-Sourced.version.now)))
+    let value : option_copied c.in-Sourced.value ≡ value_put all c.in-Sourced.put.name = subst (HasValue all) c.in-Sourced.is c.in_ok-entry.ensures.value in
+    rw (← c.self.view_is) (told_as keys all c.args.name (referred c.in_ok-entry.entry) (read c.key-key.result.now (option_copied c.in-Sourced.value) c.in-Sourced.version.now) c.in_ok-entry.ensures.entry (ap (λ e. told keys all (referred e)) c.in-Sourced.is ∙ (λ j. read (key j) (sym value j) c.in-Sourced.version.now)))
 
 pub returns-in-Sourced-clause-limit : goal.returns-in-Sourced-clause-limit
 returns-in-Sourced-clause-limit c = limit_at c.self.inside.keys.keys c.self.inside.entries.all c.args.name (referred c.in_ok-entry.entry) c.self.invariant.limits (sym c.in_ok-entry.ensures.entry)

@@ -1,3 +1,4 @@
+use Rattle.cops_types.specs.Slots.{content_of}
 use Rattle.std.proofs.Common.{Some, sym, ap, ◌∙◌}
 use Rattle.std.proofs.lemmas.Option.{slice_get-map}
 use Rattle.std.specs.Option.{option_map}
@@ -9,10 +10,10 @@ use Rattle.cops_types.proofs.history.History.open_get.Goals as goal
 pub key-requires : goal.key-requires
 key-requires c =
     let got = c.in_ok-got.got.now in
-    c.self.invariant.get_keys c.args.number (Got got.key got.value got.version) (sym c.in_ok-got.ensures)
+    c.self.invariant.get_keys c.args.number (Got got.key (content_of got.has_value got.value) got.version) (sym c.in_ok-got.ensures)
 
 pub returns : goal.returns
 returns c =
     let tell = told c.self.inside.keys.keys c.self.inside.entries.all in
     let got = c.in_ok-got.got.now in
-    rw (← c.self.view_is) (ap (λ k. Some (read k (Some got.value) got.version)) c.key.ensures ∙ ap (option_map tell) c.in_ok-got.ensures ∙ sym (slice_get-map tell c.self.inside.entries.gets c.args.number))
+    rw (← c.self.view_is) ((λ j. Some (read (c.key.ensures j) (c.content.ensures j) got.version)) ∙ ap (option_map tell) c.in_ok-got.ensures ∙ sym (slice_get-map tell c.self.inside.entries.gets c.args.number))

@@ -1,3 +1,4 @@
+use Rattle.std.specs.Prelude.{option_copied}
 use Rattle.std.proofs.Common.{[], Some, get_or, sym, ap}
 use Rattle.cops_types.specs.Histories.{write}
 use Rattle.cops_types.specs.Entries.{referred, told}
@@ -13,7 +14,7 @@ returns-in-Put-clause-put c =
     let keys = c.self.inside.keys.keys in
     let all = c.self.inside.entries.all in
     let key = get_or keys c.in-Put.key [] in
-    rw (← c.self.view_is) (key, Some c.in-Put.value.now, sym (told_as keys all c.args.name (referred c.in_ok-version.field-0) (write key (Some c.in-Put.value.now) c.in-Put.version.now) c.in_ok-version.ensures.entry (ap (λ e. told keys all (referred e)) c.in-Put.is)))
+    rw (← c.self.view_is) (key, option_copied c.in-Put.value, sym (told_as keys all c.args.name (referred c.in_ok-version.field-0) (write key (option_copied c.in-Put.value) c.in-Put.version.now) c.in_ok-version.ensures.entry (ap (λ e. told keys all (referred e)) c.in-Put.is)))
 
 pub returns-in_default : goal.returns-in_default
 returns-in_default c =

@@ -1,0 +1,23 @@
+-- Contents that are written: that they fit the format, and what a node answers for them.
+use Rattle.std.proofs.Common.{◌≡◌, ℕ, List, Option, Some, None, true, refl}
+use Rattle.cops_types.specs.declared.format.Format.{Format}
+use Rattle.cops_types.specs.declared.format.Format.TheVariants.{One, Two}
+use Rattle.cops_types.specs.Format.{Fits}
+use Rattle.cops_node.specs.Acts.{written, version_given}
+use Rattle.cops_core.specs.Memory.{TakesMemory}
+use Rattle.cops_core.specs.World.{WriteBy, fits}
+
+pub fits_in : (format : Format) (content : Option (List ℕ)) → fits format content ≡ true → Fits format content
+fits_in One (Some value) fit = tt
+fits_in Two (Some value) fit = tt
+fits_in One None fit = absurd cc
+fits_in Two None fit = tt
+
+-- a write that is done has its version
+pub given_written : (content : Option (List ℕ)) (version : ℕ) → version_given (written content version) ≡ Some version
+given_written (Some value) version = refl
+given_written None version = refl
+
+pub takes_written : (client : ℕ) (key : List ℕ) (content : Option (List ℕ)) (version : ℕ) → TakesMemory (WriteBy client key content) (written content version)
+takes_written client key (Some value) version = tt
+takes_written client key None version = tt

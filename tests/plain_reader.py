@@ -1,0 +1,210 @@
+"""A plain reader of traces, by the tables of docs/FORMATS.md, and the comparison of the program with it on traces of which bytes were changed.
+
+It takes a frame's fields one after the other off a table of kinds. What it reads it gives to the plain auditor.
+"""
+import os
+import random
+from collections import Counter, namedtuple
+from concurrent.futures import ThreadPoolExecutor
+
+import plain
+from traces import check, cops, status_of, trace
+
+CHANGES, LEAST_OF_A_KIND = 2000, 10
+LONGEST_FRAME, LONGEST_KEY, LONGEST_VALUE, MOST_DEPS = 32_768, 64, 4096, 256
+LAST_CLOCK, NODES = (1 << 48) - 1, 1024
+HEAD, END = 17, 21
+RECORDS = {18: "put", 19: "got", 20: "missed", 26: "del", 27: "gone"}
+KINDS_OF_FORMAT_2 = range(22, 28)
+
+
+class Fault(Exception):
+    """What is wrong with a trace's bytes, and at which of them."""
+
+    def __init__(self, words, at):
+        super().__init__(f"{words} at {at}")
+
+
+# The bytes, where the next field of a frame begins, and where the frame ends.
+Place = namedtuple("Place", "data at end")
+
+
+def number(width, least=0, most=None):
+    """A field that is a number of so many bytes, within these limits."""
+
+    def read(place):
+        until = place.at + width
+        given = int.from_bytes(place.data[place.at : until], "big")
+        if until > place.end or given < least or (most is not None and given > most):
+            raise Fault("bad field", place.at)
+        return given, place._replace(at=until)
+
+    return read
+
+
+def text(width, least, most):
+    """A field that is a length of so many bytes, and as many bytes as it says."""
+
+    def read(place):
+        length, behind = number(width, least, most)(place)
+        until = behind.at + length
+        if until > place.end:
+            raise Fault("bad field", place.at)
+        return place.data[behind.at : until], place._replace(at=until)
+
+    return read
+
+
+def version(place):
+    raw, behind = number(8)(place)
+    clock, node = divmod(raw, 65_536)
+    if clock == 0 or node >= NODES:
+        raise Fault("bad field", place.at)
+    return (clock, node), behind
+
+
+def deps(place):
+    """A number of pairs, each a key and a version, none of them twice: one field, whatever is wrong within."""
+    try:
+        count, behind = number(2, most=MOST_DEPS)(place)
+        pairs = []
+        for _ in range(count):
+            named, behind = key(behind)
+            at, behind = version(behind)
+            pairs.append((named, at))
+    except Fault as fault:
+        raise Fault("bad field", place.at) from fault
+    if len(set(pairs)) < len(pairs):
+        raise Fault("bad field", place.at)
+    return pairs, behind
+
+
+u8, u16, u32, key, value = number(1), number(2), number(4), text(1, 1, LONGEST_KEY), text(2, 0, LONGEST_VALUE)
+FIELDS = {
+    1: [u16, u16], 2: [number(1, most=15), number(1, 1, 64)], 3: [u32, key, value], 4: [u32, key], 5: [u32, version], 6: [u32, value, version],
+    7: [u32], 8: [u32, number(1, 1)], 9: [key, value, version, deps], 10: [u32, key, version], 11: [u32], 12: [u32], 13: [u32, number(1, most=63)],
+    14: [u32, number(8, most=LAST_CLOCK), u32, u32, u32], 15: [], 16: [], 17: [u16, u16], 18: [u16, u32, key, value, version],
+    19: [u16, u32, key, value, version], 20: [u16, u32, key], 21: [u32], 22: [u32, key], 23: [u32, version], 24: [u32, version],
+    25: [key, version, deps], 26: [u16, u32, key, version], 27: [u16, u32, key, version],
+}  # fmt: skip
+
+
+def frame(data, at, format_number):
+    """The kind and the fields of the frame that begins at a byte, and where it ends."""
+    length = int.from_bytes(data[at : at + 4], "big")
+    if len(data) >= at + 4 and not 1 <= length <= LONGEST_FRAME:
+        raise Fault("bad length", at)
+    if len(data) < at + 4 + length or len(data) < at + 4:
+        raise Fault("cut", at)
+    kind, fields, place = data[at + 4], [], Place(data, at + 5, at + 4 + length)
+    if kind not in FIELDS or (kind in KINDS_OF_FORMAT_2 and format_number == 1):
+        raise Fault("unknown kind", at)
+    for read in FIELDS[kind]:
+        given, place = read(place)
+        fields.append(given)
+    if place.at < place.end:
+        raise Fault("trailing bytes", at)
+    return kind, fields, place.end
+
+
+def operation(kind, of):
+    """The operation of a record's key, value and version, as far as its kind has these."""
+    named, rest = of[0], of[1:]
+    held = rest.pop(0) if kind in ("put", "got") else None
+    return plain.Operation(kind, named, held, rest[0] if rest else None)
+
+
+def history_of(data):
+    """The operations by name that the bytes of a trace have."""
+    kind, fields, at = frame(data, 0, 1)
+    if kind != HEAD:
+        raise Fault("no head", 0)
+    format_number, clients = fields
+    if format_number not in (1, 2):
+        raise Fault("bad format", 0)
+    history, lengths, ended = {}, Counter(), False
+    while not ended:
+        begins = at
+        kind, fields, at = frame(data, begins, format_number)
+        ended = kind == END
+        if ended:
+            if fields[0] != len(history):
+                raise Fault("bad count", begins)
+        elif kind not in RECORDS:
+            raise Fault("not a record", begins)
+        else:
+            client, index, *of = fields
+            if client >= clients:
+                raise Fault("client out of range", begins)
+            if index != lengths[client]:
+                raise Fault("index out of turn", begins)
+            history[client, index] = operation(RECORDS[kind], of)
+            lengths[client] += 1
+    if at < len(data):
+        raise Fault("bytes after end", at)
+    return history
+
+
+def answer_of(data):
+    """The text of the audit of these bytes, and its status."""
+    try:
+        report = plain.report(history_of(data))
+    except Fault as fault:
+        return 2, f"faulty: {fault}\n"
+    return status_of(report), report
+
+
+# Frames that are no records: a get, a goodbye, a deletion that a client asks for, a head and an end.
+OTHERS = [bytes.fromhex(of) for of in ("0000000704000000010178", "000000010f", "0000000716000000010178", "000000051100020002", "000000051500000000")]
+
+
+def with_another(data, pick):
+    """The bytes with a frame put in that is no record, between two frames or behind the last."""
+    borders, at = [], 0
+    while at < len(data):
+        at += 4 + int.from_bytes(data[at : at + 4], "big")
+        borders.append(at)
+    at = pick.choice(borders)
+    return data[:at] + pick.choice(OTHERS) + data[at:]
+
+
+def changed(data, pick):
+    """The bytes with one of them changed, mostly by little, left out, or put in."""
+    at, dice = pick.randrange(len(data)), pick.random()
+    byte = (data[at] + pick.choice((1, -1, 2, 7))) % 256 if dice < 0.5 else pick.randrange(256)
+    if dice < 0.8:
+        return data[:at] + bytes([byte]) + data[at + 1 :]
+    return data[:at] + data[at + 1 :] if dice < 0.9 else data[:at] + bytes([byte]) + data[at:]
+
+
+def changed_trace(seed):
+    """A small history's trace of which one byte or two were changed, or into which another frame was put."""
+    pick = random.Random(seed)
+    data = trace(plain.some_lines(seed, plain.format_of(seed)))
+    if pick.random() < 0.1:
+        return with_another(data, pick)
+    data = changed(data, pick)
+    return changed(data, pick) if pick.random() < 0.3 else data
+
+
+def kind_of(report):
+    """What is told of a trace's bytes: which fault they have, or of which kind their verdict is."""
+    return report.split(": ")[1].split(" at ")[0] if report.startswith("faulty: ") else plain.kind_of(report)
+
+
+KINDS = ("accepted", "no source", "cut", "bad length", "unknown kind", "bad field", "trailing bytes", "not a record",
+         "client out of range", "index out of turn", "bad count", "bytes after end")  # fmt: skip
+
+
+def changed_bytes():
+    """The program says of many traces of which bytes were changed what the plain reader and the plain auditor say, and each answer comes often."""
+    met, made = Counter(), [changed_trace(seed) for seed in range(CHANGES)]
+    with ThreadPoolExecutor(os.cpu_count() or 2) as pool:
+        answers = list(pool.map(lambda data: cops("audit", "-", stdin=data), made))
+    for seed, (data, answer) in enumerate(zip(made, answers)):
+        status, report = answer_of(data)
+        met[plain.format_of(seed), kind_of(report)] += 1
+        check(f"changed bytes {seed}: {data.hex()}", answer, (status, report.encode(), b""))
+    for which in plain.FORMATS:
+        for kind in KINDS:
+            check(f"changed traces of format {which} that are {kind}: {met[which, kind]}", met[which, kind] >= LEAST_OF_A_KIND, True)
