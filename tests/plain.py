@@ -255,34 +255,57 @@ def random_histories():
             check(f"small histories that are {kind}, {which}: {met[which, kind]}", met[which, kind] >= LEAST_OF_A_KIND, True)
 
 
-def cut_anywhere(seed):
-    """The front of the text of a small history, where the last whole record in it ends, and the lines up to that."""
-    lines = some_lines(seed, format_of(seed))
+def cut_at(lines, length):
+    """The first so many bytes of the text of a history, where the last whole record in them ends, and the lines up to that."""
     text = trace(lines)
-    length = random.Random(seed).randrange(len(text))
     ends = [0] + [len(trace(lines[:count])) - len(TRACE_ENDED) for count in range(1, len(lines) + 1)]
     whole = max(count for count, end in enumerate(ends) if end <= length)
     return text[:length], ends[whole], lines[:whole]
 
 
-def random_cuts():
-    """The program says so far of many small histories that are cut anywhere what the plain auditor says, and all that it may say comes."""
-    met, made = Counter(), [cut_anywhere(seed) for seed in range(CUTS)]
+def cut_anywhere(seed):
+    """The front of the text of a small history, where the last whole record in it ends, and the lines up to that."""
+    lines = some_lines(seed, format_of(seed))
+    return cut_at(lines, random.Random(seed).randrange(len(trace(lines))))
+
+
+def said_of_cuts(made):
+    """What the plain auditor says so far of each of these, once the program says so too."""
     with ThreadPoolExecutor(os.cpu_count() or 2) as pool:
         answers = list(pool.map(lambda cut: cops("audit", "-", "--so-far", stdin=cut[0]), made))
-    for seed, ((_, end, lines), answer) in enumerate(zip(made, answers)):
+    for (data, end, lines), answer in zip(made, answers):
         said = said_so_far(history_of(lines))
-        met[format_of(seed), said.split()[0]] += 1
         wanted = (1 if said == "refused" else 0, f"cut at {end}\nso far: {said}\n".encode(), b"")
-        check(f"a small history that is cut, {seed}", answer, wanted)
+        check(f"a history that is cut, {data.hex()}", answer, wanted)
+        yield said
+
+
+def random_cuts():
+    """The program says so far of many small histories that are cut anywhere what the plain auditor says, and all that it may say comes."""
+    met = Counter()
+    for seed, said in enumerate(said_of_cuts([cut_anywhere(seed) for seed in range(CUTS)])):
+        met[format_of(seed), said.split()[0]] += 1
     for number in FORMATS:
         for said in ("clean", "waiting", "refused"):
             check(f"small histories that are so far {said}, format {number}: {met[number, said]}", met[number, said] > 0, True)
 
 
+def cuts_of_deletions():
+    """And of each worked row of format 2, cut behind each of its bytes."""
+    rows_of_2 = [lines for lines, _ in map(row, row_paths()) if any(line.endswith(" format 2") for line in lines)]
+    check("there are rows of format 2", len(rows_of_2) > 5, True)
+    given = [[line for line in lines if line and not line.startswith("#")] for lines in rows_of_2]
+    list(said_of_cuts([cut_at(lines, length) for lines in given for length in range(len(trace(lines)))]))
+
+
+def row_paths():
+    """The files of the worked rows of an audit."""
+    return sorted(glob.glob(os.path.join(ROOT, "tests", "rows", "*.ops")))
+
+
 def rows():
     """Of each worked row the program, with few workers and many, and the plain auditor say what stands there."""
-    paths = sorted(glob.glob(os.path.join(ROOT, "tests", "rows", "*.ops")))
+    paths = row_paths()
     check("there are rows", len(paths) > 0, True)
     for path in paths:
         lines, text = row(path)

@@ -7,12 +7,13 @@ use Rattle.std.specs.Option.{is_some}
 use Rattle.cops_types.specs.declared.limits.TheConstants.{MAX_WORKERS}
 use Rattle.cops_types.specs.declared.selection.Selection.{Selection}
 use Rattle.cops_line.specs.declared.job.Job.{Job}
-use Rattle.cops_line.specs.declared.job.Job.TheVariants.{Audit, SoFar, Explain, Show, Import, Run, Serve}
+use Rattle.cops_line.specs.declared.job.Job.TheVariants.{Audit, SoFar, Explain, Show, Import, Convert, Run, Serve}
 use Rattle.cops_trace.specs.declared.fault.TraceFault.{TraceFault}
 use Rattle.cops_trace.specs.declared.fault.TraceFault.TheVariants.{Cut}
 use Rattle.cops_trace.specs.Live.{IsCutShort}
 use Rattle.cops_trace.specs.Text.{ATrace}
 use Rattle.cops_trace.specs.Answer.{Says}
+use Rattle.cops_trace.specs.Lines.{fault_line}
 use Rattle.cops_scenario.specs.Scenario.{AScenario}
 use Rattle.cops_scenario.specs.File.{IsTextOf}
 use Rattle.cops_command.specs.Scenario.{TellsNone}
@@ -24,6 +25,7 @@ use Rattle.cops_stream.specs.declared.audit.StreamFault.TheVariants.{BadWorkers}
 use Rattle.cops_stream.specs.declared.explain.Explained.{Explained}
 use Rattle.cops_stream.specs.declared.audit.Answer.TheVariants as answer
 use Rattle.cops_stream.specs.Audit.{Writes}
+use Rattle.cops_stream.specs.Convert.{ConvertsAlike, converted_line}
 use Rattle.cops_stream.specs.Explain.{PictureSays, WritesExplained}
 use Rattle.cops_stream.specs.Show.{Shows}
 use Rattle.cops_stream.specs.SoFar.{IsSoundSoFar, WritesSoFar}
@@ -100,6 +102,14 @@ pub record StopsAtLine (bytes : List ℕ) (made_old made_new old new : Option (L
   pub written : ℕ
   pub cut : IsCutShort made_old made_new written
 
+-- the bytes are a trace's text, its writer gained that of the same in format 2, and how many operations it has was printed
+abbrev pub HasConverted : List ℕ → Option (List ℕ) → Option (List ℕ) → Option (List ℕ) → Option (List ℕ) → Type 0
+HasConverted bytes made_old made_new old new = (count : ℕ) × ConvertsAlike bytes count made_old made_new × Appends old new (converted_line count)
+
+-- they are none, by the fault whose line was printed, and its writer holds what it held
+abbrev pub IsUnconverted : List ℕ → Option (List ℕ) → Option (List ℕ) → Option (List ℕ) → Option (List ℕ) → Type 0
+IsUnconverted bytes made_old made_new old new = (e : TraceFault) × Says bytes (Err e) × Keeps made_old made_new × Appends old new (fault_line e)
+
 -- the bytes tell a scenario, and a report on so many sessions of clients of its world, which is accepted, was printed
 abbrev pub HasServed : ℕ → List ℕ → Option (List ℕ) → Option (List ℕ) → Type 0
 HasServed sessions bytes old new = (s : AScenario) × IsTextOf bytes s × ((text : List ℕ) × IsServed sessions s text × Appends old new text)
@@ -112,6 +122,7 @@ EndsWell (Explain trace faults picture) bytes made_old made_new old new =
     SpellsConvergent bytes × Explains (is_some picture) faults bytes answer.Accepted made_old made_new old new
 EndsWell (Show trace) bytes made_old made_new old new = TellsTrace bytes × Shows bytes (number Accepted) old new × (made_new ≡ made_old)
 EndsWell (Import lines trace) bytes made_old made_new old new = Imports bytes made_old made_new old new
+EndsWell (Convert trace made) bytes made_old made_new old new = HasConverted bytes made_old made_new old new
 EndsWell (Run scenario trace) bytes made_old made_new old new = HasRun bytes made_old made_new old new
 EndsWell (Serve port scenario sessions idle) bytes made_old made_new old new = HasServed sessions bytes old new × (made_new ≡ made_old)
 
@@ -132,6 +143,7 @@ EndsFaulty (Explain trace faults picture) bytes made_old made_new old new =
     TellsNoTrace bytes × (made_new ≡ made_old)
 EndsFaulty (Show trace) bytes made_old made_new old new = TellsNoTrace bytes × Shows bytes (number Faulty) old new × (made_new ≡ made_old)
 EndsFaulty (Import lines trace) bytes made_old made_new old new = StopsAtLine bytes made_old made_new old new
+EndsFaulty (Convert trace made) bytes made_old made_new old new = IsUnconverted bytes made_old made_new old new
 EndsFaulty (Run scenario trace) bytes made_old made_new old new = TellsNone bytes × Keeps made_old made_new
 EndsFaulty (Serve port scenario sessions idle) bytes made_old made_new old new = TellsNone bytes × (made_new ≡ made_old)
 

@@ -1,10 +1,13 @@
 //! The commands over readers and writers, whatever these stand for: a contract says of each what the writers gained.
-ghost use Rattle.std.specs.Prelude.{◌≡◌, ◌≢◌, ◌≤◌, ◌⊎◌, ◌++◌, [], true, IfSome, Ok, Err};
+ghost use Rattle.std.specs.Prelude.{◌≡◌, ◌≢◌, ◌≤◌, ◌⊎◌, ◌++◌, [], ℕ, true, IfSome, Ok, Err};
 ghost use Rattle.std.specs.Io.KnownBytes.{Appends, Keeps};
 ghost use Rattle.cops_types.specs.declared.limits.TheConstants.{MAX_WORKERS};
 ghost use Rattle.cops_types.specs.Counted.{inner};
+ghost use Rattle.cops_trace.specs.declared.fault.TraceFault.{TraceFault as AFault};
+ghost use Rattle.cops_trace.specs.Lines.{fault_line as fault_text};
 ghost use Rattle.cops_import.specs.Words.{told_text, faulty_line as faulty_text};
 ghost use Rattle.cops_stream.specs.Audit.{Writes, answer_status};
+ghost use Rattle.cops_stream.specs.Convert.{converted_line as converted_text};
 ghost use Rattle.cops_stream.specs.Convergent.{SpellsConvergent};
 ghost use Rattle.cops_stream.specs.Show.{Shows};
 ghost use Rattle.cops_stream.specs.SoFar.{IsSoundSoFar, WritesSoFar};
@@ -12,7 +15,7 @@ ghost use Rattle.cops_command.specs.Scenario.{TellsNone};
 ghost use Rattle.cops_command.specs.Status.{number, number as status_number};
 ghost use Rattle.cops_command.specs.declared.status.Status.TheVariants.{Accepted, Failed, Faulty, NoMemory, Refused};
 ghost use Rattle.cops_run_stream.specs.Running.{EndsWell as HasRun};
-ghost use Rattle.cops.specs.Status.{EndsFaulty, EndsRefused, EndsWell, Explains, HasAnswered, HasServed, Imports, IsFaultyAnswer, MayWork, PrintsLine, StopsAtLine, TellsNoTrace, TellsOtherFault, TellsTrace, drawn_text};
+ghost use Rattle.cops.specs.Status.{EndsFaulty, EndsRefused, EndsWell, Explains, HasAnswered, HasConverted, HasServed, Imports, IsFaultyAnswer, IsUnconverted, MayWork, PrintsLine, StopsAtLine, TellsNoTrace, TellsOtherFault, TellsTrace, drawn_text};
 
 use crate::output::Output;
 use cops_command::{Status, print};
@@ -21,8 +24,10 @@ use cops_line::Job;
 use cops_run_stream::{Streamed, run_stream};
 use cops_serve::serve_stream;
 use cops_stream::{
-    Answer, Explained, StreamFault, audit_so_far, audit_stream, explain_stream, show_stream,
+    Answer, Explained, StreamFault, audit_so_far, audit_stream, convert_stream, converted_line,
+    explain_stream, show_stream,
 };
+use cops_trace::{ConvertFault, TraceFault, fault_line};
 use cops_types::{Counted, Memory, OpenGate, Selection, write_text};
 use std::alloc::Global;
 use std::io::{Read, Write};
@@ -84,6 +89,7 @@ where
         } => explain(rt.alloc(), faults, picture.is_some(), input, outputs),
         Job::Show { .. } => show(rt.alloc(), input, outputs),
         Job::Import { .. } => import(rt.alloc(), clients, input, outputs),
+        Job::Convert { .. } => convert(rt.alloc(), input, outputs),
         Job::Run { .. } => run_scenario(rt, input, outputs),
         Job::Serve {
             port,
@@ -418,6 +424,94 @@ where
     match faulty_line(alloc, number, fault) {
         Ok(line) => print(line.as_bytes(), Status::Faulty, out, errors),
         Err(_) => failed(errors, NO_MEMORY, Status::NoMemory),
+    }
+}
+
+/// Converts the input to a trace of format 2: accepted only of a trace's text, where that of the new one went out, and how
+/// many operations it has was printed.
+fn convert<I, T, W, E>(
+    alloc: Global,
+    input: &mut Counted<I>,
+    outputs: Outputs<T, W, E>,
+) -> Ended<T, W, E>
+where
+    I: Read,
+    T: Write,
+    W: Write,
+    E: Write,
+    ensures converted { result.status ≡ number Accepted → IfSome (I.remaining (inner input.old)) (λ bytes. HasConverted bytes
+        (T.contents (inner outputs.made)) (T.contents (inner result.outputs.made)) (W.contents (inner outputs.out)) (W.contents (inner result.outputs.out))) }
+    ensures refused { result.status ≢ number Refused }
+    ensures faulty { result.status ≡ number Faulty → IfSome (I.remaining (inner input.old)) (λ bytes. IsUnconverted bytes
+        (T.contents (inner outputs.made)) (T.contents (inner result.outputs.made)) (W.contents (inner outputs.out)) (W.contents (inner result.outputs.out))) }
+{
+    let Outputs {
+        mut made,
+        mut out,
+        mut errors,
+    } = outputs;
+    let converted = convert_stream(alloc, input, &mut made);
+    let status = converted_status(alloc, converted, &mut out, &mut errors);
+    Ended {
+        status,
+        outputs: Outputs { made, out, errors },
+    }
+}
+
+/// Prints how many operations were converted, or the line of the fault, and gives the status.
+fn converted_status<W, E>(
+    alloc: Global,
+    converted: Result<u32, ConvertFault>,
+    out: &mut Counted<W>,
+    errors: &mut Counted<E>,
+) -> u8
+where
+    W: Write,
+    E: Write,
+    ensures accepted { result ≡ number Accepted → (count : ℕ) × (converted ≡ Ok count) × Appends (W.contents (inner out.old)) (W.contents (inner out.new)) (converted_text count) }
+    ensures refused { result ≢ number Refused }
+    ensures faulty { result ≡ number Faulty → (e : AFault) × (converted ≡ Err (ConvertFault.Faulty e)) × Appends (W.contents (inner out.old)) (W.contents (inner out.new)) (fault_text e) }
+{
+    match converted {
+        Ok(count) => counted(alloc, count, out, errors),
+        Err(ConvertFault::Memory) => failed(errors, NO_MEMORY, Status::NoMemory),
+        Err(ConvertFault::Faulty(fault)) => no_trace(alloc, fault, out, errors),
+        Err(ConvertFault::ReadFailed) => failed(errors, b"failed: read\n", Status::Failed),
+        Err(ConvertFault::WriteFailed { .. }) => failed(errors, b"failed: write\n", Status::Failed),
+    }
+}
+
+/// Prints how many operations were converted, and gives the status.
+fn counted<W, E>(alloc: Global, count: u32, out: &mut Counted<W>, errors: &mut Counted<E>) -> u8
+where
+    W: Write,
+    E: Write,
+    ensures other { (result ≢ number Refused) × (result ≢ number Faulty) }
+    ensures printed { result ≡ number Accepted → Appends (W.contents (inner out.old)) (W.contents (inner out.new)) (converted_text count) }
+{
+    match converted_line(alloc, count) {
+        Ok(line) => print(line.as_bytes(), Status::Accepted, out, errors),
+        Err(_) => failed(errors, NO_MEMORY, Status::NoMemory),
+    }
+}
+
+/// Prints the line of what is no trace, and gives the status.
+fn no_trace<W, E>(
+    alloc: Global,
+    fault: TraceFault,
+    out: &mut Counted<W>,
+    errors: &mut Counted<E>,
+) -> u8
+where
+    W: Write,
+    E: Write,
+    ensures other { (result ≢ number Accepted) × (result ≢ number Refused) }
+    ensures printed { result ≡ number Faulty → Appends (W.contents (inner out.old)) (W.contents (inner out.new)) (fault_text fault) }
+{
+    let mut line = Vec::new(alloc);
+    match fault_line(alloc, &fault, &mut line) {
+        Ok(()) => print(&line, Status::Faulty, out, errors),
+        Err(Memory) => failed(errors, NO_MEMORY, Status::NoMemory),
     }
 }
 

@@ -102,6 +102,7 @@ fn input_of<'a>(job: Job<'a>) -> &'a str {
         Job::Explain { trace, .. } => trace,
         Job::Show { trace } => trace,
         Job::Import { lines, .. } => lines,
+        Job::Convert { trace, .. } => trace,
         Job::Run { scenario, .. } => scenario,
         Job::Serve { scenario, .. } => scenario,
     }
@@ -112,6 +113,7 @@ fn output_of<'a>(job: Job<'a>) -> Option<&'a str> {
     match job {
         Job::Explain { picture, .. } => picture,
         Job::Import { trace, .. } => Some(trace),
+        Job::Convert { new, .. } => Some(new),
         Job::Run { trace, .. } => Some(trace),
         _ => None,
     }
@@ -215,17 +217,17 @@ where
     S: Read + Drop,
     E: Write + IsTerminal + Copy + Drop,
 {
-    let is_judged = matches!(
+    let is_read_whole = matches!(
         job,
-        Job::Audit { .. } | Job::SoFar { .. } | Job::Explain { .. }
+        Job::Audit { .. } | Job::SoFar { .. } | Job::Explain { .. } | Job::Convert { .. }
     );
-    let begun = begun(rt, is_judged && errors.is_terminal());
+    let begun = begun(rt, is_read_whole && errors.is_terminal());
     let mut input = Counted::new(Watched::new(rt, source, Reading::Trace, begun));
     let outputs = outputs(rt, made, errors, begun);
     let Ended { status, outputs } = command(rt, job, 0, &mut input, outputs);
     let Outputs { made, .. } = outputs;
     close_made(rt, output_of(job), made.into_inner());
-    let reads_trace = is_judged || matches!(job, Job::Show { .. });
+    let reads_trace = is_read_whole || matches!(job, Job::Show { .. });
     if reads_trace && input.get_ref().looks_like_lines() {
         let _ = eprintln!(rt; "{LOOKS_LIKE_LINES}");
     }

@@ -10,6 +10,8 @@ mod batch;
 #[cfg(test)]
 mod building;
 #[cfg(test)]
+mod convert;
+#[cfg(test)]
 mod online;
 #[cfg(test)]
 mod pieces;

@@ -72,6 +72,10 @@ show_app = with_rule (new_app (codes "show")) (positional (codes "trace"))
 abbrev pub import_app : App
 import_app = with_rule (with_rule (new_app (codes "import")) (positional (codes "lines"))) (positional (codes "trace"))
 
+-- `convert TRACE NEW`
+abbrev pub convert_app : App
+convert_app = with_rule (with_rule (new_app (codes "convert")) (positional (codes "trace"))) (positional (codes "new"))
+
 -- `run SCENARIO TRACE`
 abbrev pub run_app : App
 run_app = with_rule (with_rule (new_app (codes "run")) (positional (codes "scenario"))) (positional (codes "trace"))
@@ -98,9 +102,9 @@ cops_top = record {
 abbrev pub judging_app : App
 judging_app = with_subcommand (with_subcommand cops_top audit_app.top) explain_app.top
 
--- or one that shows a trace, or makes one of lines
+-- or one that shows a trace, or makes one of lines or of another one
 abbrev pub tracing_app : App
-tracing_app = with_subcommand (with_subcommand judging_app show_app.top) import_app.top
+tracing_app = with_subcommand (with_subcommand (with_subcommand judging_app show_app.top) import_app.top) convert_app.top
 
 -- one of the subcommands
 unfoldable pub cops_app : App

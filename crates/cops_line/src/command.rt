@@ -2,16 +2,17 @@
 ghost use Rattle.std.specs.Prelude.{◌≡◌, IfOk, codes, false};
 ghost use Rattle.clap.specs.Words.{app_of, new_app, rule_of, with_rule, with_subcommand};
 ghost use Rattle.clap.specs.declared.builder.command.Command.TheViews.{out-Command as fields_of};
-ghost use Rattle.cops_line.specs.Commands.{audit_app, cops_app, cops_top, explain_app, import_app, judging_app, port_argument, positional, run_app, serve_app, show_app, tracing_app, versioned};
+ghost use Rattle.cops_line.specs.Commands.{audit_app, cops_app, cops_top, convert_app, explain_app, import_app, judging_app, port_argument, positional, run_app, serve_app, show_app, tracing_app, versioned};
 
 use crate::arguments::{
     all_arg, fault_arg, file_arg, idle_arg, picture_arg, port_arg, sessions_arg, so_far_arg,
     workers_arg,
 };
 use crate::texts::{
-    ABOUT, AUDIT_ABOUT, AUDIT_LONG_ABOUT, EXPLAIN_ABOUT, EXPLAIN_LONG_ABOUT, IMPORT_ABOUT,
-    IMPORT_LONG_ABOUT, LINES_HELP, LONG_ABOUT, NEW_TRACE_HELP, RUN_ABOUT, RUN_LONG_ABOUT,
-    SCENARIO_HELP, SERVE_ABOUT, SERVE_LONG_ABOUT, SHOW_ABOUT, SHOW_LONG_ABOUT, TRACE_HELP, VERSION,
+    ABOUT, AUDIT_ABOUT, AUDIT_LONG_ABOUT, CONVERT_ABOUT, CONVERT_LONG_ABOUT, EXPLAIN_ABOUT,
+    EXPLAIN_LONG_ABOUT, IMPORT_ABOUT, IMPORT_LONG_ABOUT, LINES_HELP, LONG_ABOUT, NEW_TRACE_HELP,
+    RUN_ABOUT, RUN_LONG_ABOUT, SCENARIO_HELP, SERVE_ABOUT, SERVE_LONG_ABOUT, SHOW_ABOUT,
+    SHOW_LONG_ABOUT, TRACE_HELP, VERSION,
 };
 use clap::{Arg, Command};
 use std::alloc::{AllocError, Global};
@@ -109,6 +110,14 @@ fn import_command<'a>(alloc: Global) -> Result<Command<'a>, AllocError>
     to_trace(alloc, "import", IMPORT_ABOUT, IMPORT_LONG_ABOUT, lines)
 }
 
+fn convert_command<'a>(alloc: Global) -> Result<Command<'a>, AllocError>
+    ensures app { IfOk result (λ c. app_of c ≡ convert_app) }
+    ensures local { IfOk result (λ c. (fields_of c).has_globals ≡ false) }
+{
+    let command = of_trace(alloc, "convert", CONVERT_ABOUT, CONVERT_LONG_ABOUT)?;
+    command.arg(file_arg(alloc, "new", "NEW", NEW_TRACE_HELP))
+}
+
 fn run_command<'a>(alloc: Global) -> Result<Command<'a>, AllocError>
     ensures app { IfOk result (λ c. app_of c ≡ run_app) }
     ensures local { IfOk result (λ c. (fields_of c).has_globals ≡ false) }
@@ -164,14 +173,16 @@ fn judging_command<'a>(alloc: Global) -> Result<Command<'a>, AllocError>
     command.subcommand(explain)
 }
 
-/// The same with those that show one or make one of lines.
+/// The same with those that show one, or make one of lines or of another one.
 fn tracing_command<'a>(alloc: Global) -> Result<Command<'a>, AllocError>
     ensures { IfOk result (λ c. app_of c ≡ tracing_app) }
 {
     let show = show_command(alloc)?;
     let command = judging_command(alloc)?.subcommand(show)?;
     let import = import_command(alloc)?;
-    command.subcommand(import)
+    let command = command.subcommand(import)?;
+    let convert = convert_command(alloc)?;
+    command.subcommand(convert)
 }
 
 /// The program's command: a subcommand has to be there, and each takes the words of its own job.

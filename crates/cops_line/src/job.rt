@@ -39,6 +39,12 @@ pub enum Job<'a> {
         lines: &'a str,
         trace: &'a str,
     },
+    /// Write a trace of either format as one of format 2 to a file, and print how many operations it has. `-` as the
+    /// trace is standard input, and as the new one standard output.
+    Convert {
+        trace: &'a str,
+        new: &'a str,
+    },
     /// Run a scenario, print what came of it, and write the trace of it to a file. `-` as the scenario is standard
     /// input, and as the trace standard output.
     Run {

@@ -55,6 +55,15 @@ fn import_job<'a>(matches: &ArgMatches<'a>) -> Option<Job<'a>>
     Some(Job::Import { lines, trace })
 }
 
+fn convert_job<'a>(matches: &ArgMatches<'a>) -> Option<Job<'a>>
+    ensures some { IfSome result (IsJobOf (codes "convert") (rows_of (found_of matches.now))) }
+    ensures none { IfNone result (HasNoJob (codes "convert") (rows_of (found_of matches.now))) }
+{
+    let trace = value(matches, "trace")?;
+    let new = value(matches, "new")?;
+    Some(Job::Convert { trace, new })
+}
+
 fn run_job<'a>(matches: &ArgMatches<'a>) -> Option<Job<'a>>
     ensures some { IfSome result (IsJobOf (codes "run") (rows_of (found_of matches.now))) }
     ensures none { IfNone result (HasNoJob (codes "run") (rows_of (found_of matches.now))) }
@@ -89,6 +98,7 @@ fn job_of<'a>(name: &str, matches: &ArgMatches<'a>) -> Option<Job<'a>>
         "explain" => explain_job(matches),
         "show" => show_job(matches),
         "import" => import_job(matches),
+        "convert" => convert_job(matches),
         "run" => run_job(matches),
         "serve" => serve_job(matches),
         _ => None,

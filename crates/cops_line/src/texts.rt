@@ -71,6 +71,15 @@ standard input or of a pipe are kept in a file meanwhile, in the folder that TMP
 in /tmp, and so is the trace until it is whole. Where the trace goes to standard output, all that is
 printed goes to standard error.";
 
+pub const CONVERT_ABOUT: &str = "Writes a trace as one of format 2";
+
+pub const CONVERT_LONG_ABOUT: &str = "\
+Writes a trace of format 1 or 2 as one of format 2, with the same clients and operations.
+
+Prints `converted: N operations`. A file that is no trace is answered with one line, `faulty: ..`,
+that says what is wrong and at which byte, and an older file of the new trace stays as it was. Where
+the new trace goes to standard output, all that is printed goes to standard error.";
+
 pub const RUN_ABOUT: &str = "Runs a scenario, and records what its clients saw";
 
 pub const RUN_LONG_ABOUT: &str = "\

@@ -8,3 +8,4 @@ pub mod Unique
 pub mod UniqueSoFar
 pub mod ToldExplained
 pub mod UniqueExplained
+pub mod AuditedAlike

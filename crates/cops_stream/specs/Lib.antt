@@ -1,5 +1,6 @@
 pub mod Convergent
 pub mod Audit
+pub mod Convert
 pub mod SoFar
 pub mod Explain
 pub mod Fed

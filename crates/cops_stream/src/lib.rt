@@ -1,11 +1,12 @@
 //! The program's commands on traces over readers and writers: the audit of a trace's bytes, also of bytes that are cut,
-//! what is explained of its faults, and a trace's frames as text. Stands on the trace, the audit, the report and
+//! what is explained of its faults, a trace's frames as text, and its conversion to format 2. Stands on the trace, the audit, the report and
 //! explanations. The program uses that what is written is a stated function of the bytes read, and that a trace is
 //! accepted only where its bytes spell one history and that is causally convergent.
 #![tactic(auto)]
 
 mod alone;
 mod audit;
+mod convert;
 mod explain;
 mod fed;
 mod laws;
@@ -13,6 +14,7 @@ mod show;
 mod so_far;
 
 pub use audit::{Answer, StreamFault, audit_stream};
+pub use convert::{convert_stream, converted_line};
 pub use explain::{Explained, explain_stream};
 pub use laws::{one_audit, one_audit_so_far, one_explanation};
 pub use show::show_stream;

@@ -1,16 +1,18 @@
 -- A trace that is kept as sessions and arrivals.
-use Rattle.std.proofs.Common.{◌≡◌, ◌≢◌, ℕ, zero, suc, ◌+◌, ◌^◌, ◌<◌, ◌≤◌, ◌↔◌, cond, eqb, List, [], ◌∷◌, ◌++◌, length, get_or, refl, sym, ap, subst, ◌∙◌, append_assoc, arith, inl, inr, replicate, get_or-set_same, get_or-set_other}
+use Rattle.std.proofs.Common.{◌≡◌, ◌≢◌, ℕ, zero, suc, ◌+◌, ◌^◌, ◌<◌, ◌≤◌, ◌↔◌, cond, eqb, List, [], ◌∷◌, ◌++◌, length, get_or, refl, sym, ap, subst, ◌∙◌, append_assoc, arith, inl, inr, replicate, get_or-set_same, get_or-set_other, Option, Some, None}
 use Rattle.std.specs.List.{AllByRecursion}
 use Rattle.std.proofs.Math.ListN.{set, length-set}
 use Rattle.std.proofs.lemmas.Bool.{eqb-false, eq-eqb}
 use Rattle.std.proofs.lemmas.List.{length-append, append-nil, length-replicate}
 use Rattle.cops_types.specs.declared.format.Format.{Format}
+use Rattle.cops_types.specs.declared.format.Format.TheVariants.{One, Two}
 use Rattle.cops_types.specs.declared.limits.TheConstants.{MAX_CLIENT_OPS, MAX_OPS}
-use Rattle.cops_types.specs.Histories.{Sessions, with_op, Operation, missed}
+use Rattle.cops_types.specs.Histories.{Sessions, with_op, Operation, write, read, missed}
 use Rattle.cops_types.specs.Counts.{count_of}
 use Rattle.cops_types.specs.Recorded as types
 use Rattle.cops_types.proofs.Sessions.{count-with_op, count-none}
-use Rattle.cops_trace.specs.Text.{ARecord, ATrace, IsTrace, IsOp, turn, sessions_after, sessions_of}
+use Rattle.cops_trace.specs.Text.{ARecord, ATrace, IsTrace, IsContent, IsOp, turn, sessions_after, sessions_of}
+use Rattle.cops_trace.specs.Converting.{in_format_2}
 use Rattle.cops_trace.specs.Kept.{op_in, records_from, trace_of, IsKept, IsFull, grown}
 use Rattle.cops_trace.proofs.Lists.{same_or_other, turn-cons, times, times-append, times-cons, times-same}
 use Rattle.cops_trace.proofs.Growth.{IsTrace-grown, IsTrace-none, with_records}
@@ -177,3 +179,26 @@ pub kept_refused : (format : Format) (h : Sessions) (cs : List ℕ) (c : ℕ) (P
 kept_refused format h cs c P k both =
     let full = kept_full format h cs c k in
     (λ p. let q = both.0 p in (q.0, full.0 q.1), λ q. both.1 (q.0, full.1 q.1))
+
+-- what has an encoding in a format has one in format 2
+content_in_2 : (format : Format) (content : Option (List ℕ)) → IsContent format content → IsContent Two content
+content_in_2 One (Some value) h = h
+content_in_2 One None h = absurd h
+content_in_2 Two content h = h
+
+op_in_2 : (format : Format) (op : Operation) → IsOp format op → IsOp Two op
+op_in_2 format (write key content version) h = (h.0, content_in_2 format content h.1, h.2)
+op_in_2 format (read key content version) h = (h.0, content_in_2 format content h.1, h.2)
+op_in_2 format (missed key) h = h
+
+named_in_2 : (format : Format) (n : ℕ) (rs : List ARecord) → AreNamed format n rs → AreNamed Two n rs
+named_in_2 format n [] h = tt
+named_in_2 format n (r ∷ rs) h = ((h.0.0, op_in_2 format r.op h.0.1), named_in_2 format n rs h.1)
+
+-- so the same clients and records in format 2 are a trace
+pub trace_in_2 : (t : ATrace) → IsTrace t → IsTrace (in_format_2 t)
+trace_in_2 t h = record { clients = h.clients; named = named_in_2 t.format t.clients t.records h.named; each = h.each; all = h.all }
+
+-- and what is kept of it is kept of the same in format 2
+pub kept_in_2 : (format : Format) (h : Sessions) (cs : List ℕ) → IsKept format h cs → IsKept Two h cs
+kept_in_2 format h cs kept = record { is_trace = trace_in_2 (trace_of format h cs) kept.is_trace; sessions = kept.sessions }

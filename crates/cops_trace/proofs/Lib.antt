@@ -10,3 +10,4 @@ pub mod Feeding
 pub mod Underway
 pub mod Aheads
 pub mod Begun
+pub mod ConvertFaults

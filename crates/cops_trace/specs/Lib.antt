@@ -10,3 +10,4 @@ pub mod Kept
 pub mod Parsing
 pub mod Ahead
 pub mod Lines
+pub mod Converting

@@ -92,3 +92,20 @@ pub enum FinishFault {
     #[error("what was written is of another trace")]
     OfAnother,
 }
+
+/// Why a trace was not converted.
+#[derive(Clone, Copy, Debug, PartialEq, Eq, Error)]
+pub enum ConvertFault {
+    /// 0: out of memory.
+    #[error("out of memory")]
+    Memory,
+    /// 1: the bytes are no trace.
+    #[error("{0}")]
+    Faulty(TraceFault),
+    /// 2: the reader failed.
+    #[error("the reader failed")]
+    ReadFailed,
+    /// 3: the writer failed, after exactly so many of the new text's first bytes.
+    #[error("the writer failed after {written} bytes")]
+    WriteFailed { written: usize },
+}

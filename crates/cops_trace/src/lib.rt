@@ -4,6 +4,7 @@
 #![tactic(auto)]
 
 mod ahead;
+mod converting;
 mod counts;
 mod fault;
 mod finding;
@@ -19,7 +20,8 @@ mod trace;
 mod writer;
 mod writing;
 
-pub use fault::{FinishFault, TraceFault, WriteFault};
+pub use converting::convert;
+pub use fault::{ConvertFault, FinishFault, TraceFault, WriteFault};
 pub use found::{Found, Item};
 pub use lines::fault_line;
 pub use live::{LiveTrace, Unfinished};

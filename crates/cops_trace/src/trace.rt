@@ -36,6 +36,7 @@ impl Trace {
     ghost use Rattle.std.specs.Prelude.{◌≡◌, ◌≤◌, ◌<◌, ◌↔◌, [], ◌++◌, length, OnOk, OnErr, IfOk, IfErr, IsErrOf, ◌==◌};
     ghost use Rattle.cops_types.specs.TypeFaults.{IsHistoryFault};
     ghost use Rattle.cops_trace.specs.Text.{IsTrace, sessions_of, turn, records_text};
+    ghost use Rattle.cops_trace.specs.Converting.{in_format_2};
     ghost use Rattle.cops_trace.specs.Kept.{grown, IsFull};
     ghost use Rattle.cops_types.specs.OpViews.{viewed};
     ghost use Rattle.cops_types.specs.Operations.{operation_of};
@@ -57,6 +58,22 @@ impl Trace {
             history,
             arrivals: Vec::new(alloc),
         })
+    }
+
+    /// The same clients and operations in format 2.
+    pub(crate) fn into_format_2(self) -> Trace
+        ensures { result ≡ in_format_2 self }
+    {
+        let Trace {
+            history,
+            arrivals,
+            ..
+        } = self;
+        Trace {
+            format: Format::Two,
+            history,
+            arrivals,
+        }
     }
 
     /// The format.

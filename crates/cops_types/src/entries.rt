@@ -196,6 +196,7 @@ impl Entries {
     }
 
     /// The put of that number, if it is a put of this key, value and version.
+    #[inline(always)]
     pub(crate) fn source(
         &self,
         number: u32,

@@ -198,6 +198,7 @@ impl Foresight {
     }
 
     /// The number of the put that may be of that version.
+    #[inline(always)]
     pub(crate) fn put_of(&self, version: Version) -> Option<u32> {
         put_among(&self.puts, Some(version))
     }

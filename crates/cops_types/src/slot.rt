@@ -49,6 +49,7 @@ impl KeptPut {
     }
 
     /// Whether it wrote this.
+    #[inline(always)]
     pub(crate) fn has_content(&self, content: Option<&ValueView<'_>>) -> bool
         ensures { IsTrue result ↔ (content_of self.now.has_value self.now.value ≡ option_copied content.entry) }
     {

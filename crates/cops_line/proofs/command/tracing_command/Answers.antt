@@ -9,4 +9,6 @@ returns c =
     let show_is = ap (λ (a : App). a.top) c.in_ok-show.ensures.app in
     let import_is = ap (λ (a : App). a.top) c.in_ok-import.ensures.app in
     let with_show = c.in_ok-command.ensures.shape c.in_ok-show.ensures.local ∙ ap₂ with_subcommand c.in_ok-judging_command.ensures show_is in
-    IfOk-weaker c.subcommand-2.result _ _ (λ r h. h.shape c.in_ok-import.ensures.local ∙ ap₂ with_subcommand with_show import_is) c.subcommand-2.ensures
+    let convert_is = ap (λ (a : App). a.top) c.in_ok-convert.ensures.app in
+    let with_import = c.in_ok-command-2.ensures.shape c.in_ok-import.ensures.local ∙ ap₂ with_subcommand with_show import_is in
+    IfOk-weaker c.subcommand-3.result _ _ (λ r h. h.shape c.in_ok-convert.ensures.local ∙ ap₂ with_subcommand with_import convert_is) c.subcommand-3.ensures

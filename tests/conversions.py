@@ -1,0 +1,115 @@
+"""The tests of `cops convert`: a trace of either format becomes one of format 2, and is audited and explained as before."""
+import glob
+import os
+import subprocess
+import tempfile
+from concurrent.futures import ThreadPoolExecutor
+
+import plain
+from traces import BUILT, ROOT, check, cops, example, trace
+
+TRACES = 500
+FORMAT = 6
+
+
+def in_format_2(data):
+    """The bytes of a whole trace, with the number of format 2 in its head."""
+    return data[:FORMAT] + b"\2" + data[FORMAT + 1 :]
+
+
+def converted(data):
+    """What `cops convert` of these bytes answers, and the new trace."""
+    with tempfile.NamedTemporaryFile(suffix=".trace") as file:
+        answer = cops("convert", "-", file.name, stdin=data)
+        return answer, file.read()
+
+
+def count_of(data):
+    """How many operations a whole trace says that it has."""
+    return int.from_bytes(data[-4:], "big")
+
+
+def examples():
+    """Each example by file, by standard input and to standard output."""
+    for path in sorted(glob.glob(os.path.join(ROOT, "examples", "*.trace"))):
+        name = os.path.basename(path)
+        data = example(name)
+        line = f"converted: {count_of(data)} operations\n".encode()
+        check(f"convert {name}", converted(data), ((0, line, b""), in_format_2(data)))
+        with tempfile.NamedTemporaryFile(suffix=".trace") as file:
+            check(f"convert {name} by file", cops("convert", path, file.name), (0, line, b""))
+            check(f"the new trace of {name}", file.read(), in_format_2(data))
+        check(f"convert {name} to standard output", cops("convert", path, "-"), (0, in_format_2(data), line))
+        for command in ("audit", "explain"):
+            check(f"{command} of {name} and of what it becomes", cops(command, "-", stdin=in_format_2(data)), cops(command, "-", stdin=data))
+    two, line = example("put_and_get.trace"), b"converted: 2 operations\n"
+    check("a put and a get in format 2", converted(two), ((0, line, b""), bytes.fromhex("000000051100020002") + two[9:]))
+
+
+def random_traces():
+    """Random traces of both formats: an audit says the same before and after."""
+    made = [trace(plain.some_lines(seed, plain.format_of(seed))) for seed in range(TRACES)]
+    with ThreadPoolExecutor(os.cpu_count() or 2) as pool:
+        answers = list(pool.map(converted, made))
+    for seed, (data, (answer, new)) in enumerate(zip(made, answers)):
+        line = f"converted: {count_of(data)} operations\n".encode()
+        check(f"convert a small history, {seed}", (answer, new), ((0, line, b""), in_format_2(data)))
+        check(f"the audit of it before and after, {seed}", cops("audit", "-", stdin=new), cops("audit", "-", stdin=data))
+
+
+def faulty():
+    """What is no trace is told by the line of an audit, and leaves the file of the new trace as it was, or none where there was none."""
+    two, old = example("put_and_get.trace"), b"what was there\n"
+    faults = [("no bytes", b""), ("a byte more", two + b"\0"), ("no head", two[9:]), ("format 3", two[:FORMAT] + b"\3" + two[FORMAT + 1 :])]
+    for name, data in [*faults, *((f"the first {count} bytes", two[:count]) for count in range(len(two)))]:
+        status, line, _ = cops("audit", "-", stdin=data)
+        with tempfile.TemporaryDirectory() as folder:
+            path = os.path.join(folder, "new")
+            check(f"convert of {name}", cops("convert", "-", path, stdin=data), (status, line, b""))
+            check(f"no file for {name}", (status, os.listdir(folder)), (2, []))
+            with open(path, "wb") as file:
+                file.write(old)
+            check(f"convert of {name} over a file", cops("convert", "-", path, stdin=data), (2, line, b""))
+            with open(path, "rb") as file:
+                check(f"the file after {name}", file.read(), old)
+
+
+def devices():
+    """Files that are not there, or cannot be read or written, and too little memory."""
+    path = os.path.join(ROOT, "examples", "stale.trace")
+    check("convert of no file", cops("convert", "/nothing/there", "/dev/null"), (4, b"", b"failed: open\n"))
+    check("convert to no folder", cops("convert", path, "/nothing/there"), (4, b"", b"failed: open\n"))
+    check("convert of a folder", cops("convert", ROOT, "/dev/null"), (4, b"", b"failed: read\n"))
+    check("convert to a full device", cops("convert", path, "/dev/full"), (4, b"", b"failed: write\n"))
+    with open("/dev/full", "wb") as full:
+        check("convert that cannot be told", cops("convert", path, "/dev/null", stdout=full), (4, None, b"failed: write\n"))
+        check("convert to standard output that is full", cops("convert", path, "-", stdout=full), (4, None, b"failed: write\n"))
+    value = "v" * 4000
+    large = trace(["clients 1"] + [f"0 put k{i} {value} {i + 1}.0" for i in range(5000)])
+    for megabytes in (16, 32, 48):
+        with tempfile.TemporaryDirectory() as folder:
+            new = os.path.join(folder, "new")
+            check(f"convert in {megabytes} MB", cops("convert", "-", new, stdin=large, limit=megabytes << 20), (3, b"", b"failed: memory\n"))
+            check(f"no file of {megabytes} MB", os.listdir(folder), [])
+    with tempfile.NamedTemporaryFile() as file:
+        check("convert of a large trace", cops("convert", "-", file.name, stdin=large, limit=256 << 20), (0, b"converted: 5000 operations\n", b""))
+        check("the large trace", file.read() == in_format_2(large), True)
+
+
+def words():
+    """Both names have to be there, and no more. What looks like JSON Lines is told so."""
+    path = os.path.join(ROOT, "examples", "empty.trace")
+    for given in (["convert"], ["convert", path], ["convert", path, "-", "more"], ["convert", "--format", "2", path, "-"]):
+        status, out, err = cops(*given)
+        check(f"usage of {given}", (status, out, err != b""), (2, b"", True))
+    ended = subprocess.run([BUILT, "convert", "-", "-"], input=b'{"client":1}\n', stdout=subprocess.PIPE, stderr=subprocess.PIPE)
+    told = b"faulty: bad length at 0\n" + b"this looks like JSON Lines, which `cops import` reads\n"
+    check("convert of JSON Lines", (ended.returncode, ended.stdout, ended.stderr), (2, b"", told))
+
+
+def conversions():
+    examples()
+    random_traces()
+    faulty()
+    devices()
+    words()
