@@ -12,9 +12,10 @@ Each line is one of
     status PLACE
     bye
 where VERSION is CLOCK.NODE. PROFILE is the number of the format that the cluster speaks: 1, which has no deletions and stands where none
-is named, or 2. A key has no spaces; a value is the rest of its line, and may have some. In a value that comes back a byte
-that is no UTF-8 stands as \\xHH. A line that is none of these is answered on standard error, and the next one is read. The end of the
-lines ends the session, as `bye` does. docs/FORMATS.md describes the bytes.
+is named, or 2. A key has no spaces; a value is the rest of its line, and may have some. A value has at most 4,096 bytes, and behind a
+greeting of profile 2 that was welcomed at most 16,384. In a value that comes back a byte that is no UTF-8 stands as \\xHH. A line that is
+none of these is answered on standard error, and the next one is read. The end of the lines ends the session, as `bye` does.
+docs/FORMATS.md describes the bytes.
 
 The exit status is 0 where each line was a message with a reply, 1 where one was not, and 2 for a wrong usage.
 """
@@ -29,7 +30,10 @@ from write_trace import frame, key, value, version
 HELLO, HELLO_OK, PUT, GET, PUT_DONE, GOT, MISSED, REFUSED = 1, 2, 3, 4, 5, 6, 7, 8
 DEP_CHECK, DEP_YES, DEP_WAIT, STATUS, STATUS_IS, BYE, BYE_OK = 10, 11, 12, 13, 14, 15, 16
 DEL, DELETED, GONE = 22, 23, 24
-MAX_BODY = 32_768
+
+# The most bytes of a value, and of a frame's body, in each format.
+MAX_VALUE = {1: 4_096, 2: 16_384}
+MAX_BODY = {1: 32_768, 2: 131_072}
 
 ENDED = "the session has ended"
 NO_FRONT_DOOR = "what answers there is no front door of cops serve"
@@ -94,8 +98,13 @@ def counts_of(kind):
     return range(sum(not word.startswith("[") for word in words), len(words) + 1)
 
 
-def message(words, number):
-    """The frame of one line's message, with this number of the asker's."""
+def profile_of(words):
+    """The profile of a greeting: 1 where it names none."""
+    return whole(words[2], 65535, "a profile") if words[2:] else 1
+
+
+def message(words, number, spoken=1):
+    """The frame of one line's message, with this number of the asker's, in the format that is spoken."""
     kind, *rest = words
     if kind not in USAGES:
         raise NotAMessage(f"there is no message {kind!a}: the messages are {', '.join(USAGES.values())}")
@@ -104,10 +113,9 @@ def message(words, number):
     seq = struct.pack(">I", number)
     if kind == "hello":
         client = whole(rest[0], 65535, "a client")
-        profile = whole(rest[1], 65535, "a profile") if rest[1:] else 1
-        return frame(HELLO, struct.pack(">HH", profile, client))
+        return frame(HELLO, struct.pack(">HH", profile_of(words), client))
     if kind == "put":
-        return frame(PUT, seq + key(sized(rest[0], 1, 64, "a key")) + value(sized(rest[1], 0, 4096, "a value")))
+        return frame(PUT, seq + key(sized(rest[0], 1, 64, "a key")) + value(sized(rest[1], 0, MAX_VALUE[spoken], "a value")))
     if kind == "delete":
         return frame(DEL, seq + key(sized(rest[0], 1, 64, "a key")))
     if kind == "get":
@@ -148,11 +156,11 @@ def read_all(stream, count):
     return data if len(data) == count else None
 
 
-def read_reply(replies):
-    """The next reply as a line, or that the session has ended."""
+def read_reply(replies, spoken):
+    """The next reply, in the format that is spoken, as a line, or that the session has ended."""
     head = read_all(replies, 4)
     length = struct.unpack(">I", head)[0] if head else 0
-    if head and not 1 <= length <= MAX_BODY:
+    if head and not 1 <= length <= MAX_BODY[spoken]:
         raise ConnectionError(NO_FRONT_DOOR)
     body = read_all(replies, length) if head else None
     if body is None:
@@ -168,20 +176,29 @@ def fail(line, fault):
     raise fault
 
 
+def spoken_behind(words, reply, spoken):
+    """The format that is spoken behind a message and its reply: a welcomed greeting's profile, or that which was spoken before."""
+    if words[0] == "hello" and reply.startswith("hello ") and profile_of(words) in MAX_VALUE:
+        return profile_of(words)
+    return spoken
+
+
 def talk(port, lines, connect=None, wrong=fail):
     """Sends each line's message over one connection, and yields its reply as a line. `wrong` is told of a line that is no message."""
-    connected = connect() if connect else socket.create_connection(("127.0.0.1", port))
+    spoken, connected = 1, connect() if connect else socket.create_connection(("127.0.0.1", port))
     with connected as connection, connection.makefile("rb") as replies:
         for number, line in enumerate(lines, 1):
             if not line.strip():
                 continue
+            words = words_of(line)
             try:
-                sent = message(words_of(line), number)
+                sent = message(words, number, spoken)
             except NotAMessage as fault:
                 wrong(number, fault)
                 continue
             connection.sendall(sent)
-            reply = read_reply(replies)
+            reply = read_reply(replies, spoken)
+            spoken = spoken_behind(words, reply, spoken)
             yield reply
             if reply == ENDED:
                 return

@@ -1,12 +1,13 @@
 """The tests of `cops convert`: a trace of either format becomes one of format 2, and is audited and explained as before."""
 import glob
 import os
+import random
 import subprocess
 import tempfile
 from concurrent.futures import ThreadPoolExecutor
 
 import plain
-from traces import BUILT, ROOT, check, cops, example, trace
+from traces import BUILT, LIMITS, ROOT, check, cops, example, trace
 
 TRACES = 500
 FORMAT = 6
@@ -46,9 +47,18 @@ def examples():
     check("a put and a get in format 2", converted(two), ((0, line, b""), bytes.fromhex("000000051100020002") + two[9:]))
 
 
+def some_trace(seed):
+    """A small history's trace. Now and then it has a long value: in format 2 one of more bytes than format 1 allows."""
+    number, pick = plain.format_of(seed), random.Random(seed)
+    lines = plain.some_lines(seed, number)
+    least = LIMITS[1].value + 1 if number == 2 else 2
+    return trace(plain.with_long_values(lines, pick.randint(least, LIMITS[number].value)) if pick.random() < 0.2 else lines)
+
+
 def random_traces():
     """Random traces of both formats: an audit says the same before and after."""
-    made = [trace(plain.some_lines(seed, plain.format_of(seed))) for seed in range(TRACES)]
+    made = [some_trace(seed) for seed in range(TRACES)]
+    check("traces with longer values than format 1 allows", sum(len(data) > LIMITS[1].value and data[FORMAT] == 2 for data in made) > 20, True)
     with ThreadPoolExecutor(os.cpu_count() or 2) as pool:
         answers = list(pool.map(converted, made))
     for seed, (data, (answer, new)) in enumerate(zip(made, answers)):

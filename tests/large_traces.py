@@ -5,7 +5,7 @@ import subprocess
 import sys
 import tempfile
 
-from traces import ROOT, audited, check, cops, trace
+from traces import LIMITS, ROOT, audited, check, cops, trace
 from write_trace import TRACE_END, TRACE_HEAD, TRACE_PUT, frame
 
 
@@ -101,29 +101,39 @@ def long_traces():
 
 
 def each_kind():
-    """Records of each kind, with values of each length: a get in the first piece and one in the last have their sources, or one of them returned a
-    value that differs in its last byte, and so has none."""
-    def value_of(number):
-        return "v" * (number * 37 % 4096) + "w"
+    """Records of each kind, with values of each length of a format: a get in the first piece and one in the last have their sources, or one of them
+    returned a value that differs in its last byte, and so has none."""
+    for which, rounds in ((1, 3_000), (2, 1_200)):
+        lines, counts = lines_of_each_kind(which, rounds), f"{3 * rounds} operations, {rounds} puts"
+        traces = [(f"records of each kind, format {which}", trace(lines), (0, f"accepted: {counts}\n".encode(), b""))]
+        for number in (20, rounds - 10):
+            at, client = 2 + 3 * number, (number + 1) % 3
+            index = sum(line.startswith(f"{client} ") for line in lines[1:at])
+            wrong = lines[at].replace("w ", "x ")
+            text = f"refused: {counts}, 1 faults\nno source ({client},{index}) at {number + 1}.{number % 3}\n"
+            name = f"a get of put {number} without a source, format {which}"
+            traces.append((name, trace([*lines[:at], wrong, *lines[at + 1 :]]), (1, text.encode(), b"")))
+        for given in traces:
+            audited_by_workers(*given)
 
-    lines = ["clients 3"]
-    for number in range(3_000):
+
+def audited_by_workers(name, data, wanted):
+    """An audit of the trace by one worker and by a few gives this answer."""
+    with tempfile.NamedTemporaryFile(suffix=".trace") as file:
+        file.write(data)
+        file.flush()
+        for workers in ("1", "2", "5"):
+            check(f"{name}, by {workers} workers", cops("audit", file.name, "--workers", workers), wanted)
+
+
+def lines_of_each_kind(which, rounds):
+    """The lines of a trace of a format: in each round a put, the get of what was put, and a get that finds nothing."""
+    lines = [f"clients 3 format {which}"]
+    for number in range(rounds):
         client, key, version = number % 3, f"k{number % 1_000}", f"{number + 1}.{number % 3}"
-        lines += [f"{client} put {key} {value_of(number)} {version}", f"{(client + 1) % 3} got {key} {value_of(number)} {version}", f"{client} missed no{number}"]
-    accepted = (0, b"accepted: 9000 operations, 3000 puts\n", b"")
-    traces = [("records of each kind", trace(lines), accepted)]
-    for number in (20, 2_990):
-        at, client = 2 + 3 * number, (number + 1) % 3
-        index = sum(line.startswith(f"{client} ") for line in lines[1:at])
-        wrong = lines[at].replace("w ", "x ")
-        text = f"refused: 9000 operations, 3000 puts, 1 faults\nno source ({client},{index}) at {number + 1}.{number % 3}\n"
-        traces.append((f"a get of put {number} without a source", trace([*lines[:at], wrong, *lines[at + 1 :]]), (1, text.encode(), b"")))
-    for name, data, wanted in traces:
-        with tempfile.NamedTemporaryFile(suffix=".trace") as file:
-            file.write(data)
-            file.flush()
-            for workers in ("1", "2", "5"):
-                check(f"{name}, by {workers} workers", cops("audit", file.name, "--workers", workers), wanted)
+        value = "v" * (number * 37 % LIMITS[which].value) + "w"
+        lines += [f"{client} put {key} {value} {version}", f"{(client + 1) % 3} got {key} {value} {version}", f"{client} missed no{number}"]
+    return lines
 
 
 def many_suspects():

@@ -227,6 +227,12 @@ def some_lines(seed, number):
     return [f"clients {clients} format {number}"] + [" ".join([str(client), *sessions[client].pop(0)]) for client in order]
 
 
+def with_long_values(lines, length):
+    """The same lines, with a value of so many bytes in place of each value 1."""
+    words = [line.split() for line in lines]
+    return [" ".join([*of[:3], "v" * length, of[4]] if len(of) == 5 and of[3] == "1" else of) for of in words]
+
+
 def format_of(seed):
     """Histories of the formats come in turn."""
     return FORMATS[seed % len(FORMATS)]

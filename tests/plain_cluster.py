@@ -9,10 +9,9 @@ import random
 from collections import Counter, defaultdict
 from concurrent.futures import ThreadPoolExecutor
 
-from traces import check, ran, trace
+from traces import LIMITS, check, ran, trace
 
 WORLDS, EVENTS, LEAST_OF_A_KIND = 2000, 200, 20
-MOST_PAIRS = 256
 NO_CLIENT, NO_DATA_CENTRE, NEVER_SENT, NOT_HELD, NO_SUCH_DEP, NOT_ASKED, DEPS_OPEN, CONTEXT_FULL = 3, 10, 4, 5, 6, 7, 8, 2
 FORMATS = (1, 2)
 
@@ -76,7 +75,7 @@ class World:
     def get(self, client, key):
         if client >= len(self.homes):
             return f"refused {NO_CLIENT}"
-        if len(self.contexts[client]) == MOST_PAIRS:
+        if len(self.contexts[client]) == LIMITS[self.format].pairs:
             return f"refused {CONTEXT_FULL}"
         version = self.node(self.homes[client], key).shown(key)
         kind = "missed" if not version else "gone" if self.values[version] is None else "got"
@@ -145,6 +144,13 @@ def text_of(version):
     return f"{version[0]}.{version[1]}"
 
 
+def some_value(pick, world):
+    """The value of a put, now and then in format 2 one of more bytes than format 1 allows."""
+    value = f"v{len(world.issued)}"
+    longer = world.format == 2 and pick.random() < 0.02
+    return value.ljust(pick.randint(LIMITS[1].value + 1, LIMITS[2].value), "w") if longer else value
+
+
 def some_event(pick, world, keys):
     """An event that names what there is, mostly, and mostly what waits."""
     client, dc = pick.randrange(len(world.homes) + (pick.random() < 0.05)), pick.randrange(world.data_centres + (pick.random() < 0.05))
@@ -153,7 +159,7 @@ def some_event(pick, world, keys):
     dice = pick.random()
     if dice < 0.15:
         deletes = world.format == 2 and pick.random() < 0.4
-        return ("del", client, key) if deletes else ("put", client, key, f"v{len(world.issued)}")
+        return ("del", client, key) if deletes else ("put", client, key, some_value(pick, world))
     if dice < 0.35:
         return "get", client, key
     if dice < 0.5 or not held:
@@ -192,11 +198,11 @@ def scenario_of(world, events):
 
 
 def full_context(number):
-    """One client puts 300 keys, and in format 2 deletes every third; another gets them: at 256 pairs its gets are refused, and it may put."""
-    world, events = World(1, [], [0, 0], number), []
-    writes = [{"del": [0, f"k{n}"]} if number == 2 and n % 3 == 0 else {"put": [0, f"k{n}", "1"]} for n in range(300)]
-    events += writes + [{"get": [1, f"k{n}"]} for n in range(300)]
-    events += [{"put": [1, "k0", "2"]}, {"get": [1, "k299"]}]
+    """One client puts more keys than a context has pairs, and in format 2 deletes every third; another gets them: at as many pairs as the format allows its
+    gets are refused, and it may put."""
+    world, count = World(1, [], [0, 0], number), LIMITS[number].pairs + 44
+    writes = [{"del": [0, f"k{n}"]} if number == 2 and n % 3 == 0 else {"put": [0, f"k{n}", "1"]} for n in range(count)]
+    events = [*writes, *({"get": [1, f"k{n}"]} for n in range(count)), {"put": [1, "k0", "2"]}, {"get": [1, f"k{count - 1}"]}]
     outcomes = [world.answer(name, of) for event in events for name, of in event.items()]
     return scenario_of(world, events), outcomes, world.seen
 
@@ -217,7 +223,8 @@ def random_worlds():
         check(f"a small world, {seed}", answer, (0, lines.encode(), b""))
         check(f"its trace, {seed}", recorded, trace(seen))
         met.update(map(kind_of, outcomes))
+        met["of long values"] += sum(line.split()[1] == "got" and len(line) > LIMITS[1].value for line in seen)
     refusals = (NO_CLIENT, NO_DATA_CENTRE, NEVER_SENT, NOT_HELD, NO_SUCH_DEP, NOT_ASKED, DEPS_OPEN, CONTEXT_FULL)
-    kinds = ["done", "deleted", "got", "gone", "missed", "held", "repeat", "yes", "wait", "marked", "settled", *(f"refused {code}" for code in refusals)]
-    for kind in kinds:
+    kinds = ["done", "deleted", "got", "of long values", "gone", "missed", "held", "repeat", "yes", "wait", "marked", "settled"]
+    for kind in [*kinds, *(f"refused {code}" for code in refusals)]:
         check(f"outcomes that are {kind}: {met[kind]}", met[kind] >= LEAST_OF_A_KIND, True)

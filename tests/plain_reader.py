@@ -4,15 +4,15 @@ It takes a frame's fields one after the other off a table of kinds. What it read
 """
 import os
 import random
+import struct
 from collections import Counter, namedtuple
 from concurrent.futures import ThreadPoolExecutor
 
 import plain
-from traces import check, cops, status_of, trace
+from traces import LIMITS, check, cops, pairs_of, put_after, status_of, trace
 
 CHANGES, LEAST_OF_A_KIND = 2000, 10
-LONGEST_FRAME, LONGEST_KEY, LONGEST_VALUE, MOST_DEPS = 32_768, 64, 4096, 256
-LAST_CLOCK, NODES = (1 << 48) - 1, 1024
+LONGEST_KEY, LAST_CLOCK, NODES = 64, (1 << 48) - 1, 1024
 HEAD, END = 17, 21
 RECORDS = {18: "put", 19: "got", 20: "missed", 26: "del", 27: "gone"}
 KINDS_OF_FORMAT_2 = range(22, 28)
@@ -25,8 +25,8 @@ class Fault(Exception):
         super().__init__(f"{words} at {at}")
 
 
-# The bytes, where the next field of a frame begins, and where the frame ends.
-Place = namedtuple("Place", "data at end")
+# The bytes, where the next field of a frame begins, where the frame ends, and the limits of the format that it is read in.
+Place = namedtuple("Place", "data at end limits")
 
 
 def number(width, least=0, most=None):
@@ -63,10 +63,14 @@ def version(place):
     return (clock, node), behind
 
 
+def value(place):
+    return text(2, 0, place.limits.value)(place)
+
+
 def deps(place):
     """A number of pairs, each a key and a version, none of them twice: one field, whatever is wrong within."""
     try:
-        count, behind = number(2, most=MOST_DEPS)(place)
+        count, behind = number(2, most=place.limits.pairs)(place)
         pairs = []
         for _ in range(count):
             named, behind = key(behind)
@@ -79,7 +83,7 @@ def deps(place):
     return pairs, behind
 
 
-u8, u16, u32, key, value = number(1), number(2), number(4), text(1, 1, LONGEST_KEY), text(2, 0, LONGEST_VALUE)
+u16, u32, key = number(2), number(4), text(1, 1, LONGEST_KEY)
 FIELDS = {
     1: [u16, u16], 2: [number(1, most=15), number(1, 1, 64)], 3: [u32, key, value], 4: [u32, key], 5: [u32, version], 6: [u32, value, version],
     7: [u32], 8: [u32, number(1, 1)], 9: [key, value, version, deps], 10: [u32, key, version], 11: [u32], 12: [u32], 13: [u32, number(1, most=63)],
@@ -91,12 +95,12 @@ FIELDS = {
 
 def frame(data, at, format_number):
     """The kind and the fields of the frame that begins at a byte, and where it ends."""
-    length = int.from_bytes(data[at : at + 4], "big")
-    if len(data) >= at + 4 and not 1 <= length <= LONGEST_FRAME:
+    length, limits = int.from_bytes(data[at : at + 4], "big"), LIMITS[format_number]
+    if len(data) >= at + 4 and not 1 <= length <= limits.body:
         raise Fault("bad length", at)
     if len(data) < at + 4 + length or len(data) < at + 4:
         raise Fault("cut", at)
-    kind, fields, place = data[at + 4], [], Place(data, at + 5, at + 4 + length)
+    kind, fields, place = data[at + 4], [], Place(data, at + 5, at + 4 + length, limits)
     if kind not in FIELDS or (kind in KINDS_OF_FORMAT_2 and format_number == 1):
         raise Fault("unknown kind", at)
     for read in FIELDS[kind]:
@@ -154,37 +158,72 @@ def answer_of(data):
     return status_of(report), report
 
 
-# Frames that are no records: a get, a goodbye, a deletion that a client asks for, a head and an end.
+# Frames that are no records: a get, a goodbye, a deletion that a client asks for, a head and an end, and puts with as many dependencies as a format allows
+# and with one more.
 OTHERS = [bytes.fromhex(of) for of in ("0000000704000000010178", "000000010f", "0000000716000000010178", "000000051100020002", "000000051500000000")]
+OTHERS += [put_after(pairs_of(limits.pairs + more)) for limits in LIMITS.values() for more in (0, 1)]
+
+
+def begins_of(data):
+    """Where each frame of a trace begins."""
+    begins, at = [], 0
+    while at < len(data):
+        begins.append(at)
+        at += 4 + int.from_bytes(data[at : at + 4], "big")
+    return begins
+
+
+def lengths_of(data):
+    """Where the bytes of the lengths are in a trace: those of its frames, and of their keys and values."""
+    places = []
+    for at in begins_of(data):
+        places += range(at, at + 4)
+        kind, key_at = data[at + 4], at + 11
+        if kind in RECORDS:
+            places.append(key_at)
+        if RECORDS.get(kind) in ("put", "got"):
+            value_at = key_at + 1 + data[key_at]
+            places += [value_at, value_at + 1]
+    return places
 
 
 def with_another(data, pick):
     """The bytes with a frame put in that is no record, between two frames or behind the last."""
-    borders, at = [], 0
-    while at < len(data):
-        at += 4 + int.from_bytes(data[at : at + 4], "big")
-        borders.append(at)
-    at = pick.choice(borders)
+    at = pick.choice([*begins_of(data)[1:], len(data)])
     return data[:at] + pick.choice(OTHERS) + data[at:]
 
 
-def changed(data, pick):
-    """The bytes with one of them changed, mostly by little, left out, or put in."""
-    at, dice = pick.randrange(len(data)), pick.random()
+def with_another_length(data, pick):
+    """The bytes in which a frame says that it is as long as a format allows, or by a byte longer."""
+    at, length = pick.choice(begins_of(data)), pick.choice([limits.body for limits in LIMITS.values()]) + pick.randrange(2)
+    return data[:at] + struct.pack(">I", length) + data[at + 4 :]
+
+
+def changed(data, lengths, pick):
+    """The bytes with one of them, now and then one of a length, changed, mostly by little, left out, or put in."""
+    at, dice = pick.choice(lengths) if pick.random() < 0.2 else pick.randrange(len(data)), pick.random()
     byte = (data[at] + pick.choice((1, -1, 2, 7))) % 256 if dice < 0.5 else pick.randrange(256)
     if dice < 0.8:
         return data[:at] + bytes([byte]) + data[at + 1 :]
     return data[:at] + data[at + 1 :] if dice < 0.9 else data[:at] + bytes([byte]) + data[at:]
 
 
+def long_length(pick):
+    """How many bytes a long value has: as many as a format allows, one more, or any number that format 2 alone allows."""
+    limits = [of.value for of in LIMITS.values()]
+    return pick.choice([*limits, *(limit + 1 for limit in limits), pick.randint(limits[0] + 1, limits[1])])
+
+
 def changed_trace(seed):
-    """A small history's trace of which one byte or two were changed, or into which another frame was put."""
-    pick = random.Random(seed)
-    data = trace(plain.some_lines(seed, plain.format_of(seed)))
-    if pick.random() < 0.1:
-        return with_another(data, pick)
-    data = changed(data, pick)
-    return changed(data, pick) if pick.random() < 0.3 else data
+    """A small history's trace, rarely with long values, of which one byte or two were changed, or a frame's length, or into which another frame was put."""
+    pick, lines = random.Random(seed), plain.some_lines(seed, plain.format_of(seed))
+    data = trace(plain.with_long_values(lines, long_length(pick)) if pick.random() < 0.1 else lines)
+    dice = pick.random()
+    if dice < 0.15:
+        return with_another(data, pick) if dice < 0.1 else with_another_length(data, pick)
+    lengths = lengths_of(data)
+    data = changed(data, lengths, pick)
+    return changed(data, lengths, pick) if pick.random() < 0.3 else data
 
 
 def kind_of(report):
@@ -204,7 +243,9 @@ def changed_bytes():
     for seed, (data, answer) in enumerate(zip(made, answers)):
         status, report = answer_of(data)
         met[plain.format_of(seed), kind_of(report)] += 1
-        check(f"changed bytes {seed}: {data.hex()}", answer, (status, report.encode(), b""))
+        met[plain.format_of(seed), "long"] += status != 2 and len(data) > LIMITS[1].value
+        check(f"changed bytes {seed}: {data[:400].hex()}", answer, (status, report.encode(), b""))
     for which in plain.FORMATS:
         for kind in KINDS:
             check(f"changed traces of format {which} that are {kind}: {met[which, kind]}", met[which, kind] >= LEAST_OF_A_KIND, True)
+    check(f"changed traces of format 2 that are judged with long values: {met[2, 'long']}", met[2, "long"] >= LEAST_OF_A_KIND, True)

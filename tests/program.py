@@ -21,9 +21,11 @@ from cut_traces import cut_traces  # noqa: E402
 from large_traces import each_kind, generated, little_memory, long_chain, long_traces, many_rounds, many_suspects  # noqa: E402
 from pictures import pictures  # noqa: E402
 from redis import redis  # noqa: E402
-from traces import BUILT, ROOT, audited, by_stalling_pipe, check, cops, ended, example, ran, skip, trace  # noqa: E402
+from traces import BUILT, LIMITS, ROOT, audited, by_stalling_pipe, check, cops, ended, example, ran, skip, trace  # noqa: E402
+from traces import events, outcomes_of, scripted  # noqa: E402
 from events import scenario  # noqa: E402
 from imports import imports  # noqa: E402
+from limits import limits  # noqa: E402
 from named import definition_files, wrong_edits  # noqa: E402
 from sessions import idle_clients, listens_here_alone, replies, sent_behind, served, served_deletions, strange_peers  # noqa: E402
 from terminal import on_a_terminal  # noqa: E402
@@ -105,8 +107,6 @@ def faults():
         ("no format", with_byte(6, 0), "bad format at 0"),
         ("the end first", end, "no head at 0"),
         ("one client alone", bytes.fromhex("000000051100010001") + got + end, "client out of range at 9"),
-        ("a frame that is too long", bytes.fromhex("00008001"), "bad length at 0"),
-        ("the longest frame, cut", bytes.fromhex("00008000"), "cut at 0"),
     ]
     for name, data, words in changes:
         check(name, cops(stdin=data), (2, f"faulty: {words}\n".encode(), b""))
@@ -177,14 +177,18 @@ def scenarios():
 
 
 def mixed(seed, operations=40, data_centres=3, clients=6):
-    """Scripts of puts and gets of a few keys, and in format 2 of deletions, over up to three nodes in each data centre, with small links, messages that
-    are repeated and that come late. Gives the scenario and the number of puts and deletions."""
+    """Scripts of puts and gets of a few keys, and in format 2 of deletions and of a few values of more bytes than format 1 allows, over up to three nodes in
+    each data centre, with small links, messages that are repeated and that come late. Gives the scenario and the number of puts and deletions."""
     pick, number = random.Random(seed), 1 + seed % 2
+
+    def value(n):
+        longer = number == 2 and pick.random() < 0.01
+        return str(n).ljust(pick.randint(LIMITS[1].value + 1, LIMITS[2].value) if longer else 1, "v")
 
     def operation(n):
         key = f"k{pick.randrange(5)}"
         if pick.random() < 0.5:
-            return {"del": key} if number == 2 and pick.random() < 0.4 else {"put": [key, str(n)]}
+            return {"del": key} if number == 2 and pick.random() < 0.4 else {"put": [key, value(n)]}
         return {"get": key}
 
     scripts = [[operation(n) for n in range(operations)] for _ in range(clients)]
@@ -222,10 +226,6 @@ def mixed_scripts():
         load.wait()
     empty = json.dumps({"data_centres": 2, "clients": [{"at": 1}]}).encode()
     check("a client without a script", ran(empty)[0], (0, b"client 0 done\naccepted: 0 operations, 0 puts\n", b""))
-    full = [{"at": 0, "script": [{"put": [f"k{n}", "1"]} for n in range(257)]}]
-    reads = [{"put": ["a", ""]}] + [{"get": f"k{n}"} for n in range(257)]
-    both = json.dumps({"data_centres": 1, "clients": [{"at": 0, "script": full[0]["script"] + reads}]}).encode()
-    check("a full context stops a client", ran(both)[0], (0, b"client 0 stopped 2\naccepted: 513 operations, 258 puts\n", b""))
 
 
 def to_standard_output():
@@ -258,17 +258,6 @@ def run_of_mixed(seed):
     check(f"their trace {seed}", cops("audit", "-", stdin=recorded), (0, report, b""))
 
 
-def events(*given, data_centres=1, clients=({"at": 0},), **more):
-    return json.dumps({"data_centres": data_centres, "clients": list(clients), "events": list(given), **more}).encode()
-
-
-def outcomes_of(*given, **more):
-    """The outcomes of a scenario's events, without the report."""
-    (status, out, err), _ = ran(events(*given, **more))
-    lines = out.decode().split("\n")[: len(given)]
-    return status, [line.split(" ", 1)[1] for line in lines], err
-
-
 def refusals():
     put, get = {"put": [0, "x", "1"]}, {"get": [0, "x"]}
     two = {"data_centres": 2, "clients": ({"at": 0}, {"at": 1})}
@@ -287,12 +276,6 @@ def refusals():
             [put, {"put": [0, "y", "2"]}, {"deliver": [1, "2.0"]}, {"mark": [1, "2.0", 0]}, {"settle": [1, "2.0"]}],
             two,
             ["done 1.0", "done 2.0", "held", "refused 7", "refused 8"],
-        ),
-        (
-            "a full context",
-            [{"put": [0, f"k{n}", "1"]} for n in range(257)] + [{"get": [1, f"k{n}"]} for n in range(257)] + [{"put": [1, "a", ""]}, {"get": [1, "k0"]}],
-            {"clients": ({"at": 0}, {"at": 0})},
-            [f"done {n + 1}.0" for n in range(257)] + [f"got {n + 1}.0" for n in range(256)] + ["refused 2", "done 258.0", "got 1.0"],
         ),
     ]
     for name, given, more, wanted in cases:
@@ -343,7 +326,7 @@ def faulty_scenarios():
         {"put": [0, "x"]}, {"put": [65536, "x", "1"]}, {"get": "x"}, {"get": [0, "x", 1]}, {"deliver": [256, "1.0"]}, {"deliver": [0, "0.0"]},
         {"deliver": [0, "1"]}, {"deliver": [0, "01.0"]}, {"deliver": [0, "1.00"]}, {"deliver": [0, "1.1024"]}, {"deliver": [0, "+1.0"]},
         {"deliver": [0, "281474976710656.0"]}, {"ask": [0, "", "1.0"]}, {"mark": [0, "1.0", 65536]}, {"settle": ["0", "1.0"]},
-        {"put": [0, "x", "v" * 4097]}, {"stop": []}, {}, [], {"get": [0, "x"], "put": [0, "x", "1"]},
+        {"stop": []}, {}, [], {"get": [0, "x"], "put": [0, "x", "1"]},
     ):
         field(f"event {str(event)[:40]}", "events", events=[event])
     for value in (None, {}, [{"get": [0, "x"]}] * 100_001):
@@ -361,12 +344,6 @@ def faulty_scenarios():
         check(f"a number of {digits} digits", ran(text), ((2, b"faulty: scenario " + words + b"\n", b""), b""))
     check("unknown members", ran(events({"get": [0, "x"]}, colour="blue", clients=({"at": 0, "name": "a"},)))[0], (0, b"0 missed\naccepted: 1 operations, 0 puts\n", b""))
     check("of a member that stands twice, the last", ran(b'{"data_centres":0,"data_centres":1,"clients":[],"events":[]}')[0], (0, b"accepted: 0 operations, 0 puts\n", b""))
-
-
-def scripted(*scripts, data_centres=1, **more):
-    """A scenario whose clients have these scripts, each in the next data centre."""
-    clients = [{"at": n % data_centres, "script": script} for n, script in enumerate(scripts)]
-    return json.dumps({"data_centres": data_centres, "clients": clients, **more}).encode()
 
 
 def replaced():
@@ -563,7 +540,7 @@ def no_thread():
 
 
 for tests in (
-    examples, deletions, conversions, long_chain, many_rounds, faults, cut_traces, shown, scenarios, refusals, faulty_scenarios, replaced, over_inputs, lines_in_place_of_a_trace, scripts, mixed_scripts, working_clusters,
+    examples, deletions, limits, conversions, long_chain, many_rounds, faults, cut_traces, shown, scenarios, refusals, faulty_scenarios, replaced, over_inputs, lines_in_place_of_a_trace, scripts, mixed_scripts, working_clusters,
     plain_cluster.random_worlds, many_workers, served, served_deletions, replies, strange_peers, sent_behind, idle_clients, listens_here_alone, words, devices,
     on_a_terminal, generated, long_traces, each_kind, many_suspects, little_memory, no_thread, imports, pictures, redis, definition_files, wrong_edits,
     plain.rows, plain.random_histories, plain.random_cuts, plain.cuts_of_deletions, plain_reader.changed_bytes,

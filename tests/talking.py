@@ -11,7 +11,7 @@ import threading
 import time
 
 sys.dont_write_bytecode = True
-from traces import ROOT, check, ended  # noqa: E402
+from traces import LIMITS, ROOT, check, ended  # noqa: E402
 
 CLIENT = os.path.join(ROOT, "examples", "client.py")
 SCENARIO = b'{"data_centres":1,"clients":[{"at":0}]}'
@@ -144,6 +144,27 @@ def deletions():
     check("the report of format 1", server.ended(), (0, b"accepted: 2 operations, 1 puts\n", b""))
 
 
+def longest_values():
+    """A value has as many bytes as the format allows: format 1 before a greeting was welcomed, and then that of its profile."""
+    short, long = (limits.value for limits in LIMITS.values())
+    welcome = b"hello from data centre 0, 1 nodes\n"
+    before = b"client: line %d: a value has 0 to 4096 bytes\n"
+    server = Server(1)
+    typed = b"hello 0\nput x %s\nput x %s\nget x\nbye\n" % (b"v" * short, b"v" * (short + 1))
+    told = welcome + b"done 1.0\ngot %s 1.0\nbye\n" % (b"v" * short)
+    check("the longest value of format 1", server.client(typed), (1, told, before % 3))
+    check("the report of it", server.ended(), (0, b"accepted: 2 operations, 1 puts\n", b""))
+    server = Server(2, WITH_DELETIONS)
+    longer, most = b"put x %s\n" % (b"v" * (short + 1)), "ü".encode() * (long // 2)
+    typed = longer + b"hello 0 1\n" + longer + b"hello 0 2\nput x %s\nput x %sv\nget x\nbye\n" % (most, most)
+    told = b"refused 17\n" + welcome + b"done 1.0\ngot %s 1.0\nbye\n" % most
+    wrong = before % 1 + before % 3 + b"client: line 6: a value has 0 to 16384 bytes\n"
+    check("the longest value of format 2", server.client(typed), (1, told, wrong))
+    told = welcome + b"refused 18\ndone 2.0\ngot %s 2.0\nbye\n" % (b"v" * (short + 1))
+    check("a longer value behind a second greeting", server.client(b"hello 0 2\nhello 0 1\n" + longer + b"get x\nbye\n"), (0, told, b""))
+    check("the report of both", server.ended(), (0, b"accepted: 4 operations, 2 puts\n", b""))
+
+
 def words():
     for given in ([], ["x"], ["0"], ["65536"], ["-1"], ["7070", "x"], [""], ["7" * 5000], ["\u0661"]):
         check(f"usage of {str(given)[:20]}", client(*given), (2, b"", USAGE))
@@ -153,33 +174,48 @@ def words():
 
 def other_servers():
     """What answers is no front door, or goes at once."""
-    no_front_door = "client: port {}: what answers there is no front door of cops serve\n"
+    no_front_door, gone = "client: port {}: what answers there is no front door of cops serve\n", b"the session has ended\n"
     replies = [
         (b"SSH-2.0-OpenSSH\r\n", b"", no_front_door),
         (b"\0\0\0\0", b"", no_front_door),
         (b"\0\0\0\1\x63", b"", no_front_door),
         (b"\0\0\0\2\6\0", b"", no_front_door),
-        (b"\0\0\0\x05\1", b"the session has ended\n", ""),
-        (b"", b"the session has ended\n", ""),
+        (b"\0\0\0\x05\1", gone, ""),
+        (b"", gone, ""),
+        (b"\0\0\x80\0", gone, ""),
+        (b"\0\0\x80\1", b"", no_front_door),
     ]
     for sent, out, errors in replies:
-        with socket.create_server(("127.0.0.1", 0)) as listener:
-            port = listener.getsockname()[1]
+        answered(b"hello 0 2\n", [sent], out, errors)
+    welcome, hello = b"\0\0\0\3\2\0\1", b"hello from data centre 0, 1 nodes\n"
+    for number, limits in LIMITS.items():
+        typed = b"hello 0 %d\nget x\n" % number
+        answered(typed, [welcome, limits.body.to_bytes(4, "big")], hello + gone, "")
+        answered(typed, [welcome, (limits.body + 1).to_bytes(4, "big")], hello, no_front_door)
 
-            def answer(listener=listener, sent=sent):
-                with listener.accept()[0] as connection:
-                    connection.recv(4096)
-                    connection.sendall(sent)
 
-            answering = threading.Thread(target=answer)
-            answering.start()
-            got = client(str(port), typed=b"hello 0\n")
-            answering.join()
-        check(f"a server that sends {sent}", got, (1, out, errors.format(port).encode()))
+def answered(typed, sent, out, errors):
+    """What the client says of a server that sends one piece behind each of its messages, and goes."""
+    with socket.create_server(("127.0.0.1", 0)) as listener:
+        port = listener.getsockname()[1]
+        answering = threading.Thread(target=answer, args=(listener, sent))
+        answering.start()
+        got = client(str(port), typed=typed)
+        answering.join()
+    check(f"a server that sends {sent}", got, (1, out, errors.format(port).encode()))
+
+
+def answer(listener, sent):
+    """Sends one piece behind each message of one client, and goes."""
+    with listener.accept()[0] as connection:
+        for piece in sent:
+            connection.recv(4096)
+            connection.sendall(piece)
 
 
 sessions()
 deletions()
+longest_values()
 words()
 other_servers()
 sys.exit(ended())

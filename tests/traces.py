@@ -1,16 +1,19 @@
-"""What the tests of the running program share: running it, comparing, and traces."""
+"""What the tests of the running program share: running it, comparing, traces and scenarios."""
+import json
 import os
 import resource
+import struct
 import subprocess
 import sys
 import tempfile
 import threading
 import time
+from collections import namedtuple
 
 ROOT = os.path.dirname(os.path.dirname(os.path.abspath(__file__)))
 sys.dont_write_bytecode = True
 sys.path[:0] = [os.path.join(ROOT, "examples"), os.path.join(ROOT, "bench")]
-from write_trace import trace  # noqa: E402, F401
+from write_trace import frame, key, trace, value, version  # noqa: E402, F401
 
 counts = {"passed": 0, "failed": 0, "skipped": 0}
 
@@ -19,6 +22,13 @@ BUILT = os.path.join(ROOT, "crates", "cops", "out", "cops")
 
 # For how many seconds a pipe stalls.
 STALL = 0.001
+
+# The limits of each format: the most bytes of a value, the most pairs of dependencies and of a context, and the most bytes of a frame's body.
+Limits = namedtuple("Limits", "value pairs body")
+LIMITS = {1: Limits(4_096, 256, 32_768), 2: Limits(16_384, 1_024, 131_072)}
+
+# The messages of a put and of a deletion from one data centre to another.
+PUT_AFTER, DEL_AFTER = 9, 25
 
 
 def cops(*words, stdin=b"", stdout=subprocess.PIPE, limit=None):
@@ -71,6 +81,43 @@ def ran(text):
     with tempfile.NamedTemporaryFile(suffix=".trace") as file:
         answer = cops("run", "-", file.name, stdin=text)
         return answer, file.read()
+
+
+def events(*given, data_centres=1, clients=({"at": 0},), **more):
+    """A scenario with these events."""
+    return json.dumps({"data_centres": data_centres, "clients": list(clients), "events": list(given), **more}).encode()
+
+
+def outcomes_of(*given, **more):
+    """The outcomes of a scenario's events, without the report."""
+    (status, out, err), _ = ran(events(*given, **more))
+    lines = out.decode().split("\n")[: len(given)]
+    return status, [line.split(" ", 1)[1] for line in lines], err
+
+
+def scripted(*scripts, data_centres=1, **more):
+    """A scenario whose clients have these scripts, each in the next data centre."""
+    clients = [{"at": n % data_centres, "script": script} for n, script in enumerate(scripts)]
+    return json.dumps({"data_centres": data_centres, "clients": clients, **more}).encode()
+
+
+def pairs_of(count):
+    """So many pairs of dependencies, none twice."""
+    return [(str(n), "1.0") for n in range(count)]
+
+
+def deps(pairs):
+    return struct.pack(">H", len(pairs)) + b"".join(key(named) + version(at) for named, at in pairs)
+
+
+def put_after(pairs, on="x", text=""):
+    """The message of a put to another data centre, with these dependencies."""
+    return frame(PUT_AFTER, key(on) + value(text) + version("9.0") + deps(pairs))
+
+
+def del_after(pairs):
+    """That of a deletion."""
+    return frame(DEL_AFTER, key("x") + version("9.0") + deps(pairs))
 
 
 def check(name, got, wanted):

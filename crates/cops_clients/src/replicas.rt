@@ -62,7 +62,8 @@ pub(crate) fn receive<R: Wait, G: Gate>(
     }
 }
 
-/// Turns of a receiver until the clients are joined, where none of its turns is to come late. It says whether the gate held a step.
+/// Turns of a receiver until the clients are joined, where none of its turns is to come late. It says whether the gate
+/// held a step.
 fn take_in<R: Wait, G: Gate>(rt: &R, stage: &Stage, gate: &G, receiver: &mut Receiver) -> bool
     ensures share { receiver.new.share.holder ≡ receiver.old.share.holder }
     ensures late { 0 < stage.now.hold → receiver.new ≡ receiver.old }

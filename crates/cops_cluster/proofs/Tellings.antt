@@ -186,7 +186,7 @@ answer_got client key event out is (n, new, step) =
 
 want_written : (content : Option (List ℕ)) → IsWriteOutcome content (RefusedWith Memory)
 want_written None = inr (inr (inr (inl refl)))
-want_written (Some value) = inr (inr (inl refl))
+want_written (Some value) = inr (inr (inr (inl refl)))
 
 stop_written : (content : Option (List ℕ)) (stop : Stop) (out : Outcome) → StopsWith IsWant stop → IsReplyOf (Err stop) out → IsWriteOutcome content out
 stop_written content stop out want told = subst (IsWriteOutcome content) (sym (want_of stop out want told)) (want_written content)

@@ -33,9 +33,9 @@ IsPutsFrom from p = (entries : List Entry) × (p.puts.items ≡ puts_in (drop fr
 abbrev pub node_of : Cluster → ℕ → List ℕ → ℕ
 node_of c dc key = node_number dc (primary c.place.splits key)
 
--- the same client, with the same holder of its share
+-- the same client, with the same holder of its share and the same format of its context
 abbrev pub IsSameClient : Client → Client → Type 0
-IsSameClient a b = (b.number ≡ a.number) × (b.dc ≡ a.dc) × (b.share.holder ≡ a.share.holder)
+IsSameClient a b = (b.number ≡ a.number) × (b.dc ≡ a.dc) × (b.share.holder ≡ a.share.holder) × (b.context.format ≡ a.context.format)
 
 -- the gate may hold a step of this client at this node
 abbrev pub MayHoldStep : (Point → Type 0) → ℕ → ℕ → Type 0

@@ -1,5 +1,6 @@
 -- Whom a cluster is opened with.
-use Rattle.std.specs.Prelude.{◌≡◌, ℕ, ◌<◌, List, [], length, slice_index_or}
+use Rattle.std.specs.Prelude.{All, ◌≡◌, ℕ, ◌<◌, List, [], length, slice_index_or}
+use Rattle.cops_types.specs.declared.format.Format.{Format}
 use Rattle.cops_cluster.specs.declared.client.Client.{Client}
 use Rattle.cops_cluster.specs.declared.share.Share.{Share}
 use Rattle.cops_cluster.specs.declared.share.Holder.TheVariants.{Client as HeldByClient, Receiver as HeldByReceiver}
@@ -13,6 +14,10 @@ AreClientsAt dcs count clients =
     × ((k : ℕ) (d : Client) → k < count → (slice_index_or clients k d).context.pairs ≡ [])
     × ((k : ℕ) (d : Client) → k < count → (slice_index_or clients k d).share.holder ≡ HeldByClient k)
     × ((k : ℕ) (d : Client) → k < count → (slice_index_or clients k d).share.entries.items ≡ [])
+
+-- the context of each has this format's limit
+abbrev pub AreOfFormat : Format → List Client → Type 0
+AreOfFormat format clients = All (λ c. c.context.format ≡ format) clients
 
 -- an empty share for the receiver of each of the first so many data centres
 abbrev pub AreReceivers : ℕ → List Share → Type 0

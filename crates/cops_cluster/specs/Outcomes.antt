@@ -1,5 +1,5 @@
 -- What a cluster's calls may answer.
-use Rattle.std.specs.Prelude.{◌≡◌, ◌⊎◌, ◌≤◌, ℕ, false, List, Option, Some, None}
+use Rattle.std.specs.Prelude.{◌≡◌, ◌≢◌, ◌⊎◌, ◌≤◌, ℕ, false, List, Option, Some, None}
 use Rattle.cops_types.specs.declared.format.Format.{Format}
 use Rattle.cops_types.specs.Format.{most_deps}
 use Rattle.cops_types.specs.declared.refusal.Refusal.{Refusal}
@@ -18,16 +18,20 @@ use Rattle.cops_cluster.specs.Shares.{is_refusal_of_node}
 abbrev pub IsNodeAnswer : NodeEvent → Outcome → Type 0
 IsNodeAnswer event outcome = (old : Node) × (new : Node) × (node_step old event ≡ (outcome, new))
 
+-- how a put or a deletion may be refused
+abbrev pub IsWriteRefusal : Refusal → Type 0
+IsWriteRefusal refused = (refused ≡ ClockExhausted) ⊎ (refused ≡ UnknownClient) ⊎ (refused ≡ NotInFormat) ⊎ (refused ≡ Memory) ⊎ (refused ≡ SessionFull)
+
 -- a put: its version, or how it may be refused
 abbrev pub IsPutOutcome : Outcome → Type 0
 IsPutOutcome (PutDone version) = Unit {0}
-IsPutOutcome (RefusedWith refused) = (refused ≡ ClockExhausted) ⊎ (refused ≡ UnknownClient) ⊎ (refused ≡ Memory) ⊎ (refused ≡ SessionFull)
+IsPutOutcome (RefusedWith refused) = IsWriteRefusal refused
 IsPutOutcome _ = ⊥
 
 -- a deletion: its version, or how it may be refused
 abbrev pub IsDelOutcome : Outcome → Type 0
 IsDelOutcome (Deleted version) = Unit {0}
-IsDelOutcome (RefusedWith refused) = (refused ≡ ClockExhausted) ⊎ (refused ≡ UnknownClient) ⊎ (refused ≡ NotInFormat) ⊎ (refused ≡ Memory) ⊎ (refused ≡ SessionFull)
+IsDelOutcome (RefusedWith refused) = IsWriteRefusal refused
 IsDelOutcome _ = ⊥
 
 -- a write of this content: a put, or without a value a deletion
@@ -69,9 +73,9 @@ IsSettleOutcome Settled = Unit {0}
 IsSettleOutcome (RefusedWith refused) = (refused ≡ NotHeld) ⊎ (refused ≡ DepsOpen) ⊎ (refused ≡ Memory)
 IsSettleOutcome _ = ⊥
 
--- the cluster has no client of this number, or no data centre of this client's
+-- the cluster has no client of this number, or no data centre of this client's, or another format than the client
 abbrev pub IsUnknown : Cluster → Client → Type 0
-IsUnknown c client = (c.clients ≤ client.number) ⊎ (c.place.dcs ≤ client.dc)
+IsUnknown c client = (c.clients ≤ client.number) ⊎ (c.place.dcs ≤ client.dc) ⊎ (client.context.format ≢ c.format)
 
 -- a get that no node was asked for: the client's context, with so many pairs, is full, or memory was wanting
 abbrev pub IsUnaskedGet : Format → ℕ → Outcome → Type 0

@@ -1,7 +1,7 @@
 //! The nodes, each under a lock of its own.
 ghost use Rattle.std.specs.Prelude.{◌≡◌, ◌≤◌, ◌<◌, ◌+◌, ◌*◌, ◌↔◌, All, IfOk, IsTrue, OnOk, [], length, vec_len};
 ghost use Rattle.cops_types.specs.declared.limits.TheConstants.{MAX_CLIENTS, MAX_DCS, PLACES};
-ghost use Rattle.cops_cluster.specs.Opening.{AreClientsAt, AreReceivers};
+ghost use Rattle.cops_cluster.specs.Opening.{AreClientsAt, AreOfFormat, AreReceivers};
 
 use crate::client::Client;
 use crate::fault::OpenFault;
@@ -46,7 +46,7 @@ impl Cluster {
     ghost use Rattle.cops_types.specs.declared.limits.TheConstants.{MAX_CLOCK, MAX_DCS, PLACES};
     ghost use Rattle.cops_place.specs.Clients.{AreClients};
     ghost use Rattle.cops_place.specs.Place.{primary};
-    ghost use Rattle.cops_cluster.specs.Opening.{AreClientsAt, AreReceivers};
+    ghost use Rattle.cops_cluster.specs.Opening.{AreClientsAt, AreOfFormat, AreReceivers};
     ghost use Rattle.cops_cluster.specs.Cluster.{IsNode, IsPutsFrom};
 
     /// A cluster of format 1 and of these data centres and nodes, with a client at each of these data centres:
@@ -55,6 +55,7 @@ impl Cluster {
         ensures format { IfOk result (λ o. o.cluster.format ≡ Format.One) }
         ensures place { IfOk result (λ o. o.cluster.place ≡ place) }
         ensures clients { IfOk result (λ o. AreClientsAt client_dcs.items (length client_dcs.items) o.clients.items) }
+        ensures formats { IfOk result (λ o. AreOfFormat Format.One o.clients.items) }
         ensures count { IfOk result (λ o. o.cluster.clients ≡ length client_dcs.items) }
         ensures shares { IfOk result (λ o. AreReceivers place.dcs o.shares.items) }
         ensures bad { IsErrOf result OpenFault.BadClient ↔ (AreClients place client_dcs.items → ⊥) }
@@ -62,7 +63,7 @@ impl Cluster {
         Cluster::open_in(Format::One, alloc, place, client_dcs)
     }
 
-    /// Such a cluster of a format. Format 2 has deletions.
+    /// Such a cluster of a format. Format 2 has deletions, longer values and larger contexts.
     pub fn open_in(
         format: Format,
         alloc: Global,
@@ -72,6 +73,7 @@ impl Cluster {
         ensures format { IfOk result (λ o. o.cluster.format ≡ format) }
         ensures place { IfOk result (λ o. o.cluster.place ≡ place) }
         ensures clients { IfOk result (λ o. AreClientsAt client_dcs.items (length client_dcs.items) o.clients.items) }
+        ensures formats { IfOk result (λ o. AreOfFormat format o.clients.items) }
         ensures count { IfOk result (λ o. o.cluster.clients ≡ length client_dcs.items) }
         ensures shares { IfOk result (λ o. AreReceivers place.dcs o.shares.items) }
         ensures bad { IsErrOf result OpenFault.BadClient ↔ (AreClients place client_dcs.items → ⊥) }
@@ -87,12 +89,13 @@ impl Cluster {
         ensures format { IfOk result (λ o. o.cluster.format ≡ setting.now.format) }
         ensures place { IfOk result (λ o. o.cluster.place ≡ setting.now.place) }
         ensures clients { IfOk result (λ o. AreClientsAt setting.now.homes (length setting.now.homes) o.clients.items) }
+        ensures formats { IfOk result (λ o. AreOfFormat setting.now.format o.clients.items) }
         ensures count { IfOk result (λ o. o.cluster.clients ≡ length setting.now.homes) }
         ensures shares { IfOk result (λ o. AreReceivers setting.now.place.dcs o.shares.items) }
     {
         let nodes = opened_nodes(alloc, setting.dcs(), setting.nodes())?;
         let recorder = Recorder::new_in(setting.format(), alloc, setting.clients() as u16)?;
-        let clients = opened_clients(alloc, setting.homes())?;
+        let clients = opened_clients(setting.format(), alloc, setting.homes())?;
         let shares = opened_shares(alloc, setting.dcs())?;
         let cluster = Cluster {
             format: setting.format(),
@@ -233,9 +236,10 @@ fn add_nodes(
 }
 
 /// A client at each of these data centres, with nothing in its context and in its share.
-fn opened_clients(alloc: Global, dcs: &[u8]) -> Result<Vec<Client>, AllocError>
+fn opened_clients(format: Format, alloc: Global, dcs: &[u8]) -> Result<Vec<Client>, AllocError>
     requires { length dcs.now ≤ MAX_CLIENTS }
-    ensures { IfOk result (λ clients. AreClientsAt dcs.now (length dcs.now) clients.items) }
+    ensures clients { IfOk result (λ clients. AreClientsAt dcs.now (length dcs.now) clients.items) }
+    ensures formats { IfOk result (λ clients. AreOfFormat format clients.items) }
 {
     let mut clients = Vec::with_capacity(alloc, dcs.len())?;
     for k in 0..dcs.len() {
@@ -243,7 +247,7 @@ fn opened_clients(alloc: Global, dcs: &[u8]) -> Result<Vec<Client>, AllocError>
         clients.push(Client {
             number,
             dc: dcs[k],
-            context: Context::new(alloc),
+            context: Context::new_in(format, alloc),
             share: empty_share(alloc, Holder::Client(number)),
         })?;
     }

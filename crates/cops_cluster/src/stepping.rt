@@ -17,7 +17,7 @@ use cops_book::{Book, Told};
 use cops_node::{NodeEvent, Outcome};
 use cops_record::Slot;
 use cops_types::{
-    Dep, Deps, Format, Gate, GateHeld, Key, Memory, Op, Point, Refusal, Value, Version,
+    Dep, Deps, Gate, GateHeld, Key, Memory, Op, Point, Refusal, Value, Version, content_copy,
 };
 use std::alloc::AllocError;
 use std::sync::Wait;
@@ -103,16 +103,6 @@ fn write_notes(key: &Key, content: Option<&Value>) -> Result<WriteNotes, AllocEr
         key: key.clone()?,
         content: content_copy(content)?,
     })
-}
-
-/// A copy of a content: of a value, or that there is none.
-fn content_copy(content: Option<&Value>) -> Result<Option<Value>, AllocError>
-    ensures { IfOk result (λ copy. copy ≡ option_copied content.entry) }
-{
-    match content {
-        Some(value) => Ok(Some(value.clone()?)),
-        None => Ok(None),
-    }
 }
 
 fn write_told(client: &Client, key: Key, content: Option<Value>) -> Result<WriteTold, Memory>
@@ -204,8 +194,8 @@ impl Cluster {
     ghost use Rattle.cops_cluster.specs.Replies.{IsSpent};
 
     /// A client puts a value. Refused where the client is of another cluster, which has no client of its number here or
-    /// no data centre of its, and then where its session is full, where the clock of the key's node can rise no
-    /// further, and for want of memory.
+    /// no data centre of its, or another format, then where the value is longer than the cluster's format allows, and
+    /// then where its session is full, where the clock of the key's node can rise no further, and where memory runs out.
     pub fn put<R: Wait, G: Gate>(
         &self,
         rt: &R,
@@ -220,6 +210,7 @@ impl Cluster {
         ensures context { IfOk result (λ out. client.new.context.pairs ≡ after_write client.old.context.pairs key out) }
         ensures outcome { IfOk result IsPutOutcome }
         ensures unknown { result ≡ Ok (RefusedWith UnknownClient) ↔ IsUnknown self.now client.old }
+        ensures not_in_format { result ≡ Ok (RefusedWith NotInFormat) ↔ (¬ Fits self.now.format (Some value)) × (¬ IsUnknown self.now client.old) }
         ensures held { OnErr result (MayHoldStep (G.may_hold gate.now) (node_of self.now client.old.dc key) client.old.number) }
     {
         self.write(rt, client, gate, key, Some(value))
@@ -304,9 +295,8 @@ impl Cluster {
         }
     }
 
-    /// A client gets the value of a key. Refused where the client is of another cluster, which has no client of its
-    /// number here or no data centre of its, and then where its session is full, where its context has as many pairs as
-    /// the format allows, and for want of memory.
+    /// A client gets the value of a key. Refused where the client is of another cluster, as a put is, and then where its
+    /// session is full, where its context has as many pairs as the format allows, and for want of memory.
     pub fn get<R: Wait, G: Gate>(
         &self,
         rt: &R,
@@ -342,12 +332,14 @@ impl Cluster {
         passed(rt, gate, number, reply)
     }
 
-    /// Whether there is a client of this number, and the client's data centre.
+    /// Whether there is a client of this number, and the client's data centre, and its context has the same format.
     fn knows(&self, client: &Client) -> bool
-        ensures yes { IsTrue result → client.now.dc < self.now.place.dcs × client.now.number < self.now.clients }
+        ensures yes { IsTrue result → client.now.dc < self.now.place.dcs × client.now.number < self.now.clients × (client.now.context.format ≡ self.now.format) }
         ensures no { ¬ IsTrue result → IsUnknown self.now client.now }
     {
-        client.number < self.clients && client.dc < self.place.dcs()
+        client.number < self.clients
+            && client.dc < self.place.dcs()
+            && client.context.format() == self.format
     }
 
     /// A write while a slot is reserved for it.
@@ -398,7 +390,8 @@ impl Cluster {
         gate: &G,
         key: Key,
     ) -> Result<Answer, Stop>
-        requires { client.old.dc < self.now.place.dcs }
+        requires dc { client.old.dc < self.now.place.dcs }
+        requires format { client.old.context.format ≡ self.now.format }
         ensures who { IsSameClient client.old client.new }
         ensures told { IfOk result (λ a. AddsEntry client.old.share.entries.items client.new.share.entries.items (node_of self.now client.old.dc key) (Get client.old.number key) a.outcome) }
         ensures answers { IfOk result (λ a. (is_of_node a.outcome ≡ true) × (a.node ≡ node_of self.now client.old.dc key)) }
@@ -422,7 +415,7 @@ impl Cluster {
         let GetTold { event, notes } = get_told(number, key)?;
         match self.step(rt, &mut client.share, gate, number, spot, event) {
             Ok(Seen { outcome, seen }) => {
-                let op = client.saw(self.format, notes.pair_key, notes.key, seen);
+                let op = client.saw(notes.pair_key, notes.key, seen);
                 let node = spot.number();
                 Ok(Answer { outcome, node, op })
             }
@@ -436,10 +429,11 @@ impl Cluster {
     /// The key's node in the client's data centre, where the client's context has room for one more pair: else why the
     /// get is refused.
     fn spot_with_room(&self, client: &mut Client, key: &Key) -> Result<Spot, Refusal>
-        requires { client.old.dc < self.now.place.dcs }
+        requires dc { client.old.dc < self.now.place.dcs }
+        requires format { client.old.context.format ≡ self.now.format }
         ensures spot { IfOk result (λ spot. (spot.dc ≡ client.old.dc) × (spot.place ≡ primary self.now.place.splits key.now) × IsNode self.now spot.dc spot.place) }
         ensures room { OnOk result ((length client.old.context.pairs < most_deps self.now.format) × (client.new.context.room ≡ true)) }
-        ensures same { (client.new.number ≡ client.old.number) × (client.new.dc ≡ client.old.dc) × (client.new.share ≡ client.old.share) }
+        ensures same { (client.new.number ≡ client.old.number) × (client.new.dc ≡ client.old.dc) × (client.new.share ≡ client.old.share) × (client.new.context.format ≡ client.old.context.format) }
         ensures pairs { client.new.context.pairs ≡ client.old.context.pairs }
         ensures full { most_deps self.now.format ≤ length client.old.context.pairs → result ≡ Err ContextFull }
         ensures refused { IfErr result (λ refused. (is_refusal_of_node refused ≡ false) × IsUnaskedGet self.now.format (length client.old.context.pairs) (RefusedWith refused)) }
@@ -447,7 +441,7 @@ impl Cluster {
         let Some(spot) = self.spot_of(client.dc, key) else {
             unreachable!()
         };
-        if !client.context.has_room_in(self.format) {
+        if !client.context.has_room() {
             return Err(Refusal::ContextFull);
         }
         match client.context.reserve() {
@@ -552,7 +546,7 @@ impl Client {
         requires { notes.pair_key ≡ notes.key }
         ensures context { self.new.context.pairs ≡ after_write self.old.context.pairs notes.key answer.now }
         ensures seen { option_map operation_of result ≡ write_seen notes.key notes.content answer.now }
-        ensures same { (self.new.number ≡ self.old.number) × (self.new.dc ≡ self.old.dc) × (self.new.share ≡ self.old.share) }
+        ensures same { (self.new.number ≡ self.old.number) × (self.new.dc ≡ self.old.dc) × (self.new.share ≡ self.old.share) × (self.new.context.format ≡ self.old.context.format) }
     {
         let Some(version) = answer.version_given() else {
             drop(notes);
@@ -571,17 +565,17 @@ impl Client {
     }
 
     /// The client's get was answered: what it saw, whose pair its context gains.
-    fn saw(&mut self, format: Format, pair_key: Key, key: Key, answer: Outcome) -> Option<Op>
+    fn saw(&mut self, pair_key: Key, key: Key, answer: Outcome) -> Option<Op>
         requires key { pair_key ≡ key }
         requires room { self.old.context.room ≡ true }
-        requires few { length self.old.context.pairs < most_deps format }
+        requires few { length self.old.context.pairs < most_deps self.old.context.format }
         ensures context { self.new.context.pairs ≡ after_get self.old.context.pairs key answer }
         ensures seen { option_map operation_of result ≡ get_seen key answer }
-        ensures same { (self.new.number ≡ self.old.number) × (self.new.dc ≡ self.old.dc) × (self.new.share ≡ self.old.share) }
+        ensures same { (self.new.number ≡ self.old.number) × (self.new.dc ≡ self.old.dc) × (self.new.share ≡ self.old.share) × (self.new.context.format ≡ self.old.context.format) }
     {
         match answer {
             Outcome::Got(value, version) => {
-                self.met(format, pair_key, version);
+                self.met(pair_key, version);
                 Some(Op::Got {
                     key,
                     value,
@@ -589,7 +583,7 @@ impl Client {
                 })
             }
             Outcome::Gone(version) => {
-                self.met(format, pair_key, version);
+                self.met(pair_key, version);
                 Some(Op::Gone { key, version })
             }
             Outcome::Missed => Some(Op::Missed { key }),
@@ -598,13 +592,13 @@ impl Client {
     }
 
     /// The client's context gains a pair.
-    fn met(&mut self, format: Format, key: Key, version: Version)
+    fn met(&mut self, key: Key, version: Version)
         requires room { self.old.context.room ≡ true }
-        requires few { length self.old.context.pairs < most_deps format }
+        requires few { length self.old.context.pairs < most_deps self.old.context.format }
         ensures context { self.new.context.pairs ≡ with_pair self.old.context.pairs (record { key = key; version = version }) }
-        ensures same { (self.new.number ≡ self.old.number) × (self.new.dc ≡ self.old.dc) × (self.new.share ≡ self.old.share) }
+        ensures same { (self.new.number ≡ self.old.number) × (self.new.dc ≡ self.old.dc) × (self.new.share ≡ self.old.share) × (self.new.context.format ≡ self.old.context.format) }
     {
-        self.context.add_in(format, Dep { key, version }).unwrap()
+        self.context.add(Dep { key, version }).unwrap()
     }
 }
 

@@ -2,7 +2,7 @@ ghost use Rattle.cops_link.specs.Link.{IsFinishedOf, SameIn, SameOut};
 
 use cops_link::*;
 use cops_testing::pair;
-use cops_types::{Dep, Deps, Key, Memory, PutRecord, TypeFault, Version};
+use cops_types::{Dep, Deps, Format, Key, Memory, PutRecord, TypeFault, Value, Version};
 use cops_wire::Message;
 use std::alloc::Global;
 use std::sync::Wait;
@@ -192,6 +192,64 @@ fn puts_and_deletions_come_out_as_they_went_in(rt: HostRuntime) -> Result<(), Fa
     for deletes in [false, true] {
         assert!(rt; offer(rt.alloc(), &mut sender, 3, deletes)?);
         assert!(rt; takes_third(&mut taker, deletes)?);
+    }
+    Ok(())
+}
+
+/// A put of a value of so many bytes with so many dependencies.
+fn large_put(alloc: Global, bytes: usize, pairs: u64) -> Result<PutRecord, Fail> {
+    let mut deps = Vec::new(alloc);
+    for clock in 1..=pairs {
+        let version = Version::new(clock, 64)?;
+        let key = Key::new(alloc, b"k")?;
+        deps.push(Dep { key, version })?;
+    }
+    let deps = Deps::new(deps)?;
+    let letters = vec![in alloc; b'v'; bytes]?;
+    let value = Value::new_in(Format::Two, alloc, &letters)?;
+    let key = Key::new(alloc, b"p")?;
+    let version = Version::new(pairs + 1, 0)?;
+    Ok(PutRecord {
+        key,
+        value: Some(value),
+        version,
+        deps,
+    })
+}
+
+/// How many bytes the value has of the put that is taken next, and how many dependencies it has, or 0 of both.
+fn next_sizes(taker: &mut LinkOut) -> Result<(usize, usize), Memory> {
+    let Some(message) = taker.take()? else {
+        return Ok((0, 0));
+    };
+    let sizes = match &message {
+        Message::PutAfter { value, deps, .. } => (value.as_bytes().len(), deps.as_slice().len()),
+        _ => (0, 0),
+    };
+    drop(message);
+    Ok(sizes)
+}
+
+/// Whether such a put comes out of a link as it went in.
+fn goes_through(alloc: Global, bytes: usize, pairs: u64) -> Result<bool, Fail> {
+    let put = large_put(alloc, bytes, pairs)?;
+    let frame = Frame::of(alloc, &put);
+    drop(put);
+    let (mut sender, mut taker) = link(alloc, 1)?;
+    let is_sent = sender.send(frame?).is_ok();
+    Ok(is_sent && next_sizes(&mut taker)? == (bytes, pairs as usize))
+}
+
+#[test]
+fn the_largest_puts_go_through(rt: HostRuntime) -> Result<(), Fail> {
+    for (bytes, pairs) in [
+        (4_096, 256),
+        (4_097, 257),
+        (16_383, 1_023),
+        (16_384, 1_024),
+        (0, 1_024),
+    ] {
+        assert!(rt; goes_through(rt.alloc(), bytes, pairs)?, "{bytes} {pairs}");
     }
     Ok(())
 }

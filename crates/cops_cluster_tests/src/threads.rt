@@ -3,3 +3,4 @@
 mod building;
 mod clients;
 mod replicating;
+mod values;

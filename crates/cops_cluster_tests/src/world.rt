@@ -2,7 +2,7 @@ use cops_core::*;
 use cops_node::Outcome;
 use cops_place::Place;
 use cops_testing::pair;
-use cops_types::{Format, Key, Refusal, TypeFault, Version};
+use cops_types::{Format, Key, Refusal, TypeFault, Value, Version};
 use std::alloc::Global;
 use std::test::Fail;
 
@@ -189,19 +189,56 @@ fn a_refused_growth_changes_nothing(rt: HostRuntime) -> Result<(), Fail> {
     Ok(())
 }
 
-/// Whether a deletion is refused, since the world's format has none. The outcome is let go.
-fn is_not_in_format(alloc: Global, world: &mut World) -> Result<bool, TypeFault> {
-    let outcome = world.apply(del(alloc)?);
+/// A put of a value of so many bytes.
+fn put_long(alloc: Global, bytes: usize) -> Result<Event, Fail> {
+    let letters = vec![in alloc; b'v'; bytes]?;
+    let value = Value::new_in(Format::Two, alloc, &letters)?;
+    let key = Key::new(alloc, b"x")?;
+    Ok(Event::Put {
+        client: 0,
+        key,
+        value,
+    })
+}
+
+/// Whether what a client writes is refused, since the world's format does not have it. The outcome is let go.
+fn is_not_in_format(world: &mut World, event: Event) -> bool {
+    let outcome = world.apply(event);
     let is_refused = matches!(&outcome, Outcome::Refused(Refusal::NotInFormat));
     drop(outcome);
-    Ok(is_refused && world.puts() == 0 && world.history().len() == 0)
+    is_refused && world.puts() == 0 && world.history().len() == 0
+}
+
+/// Whether a world of this format refuses what a client writes, since the format does not have it.
+fn refuses(alloc: Global, format: Format, event: Event) -> Result<bool, Fail> {
+    let Some(mut world) = surely_open(alloc, format) else {
+        drop(event);
+        return Err(Fail::new("no world"));
+    };
+    let is_refused = is_not_in_format(&mut world, event);
+    drop(world);
+    Ok(is_refused)
 }
 
 #[test]
 fn format_1_has_no_deletions(rt: HostRuntime) -> Result<(), Fail> {
-    let mut world = surely_open(rt.alloc(), Format::One).ok_or("no world")?;
-    let is_refused = is_not_in_format(rt.alloc(), &mut world);
-    drop(world);
-    assert!(rt; is_refused?);
+    assert!(rt; refuses(rt.alloc(), Format::One, del(rt.alloc())?)?);
+    Ok(())
+}
+
+#[test]
+fn a_value_is_put_that_fits_the_format(rt: HostRuntime) -> Result<(), Fail> {
+    for (format, bytes, is_refused) in [
+        (Format::One, 4_096, false),
+        (Format::One, 4_097, true),
+        (Format::Two, 4_097, false),
+        (Format::Two, 16_384, false),
+    ] {
+        let event = put_long(rt.alloc(), bytes)?;
+        assert!(rt;
+            refuses(rt.alloc(), format, event)? == is_refused,
+            "{bytes}"
+        );
+    }
     Ok(())
 }

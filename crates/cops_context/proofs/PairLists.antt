@@ -5,6 +5,7 @@ use Rattle.std.specs.Cmp.Rules.{comparing}
 use Rattle.std.specs.List.{AllByRecursion, IsDistinct, list_any}
 use Rattle.cops_types.specs.declared.dep.Dep.{Dep}
 use Rattle.cops_types.specs.declared.format.Format.{Format}
+use Rattle.cops_types.specs.declared.format.Format.TheVariants.{One, Two}
 use Rattle.cops_types.specs.declared.limits.TheConstants.{MAX_DEPS}
 use Rattle.cops_types.specs.Dep.{is_same_dep}
 use Rattle.cops_types.specs.Format.{most_deps}
@@ -46,7 +47,12 @@ same_pairs = search (comparing, rules) depth 9
 
 -- each format's contexts have a pair at least, and no more than dependencies have
 pub deps_within : (format : Format) → (0 < most_deps format) × (most_deps format ≤ MAX_DEPS)
-deps_within format = (omega arith, omega arith)
+deps_within One = (omega arith, omega arith)
+deps_within Two = (omega arith, omega arith)
+
+-- what a context holds is dependencies of some format
+pub are_deps : (format : Format) (pairs : List Dep) → IsContext (most_deps format) pairs → (length pairs ≤ MAX_DEPS) × IsDistinct is_same_dep pairs
+are_deps format pairs h = (omega (arith, h.few, (deps_within format).1), h.distinct)
 
 -- a context with a new pair
 pub context_push : (most : ℕ) (pairs : List Dep) (pair : Dep) → IsContext most pairs → has_pair pairs pair ≡ false → length pairs < most → IsContext most (pairs ++ pair ∷ [])

@@ -2,10 +2,12 @@
 use Rattle.std.specs.Prelude.{◌≤◌, ℕ, Bool, List, [], ◌∷◌, ◌++◌, length, Option, None, Some}
 use Rattle.std.specs.List.{IsDistinct}
 use Rattle.cops_types.specs.declared.dep.Dep.{Dep}
+use Rattle.cops_types.specs.declared.format.Format.{Format}
 use Rattle.cops_types.specs.Dep.{is_same_dep}
 
--- the pairs in order of arrival, and whether one more takes no memory
+-- the format whose limit it has, the pairs in order of arrival, and whether one more takes no memory
 pub record AContext : Type 0 where
+  pub format : Format
   pub pairs : List Dep
   pub room : Bool
 

@@ -4,48 +4,63 @@ use indexmap::IndexSet;
 use std::alloc::{AllocError, Global};
 use std::marker::Model;
 
-/// A client's context: pairs of a key and a version, none twice, in order of arrival, and at most 256, as many as
-/// `Deps` hold. A pair for which the set has no room stands beside it, last in the list, until the set has grown.
+/// A client's context (COPS section 4.2): pairs of a key and a version, none twice, in order of arrival, and at most as
+/// many as dependencies of its format hold: 256 in format 1, 1,024 in format 2. A pair for which the set has no room
+/// stands beside it, last in the list, until the set has grown.
 #[derive(Drop)]
 pub struct Context {
+    format: Format,
     pairs: IndexSet<Dep>,
     beside: Option<Dep>,
 }
 
 impl Model for Context {
     ghost use Rattle.std.specs.Prelude.{is_none};
-    ghost use Rattle.cops_types.specs.declared.limits.TheConstants.{MAX_DEPS};
+    ghost use Rattle.cops_types.specs.Format.{most_deps};
     ghost use Rattle.cops_context.specs.Kept.{AContext, IsContext, and_beside};
 
     ghost Value = { AContext };
 
-    ghost view = { λ c. record { pairs = and_beside c.pairs.keys c.beside; room = is_none c.beside } };
+    ghost view = { λ c. record { format = c.format; pairs = and_beside c.pairs.keys c.beside; room = is_none c.beside } };
 
-    ghost invariant = { λ c. IsContext MAX_DEPS (and_beside c.pairs.keys c.beside) };
+    ghost invariant = { λ c. IsContext (most_deps c.format) (and_beside c.pairs.keys c.beside) };
 }
 
 impl Context {
     ghost use Rattle.std.specs.Prelude.{◌≡◌, ◌≢◌, ◌↔◌, ◌<◌, ◌≤◌, length, List, [], ◌∷◌, true, false, nat_lt, IsTrue, IsOk, IfOk, IfErr, OnOk, OnErr, IsErrOf};
     ghost use Rattle.cops_context.specs.Context.{has_pair, with_pair};
-    ghost use Rattle.cops_types.specs.declared.limits.TheConstants.{MAX_DEPS};
     ghost use Rattle.cops_types.specs.Format.{most_deps};
     ghost use Rattle.cops_context.specs.Kept.{IsContext};
 
-    /// An empty context. It takes no memory.
+    /// An empty context of format 1. It takes no memory.
     pub fn new(alloc: Global) -> Self
-        ensures pairs { result.pairs ≡ [] }
-        ensures room { result.room ≡ true }
+        ensures { result ≡ record { format = Format.One; pairs = []; room = true } }
+    {
+        Context::new_in(Format::One, alloc)
+    }
+
+    /// An empty context of a format. It takes no memory.
+    pub fn new_in(format: Format, alloc: Global) -> Self
+        ensures { result ≡ record { format = format; pairs = []; room = true } }
     {
         Context {
+            format,
             pairs: IndexSet::new(alloc),
             beside: None,
         }
     }
 
-    /// How many pairs there are, at most 256.
+    /// The format whose limit it has.
+    pub fn format(&self) -> Format
+        ensures { result ≡ self.now.format }
+    {
+        self.format
+    }
+
+    /// How many pairs there are, at most as many as the format allows.
     pub fn len(&self) -> usize
         ensures count { result ≡ length self.now.pairs }
-        ensures context { IsContext MAX_DEPS self.now.pairs }
+        ensures context { IsContext (most_deps self.now.format) self.now.pairs }
     {
         self.pairs.len() + usize::from(self.beside.is_some())
     }
@@ -57,20 +72,12 @@ impl Context {
         self.len() == 0
     }
 
-    /// Whether there are fewer than 256 pairs, the most of format 1.
+    /// Whether there are fewer pairs than the format allows.
     pub fn has_room(&self) -> bool
-        ensures value { result ≡ nat_lt (length self.now.pairs) (most_deps Format.One) }
-        ensures context { IsContext MAX_DEPS self.now.pairs }
+        ensures value { result ≡ nat_lt (length self.now.pairs) (most_deps self.now.format) }
+        ensures context { IsContext (most_deps self.now.format) self.now.pairs }
     {
-        self.has_room_in(Format::One)
-    }
-
-    /// Whether there are fewer pairs than the format's most.
-    pub fn has_room_in(&self, format: Format) -> bool
-        ensures value { result ≡ nat_lt (length self.now.pairs) (most_deps format) }
-        ensures context { IsContext MAX_DEPS self.now.pairs }
-    {
-        self.len() < format.most_deps()
+        self.len() < self.format.most_deps()
     }
 
     /// Whether the pair is there.
@@ -86,19 +93,20 @@ impl Context {
 
     /// Copies of the pairs, in order of arrival: the nearest dependencies of the client's next put. Where there is no
     /// pair it takes no memory.
+    #[tactic(auto, using(crate::proofs::PairLists::are_deps))]
     pub fn deps(&self) -> Result<Deps, Memory>
         ensures ok { IfOk result (λ deps. deps ≡ self.now.pairs) }
         ensures err { OnErr result (self.now.pairs ≢ []) }
     {
         let copies = self.copies()?;
-        Ok(Deps::new(copies).unwrap())
+        Ok(Deps::of_distinct(copies))
     }
 
     /// Copies of the pairs, in order of arrival.
     fn copies(&self) -> Result<Vec<Dep>, AllocError>
         ensures pairs { IfOk result (λ copies. copies.items ≡ self.now.pairs) }
         ensures err { OnErr result (self.now.pairs ≢ []) }
-        ensures context { IsContext MAX_DEPS self.now.pairs }
+        ensures context { IsContext (most_deps self.now.format) self.now.pairs }
     {
         let mut copies = Vec::new(*self.pairs.allocator());
         let pairs = self.pairs.as_slice();
@@ -114,6 +122,7 @@ impl Context {
     /// Makes room for one more pair: the next `add` or `replace` takes no memory. A refusal changes nothing.
     pub fn reserve(&mut self) -> Result<(), Memory>
         ensures same { self.new.pairs ≡ self.old.pairs }
+        ensures format { self.new.format ≡ self.old.format }
         ensures room { OnOk result (self.new.room ≡ true) }
         ensures err { OnErr result (self.new ≡ self.old) }
         ensures no_need { self.old.room ≡ true → IsOk result }
@@ -131,29 +140,19 @@ impl Context {
     }
 
     /// Adds a pair, which goes last. Nothing changes where it is there already, nor at a refusal: `ContextFull` for a
-    /// new pair where 256 are there, the most of format 1.
+    /// new pair where as many are there as the format allows.
     pub fn add(&mut self, pair: Dep) -> Result<(), ContextFault>
         ensures ok { OnOk result (self.new.pairs ≡ with_pair self.old.pairs pair) }
+        ensures format { self.new.format ≡ self.old.format }
         ensures err { OnErr result (self.new ≡ self.old) }
-        ensures full { IsErrOf result ContextFault.ContextFull ↔ (has_pair self.old.pairs pair ≡ false × most_deps Format.One ≤ length self.old.pairs) }
-        ensures reserved { self.old.room ≡ true → ¬ IsErrOf result ContextFault.Memory }
-        ensures there { has_pair self.old.pairs pair ≡ true → IsOk result }
-    {
-        self.add_in(Format::One, pair)
-    }
-
-    /// Adds a pair as `add` does, where the most are those of a format.
-    pub fn add_in(&mut self, format: Format, pair: Dep) -> Result<(), ContextFault>
-        ensures ok { OnOk result (self.new.pairs ≡ with_pair self.old.pairs pair) }
-        ensures err { OnErr result (self.new ≡ self.old) }
-        ensures full { IsErrOf result ContextFault.ContextFull ↔ (has_pair self.old.pairs pair ≡ false × most_deps format ≤ length self.old.pairs) }
+        ensures full { IsErrOf result ContextFault.ContextFull ↔ (has_pair self.old.pairs pair ≡ false × most_deps self.old.format ≤ length self.old.pairs) }
         ensures reserved { self.old.room ≡ true → ¬ IsErrOf result ContextFault.Memory }
         ensures there { has_pair self.old.pairs pair ≡ true → IsOk result }
     {
         if self.contains(&pair) {
             return Ok(());
         }
-        if !self.has_room_in(format) {
+        if !self.has_room() {
             return Err(ContextFault::ContextFull);
         }
         self.reserve().or(Err(ContextFault::Memory))?;
@@ -164,7 +163,8 @@ impl Context {
     /// Leaves one pair, that of the client's new put, which depends on all that stood here. It takes no memory, so it
     /// is never refused.
     pub fn replace(&mut self, put: Dep)
-        ensures { self.new.pairs ≡ put ∷ [] }
+        ensures pairs { self.new.pairs ≡ put ∷ [] }
+        ensures format { self.new.format ≡ self.old.format }
     {
         self.pairs.clear();
         self.beside = None;
@@ -175,8 +175,9 @@ impl Context {
     fn put_last(&mut self, pair: Dep)
         requires room { self.old.room ≡ true }
         requires new { has_pair self.old.pairs pair ≡ false }
-        requires few { length self.old.pairs < MAX_DEPS }
-        ensures { self.new.pairs ≡ with_pair self.old.pairs pair }
+        requires few { length self.old.pairs < most_deps self.old.format }
+        ensures pairs { self.new.pairs ≡ with_pair self.old.pairs pair }
+        ensures format { self.new.format ≡ self.old.format }
     {
         let is_full = self.pairs.len() == self.pairs.capacity();
         if is_full {

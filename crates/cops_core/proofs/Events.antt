@@ -20,7 +20,8 @@ use Rattle.cops_node.specs.declared.outcome.Outcome.{Outcome}
 use Rattle.cops_node.specs.declared.outcome.Outcome.TheVariants.{Got as Answered, Gone, Missed as Nothing, Yes, Refused}
 use Rattle.cops_node.specs.Node.{Node, opened, raised, write_at, dep_at, ActHappens}
 use Rattle.cops_core.specs.declared.recording.Draft.{Draft}
-use Rattle.cops_core.specs.World.{IsReached, Said, Setting, IsSetting, World, home, primary, node_at, with_node, context_in, sent, is_answered, knows, has_room, has_context_room, is_dc, fits, checks, refusal, keeps, asks, delivers, done, settled_in, Happens, Act, WriteBy, GetBy, DeliverTo, AskAt, MarkAt, SettleAt}
+use Rattle.cops_types.specs.Format.{fits}
+use Rattle.cops_core.specs.World.{IsReached, Said, Setting, IsSetting, World, home, primary, node_at, with_node, context_in, sent, is_answered, knows, has_room, has_context_room, is_dc, checks, refusal, keeps, asks, delivers, done, settled_in, Happens, Act, WriteBy, GetBy, DeliverTo, AskAt, MarkAt, SettleAt}
 use Rattle.cops_core.specs.Parts.{MayRecord}
 use Rattle.cops_core.proofs.Writes.{given_written}
 use Rattle.cops_core.proofs.Nodes.{same_node}

@@ -11,7 +11,8 @@ use Rattle.cops_node.specs.declared.outcome.Outcome.TheVariants.{Refused}
 use Rattle.cops_types.specs.NodeNumber.{version_of}
 use Rattle.cops_node.specs.Acts.{found}
 use Rattle.cops_node.specs.Node.{Node, answer, raised, write_at}
-use Rattle.cops_core.specs.World.{Setting, World, home, primary, node_at, context_in, has_context_room, fits, checks, refusal, unless, done, happens, Act, WriteBy, GetBy}
+use Rattle.cops_types.specs.Format.{fits}
+use Rattle.cops_core.specs.World.{Setting, World, home, primary, node_at, context_in, has_context_room, checks, refusal, unless, done, happens, Act, WriteBy, GetBy}
 use Rattle.cops_core.specs.Memory.{TakesMemory}
 use Rattle.cops_core.proofs.Events.{Admitted, client_passes, write_passes}
 use Rattle.cops_core.proofs.Writes.{takes_written}

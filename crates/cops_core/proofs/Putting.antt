@@ -4,13 +4,13 @@ use Rattle.std.proofs.lemmas.List.Elements.{Contains-append_left, Contains-push,
 use Rattle.cops_types.specs.Histories.{write}
 use Rattle.cops_types.specs.declared.dep.Dep.{Dep}
 use Rattle.cops_types.specs.declared.put_record.PutRecord.{PutRecord}
-use Rattle.cops_types.specs.Format.{Fits}
+use Rattle.cops_types.specs.Format.{Fits, fits}
 use Rattle.cops_types.specs.Version.{clock_of, node_of}
 use Rattle.cops_types.specs.NodeNumber.{version_of}
 use Rattle.cops_store.specs.Store.{Stored}
 use Rattle.cops_node.specs.Acts.{written}
 use Rattle.cops_node.specs.Node.{put_pair, stored_of, Node, raised, write_at}
-use Rattle.cops_core.specs.World.{Setting, IsSetting, home, primary, World, node_at, with_node, context_in, fits, has_room, keeps, wrote, WriteBy}
+use Rattle.cops_core.specs.World.{Setting, IsSetting, home, primary, World, node_at, with_node, context_in, has_room, keeps, wrote, WriteBy}
 use Rattle.cops_core.specs.Machine.{view}
 use Rattle.cops_core.proofs.Accepted.{Kept}
 use Rattle.cops_core.proofs.Writes.{fits_in, given_written}

@@ -1,15 +1,14 @@
 -- Contents that are written: that they fit the format, and what a node answers for them.
-use Rattle.std.proofs.Common.{◌≡◌, ℕ, List, Option, Some, None, true, refl}
+use Rattle.std.proofs.Common.{◌≡◌, ℕ, List, length, Option, Some, None, true, refl, leb-true}
 use Rattle.cops_types.specs.declared.format.Format.{Format}
 use Rattle.cops_types.specs.declared.format.Format.TheVariants.{One, Two}
-use Rattle.cops_types.specs.Format.{Fits}
+use Rattle.cops_types.specs.Format.{Fits, fits, most_value}
 use Rattle.cops_node.specs.Acts.{written, version_given}
 use Rattle.cops_core.specs.Memory.{TakesMemory}
-use Rattle.cops_core.specs.World.{WriteBy, fits}
+use Rattle.cops_core.specs.World.{WriteBy}
 
 pub fits_in : (format : Format) (content : Option (List ℕ)) → fits format content ≡ true → Fits format content
-fits_in One (Some value) fit = tt
-fits_in Two (Some value) fit = tt
+fits_in format (Some value) fit = leb-true (length value) (most_value format) fit
 fits_in One None fit = absurd cc
 fits_in Two None fit = tt
 

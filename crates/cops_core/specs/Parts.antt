@@ -1,16 +1,18 @@
 -- The parts of a world, as its code keeps them.
-use Rattle.std.specs.Prelude.{◌≡◌, ℕ, ◌<◌, List, [], ◌∷◌, Bool, true, false, ◌&&◌, nat_lt, length, slice_index_or, Option}
+use Rattle.std.specs.Prelude.{All, ◌≡◌, ℕ, ◌<◌, List, [], ◌∷◌, Bool, true, false, ◌&&◌, nat_lt, length, slice_index_or, Option}
 use Rattle.cops_types.specs.declared.limits.TheConstants.{MAX_CLIENT_OPS, MAX_OPS}
 use Rattle.cops_types.specs.declared.dep.Dep.{Dep}
 use Rattle.cops_types.specs.declared.put_record.PutRecord.{PutRecord}
 use Rattle.cops_types.specs.declared.format.Format.{Format}
+use Rattle.cops_types.specs.declared.format.Format.TheVariants.{Two}
 use Rattle.cops_types.specs.declared.refusal.Refusal.{Refusal}
 use Rattle.cops_types.specs.declared.refusal.Refusal.TheVariants.{UnknownClient, NotInFormat, SessionFull, ContextFull}
-use Rattle.cops_types.specs.Format.{most_deps}
+use Rattle.cops_types.specs.Format.{most_deps, fits}
 use Rattle.cops_types.specs.Histories.{Sessions}
 use Rattle.cops_types.specs.Recorded.{Recorded, HasRoom}
 use Rattle.cops_types.specs.Counts.{count_of}
-use Rattle.cops_core.specs.World.{Said, fits}
+use Rattle.cops_context.specs.Kept.{AContext}
+use Rattle.cops_core.specs.World.{Said}
 
 -- the issued puts, and whether one more takes no memory
 pub record Puts : Type 0 where
@@ -51,6 +53,10 @@ get_checks h contexts format client =
 pub record AllContexts : Type 0 where
   pub pairs : List (List Dep)
   pub room : List Bool
+
+-- each has the limit of format 2, which is that of any format
+abbrev pub AreWidest : List AContext → Type 0
+AreWidest contexts = All (λ c. c.format ≡ Two) contexts
 
 -- the client's next pair takes no memory
 abbrev pub HasPlace : AllContexts → ℕ → Type 0

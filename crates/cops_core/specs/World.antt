@@ -10,7 +10,7 @@ use Rattle.cops_types.specs.declared.refusal.Refusal.{Refusal}
 use Rattle.cops_types.specs.declared.refusal.Refusal.TheVariants.{UnknownClient, NotInFormat, SessionFull, ContextFull, UnknownDc, NeverSent, NoYes, Memory}
 use Rattle.cops_types.specs.Histories.{Sessions, with_op, Operation, write, read, missed}
 use Rattle.cops_types.specs.Dep.{is_same_dep}
-use Rattle.cops_types.specs.Format.{most_deps}
+use Rattle.cops_types.specs.Format.{most_deps, fits}
 use Rattle.cops_types.specs.NodeNumber.{node_number, place_of}
 use Rattle.cops_context.specs.Context.{with_pair}
 use Rattle.cops_store.specs.Store.{Stored}
@@ -94,12 +94,6 @@ knows w client = nat_lt client (length w.sessions)
 
 abbrev pub has_room : World → ℕ → Bool
 has_room w client = nat_lt (length (slice_index_or w.sessions client [])) MAX_CLIENT_OPS && nat_lt (sum_by length w.sessions) MAX_OPS
-
--- the format has such a write: a deletion is of format 2
-abbrev pub fits : Format → Option (List ℕ) → Bool
-fits format (Some value) = true
-fits One None = false
-fits Two None = true
 
 -- the client's context has room for one more pair
 abbrev pub has_context_room : Setting → World → ℕ → Bool

@@ -5,7 +5,8 @@ use cops_types::{Dep, Deps, Format, Memory};
 use std::alloc::Global;
 use std::marker::Model;
 
-/// The context of each client.
+/// The context of each client. Each could hold as many pairs as any format allows: how many a client may have, the
+/// world's format says at each call.
 #[derive(Drop)]
 pub struct ClientContexts {
     contexts: Vec<Context>,
@@ -13,11 +14,13 @@ pub struct ClientContexts {
 
 impl Model for ClientContexts {
     ghost use Rattle.std.specs.Prelude.{map};
-    ghost use Rattle.cops_core.specs.Parts.{AllContexts};
+    ghost use Rattle.cops_core.specs.Parts.{AllContexts, AreWidest};
 
     ghost Value = { AllContexts };
 
     ghost view = { λ c. record { pairs = map (λ x. x.pairs) c.contexts.items; room = map (λ x. x.room) c.contexts.items } };
+
+    ghost invariant = { λ c. AreWidest c.contexts.items };
 }
 
 impl ClientContexts {
@@ -32,7 +35,7 @@ impl ClientContexts {
     {
         let mut contexts = Vec::new(alloc);
         for _ in 0..clients {
-            contexts.push(Context::new(alloc))?;
+            contexts.push(Context::new_in(Format::Two, alloc))?;
         }
         Ok(ClientContexts { contexts })
     }
@@ -60,7 +63,7 @@ impl ClientContexts {
         ensures { result ≡ nat_lt (length (slice_index_or self.now.pairs client [])) (most_deps format) }
     {
         let context = &self.contexts[client as usize];
-        context.has_room_in(format)
+        context.len() < format.most_deps()
     }
 
     /// Makes room for a client's next pair.
@@ -81,7 +84,8 @@ impl ClientContexts {
         ensures { self.new.pairs ≡ slice_set self.old.pairs client (with_pair (slice_index_or self.old.pairs client []) pair) }
     {
         let context = &mut self.contexts[client as usize];
-        context.add_in(format, pair).unwrap()
+        let _most = format.most_deps();
+        context.add(pair).unwrap()
     }
 
     /// Leaves a client the one pair of its new put.

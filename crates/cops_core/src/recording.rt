@@ -3,22 +3,22 @@ ghost use Rattle.cops_types.specs.declared.limits.TheConstants.{MAX_CLIENT_OPS, 
 ghost use Rattle.std.specs.Prelude.{◌≡◌, ◌<◌, ◌⊎◌, ◌∷◌, ◌++◌, [], true, None, Some, nat_lt, ◌&&◌, length, option_copied, slice_index_or, slice_set, IfOk, IfErr, OnOk};
 ghost use Rattle.cops_types.specs.declared.refusal.Refusal.TheVariants.{Memory as OutOfMemory, SessionFull, UnknownClient};
 ghost use Rattle.cops_types.specs.Counts.{count_of};
-ghost use Rattle.cops_types.specs.Format.{most_deps};
+ghost use Rattle.cops_types.specs.Format.{most_deps, fits};
 ghost use Rattle.cops_types.specs.Histories.{with_op};
 ghost use Rattle.cops_types.specs.Histories.{write};
 ghost use Rattle.cops_types.specs.Operations.{operation_of};
 ghost use Rattle.cops_node.specs.Acts.{Write as NodeWrite};
 ghost use Rattle.cops_node.specs.Node.{ActHappens};
 ghost use Rattle.cops_core.specs.Parts.{MayRecord, get_checks, write_checks};
-ghost use Rattle.cops_core.specs.World.{fits, refusal, sent};
+ghost use Rattle.cops_core.specs.World.{refusal, sent};
 
 use crate::client_contexts::ClientContexts;
 use crate::issued::Issued;
 use cops_node::{Node, Outcome};
 use cops_types::{
     Dep, Deps, Format, History, Key, Memory, Op, PutRecord, Refusal, TypeFault, Value, Version,
+    content_copy,
 };
-use std::alloc::{AllocError, Global};
 
 /// Whether a client may have one more operation, else why not. What was recorded stays. Want of memory is
 /// answered only where nothing else refuses.
@@ -37,7 +37,7 @@ pub fn admit(history: &mut History, client: u16) -> Result<(), Refusal>
 }
 
 /// Whether a client may write this, without a value a deletion, else why not: as `admit` answers it for any operation,
-/// and `NotInFormat` where the format has no deletions.
+/// and `NotInFormat` where that does not fit the format.
 pub fn admit_write(
     history: &mut History,
     format: Format,
@@ -144,16 +144,6 @@ pub fn copies_of(
     })
 }
 
-/// A copy of a content: of a value, or that there is none.
-fn content_copy(content: Option<&Value>) -> Result<Option<Value>, AllocError>
-    ensures { IfOk result (λ copy. copy ≡ option_copied content.entry) }
-{
-    match content {
-        Some(value) => Ok(Some(value.clone()?)),
-        None => Ok(None),
-    }
-}
-
 /// The node of a client's data centre writes a draft.
 pub fn write_at(node: &mut Node, client: u16, own: Draft) -> Outcome
     ensures { ActHappens node.old (NodeWrite client own.key own.value own.deps) result node.new }
@@ -214,27 +204,4 @@ pub fn keep_put(
     };
     contexts.replace(client, pair);
     record(history, client, written(op_key, op_value, version))
-}
-
-/// A copy of a put with its dependencies.
-pub fn copied(alloc: Global, put: &PutRecord) -> Result<PutRecord, Memory>
-    ensures { IfOk result (λ copy. copy ≡ put.now) }
-{
-    let pairs = copied_pairs(alloc, put.deps.as_slice())?;
-    Ok(PutRecord {
-        key: put.key.clone()?,
-        value: content_copy(put.value.as_ref())?,
-        version: put.version,
-        deps: Deps::new(pairs).unwrap(),
-    })
-}
-
-fn copied_pairs(alloc: Global, pairs: &[Dep]) -> Result<Vec<Dep>, AllocError>
-    ensures { IfOk result (λ copies. copies.items ≡ pairs.now) }
-{
-    let mut copies = Vec::new(alloc);
-    for pair in pairs {
-        copies.push(pair.clone()?)?;
-    }
-    Ok(copies)
 }

@@ -6,9 +6,7 @@ use crate::client_contexts::ClientContexts;
 use crate::data_centres::DataCentres;
 use crate::event::{Event, Said};
 use crate::issued::Issued;
-use crate::recording::{
-    admit_get, admit_write, copied, copies_of, drafted, keep_put, record, write_at,
-};
+use crate::recording::{admit_get, admit_write, copies_of, drafted, keep_put, record, write_at};
 use crate::table::{answer, events};
 use cops_context::Context;
 use cops_node::Outcome;
@@ -273,7 +271,7 @@ impl State {
             return Outcome::Refused(Refusal::NeverSent);
         };
         let place = setting.primary(&put.key);
-        let Ok(copy) = copied(self.alloc, put) else {
+        let Ok(copy) = put.clone() else {
             return Outcome::Refused(Refusal::Memory);
         };
         let node = self.centres.node(dc, place);

@@ -1,13 +1,14 @@
 //! Texts as keys, values and versions.
-ghost use Rattle.std.specs.Prelude.{◌≡◌, ◌≢◌, ◌<◌, ◌^◌, ℕ, List, decimal, Err, IfOk, OnErr};
+ghost use Rattle.std.specs.Prelude.{◌≡◌, ◌≢◌, ◌<◌, ◌^◌, ℕ, List, decimal, Err, Some, IfOk, OnErr};
 ghost use Rattle.serde_json.specs.View.{view};
-ghost use Rattle.cops_types.specs.KeyValue.{IsKey, IsValue};
+ghost use Rattle.cops_types.specs.KeyValue.{IsKey};
+ghost use Rattle.cops_types.specs.Format.{Fits};
 ghost use Rattle.cops_types.specs.Texts.{version_text};
 ghost use Rattle.cops_types.specs.Version.{IsVersion};
 ghost use Rattle.cops_fields.specs.Json.{text_json};
 
 use crate::unread::Unread;
-use cops_types::{Key, Value, Version};
+use cops_types::{Format, Key, Value, Version};
 use serde_json::Value as Json;
 use std::alloc::Global;
 
@@ -21,14 +22,15 @@ pub fn key(alloc: Global, json: &Json) -> Result<Key, Unread>
     Ok(Key::new(alloc, text.as_bytes())?)
 }
 
-/// A text as a value: `Form` where it is no text of at most 4,096 bytes, and `Memory` where memory runs out.
-pub fn value(alloc: Global, json: &Json) -> Result<Value, Unread>
+/// A text as a value of a format: `Form` where it is no text of at most as many bytes as the format allows (4,096 in
+/// format 1, 16,384 in format 2), and `Memory` where memory runs out.
+pub fn value(alloc: Global, format: Format, json: &Json) -> Result<Value, Unread>
     ensures json { IfOk result (λ bytes. view json.now ≡ text_json bytes) }
-    ensures legal { IfOk result IsValue }
-    ensures none { result ≡ Err Unread.Form → (bytes : List ℕ) → IsValue bytes → view json.now ≢ text_json bytes }
+    ensures legal { IfOk result (λ bytes. Fits format (Some bytes)) }
+    ensures none { result ≡ Err Unread.Form → (bytes : List ℕ) → Fits format (Some bytes) → view json.now ≢ text_json bytes }
 {
     let text = json.as_str().ok_or(Unread::Form)?;
-    Ok(Value::new(alloc, text.as_bytes())?)
+    Ok(Value::new_in(format, alloc, text.as_bytes())?)
 }
 
 /// A text as a version, a clock, a dot and a node, each decimal without leading zeros: `Form` where it is no such text,

@@ -5,7 +5,9 @@ use Rattle.serde_json.specs.Data.{Data, null, array, item, no_items}
 use Rattle.serde_json.specs.Read.{read}
 use Rattle.serde_json.specs.Find.{get}
 use Rattle.cops_fields.specs.Json.{number_json, text_json}
-use Rattle.cops_types.specs.KeyValue.{IsKey, IsValue}
+use Rattle.cops_types.specs.KeyValue.{IsKey}
+use Rattle.cops_types.specs.Format.{Fits}
+use Rattle.cops_types.specs.declared.format.Format.TheVariants.{One}
 use Rattle.cops_types.specs.Version.{IsVersion, clock_of, node_of}
 use Rattle.cops_types.specs.Texts.{version_text}
 use Rattle.cops_types.specs.declared.op.Op.{Op}
@@ -52,7 +54,7 @@ abbrev pub AsksKey : Data → Kind → List ℕ → Type 0
 AsksKey d kind key = IsAsked d kind (text_json key) × IsKey key
 
 abbrev pub TellsValue : Data → List ℕ → Type 0
-TellsValue d value = (get (codes "value") d ≡ Some (text_json value)) × IsValue value
+TellsValue d value = (get (codes "value") d ≡ Some (text_json value)) × Fits One (Some value)
 
 -- a version: the text of its clock and node, its clock alone where its node is 0, or both numbers
 abbrev pub IsVersionJson : ℕ → Data → Type 0

@@ -7,7 +7,7 @@ ghost use Rattle.cops_import.specs.Line.{HasNoValue, HasNoVersion, TellsName, Te
 
 use crate::name::Name;
 use cops_fields::{Unread, value, version};
-use cops_types::{Value, Version};
+use cops_types::{Format, Value, Version};
 use serde_json::Value as Json;
 use std::alloc::Global;
 
@@ -30,7 +30,7 @@ pub(crate) fn value_of(alloc: Global, object: &Json) -> Result<Value, Unread>
     ensures told { IfOk result (TellsValue (view object.now)) }
     ensures none { result ≡ Err Unread.Form → HasNoValue (view object.now) }
 {
-    value(alloc, object.get("value").ok_or(Unread::Form)?)
+    value(alloc, Format::One, object.get("value").ok_or(Unread::Form)?)
 }
 
 /// The version of an object: a text, a clock or a pair.

@@ -14,29 +14,33 @@ abbrev pub IsWelcome : Result (ℕ × ℕ) Refusal → Type 0
 IsWelcome (Ok place) = (place.0 < MAX_DCS) × (1 ≤ place.1) × (place.1 ≤ PLACES)
 IsWelcome (Err refused) = refused ≡ UnknownClient
 
+-- how a put or a deletion may be refused
+abbrev pub IsWriteRefusal : Refusal → Type 0
+IsWriteRefusal refused = (refused ≡ ClockExhausted) ⊎ (refused ≡ UnknownClient) ⊎ (refused ≡ NotInFormat) ⊎ (refused ≡ Memory) ⊎ (refused ≡ SessionFull)
+
 -- a put: the version that it was given, or how it may be refused
 abbrev pub IsPutReply : Reply → Type 0
 IsPutReply (PutDone version) = Unit {0}
-IsPutReply (Refused refused) = (refused ≡ ClockExhausted) ⊎ (refused ≡ UnknownClient) ⊎ (refused ≡ Memory) ⊎ (refused ≡ SessionFull)
+IsPutReply (Refused refused) = IsWriteRefusal refused
 IsPutReply _ = ⊥
 
 -- a deletion: the version that it was given, where the session's format has deletions, or how it may be refused
 abbrev pub IsDelReply : Format → Reply → Type 0
 IsDelReply format (Deleted version) = Fits format None
-IsDelReply format (Refused refused) =
-    (refused ≡ ClockExhausted) ⊎ (refused ≡ UnknownClient) ⊎ (refused ≡ Memory) ⊎ (refused ≡ SessionFull) ⊎ (refused ≡ NotInFormat)
+IsDelReply format (Refused refused) = IsWriteRefusal refused
 IsDelReply format _ = ⊥
 
--- a get: the value that it found, or a deletion, where the session's format has deletions, or nothing, or how it may be refused
+-- a get: the value or the deletion that it found, which the session's format has, or nothing, or how it may be refused
 abbrev pub IsGetReply : Format → Reply → Type 0
-IsGetReply format (Got value version) = Unit {0}
+IsGetReply format (Got value version) = Fits format (Some value)
 IsGetReply format (Gone version) = Fits format None
 IsGetReply format Missed = Unit {0}
 IsGetReply format (Refused refused) = (refused ≡ ContextFull) ⊎ (refused ≡ UnknownClient) ⊎ (refused ≡ Memory) ⊎ (refused ≡ SessionFull)
 IsGetReply format _ = ⊥
 
--- an answer that the format has: in format 1 none tells of a deletion
+-- an answer that the format has: in format 1 none tells of a deletion, or of a value that is too long there
 abbrev pub IsReplyIn : Format → Reply → Type 0
+IsReplyIn format (Got value version) = Fits format (Some value)
 IsReplyIn format (Deleted version) = Fits format None
 IsReplyIn format (Gone version) = Fits format None
 IsReplyIn format _ = Unit {0}

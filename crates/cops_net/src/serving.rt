@@ -15,7 +15,7 @@ use crate::fault::NetFault;
 use crate::incoming::Incoming;
 use crate::own::{is_bye, is_welcome, phase};
 use crate::session::Session;
-use cops_types::{Counted, write_text};
+use cops_types::{Counted, Format, MAX_VALUE, MAX_VALUE_IN_ONE, write_text};
 use cops_wire::{Message, encode};
 use std::alloc::Global;
 use std::io::{Read, Write};
@@ -24,8 +24,17 @@ use std::sync::Wait;
 /// The most messages of one session.
 const MAX_MESSAGES: u32 = 1_000_000;
 
+/// How many bytes stand around the value in the reply that has one: the frame's length, the kind, the asker's number,
+/// the value's length, and the version.
+const AROUND_A_VALUE: usize = 19;
+
 /// The most bytes of a reply.
-const LONGEST_REPLY: usize = 4_115;
+fn longest_reply(format: Format) -> usize {
+    match format {
+        Format::One => AROUND_A_VALUE + MAX_VALUE_IN_ONE,
+        Format::Two => AROUND_A_VALUE + MAX_VALUE,
+    }
+}
 
 /// A session that came to its end.
 #[derive(Clone, Copy, Debug, PartialEq, Eq)]
@@ -124,7 +133,8 @@ pub fn serve_session<R: Wait, I: Read, W: Write, S: Session>(
     let format = session.format();
     let mut incoming = Incoming::new(alloc);
     let mut out = Vec::new(alloc);
-    out.reserve(LONGEST_REPLY).or(Err(NetFault::Memory))?;
+    out.reserve(longest_reply(format))
+        .or(Err(NetFault::Memory))?;
     let mut greeted = false;
     for answered in 0..MAX_MESSAGES {
         let message = match incoming.next(phase(format, greeted), reader)? {

@@ -78,7 +78,8 @@ pub trait Session {
         ensures kept_format { format self.new ≡ format self.old }
         ensures ended { ended self.new ≡ ended self.old };
 
-    /// A put: `PutDone`, or `Refused` with `ClockExhausted`, `UnknownClient`, `Memory` or `SessionFull`.
+    /// A put: `PutDone`, or `Refused` with `ClockExhausted`, `UnknownClient`, `Memory`, `SessionFull` or
+    /// `NotInFormat`.
     fn put<R: Wait>(&mut self, rt: &R, key: Key, value: Value) -> Reply
         requires { has_room self.old }
         ensures told { calls self.new ≡ calls self.old ++ Call.Put key value result ∷ [] }
@@ -97,8 +98,8 @@ pub trait Session {
         ensures kept_format { format self.new ≡ format self.old }
         ensures ended { ended self.new ≡ ended self.old };
 
-    /// A get: `Got`, `Gone` where the format has deletions, `Missed`, or `Refused` with `ContextFull`,
-    /// `UnknownClient`, `Memory` or `SessionFull`.
+    /// A get: `Got` with a value that fits the format, `Gone` where the format has deletions, `Missed`, or `Refused`
+    /// with `ContextFull`, `UnknownClient`, `Memory` or `SessionFull`.
     fn get<R: Wait>(&mut self, rt: &R, key: &Key) -> Reply
         requires { has_room self.old }
         ensures told { calls self.new ≡ calls self.old ++ Call.Get key.now result ∷ [] }

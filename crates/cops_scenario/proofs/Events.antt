@@ -1,9 +1,10 @@
 -- What tells no event of one kind tells none under its name, and so with the operations of a script.
 use Rattle.std.proofs.Common.{◌≡◌, ◌≤◌, ◌∙◌, ℕ, List, [], ◌∷◌, ap, arith, get_or, length, sym}
-use Rattle.std.specs.Prelude.{◌≢◌, codes}
+use Rattle.std.specs.Prelude.{◌≢◌, codes, Some}
 use Rattle.serde_json.specs.Data.{Data}
 use Rattle.cops_types.specs.declared.format.Format.{Format}
-use Rattle.cops_types.specs.KeyValue.{IsKey, IsValue}
+use Rattle.cops_types.specs.KeyValue.{IsKey}
+use Rattle.cops_types.specs.Format.{Fits}
 use Rattle.cops_types.specs.Texts.{version_text}
 use Rattle.cops_types.specs.Version.{IsVersion}
 use Rattle.cops_core.specs.declared.event.Event.{Event}
@@ -27,10 +28,10 @@ other_name e h = h (ap (λ n. get_or n 0 0) e)
 other_length : {a b : List ℕ} → a ≡ b → length a ≢ length b → ⊥
 other_length e h = h (ap length e)
 
-pub no_put : (parts : List Data) → ((c : ℕ) (k v : List ℕ) → c ≤ 65535 → IsKey k → IsValue v → parts ≢ number_json c ∷ text_json k ∷ text_json v ∷ [])
-    → (format : Format) (e : Event) → IsLegalEvent format e → codes "put" ≡ kind_of e → parts ≢ parts_of e
-no_put parts told format (Put c k v) legal name e = told c k v legal.0 legal.1 legal.2 e
-no_put parts told format _ legal name e = other_name name (omega arith)
+pub no_put : (format : Format) (parts : List Data) → ((c : ℕ) (k v : List ℕ) → c ≤ 65535 → IsKey k → Fits format (Some v) → parts ≢ number_json c ∷ text_json k ∷ text_json v ∷ [])
+    → (e : Event) → IsLegalEvent format e → codes "put" ≡ kind_of e → parts ≢ parts_of e
+no_put format parts told (Put c k v) legal name e = told c k v legal.0 legal.1 legal.2 e
+no_put format parts told _ legal name e = other_name name (omega arith)
 
 pub no_del : (parts : List Data) → ((c : ℕ) (k : List ℕ) → c ≤ 65535 → IsKey k → parts ≢ number_json c ∷ text_json k ∷ [])
     → (format : Format) (e : Event) → IsLegalEvent format e → codes "del" ≡ kind_of e → parts ≢ parts_of e
@@ -64,8 +65,8 @@ pub no_settle : (parts : List Data) → ((d v : ℕ) → d ≤ 255 → IsVersion
 no_settle parts told format (Settle d v) legal name e = told d v legal.0 legal.1 e
 no_settle parts told format _ legal name e = other_name name (omega arith)
 
-pub no_pair : (name : List ℕ) (of : Data) → name ≡ codes "put" → ((k v : List ℕ) → IsKey k → IsValue v → of ≢ list_json (text_json k ∷ text_json v ∷ []))
-    → (format : Format) (op : ScriptOp) → IsLegalOp format op → one_json name of ≢ op_json op
-no_pair name of put told format (script.Put k v) legal e = told k v legal.0 legal.1 (same_one name (codes "put") of (list_json (text_json k ∷ text_json v ∷ [])) e).1
-no_pair name of put told format (script.Get k) legal e = other_name (sym put ∙ (same_one name (codes "get") of (text_json k) e).0) (omega arith)
-no_pair name of put told format (script.Del k) legal e = other_name (sym put ∙ (same_one name (codes "del") of (text_json k) e).0) (omega arith)
+pub no_pair : (format : Format) (name : List ℕ) (of : Data) → name ≡ codes "put" → ((k v : List ℕ) → IsKey k → Fits format (Some v) → of ≢ list_json (text_json k ∷ text_json v ∷ []))
+    → (op : ScriptOp) → IsLegalOp format op → one_json name of ≢ op_json op
+no_pair format name of put told (script.Put k v) legal e = told k v legal.0 legal.1 (same_one name (codes "put") of (list_json (text_json k ∷ text_json v ∷ [])) e).1
+no_pair format name of put told (script.Get k) legal e = other_name (sym put ∙ (same_one name (codes "get") of (text_json k) e).0) (omega arith)
+no_pair format name of put told (script.Del k) legal e = other_name (sym put ∙ (same_one name (codes "del") of (text_json k) e).0) (omega arith)

@@ -2,7 +2,7 @@
 use Rattle.std.specs.Prelude.{◌≡◌, ℕ, ◌<◌, ◌≤◌, List, [], length, All, Option, None, Some}
 use Rattle.cops_types.specs.declared.format.Format.{Format}
 use Rattle.cops_types.specs.Format.{Fits}
-use Rattle.cops_types.specs.KeyValue.{IsKey, IsValue}
+use Rattle.cops_types.specs.KeyValue.{IsKey}
 use Rattle.cops_types.specs.Version.{IsVersion}
 use Rattle.cops_place.specs.declared.place.TheConstants.{MAX_SPLITS}
 use Rattle.cops_place.specs.Place.{IsPlace, AreAscending}
@@ -41,7 +41,7 @@ AreSplits splits = (length splits ≤ MAX_SPLITS) × AreAscending splits × All 
 
 -- an operation of a script of a format, whose key and value are of their ranges
 abbrev pub IsLegalOp : Format → ScriptOp → Type 0
-IsLegalOp format (script.Put key value) = IsKey key × IsValue value
+IsLegalOp format (script.Put key value) = IsKey key × Fits format (Some value)
 IsLegalOp format (script.Del key) = IsKey key × Fits format None
 IsLegalOp format (script.Get key) = IsKey key
 
@@ -51,7 +51,7 @@ IsLegalClient format dcs c = IsClientOf dcs c × All (IsLegalOp format) c.script
 
 -- an event of a format whose numbers, key, value and version are of their ranges, whatever clients and data centres there are
 abbrev pub IsLegalEvent : Format → Event → Type 0
-IsLegalEvent format (event.Put client key value) = (client ≤ MAX_CLIENT) × IsKey key × IsValue value
+IsLegalEvent format (event.Put client key value) = (client ≤ MAX_CLIENT) × IsKey key × Fits format (Some value)
 IsLegalEvent format (event.Del client key) = (client ≤ MAX_CLIENT) × IsKey key × Fits format None
 IsLegalEvent format (event.Get client key) = (client ≤ MAX_CLIENT) × IsKey key
 IsLegalEvent format (event.Deliver dc version) = (dc ≤ MAX_DC) × IsVersion version

@@ -1,8 +1,8 @@
 //! Events, and the operations of a script: objects of one member, which names what happens.
-ghost use Rattle.std.specs.Prelude.{◌≡◌, ◌≢◌, ◌≤◌, ℕ, List, [], ◌∷◌, length, map, codes, All, Err, IfOk, None, OnErr};
+ghost use Rattle.std.specs.Prelude.{◌≡◌, ◌≢◌, ◌≤◌, ℕ, List, [], ◌∷◌, length, map, codes, All, Err, IfOk, None, Some, OnErr};
 ghost use Rattle.serde_json.specs.View.{view};
 ghost use Rattle.cops_types.specs.Format.{Fits};
-ghost use Rattle.cops_types.specs.KeyValue.{IsKey, IsValue};
+ghost use Rattle.cops_types.specs.KeyValue.{IsKey};
 ghost use Rattle.cops_types.specs.Texts.{version_text};
 ghost use Rattle.cops_types.specs.Version.{IsVersion};
 ghost use Rattle.cops_core.specs.declared.event.Event.{Event as AnEvent};
@@ -67,7 +67,7 @@ fn script_op(alloc: Global, format: Format, json: &Json) -> Result<ScriptOp, Unr
     let (name, of) = only_member(json)?;
     match name {
         "put" => {
-            let (key, value) = pair(alloc, list(of, 2)?)?;
+            let (key, value) = pair(alloc, format, list(of, 2)?)?;
             Ok(ScriptOp::Put { key, value })
         }
         "del" if format.fits(None) => Ok(ScriptOp::Del {
@@ -80,14 +80,14 @@ fn script_op(alloc: Global, format: Format, json: &Json) -> Result<ScriptOp, Unr
     }
 }
 
-/// A key and a value.
-fn pair(alloc: Global, parts: &[Json]) -> Result<(Key, Value), Unread>
+/// A key and a value of a format.
+fn pair(alloc: Global, format: Format, parts: &[Json]) -> Result<(Key, Value), Unread>
     ensures json { IfOk result (λ p. map view parts.now ≡ text_json p.0 ∷ text_json p.1 ∷ []) }
-    ensures legal { IfOk result (λ p. IsKey p.0 × IsValue p.1) }
-    ensures none { result ≡ Err Unread.Form → (key value : List ℕ) → IsKey key → IsValue value → map view parts.now ≢ text_json key ∷ text_json value ∷ [] }
+    ensures legal { IfOk result (λ p. IsKey p.0 × Fits format (Some p.1)) }
+    ensures none { result ≡ Err Unread.Form → (key value : List ℕ) → IsKey key → Fits format (Some value) → map view parts.now ≢ text_json key ∷ text_json value ∷ [] }
 {
     match parts {
-        [k, v] => Ok((key(alloc, k)?, value(alloc, v)?)),
+        [k, v] => Ok((key(alloc, k)?, value(alloc, format, v)?)),
         _ => Err(Unread::Form),
     }
 }
@@ -119,16 +119,16 @@ fn event(alloc: Global, format: Format, json: &Json) -> Result<Event, Unread>
 }
 
 /// A put: a client, a key and a value.
-fn put(alloc: Global, _format: Format, parts: &[Json]) -> Result<Event, Unread>
+fn put(alloc: Global, format: Format, parts: &[Json]) -> Result<Event, Unread>
     ensures json { IfOk result (λ event. (kind_of event ≡ codes "put") × (parts_of event ≡ map view parts.now)) }
-    ensures legal { IfOk result (IsLegalEvent _format) }
-    ensures none { result ≡ Err Unread.Form → (client : ℕ) (key value : List ℕ) → client ≤ MAX_CLIENT → IsKey key → IsValue value → map view parts.now ≢ number_json client ∷ text_json key ∷ text_json value ∷ [] }
+    ensures legal { IfOk result (IsLegalEvent format) }
+    ensures none { result ≡ Err Unread.Form → (client : ℕ) (key value : List ℕ) → client ≤ MAX_CLIENT → IsKey key → Fits format (Some value) → map view parts.now ≢ number_json client ∷ text_json key ∷ text_json value ∷ [] }
 {
     match parts {
         [c, k, v] => Ok(Event::Put {
             client: client(c)?,
             key: key(alloc, k)?,
-            value: value(alloc, v)?,
+            value: value(alloc, format, v)?,
         }),
         _ => Err(Unread::Form),
     }

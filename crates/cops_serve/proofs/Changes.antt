@@ -74,21 +74,11 @@ some_refusal result out is (refused, e) = (refused, ap (outcome_in out) (sym is 
 
 -- a write that was not made for want of memory
 pub no_write : (c : Cluster) (key : List ℕ) (content : Option (List ℕ)) (client : Client) → HasWritten c key content (Refused Memory) client client
-no_write c key content client = ((refl, refl, refl), (λ h. absurd cc, λ h. refl), refl, λ e. absurd cc, λ e. absurd cc)
+no_write c key content client = ((refl, refl, refl, refl), (λ h. absurd cc, λ h. refl), refl, λ e. absurd cc, λ e. absurd cc)
 
 -- a put is no deletion
 pub put_in : (format : Format) (out : Outcome) → IsPutOutcome out → IsOutcomeIn format out
 put_in format out is version e = elim (subst IsPutOutcome e is) [ ]
-
--- a put never says that the format does not have it
-pub put_fits : (format : Format) (value : List ℕ) (out : Outcome) → IsPutOutcome out → out ≡ Refused NotInFormat → ¬ Fits format (Some value)
-put_fits format value out is e =
-    elim (subst IsPutOutcome e is) [
-      | inl clock ↦ absurd cc
-      | inr (inl unknown) ↦ absurd cc
-      | inr (inr (inl memory)) ↦ absurd cc
-      | inr (inr (inr full)) ↦ absurd cc
-    ]
 
 has_deletions : (format : Format) → ((Fits format None → ⊥) → ⊥) → Fits format None
 has_deletions One not = absurd (not (λ x. x))
@@ -108,14 +98,7 @@ write_reply format (Some value) (PutDone version) reply is fits told = rw told t
 write_reply format (Some value) (Refused refused) reply is fits told = rw told is
 write_reply format (Some value) _ reply is fits told = elim is [ ]
 write_reply format None (Deleted version) reply is fits told = rw told (fits version refl)
-write_reply format None (Refused refused) reply is fits told =
-    rw told (elim is [
-      | inl clock ↦ inl clock
-      | inr (inl unknown) ↦ inr (inl unknown)
-      | inr (inr (inl unfit)) ↦ inr (inr (inr (inr unfit)))
-      | inr (inr (inr (inl memory))) ↦ inr (inr (inl memory))
-      | inr (inr (inr (inr full))) ↦ inr (inr (inr (inl full)))
-    ])
+write_reply format None (Refused refused) reply is fits told = rw told is
 write_reply format None _ reply is fits told = elim is [ ]
 
 -- a write is a put or a deletion
@@ -125,7 +108,7 @@ either None out is = inr is
 
 -- a get that was not made for want of memory
 pub no_get : (c : Cluster) (key : List ℕ) (client : Client) → HasGot c key (Refused Memory) client client
-no_get c key client = ((refl, refl, refl), (λ h. absurd cc, λ h. refl), refl, λ e. absurd cc, λ e. absurd cc, λ e. (Memory, refl))
+no_get c key client = ((refl, refl, refl, refl), (λ h. absurd cc, λ h. refl), refl, λ e. absurd cc, λ e. absurd cc, λ e. (Memory, refl))
 
 -- a question with the share that the client lent
 pub asked_of : (c : Cluster) (dc : ℕ) (key : List ℕ) (version : ℕ) (out : Outcome) (client : Client) (lent after : Share) → lent ≡ client.share → after.holder ≡ lent.holder

@@ -1,9 +1,9 @@
 -- The cluster's outcomes as replies.
-use Rattle.std.specs.Prelude.{◌≡◌, ℕ, List, Option, Some, None}
+use Rattle.std.specs.Prelude.{◌≡◌, if◌then◌else◌, ℕ, List, Option, Some, None}
 use Rattle.cops_types.specs.declared.format.Format.{Format}
 use Rattle.cops_types.specs.declared.format.Format.TheVariants.{One}
 use Rattle.cops_types.specs.declared.refusal.Refusal.TheVariants.{Memory}
-use Rattle.cops_types.specs.Format.{Fits}
+use Rattle.cops_types.specs.Format.{Fits, fits}
 use Rattle.cops_node.specs.declared.outcome.Outcome.{Outcome}
 use Rattle.cops_node.specs.declared.outcome.Outcome.TheVariants.{PutDone, Deleted, Got, Gone, Missed, Yes, Wait, Refused}
 use Rattle.cops_net.specs.declared.reply.Reply.{Reply}
@@ -22,8 +22,10 @@ IsReplyTo Wait reply = reply ≡ replied.Wait
 IsReplyTo (Refused refusal) reply = reply ≡ replied.Refused refusal
 IsReplyTo _ reply = ⊥
 
--- the same in a format: in format 1, where no node has a deletion, one that is found all the same is told as want of memory
+-- the same in a format: in format 1, where no node has a deletion or a value that is too long there, one that is found all the same is told as
+-- want of memory
 abbrev pub IsReplyIn : Format → Outcome → Reply → Type 0
+IsReplyIn format (Got value version) reply = reply ≡ (if fits format (Some value) then replied.Got value version else replied.Refused Memory)
 IsReplyIn One (Gone version) reply = reply ≡ replied.Refused Memory
 IsReplyIn _ outcome reply = IsReplyTo outcome reply
 

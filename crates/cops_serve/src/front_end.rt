@@ -1,6 +1,6 @@
 //! Who answers the clients of a cluster.
 ghost use Rattle.std.specs.Option.{ForSome};
-ghost use Rattle.std.specs.Prelude.{◌≡◌, ◌<◌, vec_len};
+ghost use Rattle.std.specs.Prelude.{◌≡◌, ◌<◌, IfOk, vec_len};
 ghost use Rattle.cops_serve.specs.Seats.{AreSeated};
 
 use crate::replicating::{receive_each, send_each};
@@ -32,10 +32,12 @@ pub(crate) struct Room {
 }
 
 impl Room {
-    fn new(alloc: Global) -> Result<Room, AllocError> {
+    fn new_in(format: Format, alloc: Global) -> Result<Room, AllocError>
+        ensures { IfOk result (λ room. room.value ≡ format) }
+    {
         Ok(Room {
             key: KeyRoom::new(alloc)?,
-            value: ValueRoom::new(alloc)?,
+            value: ValueRoom::new_in(format, alloc)?,
         })
     }
 }
@@ -57,6 +59,7 @@ pub struct FrontEnd {
     pub(crate) room: Option<Room>,
     pub(crate) alloc: Global,
     ghost in_format: { format ≡ cluster.format },
+    ghost roomy: { ForSome room (λ r. r.value ≡ format) },
     ghost at_home: { ForSome greeted (λ g. (g.client < vec_len clients) × (g.dc < cluster.place.dcs)) },
     ghost seated: { AreSeated cluster.clients cluster.place.dcs clients.items receivers.items },
 }
@@ -110,7 +113,7 @@ impl FrontEnd {
         written(rt, &self.cluster, client, key, content)
     }
 
-    /// The same as a reply.
+    /// The write of the client that has greeted, as a reply.
     fn write_reply<R: Wait>(&mut self, rt: &R, key: &Key, content: Option<&Value>) -> Replies
         ensures twice { result.told ≡ result.kept }
         ensures reply { IsWriteReply self.old.cluster.format (option_copied content.entry) result.told }
@@ -218,7 +221,7 @@ impl Session for FrontEnd {
 
     fn room(&mut self) -> Result<(), Memory> {
         if self.room.is_none() {
-            self.room = Some(Room::new(self.alloc)?);
+            self.room = Some(Room::new_in(self.format, self.alloc)?);
         }
         self.calls.reserve(1)?;
         Ok(())

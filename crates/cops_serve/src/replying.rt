@@ -4,13 +4,13 @@ ghost use Rattle.cops_cluster.specs.Outcomes.{IsAskOutcome, IsDelOutcome, IsGetO
 ghost use Rattle.cops_cluster.specs.Receiving.{outcome_of};
 ghost use Rattle.cops_net.specs.Answers.{IsCheckReply, IsGetReply};
 ghost use Rattle.cops_net.specs.declared.reply.Reply.{Reply as Answer};
-ghost use Rattle.cops_node.specs.declared.outcome.Outcome.TheVariants.{Gone as FoundGone, Wait as NotYet};
+ghost use Rattle.cops_node.specs.declared.outcome.Outcome.TheVariants.{Got as FoundValue, Gone as FoundGone, Wait as NotYet};
 ghost use Rattle.cops_serve.specs.Replying.{IsReplyIn, IsReplyTo};
 
 use cops_cluster::Asked;
 use cops_net::Reply;
 use cops_node::Outcome;
-use cops_types::{Format, Refusal, ValueRoom, Version};
+use cops_types::{Format, Refusal, Value, ValueRoom, Version};
 
 /// An answer, twice: to be kept and to be told.
 #[derive(Drop)]
@@ -39,19 +39,17 @@ pub(crate) fn write_replies(outcome: &Outcome) -> Replies
     }
 }
 
-/// The replies to a get of this format, which tell its outcome. In format 1, where no node has a deletion, a get that
-/// found one is refused for want of memory.
+/// The replies to a get of this format, which tell its outcome. In format 1, where no node has a deletion or a value
+/// that is longer than the format allows, a get that found one is refused for want of memory.
 pub(crate) fn get_replies(format: Format, room: ValueRoom, outcome: Outcome) -> Replies
-    requires { IsGetOutcome outcome }
+    requires got { IsGetOutcome outcome }
+    requires room { room ≡ format }
     ensures same { result.told ≡ result.kept }
     ensures told { IsReplyIn format outcome result.told }
     ensures answer { IsGetReply format result.told }
 {
     match outcome {
-        Outcome::Got(value, version) => Replies {
-            kept: Reply::Got(room.copy(&value), version),
-            told: Reply::Got(value, version),
-        },
+        Outcome::Got(value, version) => found(format, room, value, version),
         Outcome::Gone(version) => gone(format, version),
         Outcome::Missed => Replies {
             kept: Reply::Missed,
@@ -59,6 +57,24 @@ pub(crate) fn get_replies(format: Format, room: ValueRoom, outcome: Outcome) -> 
         },
         Outcome::Refused(refusal) => refused(refusal),
         _ => unreachable!(),
+    }
+}
+
+/// The replies to a get that found a value of this version.
+fn found(format: Format, room: ValueRoom, value: Value, version: Version) -> Replies
+    requires { room ≡ format }
+    ensures same { result.told ≡ result.kept }
+    ensures told { IsReplyIn format (FoundValue value version) result.told }
+    ensures answer { IsGetReply format result.told }
+{
+    if !format.fits(Some(&value)) {
+        drop(value);
+        drop(room);
+        return refused(Refusal::Memory);
+    }
+    Replies {
+        kept: Reply::Got(room.copy(&value), version),
+        told: Reply::Got(value, version),
     }
 }
 

@@ -186,10 +186,10 @@ fed_len fed s h = go s.ended h.stage
     go true o = omega (arith, o.4, ap length o.3, length-append (text o.0) s.rest)
 
 -- where no whole item is left, there are fewer bytes than the most reads
-pub settled_len : (fed : List ℕ) (s : Stage) → Fed fed s → IsSettled s → length fed < 1099511627776
+pub settled_len : (fed : List ℕ) (s : Stage) → Fed fed s → IsSettled s → length fed < 2199023255552
 settled_len fed s h settled = go s.ended h.stage settled
   where
-    go : (e : Bool) → FedTo fed s e → IsSettledAt e s → length fed < 1099511627776
+    go : (e : Bool) → FedTo fed s e → IsSettledAt e s → length fed < 2199023255552
     go false o st = omega (arith, ap length o.0.parts, length-append (front s.begun) s.rest, front_len s.begun o.0.is_trace, waits_len (progress_in s) s.rest st)
     go true o none = omega (arith, ap length o.3, length-append (text o.0) s.rest, ap length none, text_len o.0 o.2)
 

@@ -4,9 +4,9 @@ use Rattle.std.proofs.lemmas.List.{length-append, append-nil}
 use Rattle.cops_types.specs.declared.format.Format.{Format}
 use Rattle.cops_types.specs.declared.format.Format.TheVariants.{One, Two}
 use Rattle.cops_types.specs.Histories.{Operation, write, read, missed}
-use Rattle.cops_types.specs.Format.{Fits, IsInFormat}
+use Rattle.cops_types.specs.Format.{IsInFormat}
 use Rattle.cops_types.specs.declared.limits.TheConstants.{MAX_CLIENT_OPS, MAX_OPS}
-use Rattle.cops_trace.specs.Text.{ARecord, ATrace, IsTrace, IsContent, IsOp, turn, record_text, records_text, beginning}
+use Rattle.cops_trace.specs.Text.{ARecord, ATrace, IsTrace, IsOp, turn, record_text, records_text, beginning}
 use Rattle.cops_trace.specs.Writing.{head_frame}
 use Rattle.cops_trace.specs.Kept.{grown}
 use Rattle.cops_trace.proofs.Lists.{all_both, all_front, same_or_other, turn-append, turn-same, turn-other}
@@ -38,14 +38,9 @@ IsTrace-front format c xs ys h = record {
 }
 
 -- what has an encoding in a format is of it
-content_fits : (format : Format) (content : Option (List ℕ)) → IsContent format content → Fits format content
-content_fits One (Some value) h = tt
-content_fits Two (Some value) h = tt
-content_fits format None h = h
-
 pub op_in_format : (format : Format) (op : Operation) → IsOp format op → IsInFormat format op
-op_in_format format (write key content version) h = content_fits format content h.1
-op_in_format format (read key content version) h = content_fits format content h.1
+op_in_format format (write key content version) h = h.1
+op_in_format format (read key content version) h = h.1
 op_in_format format (missed key) h = tt
 
 -- the texts of records, the last one apart

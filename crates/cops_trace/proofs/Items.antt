@@ -256,15 +256,16 @@ waits_short (Some p) (Ok frame) e = absurd (message_given p frame.0 frame.1 e)
 waits_short (Some p) (Err x) e = ap (λ (y : WireFault). Err y) (unread_waits p.at x e)
 
 -- the most bytes of a frame of any format
-pub frame_most : (format : Format) → 4 + longest_body format ≤ 32772
-frame_most format = omega arith
+pub frame_most : (format : Format) → 4 + longest_body format ≤ 131076
+frame_most One = omega arith
+frame_most Two = omega arith
 
-short_len : (format : Format) (rest : List ℕ) → IsShort (grammar format) rest → length rest ≤ 32772
+short_len : (format : Format) (rest : List ℕ) → IsShort (grammar format) rest → length rest ≤ 131076
 short_len format rest (inl h) = omega arith
 short_len format rest (inr h) = omega (arith, h.1, h.2, frame_most format)
 
 -- what is waited for is less than a frame
-pub waits_len : (p : Option Progress) (rest : List ℕ) → Stands p rest Waits → length rest ≤ 32772
+pub waits_len : (p : Option Progress) (rest : List ℕ) → Stands p rest Waits → length rest ≤ 131076
 waits_len p rest s = short_len (format_next p) rest (subst (FrameIs (format_next p) rest) (waits_short p s.frame s.found_is) s.frame_is)
 
 -- nothing is waited for
@@ -280,7 +281,7 @@ stands_used p rest i used s =
     let all : length rest ≡ length (spelled (item_message p i)) + length (drop used rest) = ap length st.parts_are ∙ length-append (spelled (item_message p i)) (drop used rest) in
     (omega (arith, st.used_is, same, bounds.0), omega (arith, st.used_is, all), omega (arith, st.used_is, same, bounds.1))
 
-pub spelled_len : (format : Format) (m : Message) → IsMessage (grammar format) (parts m) → (4 < length (spelled m)) × (length (spelled m) ≤ 32772)
+pub spelled_len : (format : Format) (m : Message) → IsMessage (grammar format) (parts m) → (4 < length (spelled m)) × (length (spelled m) ≤ 131076)
 spelled_len format m legal =
     let bounds = spelling_bounds format (parts m) legal in
     let same = ap length (spelled_in format m legal) in
@@ -360,7 +361,8 @@ op_fits Two c i (read key None version) h = ((omega (arith, h.1.1.0.1), h.1.1.0.
 
 -- a value's length has two bytes
 value_most : (format : Format) → most_value format < 65536
-value_most format = omega arith
+value_most One = omega arith
+value_most Two = omega arith
 
 pub op_legal : (format : Format) (c i : ℕ) (op : Operation) → c < 2 ^ 16 → i < 2 ^ 32 → IsOp format op → IsMessage (grammar format) (parts (record_message c i op))
 op_legal format c i (write key (Some value) version) cl il h = (cl, (il, ((omega (arith, h.0.1), omega (arith, h.0.0), h.0.1), ((omega (arith, h.1, value_most format), omega arith, h.1), (h.2, tt)))))

@@ -7,11 +7,12 @@ use Rattle.std.proofs.lemmas.List.{length-append, append-nil, length-replicate}
 use Rattle.cops_types.specs.declared.format.Format.{Format}
 use Rattle.cops_types.specs.declared.format.Format.TheVariants.{One, Two}
 use Rattle.cops_types.specs.declared.limits.TheConstants.{MAX_CLIENT_OPS, MAX_OPS}
+use Rattle.cops_types.specs.Format.{Fits}
 use Rattle.cops_types.specs.Histories.{Sessions, with_op, Operation, write, read, missed}
 use Rattle.cops_types.specs.Counts.{count_of}
 use Rattle.cops_types.specs.Recorded as types
 use Rattle.cops_types.proofs.Sessions.{count-with_op, count-none}
-use Rattle.cops_trace.specs.Text.{ARecord, ATrace, IsTrace, IsContent, IsOp, turn, sessions_after, sessions_of}
+use Rattle.cops_trace.specs.Text.{ARecord, ATrace, IsTrace, IsOp, turn, sessions_after, sessions_of}
 use Rattle.cops_trace.specs.Converting.{in_format_2}
 use Rattle.cops_trace.specs.Kept.{op_in, records_from, trace_of, IsKept, IsFull, grown}
 use Rattle.cops_trace.proofs.Lists.{same_or_other, turn-cons, times, times-append, times-cons, times-same}
@@ -180,9 +181,9 @@ kept_refused format h cs c P k both =
     let full = kept_full format h cs c k in
     (λ p. let q = both.0 p in (q.0, full.0 q.1), λ q. both.1 (q.0, full.1 q.1))
 
--- what has an encoding in a format has one in format 2
-content_in_2 : (format : Format) (content : Option (List ℕ)) → IsContent format content → IsContent Two content
-content_in_2 One (Some value) h = h
+-- what fits a format fits format 2
+content_in_2 : (format : Format) (content : Option (List ℕ)) → Fits format content → Fits Two content
+content_in_2 One (Some value) h = omega (arith, h)
 content_in_2 One None h = absurd h
 content_in_2 Two content h = h
 

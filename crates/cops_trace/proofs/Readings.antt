@@ -169,7 +169,7 @@ unfolds (Some t) h = record {
 
 -- ---- how long a text is
 
-items_len : (b : Option ATrace) (is : List Item) → AllStand b is → length (items_text b is) ≤ 32772 * length is
+items_len : (b : Option ATrace) (is : List Item) → AllStand b is → length (items_text b is) ≤ 131076 * length is
 items_len b [] h = omega arith
 items_len b (i ∷ is) h =
     let m = spelled (item_message (progress_at b) i) in
@@ -183,12 +183,12 @@ items_count : (b : Option ATrace) → IfSome b IsTrace → length (items_of b) �
 items_count None h = omega arith
 items_count (Some t) h = omega (arith, length-entries t.records, h.all)
 
-pub front_len : (b : Option ATrace) → IfSome b IsTrace → length (front b) ≤ 524352032772
+pub front_len : (b : Option ATrace) → IfSome b IsTrace → length (front b) ≤ 2097216131076
 front_len b h =
     let u = unfolds b h in
     omega (arith, ap length u.text_is, items_len None (items_of b) u.all, items_count b h)
 
-pub text_len : (t : ATrace) → IsTrace t → length (text t) ≤ 524352065544
+pub text_len : (t : ATrace) → IsTrace t → length (text t) ≤ 2097216262152
 text_len t h = omega (arith, length-append (beginning t) (end_text t), front_len (Some t) h, (spelled_len t.format (TraceEnd (length t.records)) (end_legal t h)).1)
 
 -- two fronts of the same bytes, after which no head and no record stands, are one

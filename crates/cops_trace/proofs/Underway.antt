@@ -3,7 +3,7 @@ use Rattle.std.proofs.Common.{◌≡◌, ℕ, zero, suc, ◌+◌, ◌*◌, ◌<�
 use Rattle.std.specs.Prelude.{◌⊎◌, option_map, unwrap_or}
 use Rattle.std.proofs.lemmas.List.{length-append, length-replicate, length-set}
 use Rattle.cops_types.specs.declared.format.Format.{Format}
-use Rattle.cops_types.specs.declared.format.Format.TheVariants.{One}
+use Rattle.cops_types.specs.declared.format.Format.TheVariants.{One, Two}
 use Rattle.cops_types.specs.declared.limits.TheConstants.{MAX_OPS}
 use Rattle.cops_types.specs.Format.{longest_body}
 use Rattle.cops_wire.specs.Answer.{IsBytes}
@@ -36,21 +36,24 @@ stopped_more r piece (Some e) h = go r.ended h
     go true f = (nothing_before r.rest piece f.0, f.1)
 
 -- so many frames of a format are far fewer bytes than the greatest number
-frames_most : (format : Format) (frames at : ℕ) → frames ≤ MAX_OPS + 2 → at ≤ (4 + longest_body format) * frames → at ≤ 524352065544
-frames_most format frames at few h = omega (arith, few, h)
+frames_most : (format : Format) (frames at : ℕ) → frames ≤ MAX_OPS + 2 → at ≤ (4 + longest_body format) * frames → at ≤ 2097216262152
+frames_most One frames at few h = omega (arith, few, h)
+frames_most Two frames at few h = omega (arith, few, h)
 
 frames_more : (format : Format) (frames next at used : ℕ) → next ≡ frames + 1 → at ≤ (4 + longest_body format) * frames → used ≤ 4 + longest_body format → at + used ≤ (4 + longest_body format) * next
-frames_more format frames next at used one h fits = omega (arith, one, h, fits)
+frames_more One frames next at used one h fits = omega (arith, one, h, fits)
+frames_more Two frames next at used one h fits = omega (arith, one, h, fits)
 
 -- the place stays far below the greatest number
-pub within_reach : (c : Option ACounts) (e : Bool) (at : ℕ) → IsWithinReach c e at → at ≤ 524352065544
+pub within_reach : (c : Option ACounts) (e : Bool) (at : ℕ) → IsWithinReach c e at → at ≤ 2097216262152
 within_reach None e at h = omega (arith, h.0)
 within_reach (Some c) false at h = frames_most c.format (c.total + 1) at (omega (arith, h.0)) h.1
 within_reach (Some c) true at h = frames_most c.format (c.total + 2) at (omega (arith, h.0)) h.1
 
 -- and is within reach after an item
 pub reach_after : (at used : ℕ) (c : Option ACounts) (i : Item) → let p = option_map (progress_from at) c in Allows p i → IsWithinReach c false at → used ≤ 4 + longest_body (format_next p) → IsWithinReach (counts_with i c) (is_end i) (at + used)
-reach_after at used None (Head format clients) allowed h fits = (omega arith, omega (arith, h.0, fits))
+reach_after at used None (Head One clients) allowed h fits = (omega arith, omega (arith, h.0, fits))
+reach_after at used None (Head Two clients) allowed h fits = (omega arith, omega (arith, h.0, fits))
 reach_after at used None (Entry client op) allowed h fits = absurd allowed
 reach_after at used None End allowed h fits = absurd allowed
 reach_after at used (Some c) (Head format clients) allowed h fits = absurd allowed

@@ -3,7 +3,7 @@ use Rattle.std.specs.Prelude.{ℕ, ◌<◌, ◌≤◌, ◌^◌, List, [], ◌∷
 use Rattle.std.specs.List.{AllByRecursion}
 use Rattle.cops_types.specs.declared.limits.TheConstants.{MAX_CLIENT_OPS, MAX_OPS}
 use Rattle.cops_types.specs.declared.format.Format.{Format}
-use Rattle.cops_types.specs.Format.{Fits, most_value, number_of}
+use Rattle.cops_types.specs.Format.{Fits, number_of}
 use Rattle.cops_types.specs.KeyValue.{IsKey}
 use Rattle.cops_types.specs.Version.{IsVersion}
 use Rattle.cops_types.specs.Histories.{Sessions, Operation, write, read, missed, with_op}
@@ -40,15 +40,10 @@ sessions_of t = sessions_after (replicate t.clients []) t.records
 abbrev pub turn : ℕ → List ARecord → ℕ
 turn client records = count_by (λ r. r.client == client) records
 
--- the content has an encoding in the format: a value within its limit, or none where the format has deletions
-abbrev pub IsContent : Format → Option (List ℕ) → Type 0
-IsContent format (Some value) = length value ≤ most_value format
-IsContent format None = Fits format None
-
 -- the operation has an encoding in the format
 abbrev pub IsOp : Format → Operation → Type 0
-IsOp format (write key content version) = IsKey key × IsContent format content × IsVersion version
-IsOp format (read key content version) = IsKey key × IsContent format content × IsVersion version
+IsOp format (write key content version) = IsKey key × Fits format content × IsVersion version
+IsOp format (read key content version) = IsKey key × Fits format content × IsVersion version
 IsOp format (missed key) = IsKey key
 
 -- clients in range, and the limits on operations

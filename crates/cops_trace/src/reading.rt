@@ -20,7 +20,7 @@ use std::io::Read;
 const PIECE: usize = 65_536;
 
 /// The most reads. A text has a fault or an end before so many bytes.
-const READS: u64 = 1 << 40;
+const READS: u64 = 1 << 41;
 
 /// Reads to the end of the input, or to the first fault. A failed read is not tried again.
 fn read_items<S: Sink, R: Read>(

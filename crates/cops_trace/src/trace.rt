@@ -1,13 +1,13 @@
-ghost use Rattle.std.specs.Prelude.{◌≡◌, ◌++◌, IfOk, OnOk, option_copied};
+ghost use Rattle.std.specs.Prelude.{◌≡◌, ◌++◌, IfOk, OnOk};
 ghost use Rattle.cops_types.specs.declared.format.Format.TheVariants.{One};
-ghost use Rattle.cops_types.specs.Format.{Fits, IsInFormat};
+ghost use Rattle.cops_types.specs.Format.{IsInFormat};
 ghost use Rattle.cops_types.specs.OpRefs.{seen};
 ghost use Rattle.cops_types.specs.OpViews.{viewed};
 ghost use Rattle.cops_wire.specs.Message.{spelled};
 ghost use Rattle.cops_wire.specs.Records.{record_message};
-ghost use Rattle.cops_trace.specs.Text.{IsContent, IsOp};
+ghost use Rattle.cops_trace.specs.Text.{IsOp};
 
-use cops_types::{Format, History, Memory, Op, OpName, OpRef, OpView, TypeFault, Value};
+use cops_types::{Format, History, Memory, Op, OpName, OpRef, OpView, TypeFault};
 use cops_wire::{encode, record_message};
 use std::alloc::Global;
 use std::marker::Model;
@@ -215,23 +215,13 @@ pub(crate) fn append_record(
 }
 
 /// An operation of a format has an encoding in it: its key, value and version are within their ranges.
-pub(crate) fn legal(format: Format, op: &OpRef<'_>)
-    requires { IsInFormat format (seen op.now) }
-    ensures { IsOp format (seen op.now) }
+pub(crate) fn legal(_format: Format, op: &OpRef<'_>)
+    requires { IsInFormat _format (seen op.now) }
+    ensures { IsOp _format (seen op.now) }
 {
     match op {
-        OpRef::Put {
-            key,
-            value,
-            version,
-        }
-        | OpRef::Got {
-            key,
-            value,
-            version,
-        } => {
+        OpRef::Put { key, version, .. } | OpRef::Got { key, version, .. } => {
             let _key = key.as_bytes();
-            legal_content(format, *value);
             let _version = version.as_u64();
         }
         OpRef::Missed { key } => {
@@ -240,37 +230,16 @@ pub(crate) fn legal(format: Format, op: &OpRef<'_>)
     }
 }
 
-/// What a put may write in a format has an encoding in it.
-fn legal_content(_format: Format, content: Option<&Value>)
-    requires { Fits _format (option_copied content) }
-    ensures { IsContent _format (option_copied content.entry) }
-{
-    if let Some(value) = content {
-        let _bytes = value.as_bytes();
-    }
-}
-
-/// The same of an operation that is seen.
+/// A seen operation of a format has an encoding in it: its key and version are within their ranges.
 fn legal_view(_format: Format, op: &OpView<'_>)
     requires { IsInFormat _format (viewed op.now) }
     ensures { IsOp _format (viewed op.now) }
 {
     match op {
-        OpView::Put {
-            key,
-            value,
-            version,
-        }
-        | OpView::Got {
-            key,
-            value,
-            version,
-        } => {
-            let _key = key.as_bytes();
-            let _value = value.as_bytes();
-            let _version = version.as_u64();
-        }
-        OpView::Del { key, version } | OpView::Gone { key, version } => {
+        OpView::Put { key, version, .. }
+        | OpView::Del { key, version }
+        | OpView::Got { key, version, .. }
+        | OpView::Gone { key, version } => {
             let _key = key.as_bytes();
             let _version = version.as_u64();
         }

@@ -14,6 +14,6 @@ IsDep d = IsKey d.key × IsVersion d.version
 abbrev pub ArePairs : List Dep → Type 0
 ArePairs ds = IsDistinct is_same_dep ds × AllByRecursion IsDep ds
 
--- what dependencies are: at most 256 pairs, none twice
+-- what dependencies of some format are: at most 1,024 pairs, none twice
 abbrev pub AreDeps : List Dep → Type 0
 AreDeps ds = (length ds ≤ MAX_DEPS) × ArePairs ds

@@ -1,8 +1,8 @@
 -- The number and the limits of each format, and what each has.
-use Rattle.std.specs.Prelude.{ℕ, List, ◌==◌, if◌then◌else◌, Option, Some, None}
+use Rattle.std.specs.Prelude.{◌≤◌, ℕ, Bool, true, false, nat_le, List, length, ◌==◌, if◌then◌else◌, Option, Some, None}
 use Rattle.cops_types.specs.declared.format.Format.{Format}
 use Rattle.cops_types.specs.declared.format.Format.TheVariants.{One, Two}
-use Rattle.cops_types.specs.declared.limits.TheConstants.{MAX_BODY, MAX_DEPS, MAX_VALUE}
+use Rattle.cops_types.specs.declared.limits.TheConstants.{MAX_BODY, MAX_BODY_IN_ONE, MAX_DEPS, MAX_DEPS_IN_ONE, MAX_VALUE, MAX_VALUE_IN_ONE}
 use Rattle.cops_types.specs.Histories.{Operation, write, read, missed}
 
 -- the number that names it
@@ -16,20 +16,30 @@ format_of_number number = if number == 1 then Some One else if number == 2 then 
 
 -- the most bytes of a value
 abbrev pub most_value : Format → ℕ
-most_value format = MAX_VALUE
+most_value One = MAX_VALUE_IN_ONE
+most_value Two = MAX_VALUE
 
 -- the most pairs of dependencies
 abbrev pub most_deps : Format → ℕ
-most_deps format = MAX_DEPS
+most_deps One = MAX_DEPS_IN_ONE
+most_deps Two = MAX_DEPS
 
 -- the most bytes of a frame's body
 abbrev pub longest_body : Format → ℕ
-longest_body format = MAX_BODY
+longest_body One = MAX_BODY_IN_ONE
+longest_body Two = MAX_BODY
 
--- what a put may write in a format: in format 1 that is a value, so there is no deletion
+-- what may be written in a format: a value within its limit, and in format 2 also no value, which is a deletion
 abbrev pub Fits : Format → Option (List ℕ) → Type 0
+Fits format (Some value) = length value ≤ most_value format
 Fits One None = ⊥
-Fits _ _ = Unit {0}
+Fits Two None = Unit {0}
+
+-- whether it may be
+abbrev pub fits : Format → Option (List ℕ) → Bool
+fits format (Some value) = nat_le (length value) (most_value format)
+fits One None = false
+fits Two None = true
 
 -- the operation's content fits the format
 abbrev pub IsInFormat : Format → Operation → Type 0

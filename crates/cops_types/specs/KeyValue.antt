@@ -6,6 +6,6 @@ use Rattle.cops_types.specs.declared.limits.TheConstants.{MAX_KEY, MAX_VALUE}
 abbrev pub IsKey : List ℕ → Type 0
 IsKey bytes = (0 < length bytes) × (length bytes ≤ MAX_KEY)
 
--- what is a value of some format: at most 4,096 bytes
+-- what is a value of some format: at most 16,384 bytes
 abbrev pub IsValue : List ℕ → Type 0
 IsValue bytes = length bytes ≤ MAX_VALUE

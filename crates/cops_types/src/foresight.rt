@@ -220,6 +220,7 @@ impl Coming {
 }
 
 /// The number of the put that may be of a version, if there is a version.
+#[inline(always)]
 fn put_among(puts: &Guesses<PutGuess>, version: Option<Version>) -> Option<u32> {
     let version = version?;
     let guess = puts.find(place(version))?;

@@ -1,7 +1,9 @@
 ghost use Rattle.std.specs.Prelude.{◌≡◌, ◌↔◌, IsTrue, option_copied};
-ghost use Rattle.cops_types.specs.Format.{format_of_number, number_of, most_value, most_deps, longest_body, Fits};
+ghost use Rattle.cops_types.specs.Format.{format_of_number, number_of, most_value, most_deps, longest_body, fits, Fits};
 
-use crate::limits::{MAX_BODY, MAX_DEPS, MAX_VALUE};
+use crate::limits::{
+    MAX_BODY, MAX_BODY_IN_ONE, MAX_DEPS, MAX_DEPS_IN_ONE, MAX_VALUE, MAX_VALUE_IN_ONE,
+};
 use crate::value::Value;
 
 /// A format of frames and traces: which kinds of messages it has, and their limits.
@@ -9,7 +11,7 @@ use crate::value::Value;
 pub enum Format {
     /// The first format, which has no deletions.
     One,
-    /// The second one, which has deletions.
+    /// The second one, which has deletions, longer values, more dependencies and longer frames.
     Two,
 }
 
@@ -35,34 +37,45 @@ impl Format {
         }
     }
 
-    /// The most bytes that a value has.
+    /// The most bytes that a value has: 4,096 in format 1, 16,384 in format 2.
     pub fn most_value(self) -> usize
         ensures { result ≡ most_value self }
     {
-        MAX_VALUE
+        match self {
+            Format::One => MAX_VALUE_IN_ONE,
+            Format::Two => MAX_VALUE,
+        }
     }
 
-    /// The most pairs that dependencies have.
+    /// The most pairs that dependencies have: 256 in format 1, 1,024 in format 2.
     pub fn most_deps(self) -> usize
         ensures { result ≡ most_deps self }
     {
-        MAX_DEPS
+        match self {
+            Format::One => MAX_DEPS_IN_ONE,
+            Format::Two => MAX_DEPS,
+        }
     }
 
-    /// The most bytes that a frame's body has.
+    /// The most bytes that a frame's body has: 32,768 in format 1, 131,072 in format 2.
     pub fn longest_body(self) -> usize
         ensures { result ≡ longest_body self }
     {
-        MAX_BODY
+        match self {
+            Format::One => MAX_BODY_IN_ONE,
+            Format::Two => MAX_BODY,
+        }
     }
 
-    /// Whether a put may write this in the format: None is a deletion, which is of format 2.
+    /// Whether it may be written in the format: a value within the format's limit, or None, which is a deletion and is
+    /// of format 2.
     pub fn fits(self, content: Option<&Value>) -> bool
-        ensures { IsTrue result ↔ Fits self (option_copied content.entry) }
+        ensures value { result ≡ fits self (option_copied content.entry) }
+        ensures fits { IsTrue result ↔ Fits self (option_copied content.entry) }
     {
-        match self {
-            Format::One => content.is_some(),
-            Format::Two => true,
+        match content {
+            Some(value) => value.as_bytes().len() <= self.most_value(),
+            None => self == Format::Two,
         }
     }
 }

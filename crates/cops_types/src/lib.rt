@@ -43,8 +43,8 @@ pub use gate::{Gate, GateHeld, OpenGate, Point};
 pub use history::History;
 pub use key::{Key, KeyRoom};
 pub use limits::{
-    MAX_BODY, MAX_CLIENT_OPS, MAX_CLIENTS, MAX_CLOCK, MAX_DCS, MAX_DEPS, MAX_KEY, MAX_OPS,
-    MAX_VALUE, MAX_WORKERS, NODES, PLACES,
+    MAX_BODY, MAX_BODY_IN_ONE, MAX_CLIENT_OPS, MAX_CLIENTS, MAX_CLOCK, MAX_DCS, MAX_DEPS,
+    MAX_DEPS_IN_ONE, MAX_KEY, MAX_OPS, MAX_VALUE, MAX_VALUE_IN_ONE, MAX_WORKERS, NODES, PLACES,
 };
 pub use op::{Op, OpName};
 pub use op_ref::OpRef;
@@ -53,6 +53,6 @@ pub use put_record::{NodeStatus, PutRecord};
 pub use refusal::Refusal;
 pub use selection::Selection;
 pub use session_ref::{Operations, SessionRef};
-pub use value::{Value, ValueRoom};
+pub use value::{Value, ValueRoom, content_copy};
 pub use version::{Version, node_number};
 pub use versioned_put::VersionedPut;

@@ -3,11 +3,17 @@
 /// The most bytes that a key has.
 pub const MAX_KEY: usize = 64;
 
-/// The most bytes that a value of any format has.
-pub const MAX_VALUE: usize = 4096;
+/// The most bytes that a value of format 1 has.
+pub const MAX_VALUE_IN_ONE: usize = 4096;
 
-/// The most pairs that dependencies have.
-pub const MAX_DEPS: usize = 256;
+/// The most bytes that a value of format 2 has, and so one of any format.
+pub const MAX_VALUE: usize = 16_384;
+
+/// The most pairs that dependencies of format 1 have.
+pub const MAX_DEPS_IN_ONE: usize = 256;
+
+/// The most pairs that dependencies of format 2 have, and so those of any format.
+pub const MAX_DEPS: usize = 1024;
 
 /// The greatest clock of a version.
 pub const MAX_CLOCK: u64 = 281_474_976_710_655;
@@ -21,8 +27,11 @@ pub const PLACES: u8 = 64;
 /// How many nodes there are at most: their numbers are below it.
 pub const NODES: u16 = 1024;
 
-/// The most bytes that a frame's body has.
-pub const MAX_BODY: usize = 32_768;
+/// The most bytes that the body of a frame of format 1 has.
+pub const MAX_BODY_IN_ONE: usize = 32_768;
+
+/// The most bytes that the body of a frame of format 2 has, and so one of any format.
+pub const MAX_BODY: usize = 131_072;
 
 /// The most workers of an audit.
 pub const MAX_WORKERS: u8 = 64;

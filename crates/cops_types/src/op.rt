@@ -84,7 +84,8 @@ impl Op {
     ghost use Rattle.cops_types.specs.OpViews.{viewed};
     ghost use Rattle.cops_types.specs.Operations.{key_of, operation_of};
 
-    /// Whether the format has such an operation: a deletion, and a get that found one, are of format 2.
+    /// Whether the format has such an operation: a deletion, and a get that found one, are of format 2, and so is a
+    /// value of more than 4,096 bytes.
     pub fn in_format(&self, format: Format) -> bool
         ensures { IsTrue result ↔ IsInFormat format (operation_of self.now) }
     {

@@ -1,5 +1,5 @@
 //! Operations that are seen as bytes, before a history holds them.
-ghost use Rattle.std.specs.Prelude.{◌≡◌, ◌<◌, ◌↔◌, length, IfErr, IfOk, IsErrOf};
+ghost use Rattle.std.specs.Prelude.{◌≡◌, ◌<◌, ◌≤◌, ◌↔◌, length, IfErr, IfOk, IsErrOf};
 ghost use Rattle.cops_types.specs.declared.limits.TheConstants.{MAX_KEY};
 ghost use Rattle.cops_types.specs.Format.{most_value};
 ghost use Rattle.cops_types.specs.KeyValue.{IsKey, IsValue};
@@ -64,7 +64,7 @@ impl<'a> KeyView<'a> {
     }
 }
 
-/// A value, seen where its bytes lie, at most 4,096.
+/// A value, seen where its bytes lie, at most 16,384.
 #[derive(Debug, Drop)]
 pub struct ValueView<'a> {
     pub(crate) bytes: &'a [u8],
@@ -84,7 +84,7 @@ impl<'a> Model for ValueView<'a> {
 impl<'a> ValueView<'a> {
     /// The value of these bytes, or `ValueTooLong` where there are more than the format allows.
     pub fn new_in(format: Format, bytes: &'a [u8]) -> Result<Self, TypeFault>
-        ensures ok { IfOk result (λ value. (value ≡ bytes.now) × IsValue bytes.now) }
+        ensures ok { IfOk result (λ value. (value ≡ bytes.now) × (length bytes.now ≤ most_value format)) }
         ensures too_long { IsErrOf result TypeFault.ValueTooLong ↔ (most_value format < length bytes.now) }
         ensures only { IfErr result IsValueFault }
         ensures no_memory { ¬ IsErrOf result TypeFault.Memory }

@@ -1,6 +1,6 @@
 use crate::dep::Deps;
 use crate::key::Key;
-use crate::value::Value;
+use crate::value::{Value, content_copy};
 use crate::version::Version;
 use std::alloc::AllocError;
 
@@ -23,10 +23,7 @@ impl Clone for PutRecord {
     fn clone(&self) -> Result<PutRecord, AllocError> {
         Ok(PutRecord {
             key: self.key.clone()?,
-            value: match &self.value {
-                Some(value) => Some(value.clone()?),
-                None => None,
-            },
+            value: content_copy(self.value.as_ref())?,
             version: self.version,
             deps: self.deps.clone()?,
         })

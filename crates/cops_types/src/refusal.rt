@@ -6,7 +6,7 @@
 pub enum Refusal {
     /// The clock can rise no further.
     ClockExhausted = 1,
-    /// The context of the client holds 256 pairs.
+    /// The context of the client holds as many pairs as its format allows.
     ContextFull = 2,
     /// There is no such client.
     UnknownClient = 3,
@@ -26,7 +26,7 @@ pub enum Refusal {
     UnknownDc = 10,
     /// The client has 1,000,000 operations, or there are 16,000,000.
     SessionFull = 11,
-    /// The format has no deletions.
+    /// The format has no such write: it has no deletions, or no value of that many bytes.
     NotInFormat = 12,
     /// No greeting was answered yet.
     NotGreeted = 16,

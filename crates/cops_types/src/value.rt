@@ -1,12 +1,11 @@
-ghost use Rattle.std.specs.Prelude.{◌≡◌, ◌<◌, ◌≤◌, ◌↔◌, ◌==◌, List, ℕ, length, [], IfOk, IfErr, IsErrOf, IsTrue};
-ghost use Rattle.cops_types.specs.declared.limits.TheConstants.{MAX_VALUE};
+ghost use Rattle.std.specs.Prelude.{◌≡◌, ◌<◌, ◌≤◌, ◌↔◌, ◌==◌, List, ℕ, length, [], IfOk, IfErr, IsErrOf, IsTrue, option_copied};
+ghost use Rattle.cops_types.specs.declared.limits.TheConstants.{MAX_VALUE_IN_ONE};
 ghost use Rattle.cops_types.specs.KeyValue.{IsValue};
 ghost use Rattle.cops_types.specs.Format.{most_value};
 ghost use Rattle.cops_types.specs.TypeFaults.{IsValueFault};
 
 use crate::fault::TypeFault;
 use crate::format::Format;
-use crate::limits::MAX_VALUE;
 use crate::op_view::ValueView;
 use smallvec::SmallVec;
 use std::alloc::{AllocError, Global};
@@ -15,7 +14,7 @@ use std::marker::Model;
 /// The most bytes that lie in the value itself: those of a longer value lie in an allocation.
 const INLINE: usize = 16;
 
-/// A value: at most 4,096 bytes.
+/// A value: at most 16,384 bytes, the most of format 2.
 #[derive(Debug, Drop)]
 pub struct Value {
     bytes: SmallVec<u8, INLINE>,
@@ -65,16 +64,17 @@ impl Clone for Value {
 impl Value {
     /// The value of these bytes in format 1, or `ValueTooLong` where there are more than 4,096.
     pub fn new(alloc: Global, bytes: &[u8]) -> Result<Self, TypeFault>
-        ensures ok { IfOk result (λ value. (value ≡ bytes.now) × IsValue bytes.now) }
-        ensures too_long { IsErrOf result TypeFault.ValueTooLong ↔ (MAX_VALUE < length bytes.now) }
+        ensures ok { IfOk result (λ value. (value ≡ bytes.now) × (length bytes.now ≤ MAX_VALUE_IN_ONE)) }
+        ensures too_long { IsErrOf result TypeFault.ValueTooLong ↔ (MAX_VALUE_IN_ONE < length bytes.now) }
         ensures only { IfErr result IsValueFault }
     {
         Value::new_in(Format::One, alloc, bytes)
     }
 
-    /// The value of these bytes, or `ValueTooLong` where there are more than the format allows.
+    /// The value of these bytes, or `ValueTooLong` where there are more than the format allows: 4,096 in format 1, and
+    /// 16,384 in format 2.
     pub fn new_in(format: Format, alloc: Global, bytes: &[u8]) -> Result<Self, TypeFault>
-        ensures ok { IfOk result (λ value. (value ≡ bytes.now) × IsValue bytes.now) }
+        ensures ok { IfOk result (λ value. (value ≡ bytes.now) × (length bytes.now ≤ most_value format)) }
         ensures too_long { IsErrOf result TypeFault.ValueTooLong ↔ (most_value format < length bytes.now) }
         ensures only { IfErr result IsValueFault }
     {
@@ -125,6 +125,7 @@ impl Value {
     }
 
     /// Whether the one that is seen has the same bytes.
+    #[inline(always)]
     pub fn is_seen(&self, other: &ValueView<'_>) -> bool
         ensures { IsTrue result ↔ (self.now ≡ other.now) }
     {
@@ -132,27 +133,55 @@ impl Value {
     }
 }
 
-/// Room for a copy of any value of format 1, which then takes no memory.
+/// A copy of what was written: of a value, or that there is none.
+pub fn content_copy(content: Option<&Value>) -> Result<Option<Value>, AllocError>
+    ensures { IfOk result (λ copy. copy ≡ option_copied content.entry) }
+{
+    match content {
+        Some(value) => Ok(Some(value.clone()?)),
+        None => Ok(None),
+    }
+}
+
+/// Room for a copy of any value of a format, which then takes no memory.
 #[derive(Drop)]
 pub struct ValueRoom {
+    format: Format,
     bytes: SmallVec<u8, INLINE>,
-    ghost empty: { bytes.items ≡ [] },
-    ghost room: { MAX_VALUE ≤ bytes.capacity },
+}
+
+impl Model for ValueRoom {
+    ghost use Rattle.std.specs.Prelude.{◌≡◌, ◌≤◌, []};
+    ghost use Rattle.cops_types.specs.Format.{most_value};
+    ghost use Rattle.cops_types.specs.declared.format.Format.{Format};
+
+    ghost Value = { Format };
+
+    ghost view = { λ r. r.format };
+
+    ghost invariant = { λ r. (r.bytes.items ≡ []) × (most_value r.format ≤ r.bytes.capacity) };
 }
 
 impl ValueRoom {
-    /// Room for one copy.
-    pub fn new(alloc: Global) -> Result<Self, AllocError> {
+    /// Room for one copy of a value of this format.
+    pub fn new_in(format: Format, alloc: Global) -> Result<Self, AllocError>
+        ensures { IfOk result (λ room. room ≡ format) }
+    {
         Ok(ValueRoom {
-            bytes: SmallVec::with_capacity(alloc, MAX_VALUE)?,
+            format,
+            bytes: SmallVec::with_capacity(alloc, format.most_value())?,
         })
     }
 
-    /// A copy of a value, in this room.
+    /// A copy of a value of the format, in this room.
     pub fn copy(self, value: &Value) -> Value
+        requires { length value.now ≤ most_value self }
         ensures { result ≡ value.now }
     {
-        let ValueRoom { bytes: room } = self;
+        let ValueRoom {
+            format: _,
+            bytes: room,
+        } = self;
         let mut bytes = room;
         bytes.extend_from_slice(value.as_bytes()).unwrap();
         Value { bytes }

@@ -3,6 +3,7 @@ use Rattle.std.proofs.Common.{◌≡◌, ℕ, ◌+◌, ◌^◌, ◌<◌, ◌≤�
 use Rattle.std.proofs.lemmas.List.{length-append}
 use Rattle.cops_types.specs.declared.format.Format.{Format}
 use Rattle.cops_types.specs.declared.format.Format.TheVariants.{One, Two}
+use Rattle.cops_types.specs.declared.limits.TheConstants.{MAX_DEPS}
 use Rattle.cops_types.specs.Format.{most_deps, longest_body}
 use Rattle.cops_wire.specs.declared.fault.WireFault.{WireFault}
 use Rattle.cops_wire.specs.declared.fault.WireFault.TheVariants.{Memory}
@@ -27,11 +28,13 @@ grammar_ok Two = (omega arith, refl)
 
 -- a place in a frame is a number of 32 bits
 pub places_fit : (format : Format) → 4 + longest_body format < 2 ^ 32
-places_fit format = omega arith
+places_fit One = omega arith
+places_fit Two = omega arith
 
 -- dependencies of each format are dependencies
-pub most_deps_le : (format : Format) → most_deps format ≤ 256
-most_deps_le format = omega arith
+pub most_deps_le : (format : Format) → most_deps format ≤ MAX_DEPS
+most_deps_le One = omega arith
+most_deps_le Two = omega arith
 
 known_left : (o : Option (List Field)) (bytes : List ℕ) (left : ℕ) → IsBytes bytes → known_fields_at o bytes ≡ Err (faults.BadField left) → left ≤ length bytes
 known_left None bytes left fits e = absurd cc

@@ -1,11 +1,12 @@
 -- Each message is told by its kind and its fields.
-use Rattle.std.proofs.Common.{◌≡◌, ℕ, zero, suc, cond, eqb, List, [], ◌∷◌, refl, sym, ap, ◌∙◌}
+use Rattle.std.proofs.Common.{◌≡◌, ℕ, zero, suc, cond, eqb, List, [], ◌∷◌, refl, sym, ap, ◌∙◌, arith}
 use Rattle.cops_types.specs.declared.dep.Dep.{Dep}
+use Rattle.cops_types.specs.declared.format.Format.TheVariants.{One, Two}
 use Rattle.cops_wire.specs.declared.message.Message.{Message}
 use Rattle.cops_wire.specs.declared.message.Message.TheVariants.{Hello, HelloOk, Put, Get, PutDone, Got, Missed, Refused, PutAfter, DepCheck, DepYes, DepWait, Status, StatusIs, Bye, ByeOk, TraceHead, TracePut, TraceGot, TraceMissed, TraceEnd, Del, Deleted, Gone, DelAfter, TraceDel, TraceGone}
 use Rattle.cops_wire.specs.Field.{Content, of_number, of_bytes, of_pairs}
-use Rattle.cops_wire.specs.Grammar.{Parts, grammar_one, grammar_two, spelling}
-use Rattle.cops_wire.specs.Legal.{IsMessage}
+use Rattle.cops_wire.specs.Grammar.{Parts, value, deps as some_deps, grammar_one, grammar_two, spelling}
+use Rattle.cops_wire.specs.Legal.{IsLegal, IsMessage}
 use Rattle.cops_wire.specs.Message.{parts}
 
 -- what stands at a place
@@ -64,12 +65,25 @@ back _ = refl
 pub parts-same : (m n : Message) → parts m ≡ parts n → m ≡ n
 parts-same m n e = sym (back m) ∙ ap message_of e ∙ back n
 
+-- a value of format 1 is one of format 2
+longer : (text : List ℕ) → IsLegal (value One) (of_bytes text) → IsLegal (value Two) (of_bytes text)
+longer text (fits, least, most) = (fits, least, omega (arith, most))
+
+-- and so are dependencies
+more : (ds : List Dep) → IsLegal (some_deps One) (of_pairs ds) → IsLegal (some_deps Two) (of_pairs ds)
+more ds (fits, most, pairs) = (fits, omega (arith, most), pairs)
+
 -- a message of format 1 has the same spelling in format 2
 pub first-in-second : (m : Message) → IsMessage grammar_one (parts m) → IsMessage grammar_two (parts m) × (spelling grammar_two (parts m) ≡ spelling grammar_one (parts m))
+first-in-second (Put seq key text) (first, (second, (third, end))) = ((first, (second, (longer text third, end))), refl)
+first-in-second (Got seq text version) (first, (second, (third, end))) = ((first, (longer text second, (third, end))), refl)
+first-in-second (PutAfter key text version ds) (first, (second, (third, (fourth, end)))) = ((first, (longer text second, (third, (more ds fourth, end)))), refl)
+first-in-second (TracePut client index key text version) (first, (second, (third, (fourth, (fifth, end))))) = ((first, (second, (third, (longer text fourth, (fifth, end))))), refl)
+first-in-second (TraceGot client index key text version) (first, (second, (third, (fourth, (fifth, end))))) = ((first, (second, (third, (longer text fourth, (fifth, end))))), refl)
 first-in-second (Del seq key) legal = absurd legal
 first-in-second (Deleted seq version) legal = absurd legal
 first-in-second (Gone seq version) legal = absurd legal
-first-in-second (DelAfter key version deps) legal = absurd legal
+first-in-second (DelAfter key version ds) legal = absurd legal
 first-in-second (TraceDel client index key version) legal = absurd legal
 first-in-second (TraceGone client index key version) legal = absurd legal
 first-in-second _ legal = (legal, refl)

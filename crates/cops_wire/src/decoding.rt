@@ -1,7 +1,7 @@
 //! The message at the front of some bytes.
 ghost use Rattle.std.specs.Prelude.{◌≡◌, ◌<◌, ◌≤◌, ◌+◌, ℕ, length, take, drop, Result, Err, IfOk, IfErr, IsTrue};
 ghost use Rattle.cops_types.specs.Format.{longest_body};
-ghost use Rattle.cops_types.specs.declared.limits.TheConstants.{MAX_BODY};
+ghost use Rattle.cops_types.specs.declared.limits.TheConstants.{MAX_BODY_IN_ONE};
 ghost use Rattle.cops_wire.specs.declared.fault.WireFault.{WireFault};
 ghost use Rattle.cops_wire.specs.Grammar.{grammar, grammar_one, Parts};
 ghost use Rattle.cops_wire.specs.Answer.{IsAnswer, Answers, BeginsWithTaking, IsPlacedWithin, length_at};
@@ -27,8 +27,8 @@ pub fn decode(alloc: Global, bytes: &[u8]) -> Result<Decoded, WireFault>
     ensures only { (a : Result (Parts × ℕ) WireFault) → IsAnswer grammar_one bytes.now a → Answers result (λ b. b ≡ a) }
     ensures reading { Answers result (λ a. a ≡ frame_at grammar_one bytes.now) }
     ensures memory { result ≡ Err WireFault.Memory → BeginsWithTaking grammar_one bytes.now }
-    ensures used { IfOk result (λ decoded. (4 < decoded.used) × (decoded.used ≤ length bytes.now) × (decoded.used ≤ 4 + MAX_BODY)) }
-    ensures offset { IfErr result (IsPlacedWithin MAX_BODY) }
+    ensures used { IfOk result (λ decoded. (4 < decoded.used) × (decoded.used ≤ length bytes.now) × (decoded.used ≤ 4 + MAX_BODY_IN_ONE)) }
+    ensures offset { IfErr result (IsPlacedWithin MAX_BODY_IN_ONE) }
 {
     decode_in(Format::One, alloc, bytes)
 }

@@ -10,7 +10,8 @@ pub enum WireFault {
     /// 1: the frame is not whole: fewer than 4 bytes, or fewer than its length says.
     #[error("the frame is not whole")]
     Short,
-    /// 2: the length is 0, or above the most that the format allows (32,768 in format 1).
+    /// 2: the length is 0, or above the most that the format allows (32,768 in format 1, and
+    /// 131,072 in format 2).
     #[error("bad length")]
     BadLength,
     /// 3: the kind is none of the format's.

@@ -34,11 +34,11 @@ macro_rules! as_written {
 
 pub(crate) use as_written;
 
-/// How many bytes a field takes: at most 18,690, a count and 256 pairs of 73 bytes.
+/// How many bytes a field takes: at most 74,754, a count and 1,024 pairs of 73 bytes.
 #[tactic(auto, unfolding(crate::specs::Field::spelled_number))]
 fn field_len(field: &FieldRef<'_>) -> usize
     ensures len { result ≡ length (spelled_field field.now) }
-    ensures most { result ≤ 18690 }
+    ensures most { result ≤ 74754 }
 {
     match field {
         FieldRef::U8(_) => 1,
@@ -55,7 +55,7 @@ fn field_len(field: &FieldRef<'_>) -> usize
 #[tactic(auto, unfolding(crate::specs::Field::spelled_number))]
 fn deps_len(deps: &Deps) -> usize
     ensures len { result ≡ 2 + length (flat_map spelled_pair deps.now) }
-    ensures most { result ≤ 18690 }
+    ensures most { result ≤ 74754 }
 {
     let mut len = 2;
     for pair in deps.as_slice() {
@@ -68,7 +68,7 @@ fn deps_len(deps: &Deps) -> usize
 pub(crate) fn len(kind: u8, fields: &[FieldRef<'_>]) -> usize
     requires { length fields.now ≤ 8 }
     ensures len { result ≡ length (spelled_body kind fields.now) }
-    ensures most { result ≤ 1 + 8 * 18690 }
+    ensures most { result ≤ 1 + 8 * 74754 }
 {
     let _kind = kind;
     let mut len = 1;

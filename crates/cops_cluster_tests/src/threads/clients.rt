@@ -30,13 +30,13 @@ fn word(outcome: &Outcome, of: Version) -> &'static str {
         Outcome::Refused(Refusal::UnknownDc) => "no data centre",
         Outcome::Refused(Refusal::UnknownClient) => "no client",
         Outcome::Refused(Refusal::NoYes) => "no yes",
-        Outcome::Refused(Refusal::NotInFormat) => "no deletions",
+        Outcome::Refused(Refusal::NotInFormat) => "not in format",
         _ => "other",
     }
 }
 
 /// The word of an answer, which is let go.
-fn told(answer: Result<Outcome, GateHeld>, of: Version) -> &'static str {
+pub fn told(answer: Result<Outcome, GateHeld>, of: Version) -> &'static str {
     let told = match &answer {
         Ok(outcome) => word(outcome, of),
         Err(GateHeld) => "held",
@@ -150,7 +150,7 @@ fn deletes_nothing<R: Wait + Abort>(
 ) -> Result<(), TypeFault> {
     let of = Version::new(1, 0)?;
     assert!(*rt; put(rt, alloc, cluster, client, &OpenGate, b'x', of)? == "put");
-    assert!(*rt; del(rt, alloc, cluster, client, b'x', of)? == "no deletions");
+    assert!(*rt; del(rt, alloc, cluster, client, b'x', of)? == "not in format");
     assert!(*rt; client.share().entries().len() == 1);
     assert!(*rt; get(rt, alloc, cluster, client, b'x', of)? == "got");
     Ok(())
@@ -181,36 +181,44 @@ fn a_client_deletes_in_format_2(rt: HostRuntime) -> Result<(), Fail> {
     Ok(())
 }
 
-/// Whether a put, a deletion and a get of the second client of another cluster are refused where there is one client,
-/// whatever the format of the cluster.
+/// Whether a put, a deletion and a get of a client of another cluster are refused as those of no client.
 fn of_another<R: Wait>(
     rt: &R,
     alloc: Global,
     here: &Opened,
     other: &mut Opened,
+    number: usize,
 ) -> Result<bool, Fail> {
     let of = Version::new(1, 0)?;
-    let client = other.clients.get_mut(1).ok_or("no second client")?;
+    let client = other.clients.get_mut(number).ok_or("no such client")?;
     let put = put(rt, alloc, &here.cluster, client, &OpenGate, b'x', of)?;
     let del = del(rt, alloc, &here.cluster, client, b'x', of)?;
     let get = get(rt, alloc, &here.cluster, client, b'x', of)?;
     Ok(put == "no client" && del == "no client" && get == "no client")
 }
 
-/// Whether such a client is refused.
-fn is_refused<R: Wait>(rt: &R, alloc: Global, here: &Opened) -> Result<bool, Fail> {
-    let mut other = opened(alloc, 1, false, &[0, 0])?;
-    let is_refused = of_another(rt, alloc, here, &mut other);
+/// Whether the client of this number of a cluster of this format is refused.
+fn is_refused<R: Wait>(
+    rt: &R,
+    alloc: Global,
+    here: &Opened,
+    format: Format,
+    number: usize,
+) -> Result<bool, Fail> {
+    let mut other = opened_in(format, alloc, 1, &[0, 0])?;
+    let is_refused = of_another(rt, alloc, here, &mut other, number);
     drop(other);
     is_refused
 }
 
 #[test]
 fn a_client_that_is_not_there_is_refused(rt: HostRuntime) -> Result<(), Fail> {
-    let here = opened(rt.alloc(), 1, false, &[0])?;
-    let is_refused = is_refused(&rt, rt.alloc(), &here);
-    drop(here);
-    assert!(rt; is_refused?);
+    for (format, number) in [(Format::One, 1), (Format::Two, 0), (Format::Two, 1)] {
+        let here = opened(rt.alloc(), 1, false, &[0])?;
+        let is_refused = is_refused(&rt, rt.alloc(), &here, format, number);
+        drop(here);
+        assert!(rt; is_refused?, "{number}");
+    }
     Ok(())
 }
 

@@ -1,10 +1,10 @@
 //! Rows of a client's context.
 
 use crate::words::Part::{Count, Word};
-use crate::words::{add_behind, no_row, pair, pair_text, text, yes_or_no};
+use crate::words::{add_behind, format_of, key, no_row, pair, pair_text, text, u64_of, yes_or_no};
 use anyhow::Error;
 use cops_context::Context;
-use cops_types::Dep;
+use cops_types::{Dep, Version};
 use std::alloc::Global;
 
 /// How many pairs there are, and whether one more has room.
@@ -47,9 +47,27 @@ fn replace(alloc: Global, context: &mut Context, words: &[&str]) -> Result<Strin
     counts(alloc, context)
 }
 
-/// Begins a context anew.
-fn begin(alloc: Global, context: &mut Context) -> Result<String, Error> {
-    drop(std::mem::replace(context, Context::new(alloc)));
+/// Begins an empty context, of a format or, where none is named, of format 1.
+fn begin(alloc: Global, context: &mut Context, words: &[&str]) -> Result<String, Error> {
+    let empty = match words {
+        [] => Context::new(alloc),
+        [format] => Context::new_in(format_of(format)?, alloc),
+        _ => return Err(no_row()),
+    };
+    drop(std::mem::replace(context, empty));
+    counts(alloc, context)
+}
+
+/// Adds pairs of one key, whose versions have the clocks from 1 up to that of one word.
+fn fill(alloc: Global, context: &mut Context, words: &[&str]) -> Result<String, Error> {
+    let [most] = words else {
+        return Err(no_row());
+    };
+    for clock in 1..=u64_of(most)? {
+        let version = Version::new(clock, 0)?;
+        let key = key(alloc, "k")?;
+        context.add(Dep { key, version })?;
+    }
     counts(alloc, context)
 }
 
@@ -59,7 +77,6 @@ fn ask(alloc: Global, context: &mut Context, what: &str, rest: &[&str]) -> Resul
         return Err(no_row());
     }
     match what {
-        "new" => begin(alloc, context),
         "counts" => counts(alloc, context),
         "empty" => yes_or_no(alloc, context.is_empty()),
         "deps" => deps(alloc, context),
@@ -78,6 +95,8 @@ pub fn answer(alloc: Global, context: &mut Context, words: &[&str]) -> Result<St
     };
     match *what {
         "add" => add(alloc, context, rest),
+        "fill" => fill(alloc, context, rest),
+        "new" => begin(alloc, context, rest),
         "replace" => replace(alloc, context, rest),
         what => ask(alloc, context, what, rest),
     }

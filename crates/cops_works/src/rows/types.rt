@@ -3,8 +3,8 @@
 use crate::rows::history;
 use crate::words::Part::{At, Count, Number, Word};
 use crate::words::{
-    deps, key, no_row, op, op_text, pair, pair_text, text, u64_of, usize_of, value, version,
-    version_of, yes_or_no,
+    deps, format_of, key, no_row, op, op_text, pair, pair_text, text, u64_of, usize_of, value,
+    version, version_of, yes_or_no,
 };
 use anyhow::Error;
 use cops_types::{Format, Key, Value, Version};
@@ -32,9 +32,15 @@ fn key_of(alloc: Global, words: &[&str]) -> Result<String, Error> {
     told
 }
 
+/// The value of so many bytes, in a format or, where none is named, in format 1.
 fn value_of(alloc: Global, words: &[&str]) -> Result<String, Error> {
-    let letters = letters(alloc, words)?;
-    let value = Value::new(alloc, &letters)?;
+    let (count, format) = match words {
+        [count] => (*count, Format::One),
+        [count, format] => (*count, format_of(format)?),
+        _ => return Err(no_row()),
+    };
+    let letters = letters(alloc, &[count])?;
+    let value = Value::new_in(format, alloc, &letters)?;
     let told = length(alloc, value.as_bytes());
     drop(value);
     told
@@ -62,7 +68,7 @@ fn same_values(alloc: Global, words: &[&str]) -> Result<String, Error> {
     let [one, "is", other] = words else {
         return Err(no_row());
     };
-    let one = Value::new_in(Format::One, alloc, one.as_bytes())?;
+    let one = Value::new(alloc, one.as_bytes())?;
     let other = value(alloc, other)?;
     let are = one.is(&other);
     drop(one);
@@ -145,15 +151,13 @@ fn copied(alloc: Global, words: &[&str]) -> Result<String, Error> {
     }
 }
 
-/// The limits of the first format.
+/// The limits of the format of one word.
 fn limits(alloc: Global, words: &[&str]) -> Result<String, Error> {
-    if !words.is_empty() {
+    let [format] = words else {
         return Err(no_row());
-    }
-    let (body, deps) = (
-        Count(Format::One.longest_body()),
-        Count(Format::One.most_deps()),
-    );
+    };
+    let format = format_of(format)?;
+    let (body, deps) = (Count(format.longest_body()), Count(format.most_deps()));
     text(
         alloc,
         &[

@@ -7,7 +7,7 @@ pub returns-in-put-clause-none : goal.returns-in-put-clause-none
 returns-in-put-clause-none c = λ err event legal e.
     let parts = map view c.in_ok-parts.parts.now in
     let same = same_event (view c.args.json.now) (view c.in_ok-name.of.now) c.in_ok-name.name.now parts event c.in_ok-name.ensures.json c.in_ok-parts.ensures.json e in
-    no_put parts (c.put.ensures.none err) c.args.format event legal (sym c.in-put.is ∙ same.0) same.1
+    no_put c.args.format parts (c.put.ensures.none err) event legal (sym c.in-put.is ∙ same.0) same.1
 
 pub returns-in-get-clause-none : goal.returns-in-get-clause-none
 returns-in-get-clause-none c = λ err event legal e.

@@ -1,7 +1,7 @@
 use Rattle.std.proofs.Common.{ℕ, List, ap, arith, rules}
 use Rattle.std.specs.Prelude.{◌≢◌, Some}
 use Rattle.serde_json.specs.View.{view}
-use Rattle.cops_types.specs.KeyValue.{IsValue}
+use Rattle.cops_types.specs.Format.{Fits}
 use Rattle.cops_fields.specs.Json.{text_json}
 use Rattle.cops_scenario.proofs.Forms.{part_at}
 use Rattle.cops_scenario.proofs.event.put.Goals as goal
@@ -11,5 +11,5 @@ returns-in_err-client-in-len3-clause-none c = λ err client key value small is_k
 
 pub returns-in_err-value-in-len3-clause-none : goal.returns-in_err-value-in-len3-clause-none
 returns-in_err-value-in-len3-clause-none c = λ err client key value small is_key is_value e.
-    let none : (bytes : List ℕ) → IsValue bytes → view c.v-item.result ≢ text_json bytes = search rules in
+    let none : (bytes : List ℕ) → Fits c.args.format (Some bytes) → view c.v-item.result ≢ text_json bytes = search rules in
     none value is_value (part_at c.args.parts.now 2 c.v-item.result _ (omega arith) c.v-item.is e)

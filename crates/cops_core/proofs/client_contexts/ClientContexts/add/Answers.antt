@@ -8,6 +8,6 @@ pub returns : goal.returns
 returns c =
     let known = rw (← c.self.view_is) at c.requires.known in
     let inside : c.args.client < length c.self.inside.contexts.items = omega (arith, known, length-map c.self.inside.contexts.items pairs) in
-    let ok : c.add_in.new.self.pairs ≡ with_pair c.index_mut-context.result.now.pairs c.args.pair = subst (λ r. OnOk r (c.add_in.new.self.pairs ≡ with_pair c.index_mut-context.result.now.pairs c.args.pair)) c.unwrap.ensures c.add_in.ensures.ok in
+    let ok : c.add.new.self.pairs ≡ with_pair c.index_mut-context.result.now.pairs c.args.pair = subst (λ r. OnOk r (c.add.new.self.pairs ≡ with_pair c.index_mut-context.result.now.pairs c.args.pair)) c.unwrap.ensures c.add.ensures.ok in
     let at = pairs_at c.self.inside.contexts.items c.args.client c.index_mut-context.result.now inside c.index_mut-context.ensures.value in
-    rw (← c.self.view_is) (other_pairs c.self.inside.contexts.items c.args.client c.add_in.new.self _ (ok ∙ ap (λ ps. with_pair ps c.args.pair) (sym at)))
+    rw (← c.self.view_is) (other_pairs c.self.inside.contexts.items c.args.client c.add.new.self _ (ok ∙ ap (λ ps. with_pair ps c.args.pair) (sym at)))

@@ -14,4 +14,4 @@ pub returns-clause-happens : goal.returns-clause-happens
 returns-clause-happens c =
     let a = asked c.dcs.ensures.setting c.self.view_is c.requires (omega (arith, c.if-dc-dcs.false, c.dcs.ensures.count)) in
     comes a c.args.version c.primary-place.result c.deliver.result c.in-Some.put.now c.node-node.result.now c.deliver.new.self (sym (ap option_copied c.in-Some.is) ∙ c.find.ensures) c.primary-place.ensures.count c.node-node.ensures.value
-    (rw (sym c.in-Ok.ensures) c.deliver.ensures.happens)
+    (rw (sym c.in-Ok.ensures.cases) c.deliver.ensures.happens)

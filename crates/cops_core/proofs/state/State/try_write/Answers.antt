@@ -1,6 +1,7 @@
 use Rattle.std.proofs.Common.{◌≡◌, [], ◌∷◌, ◌++◌, slice_set, sym, ap, ◌∙◌, true, option_copied}
 use Rattle.cops_types.specs.Histories.{with_op, write}
-use Rattle.cops_core.specs.World.{fits, sent, wrote, with_node}
+use Rattle.cops_types.specs.Format.{fits}
+use Rattle.cops_core.specs.World.{sent, wrote, with_node}
 use Rattle.cops_core.specs.contracts.state.State.{the_view}
 use Rattle.cops_core.proofs.Events.{admitted, entered, client_there, client_home, home_asked, dc_there, place_there, with_parts, writes_at, new_version}
 use Rattle.cops_core.proofs.Memory.{write_may_fail}

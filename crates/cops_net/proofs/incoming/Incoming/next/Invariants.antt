@@ -14,4 +14,4 @@ invariant-loop-message g l =
     }
 
 abbrev pub decreases-loop-message : goal.decreases-loop-message
-decreases-loop-message g l = 32772 - length l.self.feeder.rest
+decreases-loop-message g l = 131076 - length l.self.feeder.rest

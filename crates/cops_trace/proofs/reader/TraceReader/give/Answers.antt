@@ -3,9 +3,15 @@ use Rattle.std.specs.Prelude.{option_map}
 use Rattle.cops_trace.specs.Counts.{ACounts, progress_from}
 use Rattle.cops_trace.specs.Next.{format_next}
 use Rattle.cops_trace.specs.Reading.{IsWithinReach, Reading, counts_with, is_end}
+use Rattle.cops_trace.proofs.Founds.{item_turn}
 use Rattle.cops_trace.proofs.Items.{frame_most, given, stands_used}
 use Rattle.cops_trace.proofs.Underway.{reach_after, stands_too, stopped_none, within_reach}
 use Rattle.cops_trace.proofs.reader.TraceReader.give.Goals as goal
+
+pub count-requires : goal.count-requires
+count-requires c =
+    let inside = c.self.inside in
+    item_turn inside.at inside.counts inside.buffer c.args.item c.args.used (stands_too _ _ c.args.item c.args.used c.self.view_is c.requires.stands)
 
 pub overflow_add-self : goal.overflow_add-self
 overflow_add-self c =
