@@ -1,7 +1,9 @@
-"""The tests of `cops convert`: a trace of either format becomes one of format 2, and is audited and explained as before."""
+"""Tests of `cops convert`: a trace of either format becomes one of format 2, whose audit and explanation are those of the given trace."""
 import glob
 import os
 import random
+import resource
+import signal
 import subprocess
 import tempfile
 from concurrent.futures import ThreadPoolExecutor
@@ -12,6 +14,9 @@ from traces import BUILT, LIMITS, ROOT, check, cops, example, trace
 TRACES = 500
 FORMAT = 6
 
+# A text is written in pieces of at least this many bytes.
+PIECE = 262_144
+
 
 def in_format_2(data):
     """The bytes of a whole trace, with the number of format 2 in its head."""
@@ -19,19 +24,19 @@ def in_format_2(data):
 
 
 def converted(data):
-    """What `cops convert` of these bytes answers, and the new trace."""
+    """The answer of `cops convert` for these bytes, and the new trace."""
     with tempfile.NamedTemporaryFile(suffix=".trace") as file:
         answer = cops("convert", "-", file.name, stdin=data)
         return answer, file.read()
 
 
 def count_of(data):
-    """How many operations a whole trace says that it has."""
+    """The number of operations that the end of a whole trace states."""
     return int.from_bytes(data[-4:], "big")
 
 
 def examples():
-    """Each example by file, by standard input and to standard output."""
+    """Converts each example from a file, from standard input and to standard output."""
     for path in sorted(glob.glob(os.path.join(ROOT, "examples", "*.trace"))):
         name = os.path.basename(path)
         data = example(name)
@@ -48,7 +53,7 @@ def examples():
 
 
 def some_trace(seed):
-    """A small history's trace. Now and then it has a long value: in format 2 one of more bytes than format 1 allows."""
+    """The trace of a small random history. Some have long values: in format 2, values that are longer than format 1 allows."""
     number, pick = plain.format_of(seed), random.Random(seed)
     lines = plain.some_lines(seed, number)
     least = LIMITS[1].value + 1 if number == 2 else 2
@@ -56,7 +61,7 @@ def some_trace(seed):
 
 
 def random_traces():
-    """Random traces of both formats: an audit says the same before and after."""
+    """Random traces of both formats: the audits before and after give the same answer."""
     made = [some_trace(seed) for seed in range(TRACES)]
     check("traces with longer values than format 1 allows", sum(len(data) > LIMITS[1].value and data[FORMAT] == 2 for data in made) > 20, True)
     with ThreadPoolExecutor(os.cpu_count() or 2) as pool:
@@ -68,7 +73,8 @@ def random_traces():
 
 
 def faulty():
-    """What is no trace is told by the line of an audit, and leaves the file of the new trace as it was, or none where there was none."""
+    """Bytes that are not a trace get the line of an audit. An existing file for the new trace stays unchanged, and a file that does not exist is not
+    created."""
     two, old = example("put_and_get.trace"), b"what was there\n"
     faults = [("no bytes", b""), ("a byte more", two + b"\0"), ("no head", two[9:]), ("format 3", two[:FORMAT] + b"\3" + two[FORMAT + 1 :])]
     for name, data in [*faults, *((f"the first {count} bytes", two[:count]) for count in range(len(two)))]:
@@ -85,7 +91,7 @@ def faulty():
 
 
 def devices():
-    """Files that are not there, or cannot be read or written, and too little memory."""
+    """Files that do not exist, or cannot be read or written, and too little memory."""
     path = os.path.join(ROOT, "examples", "stale.trace")
     check("convert of no file", cops("convert", "/nothing/there", "/dev/null"), (4, b"", b"failed: open\n"))
     check("convert to no folder", cops("convert", path, "/nothing/there"), (4, b"", b"failed: open\n"))
@@ -96,7 +102,7 @@ def devices():
         check("convert to standard output that is full", cops("convert", path, "-", stdout=full), (4, None, b"failed: write\n"))
     value = "v" * 4000
     large = trace(["clients 1"] + [f"0 put k{i} {value} {i + 1}.0" for i in range(5000)])
-    for megabytes in (16, 32, 48):
+    for megabytes in (8, 16, 20):
         with tempfile.TemporaryDirectory() as folder:
             new = os.path.join(folder, "new")
             check(f"convert in {megabytes} MB", cops("convert", "-", new, stdin=large, limit=megabytes << 20), (3, b"", b"failed: memory\n"))
@@ -104,10 +110,26 @@ def devices():
     with tempfile.NamedTemporaryFile() as file:
         check("convert of a large trace", cops("convert", "-", file.name, stdin=large, limit=256 << 20), (0, b"converted: 5000 operations\n", b""))
         check("the large trace", file.read() == in_format_2(large), True)
+    cut_short(large)
+
+
+def cut_short(data):
+    """A file that cannot grow beyond a number of bytes has exactly these first bytes of the new trace, in whichever piece of the text the write failed."""
+    wanted = in_format_2(data)
+    for most in (0, 1, PIECE - 1, PIECE, PIECE + 1, 3 * PIECE, len(wanted) - 10, len(wanted) - 1):
+
+        def limited():
+            signal.signal(signal.SIGXFSZ, signal.SIG_IGN)
+            resource.setrlimit(resource.RLIMIT_FSIZE, (most, most))
+
+        with tempfile.NamedTemporaryFile() as file:
+            ran = subprocess.run([BUILT, "convert", "-", file.name], input=data, stdout=subprocess.PIPE, stderr=subprocess.PIPE, preexec_fn=limited)
+            answer = ran.returncode, ran.stdout, ran.stderr, file.read() == wanted[:most]
+        check(f"convert to a file of at most {most} bytes", answer, (4, b"", b"failed: write\n", True))
 
 
 def words():
-    """Both names have to be there, and no more. What looks like JSON Lines is told so."""
+    """Both names are required, and no more are allowed. Input that looks like JSON Lines is reported as such."""
     path = os.path.join(ROOT, "examples", "empty.trace")
     for given in (["convert"], ["convert", path], ["convert", path, "-", "more"], ["convert", "--format", "2", path, "-"]):
         status, out, err = cops(*given)

@@ -1,4 +1,4 @@
--- What a writer gained before it was flushed, it holds afterwards.
+-- A writer holds what it gained before it was flushed.
 use Rattle.std.proofs.Common.{◌≡◌, ℕ, Bool, true, false, List, Option, None, Some, Result, Ok, Err, refl, subst, sym, ◌∙◌}
 use Rattle.std.specs.Global.{Vec}
 use Rattle.std.specs.Prelude.{IfOk, IfSome}
@@ -20,7 +20,7 @@ kept_text (Some xs) None new bs gained kept = absurd gained
 kept_text (Some xs) (Some ys) None bs gained kept = absurd kept
 kept_text (Some xs) (Some ys) (Some zs) bs gained kept = kept ∙ gained
 
--- an import whose trace was flushed, and of which this was printed
+-- an import whose trace was flushed and whose report was printed
 pub imported : (known : Option (List ℕ)) (names : List (List ℕ)) (operations : ℕ) (made_old mid made_new old new : Option (List ℕ))
     → IfSome known (λ bytes. IsImport bytes made_old mid names operations) → Keeps mid made_new → Appends old new (told_text names operations)
     → IfSome known (λ bytes. Imports bytes made_old made_new old new)
@@ -39,19 +39,19 @@ imported (Some bytes) names operations made_old mid made_new old new is_import k
   printed = printed;
 }
 
--- bytes that are no trace's text, where nothing is made
+-- bytes that are no trace's text, for a job that makes nothing
 pub explained : (known : Option (List ℕ)) (made_old made_new : Option (List ℕ)) → IfSome known TellsNoTrace → made_new ≡ made_old
     → IfSome known (λ bytes. TellsNoTrace bytes × (made_new ≡ made_old))
 explained None made_old made_new none same = tt
 explained (Some bytes) made_old made_new none same = (none, same)
 
--- what was drawn is what the picture says
+-- what was drawn is the picture
 draws : (is_drawn : Bool) (asked : Selection) (bytes : List ℕ) (picture : Option (Vec ℕ)) (made_old made_new : Option (List ℕ)) → (is_drawn ≡ true → PictureSays asked bytes picture)
     → Gains is_drawn picture made_old made_new → Draws is_drawn asked bytes made_old made_new
 draws false asked bytes picture made_old made_new says gains = gains
 draws true asked bytes picture made_old made_new says gains = (picture, says refl, gains)
 
--- what is explained of the bytes with this answer
+-- the explanation of the bytes with this answer
 pub explains : (known : Option (List ℕ)) (is_drawn : Bool) (asked : Selection) (given : Answer) (result : Result Explained StreamFault) (made_old made_new old new : Option (List ℕ))
     → HasAnswered is_drawn given result made_old made_new
     → IfOk result (λ e. IfSome known (λ bytes. WritesExplained asked bytes e.answer old new))
@@ -64,7 +64,7 @@ explains (Some bytes) is_drawn asked given (Ok e) made_old made_new old new has 
 )
 explains (Some bytes) is_drawn asked given (Err fault) made_old made_new old new has writes says = absurd has
 
--- and where that is Accepted the history is causally convergent
+-- and where the answer is Accepted the history is causally convergent
 pub explains_accepted : (known : Option (List ℕ)) (is_drawn : Bool) (asked : Selection) (result : Result Explained StreamFault) (made_old made_new old new : Option (List ℕ))
     → HasAnswered is_drawn answer.Accepted result made_old made_new
     → IfOk result (λ e. IfSome known (λ bytes. WritesExplained asked bytes e.answer old new))

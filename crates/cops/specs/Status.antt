@@ -1,5 +1,5 @@
--- The statuses that the program ends with, and what they say of the input and of what the writers hold before and afterwards: `made` is what
--- the writer of a trace or a picture holds, and the others what was printed.
+-- The statuses with which the program ends, and what they say about the input and about what the writers hold before and afterwards: `made` is what
+-- the writer of a trace or a picture holds, and the others are what was printed.
 use Rattle.std.specs.Prelude.{◌≡◌, ◌≢◌, ◌≤◌, ℕ, Bool, true, false, List, [], Option, Some, None, Result, Ok, Err}
 use Rattle.std.specs.Global.{Vec}
 use Rattle.std.specs.Io.KnownBytes.{Appends, Keeps}
@@ -43,57 +43,56 @@ use Rattle.cops_serve.specs.Serving.{IsServed}
 abbrev pub TellsTrace : List ℕ → Type 0
 TellsTrace bytes = (t : ATrace) × Says bytes (Ok t)
 
--- the bytes are no trace's text, by the fault that is said
+-- the bytes are no trace's text, because of a fault
 abbrev pub TellsNoTrace : List ℕ → Type 0
 TellsNoTrace bytes = (e : TraceFault) × Says bytes (Err e)
 
--- they are none by a fault that is no cut
+-- the bytes are no trace's text, because of a fault that is no cut
 abbrev pub TellsOtherFault : List ℕ → Type 0
 TellsOtherFault bytes = (e : TraceFault) × ((offset : ℕ) → e ≢ Cut offset) × Says bytes (Err e)
 
--- the bytes of a picture, and none where there is none
+-- the bytes of a picture, none where there is no picture
 abbrev pub drawn_text : Option (Vec ℕ) → List ℕ
 drawn_text None = []
 drawn_text (Some picture) = picture.items
 
--- where a picture is to be drawn its writer gained that of the fault that is asked for, which is none where there is no such fault; else it
--- holds what it held
+-- where a picture is asked for its writer gained the picture of the fault that is asked for, which is nothing where there is no such fault; otherwise
+-- it holds what it held
 abbrev pub Draws : Bool → Selection → List ℕ → Option (List ℕ) → Option (List ℕ) → Type 0
 Draws false asked bytes made_old made_new = Keeps made_old made_new
 Draws true asked bytes made_old made_new = (picture : Option (Vec ℕ)) × PictureSays asked bytes picture × Appends made_old made_new (drawn_text picture)
 
--- the writer of a picture gained it where it is to be drawn, and else holds what it held
+-- the writer of a picture gained it where it is asked for, and otherwise holds what it held
 abbrev pub Gains : Bool → Option (Vec ℕ) → Option (List ℕ) → Option (List ℕ) → Type 0
 Gains false picture made_old made_new = Keeps made_old made_new
 Gains true picture made_old made_new = Appends made_old made_new (drawn_text picture)
 
--- an explanation has this answer, and the writer of its picture gained that
+-- an explanation has this answer, and the writer of its picture gained that picture
 abbrev pub HasAnswered : Bool → Answer → Result Explained StreamFault → Option (List ℕ) → Option (List ℕ) → Type 0
 HasAnswered is_drawn answer (Ok explained) made_old made_new = (explained.answer ≡ answer) × Gains is_drawn explained.picture made_old made_new
 HasAnswered is_drawn answer (Err fault) made_old made_new = ⊥
 
--- it is one of what is no trace, or was asked for with a number of workers that is none
+-- the explanation is of bytes that are no trace, or was asked for with a wrong number of workers
 abbrev pub IsFaultyAnswer : Result Explained StreamFault → Type 0
 IsFaultyAnswer (Ok explained) = explained.answer ≡ answer.Faulty
 IsFaultyAnswer (Err fault) = fault ≡ BadWorkers
 
--- what is explained of the bytes was printed, and drawn where that is asked
+-- the explanation of the bytes was printed, and the picture drawn where it is asked for
 abbrev pub Explains : Bool → Selection → List ℕ → Answer → Option (List ℕ) → Option (List ℕ) → Option (List ℕ) → Option (List ℕ) → Type 0
 Explains is_drawn asked bytes answer made_old made_new old new = WritesExplained asked bytes answer old new × Draws is_drawn asked bytes made_old made_new
 
--- the lines of the bytes tell one trace, whose text its writer gained, and the names of its clients were printed
+-- the lines of the bytes decode to one trace, whose text its writer gained, and the names of its clients were printed
 pub record Imports (bytes : List ℕ) (made_old made_new old new : Option (List ℕ)) : Type 0 where
   pub names : List (List ℕ)
   pub operations : ℕ
   pub is_import : IsImport bytes made_old made_new names operations
   pub printed : Appends old new (told_text names operations)
 
--- the line of a line that is wrong was printed
+-- the report of a line that is wrong was printed
 abbrev pub PrintsLine : ImportFault → Option (List ℕ) → Option (List ℕ) → Type 0
 PrintsLine e old new = (line : ℕ) × (fault : LineFault) × (e ≡ Line line fault) × Appends old new (faulty_line line fault)
 
--- a line of the bytes is wrong, and none before it, which was printed; the writer of the trace gained some first bytes of a trace's text, fewer
--- than all
+-- the report of the first line of the bytes that is wrong was printed; the writer of the trace gained a proper prefix of a trace's text
 pub record StopsAtLine (bytes : List ℕ) (made_old made_new old new : Option (List ℕ)) : Type 0 where
   pub line : ℕ
   pub fault : LineFault
@@ -102,19 +101,19 @@ pub record StopsAtLine (bytes : List ℕ) (made_old made_new old new : Option (L
   pub written : ℕ
   pub cut : IsCutShort made_old made_new written
 
--- the bytes are a trace's text, its writer gained that of the same in format 2, and how many operations it has was printed
+-- the bytes are a trace's text, its writer gained that of the same trace in format 2, and how many operations it has was printed
 abbrev pub HasConverted : List ℕ → Option (List ℕ) → Option (List ℕ) → Option (List ℕ) → Option (List ℕ) → Type 0
 HasConverted bytes made_old made_new old new = (count : ℕ) × ConvertsAlike bytes count made_old made_new × Appends old new (converted_line count)
 
--- they are none, by the fault whose line was printed, and its writer holds what it held
+-- the bytes are no trace's text, the line of their fault was printed, and the writer of the trace holds what it held
 abbrev pub IsUnconverted : List ℕ → Option (List ℕ) → Option (List ℕ) → Option (List ℕ) → Option (List ℕ) → Type 0
 IsUnconverted bytes made_old made_new old new = (e : TraceFault) × Says bytes (Err e) × Keeps made_old made_new × Appends old new (fault_line e)
 
--- the bytes tell a scenario, and a report on so many sessions of clients of its world, which is accepted, was printed
+-- the bytes decode to a scenario, and a report on this number of sessions of clients of its world, which is accepted, was printed
 abbrev pub HasServed : ℕ → List ℕ → Option (List ℕ) → Option (List ℕ) → Type 0
 HasServed sessions bytes old new = (s : AScenario) × IsTextOf bytes s × ((text : List ℕ) × IsServed sessions s text × Appends old new text)
 
--- What is so where a job ends as accepted: of its input, and of what the writers gained. What makes nothing leaves the writer for it as it was.
+-- What holds where a job ends as accepted, for its input and for what the writers gained. A job that makes nothing leaves `made` as it was.
 abbrev pub EndsWell : Job → List ℕ → Option (List ℕ) → Option (List ℕ) → Option (List ℕ) → Option (List ℕ) → Type 0
 EndsWell (Audit trace workers) bytes made_old made_new old new = SpellsConvergent bytes × Writes bytes answer.Accepted old new × (made_new ≡ made_old)
 EndsWell (SoFar trace) bytes made_old made_new old new = IsSoundSoFar bytes × WritesSoFar bytes answer.Accepted old new × (made_new ≡ made_old)
@@ -126,7 +125,7 @@ EndsWell (Convert trace made) bytes made_old made_new old new = HasConverted byt
 EndsWell (Run scenario trace) bytes made_old made_new old new = HasRun bytes made_old made_new old new
 EndsWell (Serve port scenario sessions idle) bytes made_old made_new old new = HasServed sessions bytes old new × (made_new ≡ made_old)
 
--- what is so where it ends as refused, as audits and explanations alone do
+-- what holds where a job ends as refused, which only audits and explanations do
 abbrev pub EndsRefused : Job → List ℕ → Option (List ℕ) → Option (List ℕ) → Option (List ℕ) → Option (List ℕ) → Type 0
 EndsRefused (Audit trace workers) bytes made_old made_new old new = Writes bytes answer.Refused old new × (made_new ≡ made_old)
 EndsRefused (SoFar trace) bytes made_old made_new old new = WritesSoFar bytes answer.Refused old new × (made_new ≡ made_old)
@@ -134,8 +133,8 @@ EndsRefused (Explain trace faults picture) bytes made_old made_new old new =
     Explains (is_some picture) faults bytes answer.Refused made_old made_new old new
 EndsRefused job bytes made_old made_new old new = ⊥
 
--- What is so where it ends as faulty: the bytes are no trace's text, or no scenario's, or a line of them is wrong; a cut is no fault of what is
--- asked so far. No trace is whole.
+-- What holds where a job ends as faulty: the bytes are no trace's text, or no scenario's, or one of their lines is wrong; a cut is no fault for a
+-- verdict so far. No trace is written whole.
 abbrev pub EndsFaulty : Job → List ℕ → Option (List ℕ) → Option (List ℕ) → Option (List ℕ) → Option (List ℕ) → Type 0
 EndsFaulty (Audit trace workers) bytes made_old made_new old new = TellsNoTrace bytes × Writes bytes answer.Faulty old new × (made_new ≡ made_old)
 EndsFaulty (SoFar trace) bytes made_old made_new old new = TellsOtherFault bytes × WritesSoFar bytes answer.Faulty old new × (made_new ≡ made_old)
@@ -147,7 +146,7 @@ EndsFaulty (Convert trace made) bytes made_old made_new old new = IsUnconverted 
 EndsFaulty (Run scenario trace) bytes made_old made_new old new = TellsNone bytes × Keeps made_old made_new
 EndsFaulty (Serve port scenario sessions idle) bytes made_old made_new old new = TellsNone bytes × (made_new ≡ made_old)
 
--- the workers of an audit are as many as there may be
+-- the number of workers of an audit is allowed
 abbrev pub MayWork : Job → Type 0
 MayWork (Audit trace workers) = (1 ≤ workers) × (workers ≤ MAX_WORKERS)
 MayWork job = Unit {0}

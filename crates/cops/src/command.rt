@@ -1,4 +1,4 @@
-//! The commands over readers and writers, whatever these stand for: a contract says of each what the writers gained.
+//! The commands over any readers and writers. The contract of each says what the writers gained.
 ghost use Rattle.std.specs.Prelude.{◌≡◌, ◌≢◌, ◌≤◌, ◌⊎◌, ◌++◌, [], ℕ, true, IfSome, Ok, Err};
 ghost use Rattle.std.specs.Io.KnownBytes.{Appends, Keeps};
 ghost use Rattle.cops_types.specs.declared.limits.TheConstants.{MAX_WORKERS};
@@ -41,7 +41,7 @@ const NO_MEMORY: &[u8] = b"failed: memory\n";
 /// The line for a picture that was asked for where there is no such fault.
 const NOT_DRAWN: &[u8] = b"nothing was drawn: there is no such fault\n";
 
-/// The writers of a command: of the trace or the picture that it makes, of what it prints, and of why it failed.
+/// The writers of a command: for the trace or the picture that it makes, for what it prints, and for why it failed.
 #[derive(Drop)]
 pub struct Outputs<T, W, E> {
     pub made: Counted<T>,
@@ -56,7 +56,8 @@ pub struct Ended<T, W, E> {
     pub outputs: Outputs<T, W, E>,
 }
 
-/// Does a job over its input, of which an earlier reading named so many clients where it is an import's.
+/// Runs a job over its input. For an import, `clients` is the number of clients that an earlier reading of the input
+/// counted.
 #[tactic(auto, using(crate::proofs::Kept::explained))]
 pub fn command<R, I, T, W, E>(
     rt: &R,
@@ -100,7 +101,7 @@ where
     }
 }
 
-/// Prints why the command failed, and gives the status.
+/// Prints why the command failed, and returns the status.
 fn failed<E: Write>(errors: &mut Counted<E>, why: &[u8], status: Status) -> u8
     ensures { result ≡ number status }
 {
@@ -108,7 +109,7 @@ fn failed<E: Write>(errors: &mut Counted<E>, why: &[u8], status: Status) -> u8
     status.number()
 }
 
-/// The status of a command that gives one, unless memory ran out.
+/// The status that a command returned, or that of out of memory, which is reported by a line.
 fn status_of<E: Write>(errors: &mut Counted<E>, status: Result<u8, Memory>) -> u8
     ensures { (status ≡ Ok result) ⊎ (result ≡ number NoMemory) }
 {
@@ -118,7 +119,7 @@ fn status_of<E: Write>(errors: &mut Counted<E>, status: Result<u8, Memory>) -> u
     }
 }
 
-/// The status that an audit ends with; a line says why there is no answer.
+/// The status with which an audit ends. Where there is no answer, a line reports why.
 fn audit_status<E: Write>(errors: &mut Counted<E>, audited: Result<Answer, StreamFault>) -> u8
     ensures accepted { result ≡ number Accepted → audited ≡ Ok Answer.Accepted }
     ensures refused { result ≡ number Refused → audited ≡ Ok Answer.Refused }
@@ -134,8 +135,8 @@ fn audit_status<E: Write>(errors: &mut Counted<E>, audited: Result<Answer, Strea
     }
 }
 
-/// Audits the input by so many workers: accepted only where the bytes spell one history, and it is causally convergent.
-/// What is printed is what the audit says of the bytes, and nothing is made.
+/// Audits the input by `workers` workers: accepted only where the bytes decode to one history, and it is causally
+/// convergent. It prints what the audit says of the bytes, and makes nothing.
 fn audit<R, I, T, W, E>(
     rt: &R,
     workers: u8,
@@ -168,8 +169,8 @@ where
     }
 }
 
-/// Audits the input, which may be cut: accepted only where the bytes spell one history, and it is causally convergent,
-/// or where they are cut after records without a lasting fault.
+/// Audits the input, which may be cut: accepted only where the bytes decode to one history, and it is causally
+/// convergent, or where they are cut after records without a lasting fault.
 fn so_far<I, T, W, E>(
     alloc: Global,
     input: &mut Counted<I>,
@@ -200,8 +201,8 @@ where
     }
 }
 
-/// Explains the faults of the input that are asked for, and draws the one of them, or the first, where it is to be
-/// drawn. The status is that of an audit, unless the picture could not be written.
+/// Explains the faults of the input that are asked for, and draws the one of them, or the first, where a picture is
+/// asked for. The status is that of an audit, unless the picture could not be written.
 fn explain<I, T, W, E>(
     alloc: Global,
     faults: Selection,
@@ -234,7 +235,8 @@ where
     }
 }
 
-/// The status of an explanation, whose picture is written where it is to be drawn: of what is no trace there is none.
+/// The status of an explanation. The picture is written where one is asked for; for bytes that are no trace there is
+/// none.
 fn explained_status<T, E>(
     explained: Result<Explained, StreamFault>,
     is_drawn: bool,
@@ -258,7 +260,7 @@ where
     }
 }
 
-/// Writes the picture, or says that there is none, of which the file is left empty, and gives the status of the answer.
+/// Writes the picture, or says that there is none and leaves the file empty, and returns the status of the answer.
 fn drawn<T, E>(
     answer: Answer,
     picture: Option<Vec<u8>>,
@@ -283,7 +285,7 @@ where
     answer.status().number()
 }
 
-/// Shows the input: accepted only of a trace's text. What is printed are the lines of its frames, and of its fault.
+/// Shows the input: accepted only for a trace's text. It prints the lines of its frames, and of its fault.
 fn show<I, T, W, E>(
     alloc: Global,
     input: &mut Counted<I>,
@@ -313,8 +315,8 @@ where
     }
 }
 
-/// Imports the lines of the input, of which an earlier reading named so many clients: accepted only of lines that tell a
-/// trace, whose text went out before it was flushed.
+/// Imports the lines of the input, in which an earlier reading counted `clients` clients: accepted only for lines that
+/// decode to a trace, whose text was written before it was flushed.
 #[tactic(auto, using(crate::proofs::Kept::imported))]
 fn import<I, T, W, E>(
     alloc: Global,
@@ -353,8 +355,8 @@ where
     }
 }
 
-/// Prints what was imported, once its trace is flushed, and gives the status and the trace's writer. The text is made
-/// first: where memory runs out nothing is flushed.
+/// Prints what was imported, after its trace is flushed, and returns the status and the trace's writer. The text is
+/// built first: where memory runs out nothing is flushed.
 fn told<T, W, E>(
     alloc: Global,
     imported: Imported<T>,
@@ -382,8 +384,8 @@ where
     (status, writer)
 }
 
-/// Prints why nothing was imported, where a write failed the line that says why, and gives the status: faulty only of a
-/// line that is wrong.
+/// Prints why nothing was imported, and returns the status: faulty only for a line that is wrong. Where a write failed,
+/// it prints the line that says why.
 pub fn not_imported<W, E>(
     alloc: Global,
     fault: ImportFault,
@@ -407,7 +409,7 @@ where
     }
 }
 
-/// Prints the line of a line that is wrong, and gives the status.
+/// Prints the report of a line that is wrong, and returns the status.
 fn faulty<W, E>(
     alloc: Global,
     number: u64,
@@ -427,8 +429,8 @@ where
     }
 }
 
-/// Converts the input to a trace of format 2: accepted only of a trace's text, where that of the new one went out, and how
-/// many operations it has was printed.
+/// Converts the input to a trace of format 2: accepted only for a trace's text, where the text of the new trace was
+/// written, and how many operations it has was printed.
 fn convert<I, T, W, E>(
     alloc: Global,
     input: &mut Counted<I>,
@@ -458,7 +460,7 @@ where
     }
 }
 
-/// Prints how many operations were converted, or the line of the fault, and gives the status.
+/// Prints how many operations were converted, or the line of the fault, and returns the status.
 fn converted_status<W, E>(
     alloc: Global,
     converted: Result<u32, ConvertFault>,
@@ -481,7 +483,7 @@ where
     }
 }
 
-/// Prints how many operations were converted, and gives the status.
+/// Prints how many operations were converted, and returns the status.
 fn counted<W, E>(alloc: Global, count: u32, out: &mut Counted<W>, errors: &mut Counted<E>) -> u8
 where
     W: Write,
@@ -495,7 +497,7 @@ where
     }
 }
 
-/// Prints the line of what is no trace, and gives the status.
+/// Prints the line of bytes that are no trace, and returns the status.
 fn no_trace<W, E>(
     alloc: Global,
     fault: TraceFault,
@@ -515,8 +517,8 @@ where
     }
 }
 
-/// Runs the scenario that the input holds: accepted only of a scenario with a run whose history is accepted, where the
-/// trace of the run went out, and what tells it was printed.
+/// Runs the scenario in the input: accepted only for a scenario with a run whose history is accepted, where the trace
+/// of the run was written, and its outcome was printed.
 fn run_scenario<R, I, T, W, E>(
     rt: &R,
     input: &mut Counted<I>,
@@ -552,9 +554,9 @@ where
     }
 }
 
-/// Serves on a port so many sessions of clients of the cluster of the scenario that the input holds, each of which may
-/// be idle for so many seconds, where they are given: accepted only of a scenario with a report on so many sessions,
-/// whose history is accepted, and which was printed.
+/// Serves on a port `sessions` sessions of clients of the cluster of the scenario in the input. A client may be idle
+/// for `idle` seconds, if a number is given. The status is accepted only for a scenario with a report on this number of
+/// sessions, whose history is accepted, and which was printed.
 fn serve<R, I, T, W, E>(
     rt: &R,
     port: u16,

@@ -1,23 +1,24 @@
-//! What the commands read: a file, or standard input. No clause speaks of what a file has.
+//! The input of a command: a file, or standard input. No clause says what a file contains.
 use std::fs::{File, Metadata};
 use std::io::{Input, Read};
 use std::os::unix::fs::MetadataExt;
 use std::rt::Files;
 use std::{fs, io};
 
-/// The file that is open as standard input, and the one that is open as standard output.
+/// The path of the file that is open as standard input.
 const STANDARD_INPUT: &str = "/proc/self/fd/0";
 
+/// The path of the file that is open as standard output.
 const STANDARD_OUTPUT: &str = "/proc/self/fd/1";
 
-/// Which file a plain file is, by whatever name it was opened.
+/// The identity of a plain file, whatever name it was opened by.
 #[derive(Clone, Copy, Debug, PartialEq, Eq)]
 pub struct Plain {
     device: u64,
     inode: u64,
 }
 
-/// Which file it is, if it is a plain one: of what is written to a pipe, a terminal or a device nothing is lost.
+/// The identity of a file, if it is a plain one. Nothing is lost by writing to a pipe, a terminal or a device.
 pub fn plain_file(metadata: io::Result<Metadata>) -> Option<Plain> {
     match metadata {
         Ok(metadata) if metadata.is_file() => Some(Plain {
@@ -28,7 +29,7 @@ pub fn plain_file(metadata: io::Result<Metadata>) -> Option<Plain> {
     }
 }
 
-/// Which file standard output is, if it is a plain one.
+/// The identity of standard output, if it is a plain file.
 pub fn plain_output<R: Files>(rt: &R) -> Option<Plain> {
     plain_file(fs::metadata(rt, STANDARD_OUTPUT))
 }
@@ -41,7 +42,7 @@ pub enum Source<S> {
 }
 
 impl<S: Read> Source<S> {
-    /// The file of that name, or standard input where that is `-`.
+    /// Opens the file with this name, or standard input where the name is `-`.
     pub fn open<R>(rt: &R, name: &str) -> io::Result<Source<S>>
     where
         R: Files<File = File> + Input<Reader = S>,
@@ -53,7 +54,7 @@ impl<S: Read> Source<S> {
         Ok(Source::File(file))
     }
 
-    /// Which file it is, if it is a plain one.
+    /// The identity of the input, if it is a plain file.
     pub fn plain<R: Files>(&self, rt: &R) -> Option<Plain> {
         match self {
             Source::File(file) => plain_file(file.metadata()),

@@ -1,5 +1,5 @@
-//! The lines of an import as a file that can be read twice: the one that has their name, or a copy of what comes by
-//! standard input or by a pipe. No clause speaks of what a file has.
+//! The lines of an import as a file that can be read twice: the file with their name, or a copy of what is read from
+//! standard input or a pipe. No clause says what a file contains.
 use cops_command::Status;
 use std::fs::{File, OpenOptions};
 use std::io::{ErrorKind, Read, Seek, Write};
@@ -7,16 +7,16 @@ use std::os::unix::fs::OpenOptionsExt;
 use std::rt::{Env, Files};
 use std::{env, fs, io};
 
-/// How the name of a copy, or of a draft, begins; behind it stands the number of the process.
+/// How the name of a copy, or of a draft, begins; it ends with the number of the process.
 const COPY: &str = "cops-lines-";
 
-/// Its owner alone may read and write a copy.
+/// The mode of a copy, which only its owner may read and write.
 const MODE: u32 = 0o600;
 
-/// How many bytes are asked for in one read.
+/// How many bytes a read asks for.
 const PIECE: usize = 65_536;
 
-/// The most reads.
+/// The greatest number of reads.
 const READS: u64 = 1 << 40;
 
 /// Why there is no such file.
@@ -24,18 +24,18 @@ const READS: u64 = 1 << 40;
 pub enum NoLines {
     /// Memory ran out.
     Memory,
-    /// The copy could not be made.
+    /// The copy could not be created.
     Create,
-    /// What is to be copied could not be read, or the file could not be read again.
+    /// The input of the copy could not be read, or the file could not be read again.
     Read,
     /// The copy could not be written.
     Copy,
-    /// What is to be copied did not end within 2^40 reads.
+    /// The input of the copy did not end within 2^40 reads.
     Endless,
 }
 
 impl NoLines {
-    /// The word that says it.
+    /// The word for the fault in the program's message.
     pub fn word(self) -> &'static str {
         match self {
             NoLines::Memory => "memory",
@@ -46,7 +46,7 @@ impl NoLines {
         }
     }
 
-    /// The status that it ends the program with.
+    /// The status with which the fault ends the program.
     pub fn status(self) -> Status {
         match self {
             NoLines::Memory => Status::NoMemory,
@@ -55,7 +55,7 @@ impl NoLines {
     }
 }
 
-/// Why nothing was created: memory, where an allocation failed.
+/// The fault for a file that was not created: `Memory`, where an allocation failed, and otherwise `Create`.
 fn not_created(fault: io::Error) -> NoLines {
     match fault.kind() {
         ErrorKind::OutOfMemory => NoLines::Memory,
@@ -71,7 +71,7 @@ pub fn is_plain(file: &File) -> bool {
     }
 }
 
-/// At its beginning again.
+/// The file at its beginning again. The error is `Read`, where that fails.
 pub fn rewound(mut file: File) -> Result<File, NoLines> {
     match file.rewind() {
         Ok(()) => Ok(file),
@@ -79,7 +79,8 @@ pub fn rewound(mut file: File) -> Result<File, NoLines> {
     }
 }
 
-/// A copy of all that comes, at its beginning.
+/// A copy of all that is read, at its beginning. The errors: those of `created`, `Read` where a read fails or the copy
+/// cannot be read again, `Copy` where a write fails, and `Endless` where the input does not end within 2^40 reads.
 pub fn copied<R, I>(rt: &R, input: &mut I, process: u32) -> Result<File, NoLines>
 where
     R: Files<File = File> + Env + AllocGlobal,
@@ -101,8 +102,9 @@ where
     Err(NoLines::Endless)
 }
 
-/// An empty file without a name, in the folder that TMPDIR names, or else in `/tmp`: it is made anew, its name is
-/// removed while it is open, and so the system lets go of it however the program ends.
+/// An empty file without a name, in the folder that TMPDIR names, or otherwise in `/tmp`. It is created with a new
+/// name, which is removed while it is open, so that the system deletes the file however the program ends. The errors:
+/// `Memory` where an allocation fails, and `Create` where the file cannot be created or its name not be removed.
 pub fn created<R>(rt: &R, process: u32) -> Result<File, NoLines>
 where
     R: Files<File = File> + Env + AllocGlobal,

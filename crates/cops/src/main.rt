@@ -1,5 +1,5 @@
 //! The program `cops`: it reads the words of the command line, opens what they name, inputs before outputs, runs the
-//! command over that, and ends with the command's status: 0 accepted, 1 refused, 2 faulty input or usage, 3 out of
+//! command over it, and ends with the command's status: 0 accepted, 1 refused, 2 faulty input or usage, 3 out of
 //! memory, 4 a device's fault.
 #![tactic(auto)]
 
@@ -32,16 +32,16 @@ use std::thread::Threads;
 use std::time::{Clock, Instant};
 use std::{env, fs, io, process};
 
-/// What is said where a command would write to the file that it reads.
+/// The message where a command would write to the file that it reads.
 const SAME_FILE: &str = "same file";
 
-/// What is said of an input that is no trace and begins as JSON Lines do.
+/// The message for an input that is no trace and begins like JSON Lines.
 const LOOKS_LIKE_LINES: &str = "this looks like JSON Lines, which `cops import` reads";
 
-/// What is said where there are no words, and standard input is a terminal.
+/// The message where there are no words and standard input is a terminal.
 const WAITS: &str = "waiting for a trace on standard input";
 
-/// Prints why the program failed, and gives the status.
+/// Prints why the program failed, and returns the status.
 fn failed<R: Eprint>(rt: &R, why: &str, status: Status) -> u8
     ensures { result ≡ number status }
 {
@@ -49,7 +49,8 @@ fn failed<R: Eprint>(rt: &R, why: &str, status: Status) -> u8
     status.number()
 }
 
-/// What a job makes a trace or a picture in, as it was opened: nothing, standard output, or a file with its name.
+/// Where a job writes the trace or the picture that it makes, as it was opened: nowhere, standard output, or a file
+/// with its name.
 #[derive(Drop)]
 enum Target<'a> {
     Nothing,
@@ -58,7 +59,7 @@ enum Target<'a> {
 }
 
 impl<'a> Target<'a> {
-    /// Nothing for no name, and standard output for `-`.
+    /// Opens the target: `Nothing` for no name, and standard output for `-`.
     fn open<R: Files<File = File>>(rt: &R, name: Option<&'a str>) -> io::Result<Target<'a>> {
         match name {
             None => Ok(Target::Nothing),
@@ -71,21 +72,21 @@ impl<'a> Target<'a> {
     }
 }
 
-/// Removes the file of that name, if it was made for what never came.
+/// Removes the file with this name, if it was created and nothing was written to it.
 fn close<R: Files>(rt: &R, name: &str, file: Renewed) {
     if file.is_idle() {
         let _ = fs::remove_file(rt, name);
     }
 }
 
-/// Lets go of a target that nothing was made in.
+/// Drops a target to which nothing was written.
 fn give_up<R: Files>(rt: &R, target: Target<'_>) {
     if let Target::File(name, file) = target {
         close(rt, name, file);
     }
 }
 
-/// Lets go of what a job wrote.
+/// Drops the writer of what a job made.
 fn close_made<R: Files + Print>(rt: &R, name: Option<&str>, made: Made<'_, R>) {
     match (name, made) {
         (Some(name), Made::File(file)) => close(rt, name, file),
@@ -108,7 +109,7 @@ fn input_of<'a>(job: Job<'a>) -> &'a str {
     }
 }
 
-/// The name of what the job makes, where it makes something.
+/// The name of what the job makes, if it makes something.
 fn output_of<'a>(job: Job<'a>) -> Option<&'a str> {
     match job {
         Job::Explain { picture, .. } => picture,
@@ -119,7 +120,7 @@ fn output_of<'a>(job: Job<'a>) -> Option<&'a str> {
     }
 }
 
-/// Whether standard output or the target is the file that is read: to write there would destroy what is in it.
+/// Whether standard output or the target is the file that is read: writing to it would destroy its content.
 fn is_over_input<R, S>(rt: &R, source: &Source<S>, target: &Target<'_>) -> bool
 where
     R: Files,
@@ -135,7 +136,7 @@ where
     made == Some(input) || plain_output(rt) == Some(input)
 }
 
-/// The writers of a command. What is printed goes to standard error where what is made goes to standard output.
+/// The writers of a command. What it prints goes to standard error where what it makes goes to standard output.
 fn outputs<'r, R, E>(
     rt: &'r R,
     made: Made<'r, R>,
@@ -157,7 +158,7 @@ where
     }
 }
 
-/// Runs the job over what it names, once that is open.
+/// Opens what the job names, and runs the job.
 fn perform<R, E>(rt: &R, job: Job<'_>, errors: E, process: u32) -> u8
 where
     R: Files<File = File> + Input + Print + Eprint + AllocGlobal + Env,
@@ -184,8 +185,8 @@ where
     }
 }
 
-/// What a job that is no import makes something in. The file of a run is empty before its scenario is read; that of a
-/// picture stays as it is until there is something to take its place.
+/// The writer for what a job that is no import makes. The file of a run is emptied before its scenario is read; that of
+/// a picture keeps its content until there is something to replace it.
 fn made_at_once<'r, R>(rt: &'r R, job: Job<'_>, target: Target<'_>) -> io::Result<Made<'r, R>>
 where
     R: Print,
@@ -234,7 +235,7 @@ where
     status
 }
 
-/// Runs an import, whose lines are read twice: first their clients are counted.
+/// Runs an import. Its lines are read twice: first to count their clients.
 fn perform_import<R, S, E>(
     rt: &R,
     job: Job<'_>,
@@ -276,7 +277,7 @@ where
     status
 }
 
-/// How many clients the lines name, and the lines as a file that is at its beginning again.
+/// The number of clients that the lines name, and the lines as a file that is at its beginning again.
 fn counted_lines<R, S>(
     rt: &R,
     source: Source<S>,
@@ -305,7 +306,7 @@ where
     Ok((clients, file))
 }
 
-/// What an import makes its trace in: a file has it once it is whole.
+/// The writer for the trace of an import. A file gets the trace only when it is whole.
 fn drafted<'r, R>(rt: &'r R, target: Target<'_>, process: u32) -> Result<Made<'r, R>, NoLines>
 where
     R: Files<File = File> + Print + AllocGlobal + Env,
@@ -338,7 +339,7 @@ where
     }
 }
 
-/// Prints the help, the version or the usage, and gives the status.
+/// Prints the help, the version or the usage, and returns the status.
 fn no_job<R: Print + Eprint>(rt: &R, fault: cops_line::LineFault) -> u8 {
     match fault {
         cops_line::LineFault::Help(text) | cops_line::LineFault::Version(text) => {
@@ -353,7 +354,7 @@ fn no_job<R: Print + Eprint>(rt: &R, fault: cops_line::LineFault) -> u8 {
     }
 }
 
-/// Does what the words after the program's name ask for. `is_terminal` says what standard input is.
+/// Runs what the words after the program's name ask for. `is_terminal` says whether standard input is a terminal.
 fn run<R, E>(
     rt: &R,
     arguments: &[String],
@@ -386,7 +387,7 @@ fn arguments<R: Env + AllocGlobal>(rt: &R) -> io::Result<Vec<String>> {
     Ok(words)
 }
 
-/// Tells why there are no words, and gives the status.
+/// Reports why there are no words, and returns the status.
 fn no_words<R: Eprint>(rt: &R, fault: io::Error) -> u8 {
     if fault.kind() == ErrorKind::InvalidData {
         let why = "error: invalid UTF-8 was detected in one or more arguments";

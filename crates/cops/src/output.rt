@@ -1,31 +1,30 @@
-//! What the commands write to: standard output, files that are written anew, and drafts of such files. No clause speaks
-//! of what a file has.
+//! The output of the commands: standard output, files whose content is replaced, and drafts of such files. No clause
+//! says what a file contains.
 use crate::input::{Plain, plain_file};
 use std::fs::{File, OpenOptions};
 use std::io;
 use std::io::{BufWriter, ErrorKind, Print, Printer, Read, Seek, Write};
 use std::rt::Files;
 
-/// How many bytes of a draft are handed on at once.
+/// How many bytes of a draft are copied at once.
 const PIECE: usize = 65_536;
 
-/// The most pieces of a draft.
+/// The greatest number of pieces of a draft.
 const PIECES: u64 = 1 << 40;
 
 /// The line for a write that failed.
 const WRITE_FAILED: &[u8] = b"failed: write\n";
 
-/// The line for a draft, or a copy, that could not be written, or not be read again.
+/// The line for a draft, or a copy, that could not be written or not be read again.
 const COPY_FAILED: &[u8] = b"failed: temporary copy\n";
 
 /// A writer that knows what failed.
 pub trait Output {
-    /// The line that says why it failed last.
+    /// The line that reports why it failed last.
     fn failure(&self) -> &'static [u8];
 }
 
-/// A file whose old bytes are dropped when the first new ones come, or when it is flushed, and stay where neither
-/// happens.
+/// A file whose old bytes are dropped at the first write or flush, and kept where neither happens.
 #[derive(Drop)]
 pub struct Renewed {
     file: File,
@@ -34,7 +33,7 @@ pub struct Renewed {
 }
 
 impl Renewed {
-    /// The file of that name: an empty one is made where there is none.
+    /// Opens the file with this name, and creates an empty one where there is none.
     pub fn open<R: Files<File = File>>(rt: &R, name: &str) -> io::Result<Renewed> {
         if let Ok(file) = File::create_new(rt, name) {
             return Ok(Renewed {
@@ -53,17 +52,17 @@ impl Renewed {
         })
     }
 
-    /// Which file it is, if it is a plain one.
+    /// The identity of the file, if it is a plain one.
     pub fn plain(&self) -> Option<Plain> {
         plain_file(self.file.metadata())
     }
 
-    /// Whether the file was made for what never came.
+    /// Whether the file was created and nothing was written to it.
     pub fn is_idle(&self) -> bool {
         self.is_new && !self.is_begun
     }
 
-    /// Drops the old bytes. What is no plain file, as a pipe, holds none.
+    /// Drops the old bytes. A file that is not plain, such as a pipe, has none.
     pub fn begin(&mut self) -> io::Result<()> {
         if self.is_begun {
             return Ok(());
@@ -89,7 +88,7 @@ impl Write for Renewed {
     }
 }
 
-/// What a file will have once all of it is there: until it is flushed it waits in another file.
+/// The content of a file that is written only when it is complete: until it is flushed it is kept in another file.
 #[derive(Drop)]
 pub struct Draft {
     waiting: BufWriter<File>,
@@ -98,7 +97,7 @@ pub struct Draft {
 }
 
 impl Draft {
-    /// Nothing yet, of that output; what comes waits in an empty file that can be read.
+    /// An empty draft of that output. What is written is kept in `waiting`, an empty file that can be read.
     pub fn new(waiting: BufWriter<File>, output: Renewed) -> Draft {
         Draft {
             waiting,
@@ -107,12 +106,12 @@ impl Draft {
         }
     }
 
-    /// The output as it is.
+    /// The output, as it is.
     pub fn into_output(self) -> Renewed {
         self.output
     }
 
-    /// Hands on what comes of the file in which it waits, piece by piece.
+    /// Copies the draft's content to the output, piece by piece.
     fn hand_on(&mut self) -> io::Result<()> {
         let mut piece = [0u8; PIECE];
         for _ in 0..PIECES {
@@ -135,7 +134,7 @@ impl Write for Draft {
         answer
     }
 
-    /// Hands on all that waits. It is called once.
+    /// Copies the whole draft to the output. It is called once.
     fn flush(&mut self) -> io::Result<()> {
         let answer = self.waiting.flush();
         self.is_copy_at_fault = answer.is_err();
@@ -147,18 +146,18 @@ impl Write for Draft {
     }
 }
 
-/// What a command makes a trace or a picture in.
+/// The writer for the trace or the picture that a command makes.
 #[derive(Drop)]
 pub enum Made<'r, R: Print> {
-    /// It makes none.
+    /// The command makes neither.
     Nothing,
     /// Standard output.
     Standard(Printer<'r, R>),
-    /// Standard output by larger pieces.
+    /// Standard output, with a buffer.
     Gathered(BufWriter<Printer<'r, R>>),
     /// A file.
     File(Renewed),
-    /// A file, once all is there.
+    /// A file that is written only when all is there.
     Draft(Draft),
 }
 
@@ -193,7 +192,7 @@ impl<R: Print> Output for Made<'_, R> {
     }
 }
 
-/// Where words are printed: standard output, or standard error where what is made goes to standard output.
+/// Where the command prints: standard output, or standard error where what it makes goes to standard output.
 #[derive(Drop)]
 pub enum Printed<'r, R: Print, E> {
     Output(Printer<'r, R>),

@@ -1,19 +1,19 @@
-//! How far a command has read, which it says on a terminal while it reads, and how what it reads begins: no clause
-//! speaks of either.
+//! How much a command has read, which it shows on a terminal while it reads, and how its input begins. No clause says
+//! anything about either.
 ghost use Rattle.std.specs.Prelude.{◌≡◌};
 
 use std::io;
 use std::io::{Eprint, Read, Write};
 use std::time::{Clock, Instant};
 
-/// For how many seconds a command reads before it says how far it is, and then until it says it again.
+/// For how many seconds a command reads before it shows how much it read, and then until it shows it again.
 const PATIENCE: u64 = 1;
 
-/// The length of a head and of an end: each record's is greater.
+/// The length of the frames of a head and of an end. That of each record is greater.
 const NO_RECORD: u32 = 5;
 
 /// Counts the records of a text byte by byte. A frame is a length of four bytes, the most significant first, and then
-/// so many bytes.
+/// as many bytes.
 #[derive(Drop)]
 struct Records {
     ended: u64,
@@ -81,19 +81,19 @@ impl Counts {
     }
 }
 
-/// What is read: a trace, or the lines of an import, in a reading with this name.
+/// What is read: a trace, or the lines of an import in a reading with this name.
 #[derive(Clone, Copy, Debug, PartialEq, Eq)]
 pub enum Reading {
     Trace,
     Lines(&'static str),
 }
 
-/// When a command began, where it says how far it is.
+/// When a command began, if it shows how much it read.
 pub fn begun<R: Clock>(rt: &R, is_told: bool) -> Option<Instant> {
     if is_told { Instant::now(rt).ok() } else { None }
 }
 
-/// Removes the line that says how far a command is, if it began so long ago that there may be one.
+/// Removes the line that shows how much a command read, if it began so long ago that there may be one.
 pub fn remove<R: Clock + Eprint>(rt: &R, begun: Option<Instant>) {
     let Some(begun) = begun else {
         return;
@@ -105,7 +105,7 @@ pub fn remove<R: Clock + Eprint>(rt: &R, begun: Option<Instant>) {
     }
 }
 
-/// How much was read, and when it was last said.
+/// How much was read, and when it was last shown.
 #[derive(Drop)]
 struct Progress<'r, R> {
     rt: &'r R,
@@ -115,7 +115,7 @@ struct Progress<'r, R> {
 }
 
 impl<R: Clock + Eprint> Progress<'_, R> {
-    /// Counts what was read, and says how much it is where it was not said for a while.
+    /// Counts what was read, and shows it if it was not shown for `PATIENCE` seconds.
     fn take(&mut self, piece: &[u8]) {
         self.counts.take(piece);
         self.bytes = self.bytes.saturating_add(piece.len() as u64);
@@ -161,7 +161,7 @@ impl Beginning {
         }
     }
 
-    /// Whether it is that of JSON, or a byte order mark.
+    /// Whether the input begins like JSON, or with a byte order mark.
     fn looks_like_lines(&self) -> bool {
         let [first, second, third] = self.bytes;
         match first {
@@ -172,7 +172,7 @@ impl Beginning {
     }
 }
 
-/// Reads on from an input, and says how much was read.
+/// An input that shows how much of it was read.
 #[derive(Drop)]
 pub struct Watched<'r, R, I> {
     input: I,
@@ -181,7 +181,7 @@ pub struct Watched<'r, R, I> {
 }
 
 impl<'r, R, I> Watched<'r, R, I> {
-    /// Says it where the beginning is given.
+    /// An input of which nothing is read yet. It shows nothing where `begun` is `None`.
     pub fn new(rt: &'r R, input: I, reading: Reading, begun: Option<Instant>) -> Self
         ensures { result.input ≡ input }
     {
@@ -213,7 +213,7 @@ impl<'r, R, I> Watched<'r, R, I> {
         self.input
     }
 
-    /// Whether what was read begins as JSON Lines do.
+    /// Whether what was read begins like JSON Lines.
     pub fn looks_like_lines(&self) -> bool {
         self.beginning.looks_like_lines()
     }
@@ -234,7 +234,7 @@ impl<R: Clock + Eprint, I: Read> Read for Watched<'_, R, I> {
     }
 }
 
-/// Writes on to an output, and before that removes the line that says how far the command is.
+/// An output that, before its first write, removes the line that shows how much the command read.
 #[derive(Drop)]
 pub struct Cleared<'r, R, W> {
     rt: &'r R,

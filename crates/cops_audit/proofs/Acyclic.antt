@@ -1,4 +1,4 @@
--- Where no operation is faulty by its version, steps never lead back.
+-- Where each put's version is above all versions that its session put or got before, steps have no cycle.
 use Rattle.std.proofs.Common.{◌≡◌, ◌<◌, ◌≤◌, ◌⊎◌, ℕ, Some, refl, sym, ◌∙◌, ap, inl, inr, arith}
 use Rattle.cops_types.specs.declared.op.OpName.{OpName}
 use Rattle.cops_types.specs.Histories.{Sessions, op_at, PutsVersion, write, read}
@@ -9,7 +9,7 @@ use Rattle.cops_types.specs.Faults.{IsNotBelow}
 pub same_name : (a b : OpName) → a.client ≡ b.client → a.index ≡ b.index → a ≡ b
 same_name a b c i = ap (λ (p : ℕ × ℕ). let n : OpName = record { client = p.0; index = p.1 } in n) (let q : (a.client, a.index) ≡ (b.client, b.index) = cc in q)
 
--- a put is no get
+-- no operation is both a put and a get
 pub put_is_no_get : (h : Sessions) (p g : OpName) (v w : ℕ) → PutsVersion h p v → GetsVersion h g w → p ≡ g → ⊥
 put_is_no_get h p g v w put got e =
     let at : Some (write put.0 put.1 v) ≡ Some (read got.0 got.1 w) = sym put.2 ∙ ap (op_at h) e ∙ got.2 in
@@ -21,11 +21,11 @@ one_version h p q v w first second e =
     let at : Some (write first.0 first.1 v) ≡ Some (write second.0 second.1 w) = sym first.2 ∙ ap (op_at h) e ∙ second.2 in
     cc
 
--- an earlier operation and a later one, by their places in one session
+-- two operations of one session, the first at or before the second
 abbrev pub AtOrBefore : OpName → OpName → Type 0
 AtOrBefore a b = (a.client ≡ b.client) × (a.index ≤ b.index)
 
--- a put in the session of the one, and a get in the session of the other that returned that version or a later one
+-- a put in the session of the one, at or after it, and a get in the session of the other, at or before it, that returned that version or a later one
 pub record Crosses (h : Sessions) (from to : OpName) : Type 0 where
   pub put : OpName
   pub got : OpName
@@ -55,7 +55,7 @@ module _ (h : Sessions) (rise : VersionsRise h) where
       let not : ¬ (w ≤ v) = λ le. rise p q (record { version = v; own = w; put = second; has = inl first; same_client = same; before = before; not_below = le }) in
       omega (arith, not)
 
-  -- what is in the past is earlier in the session, or comes by a get
+  -- what is in the past is earlier in the session, or is seen through a get
   abbrev Precise : OpName → OpName → Type 0
   Precise a b = ((a.client ≡ b.client) × (a.index < b.index)) ⊎ Crosses h a b
 

@@ -1,4 +1,4 @@
--- The heights of a session, after each of its first operations.
+-- The session maxima, one after each of a session's first operations.
 use Rattle.std.proofs.Common.{◌≡◌, ◌<◌, ◌≤◌, ◌+◌, ◌-◌, ℕ, List, [], ◌∷◌, ◌++◌, length, get_or, Some, refl, sym, ap, subst, inl, inr, arith, slice_get}
 use Rattle.std.proofs.Math.Nat.{eq-or-lt_of_le}
 use Rattle.std.proofs.lemmas.Bool.{cases_lt}
@@ -19,7 +19,7 @@ heights_push h client heights height are is i x at = elim (slice_get_push height
   | inr new ↦ subst (λ (p : ℕ). IsHeight h client p x) (ap (λ (j : ℕ). j + 1) (sym new.0)) (subst (IsHeight h client (length heights + 1)) new.1 is)
 ]
 
--- the last of the heights is that of as many operations
+-- the last entry is the session maximum after all the operations that have one
 pub heights_last : (h : Sessions) (client : ℕ) (heights : List ℕ) → AreHeights h client heights → (height : ℕ) → (length heights ≡ 0 → height ≡ 0) → ((i : ℕ) → i + 1 ≡ length heights → slice_get heights i ≡ Some height) → IsHeight h client (length heights) height
 heights_last h client heights are height none last = elim (cases_lt 0 (length heights)) [
   | inl some ↦
@@ -30,7 +30,7 @@ heights_last h client heights are height none last = elim (cases_lt 0 (length he
       subst (λ (k : ℕ). IsHeight h client k height) (sym e) (subst (IsHeight h client 0) (sym (none e)) (height_none h client))
 ]
 
--- heights do not fall
+-- session maxima do not fall
 height_grows : (h : Sessions) (client i j m n : ℕ) → IsHeight h client i m → IsHeight h client j n → i ≤ j → m ≤ n
 height_grows h client i j m n a b le = elim a.reached [
   | inl none ↦ omega (arith, none)
@@ -42,20 +42,20 @@ heights_rise h client heights are i j d le inside =
     height_grows h client (i + 1) (j + 1) (get_or heights i d) (get_or heights j d)
     (are i (get_or heights i d) (stands heights i d (omega (arith, le, inside)))) (are j (get_or heights j d) (stands heights j d inside)) (omega (arith, le))
 
--- a put and the heights of its session
+-- a put and its session's maxima
 module _ (h : Sessions) (name : OpName) (own : ℕ) (put : PutsVersion h name own) (heights : List ℕ) (are : AreHeights h name.client heights) where
-  -- an operation that the put is not above has a version from the put's on
+  -- an operation that the put is not above raises the session maximum to the put's version or more
   reaches : (e : OpName) (f : IsNotBelow h e name) (i height : ℕ) → e.index ≤ i → slice_get heights i ≡ Some height → own ≤ height
   reaches e f i height le at =
       let same : e ≡ record { client = name.client; index = e.index } = same_name e (record { client = name.client; index = e.index }) f.same_client refl in
       let low = (are i height at).bounds e.index f.version (omega (arith, le)) (subst (λ (n : OpName). HasVersion h n f.version) same f.has) in
       omega (arith, low, f.not_below, one_version h name name f.own own f.put put refl)
 
-  -- where the height before it is below its version, it is above all
+  -- where the session maximum before the put is below its version, the put is above all earlier operations
   pub above_all : (last : ℕ) → slice_get heights (name.index - 1) ≡ Some last → last < own → (e : OpName) → ¬ IsNotBelow h e name
   above_all last at low e f = let le = reaches e f (name.index - 1) last (omega (arith, f.before)) at in omega (arith, le, low)
 
-  -- where it is not, the operation after which the heights first reach its version is the first that it is not above
+  -- where it is not, the first operation after which the session maximum reaches the put's version is the first that the put is not above
   pub first_reaches : (first : ℕ) → 0 < own → first < name.index → name.index ≤ length heights
       → ((i height : ℕ) → i < first → slice_get heights i ≡ Some height → height < own)
       → ((i height : ℕ) → first ≤ i → slice_get heights i ≡ Some height → own ≤ height)

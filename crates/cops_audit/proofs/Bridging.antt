@@ -1,4 +1,4 @@
--- What notes say of a history, for sweeps: steps, pasts and newest puts.
+-- What causal summaries say of a history, for sweeps: steps, pasts and newest puts.
 use Rattle.std.proofs.Common.{◌≡◌, ◌<◌, ◌≤◌, ℕ, zero, suc, List, [], ◌∷◌, length, get_or, Some, refl, ◌∙◌, ap, subst, inl, inr, arith, slice_index_or, slice_get}
 use Rattle.std.proofs.lemmas.Bool.{cases_lt}
 use Rattle.cops_types.specs.declared.op.OpName.{OpName}
@@ -45,14 +45,14 @@ module _ (h : Sessions) (table : List VersionedPut) (t : IsVersionTable h table)
         absurd (omega (arith, less, ap length none))
   ]
 
-  -- a note is on an operation of the history
+  -- a summary is of an operation of the history
   noted_named : (n : OpName) (note : Note) → note_at notes n ≡ Some note → IsNamed h n
   noted_named n note at =
       let session = session_of h table notes noted n note at in
       slice_get_there (slice_index_or h n.client []) n.index (omega (arith, session.whole, slice_get_inside (slice_index_or notes n.client []) n.index note at))
 
   module _ (sources : HaveSourcesOrWait h) where
-    -- the note on a put that stands at a place
+    -- the summary of a put at a place
     put_noted : (place : ℕ) (put : OpName) (version : ℕ) → StandsAt table place put version → (note : Note) × (note_at notes put ≡ Some note) × (note.seen ≡ Put place)
     put_noted place put version stands_at =
         let puts = put_there h table t.table place put version stands_at in

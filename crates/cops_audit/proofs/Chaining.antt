@@ -23,7 +23,7 @@ use Rattle.cops_audit.proofs.Places.{inside_table}
 
 module _ (h : Sessions) (table : List VersionedPut) (t : IsVersionTable h table) (firsts : List ℕ) (are : AreFirsts h table firsts) (place next first : ℕ) (put : OpName) (version : ℕ) (stands : StandsAt table place put version)
     (has : slice_get firsts place ≡ Some first) (links : IsNext h table place (Some next)) where
-  -- the next put has the same first one
+  -- the next put on the key has the same first place
   pub next_has : slice_get firsts next ≡ Some first
   next_has =
       let key = key_at h table t place put version stands in
@@ -34,7 +34,7 @@ module _ (h : Sessions) (table : List VersionedPut) (t : IsVersionTable h table)
       let same : there.0 ≡ first = omega (arith, a.least there.0 b.on_key, b.least first a.on_key) in
       there.1 ∙ ap (λ (x : ℕ). Some x) same
 
-  -- and none between does
+  -- no put between the two has that first place
   pub none_between : (other : ℕ) (q : OpName) (w : ℕ) → StandsAt table other q w → slice_get firsts other ≡ Some first → place < other → next ≤ other
   none_between other q w at other_has less =
       let key = key_at h table t place put version stands in
@@ -44,7 +44,7 @@ module _ (h : Sessions) (table : List VersionedPut) (t : IsVersionTable h table)
       let one : its.0 ≡ key.0 = same_key h table t.rising first its.0 key.0 b a in
       (links.1 key.0 key.1).1 other less (subst (λ (k : List ℕ). OnKey h table other k) one its.1)
 
--- none does behind the last one
+-- no put after the last one has that first place
 pub none_later : (h : Sessions) (table : List VersionedPut) → IsVersionTable h table → (firsts : List ℕ) → AreFirsts h table firsts → (place first : ℕ) (put : OpName) (version : ℕ) → StandsAt table place put version
     → slice_get firsts place ≡ Some first → IsNext h table place None → (other : ℕ) (q : OpName) (w : ℕ) → StandsAt table other q w → slice_get firsts other ≡ Some first → ¬ (place < other)
 none_later h table t firsts are place first put version stands has links other q w at other_has less =
@@ -55,7 +55,7 @@ none_later h table t firsts are place first put version stands has links other q
     let one : its.0 ≡ key.0 = same_key h table t.rising first its.0 key.0 b a in
     links key.0 key.1 other less (subst (λ (k : List ℕ). OnKey h table other k) one its.1)
 
--- the puts of a suspect's key from its place up to another are not counted
+-- the puts on a suspect's key from its place up to another are not counted
 abbrev pub NoneUpTo : List VersionedPut → List ℕ → List ℕ → Suspect → ℕ → Type 0
 NoneUpTo table firsts counts suspect place = (other : ℕ) (q : OpName) (w : ℕ) → StandsAt table other q w → slice_get firsts other ≡ Some suspect.first → suspect.from ≤ other → other < place → ¬ Counted counts q
 
@@ -75,7 +75,7 @@ module _ (h : Sessions) (table : List VersionedPut) (t : IsVersionTable h table)
     | inr (inr behind) ↦ λ there. none_later h table t firsts are place suspect.first put version stands has links other q w at other_has behind
   ]
 
--- what is in the past of an operation and not counted by what it knows of
+-- where the clock of a suspect's session counts no newer put below its mark, no newer put is in its past
 module _ (table : List VersionedPut) (notes : List (List Note)) (rising : AreRising table notes) (firsts : List ℕ) (counts : List ℕ) (suspect : Suspect) (note : Note) (noted : note_at notes suspect.op ≡ Some note)
     (knows : Knows table notes counts suspect.op.client (suspect.op.index + 1)) where
   pub none_from : NoneCounted table firsts counts note.mark suspect → NoneFrom table notes firsts suspect.op suspect.first suspect.from
@@ -90,7 +90,7 @@ never_true zero k e = cc
 never_true (suc n) zero e = cc
 never_true (suc n) (suc k) e = never_true n k e
 
--- a suspect more is cleared
+-- one more suspect is cleared
 pub clear_one : (table : List VersionedPut) (notes : List (List Note)) (firsts : List ℕ) (suspects : List Suspect) (cleared : List Bool) (place : ℕ) (suspect : Suspect) → AreCleared table notes firsts suspects cleared
     → ((d : Suspect) → suspect ≡ get_or suspects place d) → NoneFrom table notes firsts suspect.op suspect.first suspect.from → AreCleared table notes firsts suspects (slice_set cleared place true)
 clear_one table notes firsts suspects cleared place suspect are at none k d is = elim (written cleared place k true true is) [
@@ -100,7 +100,7 @@ clear_one table notes firsts suspects cleared place suspect are at none k d is =
   | inr other ↦ are k d other.1
 ]
 
--- a put that stands at a place is of a session
+-- the put at a place is in one of the sessions
 pub put_inside : (table : List VersionedPut) (notes : List (List Note)) → AreRising table notes → (place : ℕ) (put : OpName) (version : ℕ) → StandsAt table place put version → put.client < length notes
 put_inside table notes rising place put version stands = elim (cases_lt put.client (length notes)) [
   | inl less ↦ less
@@ -111,7 +111,7 @@ put_inside table notes rising place put version stands = elim (cases_lt put.clie
       absurd (omega (arith, less, ap length none))
 ]
 
--- a put more was passed
+-- one more put is passed
 pub passed_next : (table : List VersionedPut) (old new : List ℕ) (place : ℕ) (put : OpName) (version : ℕ) → StandsAt table place put version → ArePassed table old place → ((k : ℕ) → slice_index old k ≤ slice_index new k)
     → Counted new put → ArePassed table new (place + 1)
 passed_next table old new place put version stands passed kept there other q w less at = elim (eq-or-lt_of_le (let le : other ≤ place = omega (arith, less) in le)) [

@@ -1,4 +1,4 @@
--- The classes of faults, as notes and suspects have them.
+-- The classes of faults, by causal summaries and suspects.
 use Rattle.std.proofs.Common.{◌≡◌, ◌≢◌, ◌<◌, ◌≤◌, ◌+◌, ℕ, List, [], ◌∷◌, length, get_or, map, refl, sym, ◌∙◌, ap, subst, inl, inr, arith, Contains}
 use Rattle.std.proofs.lemmas.List.{length-map, get_or-map}
 use Rattle.std.proofs.lemmas.List.Elements.{Contains-get_or}
@@ -30,7 +30,7 @@ pub empty_list : {A : Type 0} (xs : List A) → length xs ≡ 0 → xs ≡ []
 empty_list [] e = refl
 empty_list (x ∷ xs) e = absurd (omega (arith, e))
 
--- an operation of a suspect
+-- the operation of a suspect is among the suspects' operations
 pub op_listed : (suspects : List Suspect) (s : Suspect) → Contains suspects s → Contains (map (λ (x : Suspect). x.op) suspects) s.op
 op_listed suspects s at = (at.0, omega (arith, at.1, length-map suspects (λ (x : Suspect). x.op)), get_or-map (λ (x : Suspect). x.op) suspects at.0 s s.op at.1 ∙ ap (λ (x : Suspect). x.op) at.2)
 
@@ -40,7 +40,7 @@ listed_op suspects n at =
     let d : Suspect = record { op = n; first = 0; from = 0 } in
     (get_or suspects at.0 d, Contains-get_or suspects at.0 d inside, sym (get_or-map (λ (x : Suspect). x.op) suspects at.0 d n inside) ∙ at.2)
 
--- suspects that are seen as another list
+-- suspects in an equal list
 pub seen_suspects : {h : Sessions} {table : List VersionedPut} {names : List OpName} {seen suspects : List Suspect} → seen ≡ suspects → AreSuspects h table names suspects → AreSuspects h table names seen
 seen_suspects {h} {table} {names} e are = subst (AreSuspects h table names) (sym e) are
 
@@ -48,7 +48,7 @@ pub each_suspect : {h : Sessions} {table : List VersionedPut} {names : List OpNa
     → (k : ℕ) (d : Suspect) → k < length suspects → IsSuspect h table (get_or suspects k d)
 each_suspect {suspects = suspects} are k d inside = (are.each _ (Contains-get_or suspects k d inside)).0
 
--- what is stale among the suspects is what is stale among the names
+-- the stale gets among the suspects are the stale gets among the names
 pub of_suspects : {h : Sessions} {table : List VersionedPut} {names : List OpName} {suspects : List Suspect} {faults : List Stale} → AreSuspects h table names suspects
     → ListsAmong (λ f. f.op) (λ f. IsStale h f.op f.newer) (map (λ (s : Suspect). s.op) suspects) faults → ListsAmong (λ f. f.op) (λ f. IsStale h f.op f.newer) names faults
 of_suspects {names = names} {suspects = suspects} are lists = record {
@@ -64,7 +64,7 @@ of_suspects {names = names} {suspects = suspects} are lists = record {
   in_order = lists.in_order;
 }
 
--- where nothing is suspected, nothing is stale
+-- where there is no suspect, there is no stale get
 pub no_stale : {h : Sessions} {table : List VersionedPut} {names : List OpName} {suspects : List Suspect} {faults : List Stale} → AreSuspects h table names suspects → length suspects ≡ 0 → faults ≡ []
     → ListsAmong (λ f. f.op) (λ f. IsStale h f.op f.newer) names faults
 no_stale {h} {table} {names} {suspects} are none empty =
@@ -98,7 +98,7 @@ none_stale h table names suspects all are none name newer f =
     let at = s.2 in
     none at.0 s.0 at.1 newer f.version (subst (λ (x : OpName). IsNewer h x newer f.version) (sym (ap (λ (x : Suspect). x.op) at.2 ∙ s.1)) f.is_newer)
 
--- where versions rise, none is borne twice
+-- where versions rise, no two puts have the same version
 pub none_doubled : (h : Sessions) (table : List VersionedPut) → IsVersionTable h table → NoneDoubled h
 none_doubled h table t name f =
     let at = place_of_put h table t.table name f.version f.put in
@@ -109,7 +109,7 @@ none_doubled h table t name f =
       | inr e ↦ omega (arith, t.rising at.0 beside.0 d (omega (arith, e)) beside.1, beside.3 d)
     ]
 
--- where a version does not rise, it is borne twice
+-- where versions do not rise, two puts have the same version
 pub some_doubled : (h : Sessions) (table : List VersionedPut) → IsPutTable h table → (k : ℕ) → k + 1 < length table → ((d : VersionedPut) → (get_or table (k + 1) d).version ≤ (get_or table k d).version) → (name : OpName) × IsDoubled h name
 some_doubled h table t k inside falls =
     let d : VersionedPut = record { version = 0; name = record { client = 0; index = 0 } } in

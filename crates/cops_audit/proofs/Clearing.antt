@@ -1,4 +1,4 @@
--- Gets that the window on versions clears: no put in their past is newer.
+-- Gets that are not suspects: no put in their past is newer.
 use Rattle.std.proofs.Common.{◌≡◌, ◌<◌, ◌≤◌, ◌+◌, ℕ, List, Some, None, Option, refl, sym, ◌∙◌, ap, inl, inr, arith}
 use Rattle.std.specs.Option.{IfNone}
 use Rattle.cops_types.specs.declared.op.OpName.{OpName}
@@ -19,7 +19,7 @@ use Rattle.cops_audit.proofs.Places.{place_of_put, same_place}
 use Rattle.cops_audit.proofs.Reading.{missed_gets_nothing, missed_puts_nothing, says, seen_get, seen_put}
 use Rattle.cops_audit.proofs.Unique.{stands}
 
--- where a put stands
+-- the place of a put
 pub stands_for : (h : Sessions) (table : List VersionedPut) → IsPutTable h table → (p : OpName) (v : ℕ) → PutsVersion h p v → (place : ℕ) × StandsAt table place p v
 stands_for h table t p v put =
     let d : VersionedPut = record { version = v; name = p } in
@@ -37,7 +37,7 @@ seen_missed h table n k Missed s missed = refl
 seen_missed h table n k (Sourceless p) s missed = absurd (missed_gets_nothing h n k s.0.version missed (s.0.key, s.0.content, s.0.got))
 
 module _ (h : Sessions) (table : List VersionedPut) (t : IsVersionTable h table) (notes : List (List Note)) (noted : IsNoted h table notes) (sources : HaveSourcesOrWait h) (above_all : AllAbove h) (op : OpName) where
-  -- a put in the past of an operation stands below its mark
+  -- a put in the past of an operation is below its mark
   pub below_mark : (note : Note) → note_at notes op ≡ Some note → (q : OpName) (w : ℕ) (f : IsNewer h op q w) (place : ℕ) → StandsAt table place q w → place < note.mark
   below_mark note at q w f place stands_q =
       let there = note_there h table notes noted q (_, f.put.1) in
@@ -53,7 +53,7 @@ module _ (h : Sessions) (table : List VersionedPut) (t : IsVersionTable h table)
       let place = stands_for h table t.table q w (f.key, f.put.0, f.put.1) in
       omega (arith, below_mark note at q w f place.0 place.1, none place.0 q w place.1 (f.key, f.put, f.returned))
 
-  -- what returned nothing is not stale
+  -- an operation that is no get is not stale
   pub no_get : (note : Note) → note_at notes op ≡ Some note → ((p : ℕ) → ¬ (note.seen ≡ Got p)) → ((p : ℕ) → ¬ (note.seen ≡ Sourceless p)) → ¬ (note.seen ≡ Missed) → (q : OpName) (w : ℕ) → ¬ IsNewer h op q w
   no_get note at not_got not_sourceless not_missed q w f = elim f.returned [
     | inl g ↦ elim (seen_get h table op g.1 note.seen (says h table t notes noted op note at) (f.key, g.0, g.2)) [ inl r ↦ not_got r.0 r.1 | inr r ↦ not_sourceless r.0 r.1 ]

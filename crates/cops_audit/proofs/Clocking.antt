@@ -1,4 +1,4 @@
--- Counts that know of pasts.
+-- Clocks whose counts include whole pasts.
 use Rattle.std.proofs.Common.{◌≡◌, ◌≢◌, ◌<◌, ◌≤◌, ◌+◌, ℕ, List, [], ◌∷◌, ◌++◌, length, get_or, map, Some, Vec, Global, sym, ◌∙◌, ap, subst, inl, inr, arith, slice_index, slice_index_or, slice_set}
 use Rattle.std.proofs.Math.ListN.{length-set}
 use Rattle.std.proofs.Math.Nat.{eq-or-lt_of_le}
@@ -20,11 +20,11 @@ use Rattle.cops_audit.proofs.Linking.{written}
 use Rattle.cops_audit.proofs.Marks.{slice_get_push}
 use Rattle.cops_audit.proofs.Noting.{set_here, set_other}
 
--- counts that did not fall
+-- counts that do not fall
 pub counted_more : (old new : List ℕ) → ((k : ℕ) → slice_index old k ≤ slice_index new k) → (name : OpName) → Counted old name → Counted new name
 counted_more old new kept name there = omega (arith, there, kept name.client)
 
--- a count that is raised
+-- one raised count
 pub set_raised : (counts : List ℕ) (i x : ℕ) → i < length counts → slice_index counts i ≤ x → (k : ℕ) → slice_index counts k ≤ slice_index (slice_set counts i x) k
 set_raised counts i x inside le k = elim (cases_order k i) [
   | inl same ↦
@@ -47,7 +47,7 @@ module _ (table : List VersionedPut) (notes : List (List Note)) where
   pub knows_fewer : (counts : List ℕ) (client more fewer : ℕ) → fewer ≤ more → Knows table notes counts client more → Knows table notes counts client fewer
   knows_fewer counts client more fewer le k = record { own = λ i less. k.own i (omega (arith, less, le)); past = λ n i less p. k.past n i (omega (arith, less, le)) p }
 
-  -- an operation more, of which its source is known where it has one
+  -- one more operation, whose source is included where it has one
   module _ (counts : List ℕ) (client count : ℕ) (k : Knows table notes counts client count) (here : Counted counts (record { client = client; index = count }))
       (source : (place mark : ℕ) → note_at notes (record { client = client; index = count }) ≡ Some (record { seen = Got place; mark = mark }) → KnowsPut table notes counts place) where
     to_here : (n to : OpName) → to ≡ record { client = client; index = count } → NotePast table notes n to → Counted counts n
@@ -76,22 +76,23 @@ module _ (table : List VersionedPut) (notes : List (List Note)) where
       ];
     }
 
-  -- one of the counts is written anew, and one more
+  -- one entry of a list of counts is overwritten
   pub known_written : (all : List Known) (i : ℕ) (x : Known) → AreKnown table notes all → IsKnown table notes x → AreKnown table notes (slice_set all i x)
   known_written all i x are is j y at = elim (written all i j x y at) [
     | inl here ↦ subst (IsKnown table notes) here.1 is
     | inr other ↦ are j y other.1
   ]
 
+  -- one entry is appended to a list of counts
   pub known_pushed : (all : List Known) (x : Known) → AreKnown table notes all → IsKnown table notes x → AreKnown table notes (all ++ x ∷ [])
   known_pushed all x are is j y at = elim (slice_get_push all x y j at) [
     | inl old ↦ are j y old
     | inr last ↦ subst (IsKnown table notes) last.1 is
   ]
 
--- of a list of counts, one is written anew
+-- the clock of one session is overwritten
 module _ (table : List VersionedPut) (notes : List (List Note)) (c : Clocks) (are : AreClocks table notes c) (client : ℕ) (inside : client < length c.known.items) where
-  -- a session learned what a put knows of
+  -- a session's clock now includes what a put knows of
   pub learned : (new : Clocks) (own : Vec ℕ Global) (told : List ℕ) (place : ℕ) → new ≡ record c { known = new.known } → new.known.items ≡ slice_set c.known.items client own
       → ((k : ℕ) → slice_index (slice_index_or (map (λ v. v.items) c.known.items) client []) k ≤ slice_index own.items k) → length own.items ≡ length (slice_index_or (map (λ v. v.items) c.known.items) client [])
       → ((k : ℕ) → slice_index told k ≤ slice_index own.items k) → KnowsPut table notes told place
@@ -130,7 +131,7 @@ module _ (table : List VersionedPut) (notes : List (List Note)) (c : Clocks) (ar
       there : (k : ℕ) → k ≢ client → slice_index_or (map (λ v. v.items) new.known.items) k [] ≡ slice_index_or (map (λ v. v.items) c.known.items) k []
       there k differs = ap (λ (l : List (Vec ℕ Global)). slice_index_or (map (λ v. v.items) l) k []) written ∙ set_other (λ (v : Vec ℕ Global). v.items) [] c.known.items client k own differs
 
-  -- a session's next operation is counted, of which its source is known
+  -- a session's next operation is counted, whose source is included
   pub counted : (new : Clocks) (own : Vec ℕ Global) (count : ℕ) → new ≡ record c { passed = new.passed; known = new.known } → new.known.items ≡ slice_set c.known.items client own
       → ((k : ℕ) → slice_index (slice_index_or (map (λ v. v.items) c.known.items) client []) k ≤ slice_index own.items k) → length own.items ≡ length (slice_index_or (map (λ v. v.items) c.known.items) client [])
       → slice_index c.passed.items client + 1 ≡ count → count ≤ slice_index own.items client → new.passed.items ≡ slice_set c.passed.items client count
@@ -196,7 +197,7 @@ module _ (table : List VersionedPut) (notes : List (List Note)) (c : Clocks) (ar
           (knows_more table notes _ own.items client (slice_index c.passed.items client) kept (are.known client (omega (arith, inside, are.known_count)))) (omega (arith, next, high))
           (λ place mark at put version stands. knows_more table notes _ own.items put.client (put.index + 1) kept ((source place mark at).0 put version stands))
 
--- an operation whose session learned what it saw is counted
+-- an operation is counted after its session's clock includes what it saw
 module _ (table : List VersionedPut) (notes : List (List Note)) (client index : ℕ) (note : Note) (noted : note_at notes (record { client = client; index = index }) ≡ Some note) where
   one_note : (place mark : ℕ) → note_at notes (record { client = client; index = index }) ≡ Some (record { seen = Got place; mark = mark }) → note.seen ≡ Got place
   one_note place mark at = let e : Some note ≡ Some (let x : Note = record { seen = Got place; mark = mark } in x) = sym noted ∙ at in let f : note ≡ record { seen = Got place; mark = mark } = cc in ap (λ (x : Note). x.seen) f
@@ -210,7 +211,7 @@ module _ (table : List VersionedPut) (notes : List (List Note)) (client index : 
       counts learned.0
       (λ place mark at. learned.1 place (one_note place mark (ap (λ (i : ℕ). note_at notes (record { client = client; index = i })) same ∙ at)))
 
-  -- what is kept of a put that was passed is what its session knows of
+  -- the clock that is kept for a passed put is its session's
   pub put_known : AreRising table notes → (clocks : Clocks) → AreClocks table notes clocks → client < length notes → slice_index clocks.passed.items client ≡ index + 1 → (place : ℕ) → note.seen ≡ Put place
       → (counts : List ℕ) → counts ≡ slice_index_or (map (λ v. v.items) clocks.known.items) client [] → (length counts ≡ length notes) × KnowsPut table notes counts place
   put_known rising clocks are inside next place is counts same = (

@@ -1,4 +1,4 @@
--- A sweep that has nothing left to look at knows the past above its floor.
+-- A sweep that has nothing left to visit has counted the past above its floor.
 use Rattle.std.proofs.Common.{◌≡◌, ◌<◌, ◌≤◌, ◌+◌, ℕ, List, [], ◌∷◌, length, get_or, Some, refl, sym, ◌∙◌, ap, subst, inl, inr, arith, slice_get, slice_index_or}
 use Rattle.cops_types.specs.declared.op.OpName.{OpName}
 use Rattle.cops_types.specs.declared.versioned_put.VersionedPut.{VersionedPut}
@@ -37,7 +37,7 @@ module _ (table : List VersionedPut) (notes : List (List Note)) (rising : AreRis
       let high = own_mark b (record { seen = Got s.0; mark = s.2 }) s.4 in
       omega (arith, x_mark, y_mark, high, put.2)
 
-  -- what a step leads to has a note
+  -- the operation to which a step leads has a summary
   step_noted : (a b : OpName) → NoteStep table notes a b → (note : Note) × (note_at notes b ≡ Some note)
   step_noted a b (inl s) = (s.2, s.3)
   step_noted a b (inr s) = (_, s.4)
@@ -95,7 +95,7 @@ module _ (table : List VersionedPut) (notes : List (List Note)) (rising : AreRis
               let le' = note_past_mark put p (record { seen = Put place; mark = mark }) (record { seen = Put e.0; mark = far.0 }) at far.1 in
               absurd (omega (arith, source e.0 e.2 e.4, far.2, le', high))
 
-      -- so its key's newest put is known
+      -- so the newest put on its key is recorded
       pub known_place : (place first : ℕ) (put : OpName) (version : ℕ) → StandsAt table place put version → slice_get firsts place ≡ Some first → from ≤ place → NotePast table notes put op → place < get_or s.newest first 0
       known_place place first put version stands has le past =
           let note = rising.puts place put version stands in

@@ -50,14 +50,14 @@ module _ {A : Type 0} (name_of : A → OpName) (IsFault : A → Type 0) where
         (λ k d inside. before (name_of (get_or faults k d)) ((lists.members (get_or faults k d)).0 (Contains-get_or faults k d inside)).1);
   }
 
-  -- among any names where there is no fault
+  -- among any names, where there is no fault
   pub among_faultless : (names : List OpName) → ((x : A) → ¬ IsFault x) → (faults : List A) → faults ≡ [] → ListsAmong name_of IsFault names faults
   among_faultless names none faults empty = subst (ListsAmong name_of IsFault names) (sym empty) (record {
     members = λ x. ((λ at. absurd (omega (arith, at.1))), (λ w. absurd (none x w.0)));
     in_order = λ i j d less inside. absurd (omega (arith, inside));
   })
 
-  -- where there is no fault
+  -- all faults, where there is none
   pub lists_none : ((x : A) → ¬ IsFault x) → (faults : List A) → faults ≡ [] → Lists name_of IsFault faults
   lists_none none faults empty = subst (Lists name_of IsFault) (sym empty) (record {
     members = λ x. ((λ at. absurd (omega (arith, at.1))), (λ fault. absurd (none x fault)));
@@ -88,7 +88,7 @@ earlier Before xs i d in_order inside m at =
     let same_d : get_or xs i m ≡ get_or xs i d = get_or-default xs i m d inside in
     subst (λ x. Before x (get_or xs i d)) same (subst (λ x. Before (get_or xs at.0 m) x) same_d (in_order at.0 i m (omega (arith, at.1, short)) inside))
 
--- the list so far with the next name
+-- the list so far, with the next name
 module _ {A : Type 0} (name_of : A → OpName) (IsFault : A → Type 0) (names : List OpName) (in_order : AllPairs IsBefore names) (i : ℕ) (inside : i < length names) where
   pub skip_next : (faults : List A) (d : OpName) → ListsAmong name_of IsFault (take i names) faults
       → ((x : A) → IsFault x → name_of x ≡ get_or names i d → ⊥) → ListsAmong name_of IsFault (take (i + 1) names) faults
@@ -109,7 +109,7 @@ pub among_here : {A : Type 0} (name_of : A → OpName) (IsFault : A → Type 0) 
     → length names ≤ i → ListsAmong name_of IsFault (take i names) faults → ListsAmong name_of IsFault names faults
 among_here name_of IsFault names i faults enough lists = subst (λ ns. ListsAmong name_of IsFault ns faults) (take_all i names enough) lists
 
--- the faults of one class are those of the other
+-- where two classes have the same faults, their lists are the same
 pub among_same : {A : Type 0} (name_of : A → OpName) (F G : A → Type 0) (names : List OpName) (faults : List A) → ((x : A) → F x ↔ G x) → ListsAmong name_of F names faults → ListsAmong name_of G names faults
 among_same name_of F G names faults same lists = record {
   members = λ x. (

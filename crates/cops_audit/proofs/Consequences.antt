@@ -1,4 +1,4 @@
--- What a verdict says of convergence.
+-- What a verdict says about convergence.
 use Rattle.std.proofs.Common.{◌↔◌, List}
 use Rattle.cops_types.specs.declared.op.OpName.{OpName}
 use Rattle.cops_types.specs.Histories.{Sessions}

@@ -51,7 +51,7 @@ module _ (h longer : Sessions) (continues : Continues h longer) where
     returned = elim f.returned [ inl g ↦ inl (g.0, g.1, continues n _ g.2, g.3) | inr m ↦ inr (continues n _ m) ];
   }
 
-  -- a source in the longer history was one before, where both operations were there
+  -- a source in the longer history was one before, where both operations were in it
   source_was : (put got : OpName) (v w : ℕ) → PutsVersion h put v → GetsVersion h got w → SourceStep longer put got → SourceStep h put got
   source_was put got v w is_put is_got s =
       let p : Some (write is_put.0 is_put.1 v) ≡ Some (write s.key s.content s.version) = sym (continues put _ is_put.2) ∙ s.put in
@@ -74,7 +74,7 @@ module _ (h longer : Sessions) (continues : Continues h longer) where
         | inr differs ↦ accepted.doubled s.0 (record { version = f.version; put = bears; other = m.1; other_put = puts_stay m.1 f.version f.puts; differs = differs })
       ]
 
--- nothing waits in an accepted history
+-- no get waits in an accepted history
 pub none_waits : (h : Sessions) (puts : List OpName) → IsAccepted h puts → (n : OpName) → ¬ IsWaiting h n
 none_waits h puts accepted n w =
     let s = source_of h accepted.sources n w.gets.0 w.gets.1 w.version w.gets.2 in
@@ -88,7 +88,7 @@ sources_there h no_fault none_waiting n f = none_waiting n (record {
       no_fault (inr (inr (inr (n, put, record { version = f.version; gets = (f.key, f.content, f.got); puts = bears; no_source = f.none put }))));
 })
 
--- a clean history has no verdict but acceptance
+-- the only verdict on a clean history is acceptance
 clean_accepts : (h : Sessions) (v : Verdict) → IsVerdict h v → ¬ HasLastingFault h → ((n : OpName) → ¬ IsWaiting h n) → Accepts v
 clean_accepts h (Accepted puts) is no_fault none_waiting = tt
 clean_accepts h (Refused (class.Doubled a)) is no_fault none_waiting = let x = some_fault {A = OpName} (λ n. n) (IsDoubled h) a.items is.0 is.1 in absurd (no_fault (inl (x.0, x.1)))

@@ -1,4 +1,4 @@
--- Counts above 0, listed with their clients; and that they are a past.
+-- Counts above 0, listed with their clients, are a past.
 use Rattle.std.proofs.Common.{◌≡◌, ◌<◌, ◌≤◌, ◌+◌, ◌↔◌, ℕ, List, [], ◌∷◌, ◌++◌, length, get_or, sym, ap, subst, inl, inr, arith, Contains, AllPairs}
 use Rattle.std.proofs.Math.Nat.{eq-or-lt_of_le}
 use Rattle.std.proofs.lemmas.Bool.{cases_lt}

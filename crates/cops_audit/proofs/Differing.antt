@@ -48,7 +48,7 @@ is_same-comm : (a b : OpName) → is_same a b ≡ is_same b a
 unfolding is_same
 is_same-comm a b = ap (λ (x : Bool). x && eqb a.index b.index) (eqb-comm a.client b.client) ∙ ap (λ (x : Bool). eqb b.client a.client && x) (eqb-comm a.index b.index)
 
--- distinct names in another order
+-- distinct names stay distinct in another order
 pub names_differ : {A : Type 0} (name_of : A → OpName) (xs ys : List A) → IsPermutation xs ys → AllPairs (λ x y. name_of x ≢ name_of y) xs → AllPairs (λ x y. name_of x ≢ name_of y) ys
 names_differ name_of xs ys permutation differ = λ i j d less inside.
     apart (name_of (get_or ys i d)) (name_of (get_or ys j d))

@@ -1,4 +1,4 @@
--- The puts whose versions other puts bear, told by their numbers.
+-- The puts that have the version of another put, by their numbers.
 use Rattle.std.proofs.Common.{◌≡◌, ◌<◌, ◌+◌, ◌↔◌, ℕ, List, Bool, Some, true, false, length, slice_get, slice_index_or, slice_set, get_or-set_same, get_or-set_other, sym, ap, subst, ◌∙◌, inl, inr, arith}
 use Rattle.std.proofs.lemmas.Bool.{cases_eq}
 use Rattle.cops_types.specs.declared.op.OpName.{OpName}
@@ -13,7 +13,7 @@ use Rattle.cops_audit.proofs.Marks.{slice_get_inside}
 abbrev pub NamedBelow : List VersionedPut → ℕ → OpName → Type 0
 NamedBelow xs k name = (i : ℕ) × (i < k) × ((d : VersionedPut) → (slice_index_or xs i d).name ≡ name)
 
--- of the names at these numbers, which are of the first k puts
+-- which of the names at these numbers are among the first k puts
 abbrev pub TellBelow : List OpName → List VersionedPut → ℕ → List Bool → Type 0
 TellBelow puts xs k flags = (n : ℕ) (name : OpName) → slice_get puts n ≡ Some name → (slice_index_or flags n false ≡ true) ↔ NamedBelow xs k name
 
@@ -43,7 +43,7 @@ module _ (puts : List OpName) (xs : List VersionedPut) (k : ℕ) (inside : k < l
         )
   ]
 
--- all of them
+-- after the last put, all doubled puts are marked
 pub tell_all : (r : Recorded) (xs : List VersionedPut) (k : ℕ) (flags : List Bool) → k ≡ length xs → AreDoubledPuts r.sessions xs → length flags ≡ length r.puts → TellBelow r.puts xs k flags
     → TellDoubled r flags
 tell_all r xs k flags whole are len told = record {

@@ -1,4 +1,4 @@
--- A class of faults that is empty, or not; and the order of versions.
+-- A class of faults is empty or not; and the order of versions.
 use Rattle.std.proofs.Common.{◌≡◌, ◌≢◌, ◌<◌, ℕ, zero, suc, List, [], ◌∷◌, length, get_or, map, eqb, Bool, true, false, Some, sym, ◌∙◌, ap, subst, arith, slice_get, Contains}
 use Rattle.std.proofs.lemmas.Bool.{eqb-true, eq-eqb}
 use Rattle.std.proofs.lemmas.List.{length-map, get_or-map}
@@ -29,7 +29,7 @@ at_index [] i x d e = absurd cc
 at_index (y ∷ ys) zero x d e = (omega arith, let s : y ≡ x = cc in s)
 at_index (y ∷ ys) (suc i) x d e = let r = at_index ys i x d e in (omega (arith, r.0), r.1)
 
--- the names of a table of puts in order of versions
+-- the names of a table of puts, which is in order of versions
 pub order_of_table : (h : Sessions) (table : List VersionedPut) → IsVersionTable h table → IsVersionOrder h (map (λ p. p.name) table)
 order_of_table h table by_version = record { members = λ p. (forth p, back p); rising = rising }
   where

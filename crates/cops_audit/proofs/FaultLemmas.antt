@@ -10,7 +10,7 @@ use Rattle.cops_audit.specs.declared.fault.Fault.{Fault}
 use Rattle.cops_audit.specs.declared.fault.Fault.TheVariants.{Doubled, NoSource, NotAbove, Stale}
 use Rattle.cops_audit.specs.Faults.{fault_of_number, faults_of, IsFault}
 
--- what holds of all that is made of a list's elements holds of each
+-- where P holds of `make x` for each x of a list, it holds of each element of the mapped list
 made : {A : Type 0} (make : A → Fault) (P : Fault → Type 0) (xs : List A) → ((x : A) → Contains xs x → P (make x)) → (i : ℕ) (f : Fault) → slice_get (map make xs) i ≡ Some f → P f
 made make P [] all i f at = absurd cc
 made make P (x ∷ xs) all zero f at = subst P (let e : make x ≡ f = cc in e) (all x (0, omega arith, refl))

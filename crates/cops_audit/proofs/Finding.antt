@@ -1,4 +1,4 @@
--- A search that has nothing left to look at knows the past.
+-- A search that has nothing left to visit has counted the past.
 use Rattle.std.proofs.Common.{◌≡◌, ◌<◌, ℕ, List, [], length, get_or, replicate, refl, ◌∙◌, ap, subst, inl, inr, arith}
 use Rattle.std.proofs.lemmas.List.{length-replicate}
 use Rattle.cops_types.specs.declared.op.OpName.{OpName}
@@ -12,7 +12,7 @@ use Rattle.cops_audit.proofs.Searching.{past_through}
 use Rattle.cops_audit.proofs.Flooring.{zero_at}
 
 module _ (h : Sessions) (op : OpName) where
-  -- what was raised to an operation, and its sources, is all still to be looked at, and in its past
+  -- what is counted at the start, an operation and its sources, is all still to be visited, and in its past
   pub begun : (clients : ℕ) (fresh raised taken : Sweep) → IsFresh clients 0 fresh → clients ≡ length h → Raises fresh raised op.client op.index → TakesSources h op raised taken → IsSearching h taken (λ _. ⊥)
   begun clients fresh raised taken is c raises takes = record {
     clients = takes.clients ∙ raises.width ∙ ap length is.counts ∙ length-replicate {A = ℕ} clients 0 ∙ c;

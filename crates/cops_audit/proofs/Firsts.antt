@@ -1,4 +1,4 @@
--- Where some operation makes a put faulty, the first one does; where some put is newer, the newest one is.
+-- Where an operation makes a put faulty, there is a first one that does; where some put is newer, there is a newest one.
 use Rattle.std.proofs.Common.{◌≡◌, ◌<◌, ◌≤◌, ◌+◌, ℕ, zero, suc, List, [], ◌∷◌, Option, Some, ap, arith, slice_get, slice_index_or}
 use Rattle.cops_types.specs.declared.op.OpName.{OpName}
 use Rattle.cops_types.specs.Histories.{Sessions, PutsVersion, Operation, write, read, missed}
@@ -20,7 +20,7 @@ none_within h above (suc bound) earlier name small fault =
 pub versions_rise : (h : Sessions) → AllAbove h → VersionsRise h
 versions_rise h above earlier name fault = none_within h above (suc earlier.index) earlier name (omega arith) fault
 
--- no version in the history is above this
+-- the version of an operation, 0 for a get that found nothing
 version_of : Operation → ℕ
 version_of (write k v w) = w
 version_of (read k v w) = w
@@ -30,6 +30,7 @@ session_bound : List Operation → ℕ
 session_bound [] = 0
 session_bound (op ∷ ops) = version_of op + session_bound ops
 
+-- no version in the history is above this
 bound : Sessions → ℕ
 bound [] = 0
 bound (s ∷ ss) = session_bound s + bound ss

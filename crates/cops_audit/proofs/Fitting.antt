@@ -1,4 +1,4 @@
--- Room for what is still to be looked at.
+-- Capacity for the ranges that are still to be visited.
 use Rattle.std.proofs.Common.{◌≡◌, ◌≢◌, ◌<◌, ◌≤◌, ◌+◌, ℕ, zero, suc, List, [], ◌∷◌, length, get_or, true, false, inl, inr, refl, ap, ◌∙◌, arith, slice_set, slice_index_or, Some, map, Vec, Global, get_or-set_same, get_or-set_other}
 use Rattle.std.specs.Prelude.{sum_by, vec_len, vec_capacity}
 use Rattle.std.proofs.Math.ListN.{length-set}
@@ -13,13 +13,13 @@ use Rattle.cops_audit.specs.Notes.{note_at}
 use Rattle.cops_audit.specs.Sweeps.{AreRising, Covers, HasRoom}
 use Rattle.cops_audit.proofs.Marks.{slice_get_inside}
 
--- what is less in each place is less in all
+-- a list that is lower at each place has the lower sum
 sum_less : (xs ys : List ℕ) → length xs ≡ length ys → ((i : ℕ) → get_or xs i 0 ≤ get_or ys i 0) → sum_by (λ n. n) xs ≤ sum_by (λ n. n) ys
 sum_less [] ys len each = omega arith
 sum_less (x ∷ xs) [] len each = absurd (omega (arith, len))
 sum_less (x ∷ xs) (y ∷ ys) len each = omega (arith, each 0, sum_less xs ys (omega (arith, len)) (λ i. each (suc i)), sum_by-cons (λ (n : ℕ). n) x xs, sum_by-cons (λ (n : ℕ). n) y ys)
 
--- a count that is raised, within the lengths
+-- a count is raised, within the lengths
 module _ (space : ℕ) (lengths : List ℕ) (old : Sweep) (client to : ℕ) (inside : client < length old.counts) (less : get_or old.counts client 0 < to)
     (fits : to ≤ get_or lengths client 0) (room : HasRoom space lengths old) where
   still_within : (c : ℕ) → get_or (slice_set old.counts client to) c 0 ≤ get_or lengths c 0
@@ -38,11 +38,11 @@ module _ (space : ℕ) (lengths : List ℕ) (old : Sweep) (client to : ℕ) (ins
   sum_rises : sum_by (λ n. n) old.counts + 1 ≤ sum_by (λ n. n) (slice_set old.counts client to)
   sum_rises = omega (arith, sum_by-set (λ (n : ℕ). n) old.counts client to 0 inside, less)
 
-  -- there is room for one more range
+  -- there is capacity for one more range
   pub room_left : vec_len old.pending < vec_capacity old.pending
   room_left = omega (arith, room.left, sum_rises, sum_less (slice_set old.counts client to) lengths (omega (arith, length-set old.counts client to, room.width)) still_within)
 
-  -- and then there is room still
+  -- and there is still capacity afterwards
   pub room_kept : (new : Sweep) → new.counts ≡ slice_set old.counts client to → length new.newest ≡ length old.newest
       → vec_len new.pending ≡ vec_len old.pending + 1 → vec_capacity old.pending ≤ vec_capacity new.pending → HasRoom space lengths new
   room_kept new counts newest len capacity =
@@ -56,7 +56,7 @@ module _ (space : ℕ) (lengths : List ℕ) (old : Sweep) (client to : ℕ) (ins
         left = omega (arith, room.left, sum, sum_rises, len, capacity);
       }
 
--- the same counts, and the same ranges that are still to be looked at
+-- the same counts, and the same ranges to visit
 pub room_same : (space : ℕ) (lengths : List ℕ) (old new : Sweep) → new.counts ≡ old.counts → length new.newest ≡ length old.newest → new.pending ≡ old.pending
     → HasRoom space lengths old → HasRoom space lengths new
 room_same space lengths old new counts newest pending room =
@@ -72,7 +72,7 @@ room_same space lengths old new counts newest pending room =
       left = omega (arith, room.left, sum, len, capacity);
     }
 
--- a range is taken from those that are still to be looked at
+-- a range is taken from those that are to be visited
 pub room_popped : (space : ℕ) (lengths : List ℕ) (old new : Sweep) → new.counts ≡ old.counts → length new.newest ≡ length old.newest
     → vec_len new.pending ≤ vec_len old.pending → vec_capacity new.pending ≡ vec_capacity old.pending → HasRoom space lengths old → HasRoom space lengths new
 room_popped space lengths old new counts newest len capacity room =
@@ -92,13 +92,13 @@ length_at [] i = refl
 length_at (x ∷ xs) zero = refl
 length_at (x ∷ xs) (suc i) = length_at xs i
 
--- an operation with a note stands in its session
+-- an operation with a summary is in its session
 pub noted_inside : (notes : List (List Note)) (name : OpName) (note : Note) → note_at notes name ≡ Some note → name.index < get_or (map length notes) name.client 0
 noted_inside notes name note at = omega (arith, slice_get_inside (slice_index_or notes name.client []) name.index note at, length_at notes name.client)
 
 pub covered : (table : List VersionedPut) (notes : List (List Note)) → AreRising table notes → Covers (map length notes) table
 covered table notes rising place put version stands = let there = rising.puts place put version stands in noted_inside notes put _ there.1
 
--- an error is no answer
+-- an error is not `Ok`
 pub no_ok : {A : Type 0} → false ≡ true → A
 no_ok e = absurd cc

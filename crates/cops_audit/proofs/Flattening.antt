@@ -1,4 +1,4 @@
--- Notes one session's after the other's.
+-- Causal summaries, session by session in one list.
 use Rattle.std.proofs.Common.{◌≡◌, ◌<◌, ◌≤◌, ◌+◌, ◌-◌, ℕ, suc, List, [], ◌∷◌, ◌++◌, length, get_or, map, All, length-append, length-drop, take_all, refl, sym, ◌∙◌, ap, subst, inl, inr, arith, slice_index_or, drop, take}
 use Rattle.std.proofs.Math.Nat.{eq-or-lt_of_le}
 use Rattle.std.proofs.lemmas.List.{drop-append-le, drop_at, get_or-map, get_or_push, length-map, map_push, take-append-le}
@@ -11,7 +11,7 @@ use Rattle.cops_audit.specs.Notes.{IsSessionNoted, IsWithin, span_of}
 use Rattle.cops_audit.proofs.Noting.{get_high, get_low}
 
 module _ (notes session : List Note) where
-  -- what stands in the notes stands there still where more follow
+  -- a span of the summaries stays as it is where more follow
   span_kept : (span : Span) → IsWithin notes span → span_of (notes ++ session) span ≡ span_of notes span
   span_kept span within =
       ap (take (span.to - span.from)) (drop-append-le span.from notes session (omega (arith, within.0, within.1)))
@@ -24,7 +24,7 @@ module _ (notes session : List Note) where
       let tail = spans_kept spans (λ k d inside. within (suc k) d (omega (arith, inside))) in
       cc
 
-  -- one session more
+  -- one more session
   module _ (spans : List Span) (from to : ℕ) (starts : length notes ≡ from) (ends : length (notes ++ session) ≡ to) (within : All (IsWithin notes) spans) where
     whole : span_of (notes ++ session) (record { from = from; to = to }) ≡ session
     whole =
@@ -43,7 +43,7 @@ module _ (notes session : List Note) where
         (λ k d inside. let w = within k d inside in (w.0, omega (arith, w.1, length-append notes session)))
         (omega (arith, starts, ends, length-append notes session), omega (arith, ends))
 
--- the notes on one more session
+-- the summaries of one more session
 pub noted_more : (h : Sessions) (table : List VersionedPut) (lists : List (List Note)) (session : List Note) (client : ℕ) → length lists ≡ client → IsSessionNoted h table client session
     → ((c : ℕ) → c < client → IsSessionNoted h table c (slice_index_or lists c []))
     → (c : ℕ) → c < client + 1 → IsSessionNoted h table c (slice_index_or (lists ++ session ∷ []) c [])
@@ -53,7 +53,7 @@ noted_more h table lists session client len noted before c less = elim (eq-or-lt
   | inr lower ↦ subst (IsSessionNoted h table c) (sym (get_low lists (session ∷ []) c [] (omega (arith, lower, len)))) (before c lower)
 ]
 
--- the notes on a session, where those of some sessions stand each for itself, and those of the others in one piece
+-- the summaries of a session, where those of some sessions are in lists of their own and those of the others in one list
 module _ {A : Type 0} (f : A → List Note) (sessions : List A) (notes : List Note) (spans : List Span) where
   pub own_session : (client : ℕ) (d : A) → client < length sessions → get_or (map f sessions ++ map (span_of notes) spans) client [] ≡ f (get_or sessions client d)
   own_session client d inside = get_low (map f sessions) (map (span_of notes) spans) client [] (omega (arith, inside, length-map sessions f)) ∙ get_or-map f sessions client d [] inside

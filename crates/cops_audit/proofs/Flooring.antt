@@ -1,4 +1,4 @@
--- Suspects that are judged one after the other.
+-- Suspects that are judged one by one.
 use Rattle.std.proofs.Common.{◌≡◌, ◌≢◌, ◌<◌, ◌≤◌, ◌+◌, ◌-◌, ℕ, zero, suc, List, length, get_or, replicate, Option, Some, None, Vec, Global, refl, sym, ◌∙◌, ap, subst, inl, inr, arith, slice_set, get_or-set_same, get_or-set_other, AllPairs}
 use Rattle.std.specs.Option.{IfNone, IfSome}
 use Rattle.std.specs.Prelude.{vec_capacity}
@@ -71,7 +71,7 @@ module _ (table : List VersionedPut) (notes : List (List Note)) (firsts : List �
       let e : get_or s.counts n.client 0 ≡ get_or (replicate clients 0) n.client 0 = ap (λ (l : List ℕ). get_or l n.client 0) fresh.counts in
       omega (arith, there, e, zero_at clients n.client)
 
-  -- a sweep that knows nothing
+  -- a sweep in which nothing is counted
   pub fresh_sweeping : (clients puts : ℕ) (s : Sweep) → IsFresh clients puts s → clients ≡ length notes → length table ≤ puts → IsSweeping table notes firsts floor s (λ _. ⊥)
   fresh_sweeping clients puts s fresh c p = record {
     clients = ap length fresh.counts ∙ length-replicate {A = ℕ} clients 0 ∙ c;
@@ -87,7 +87,7 @@ module _ (table : List VersionedPut) (notes : List (List Note)) (firsts : List �
   pub fresh_about : (clients puts : ℕ) (s : Sweep) (op : OpName) → IsFresh clients puts s → IsAbout table notes s op
   fresh_about clients puts s op fresh n there = absurd (nothing_counted clients puts s fresh n there)
 
--- a higher floor asks for less
+-- what a sweep knows with a floor it knows with a higher floor
 pub higher_floor : (table : List VersionedPut) (notes : List (List Note)) (firsts : List ℕ) (low high : ℕ) (s : Sweep) → low ≤ high → IsSweeping table notes firsts low s (λ _. ⊥) → IsSweeping table notes firsts high s (λ _. ⊥)
 higher_floor table notes firsts low high s le was = record {
   clients = was.clients;
@@ -98,11 +98,11 @@ higher_floor table notes firsts low high s le was = record {
   learned = λ n x there at above. was.learned n x there at (omega (arith, le, above));
 }
 
--- what is about an operation is about the later ones of its session
+-- what is in the past of an operation is in the past of the later ones of its session
 pub later_about : (table : List VersionedPut) (notes : List (List Note)) (s : Sweep) (a b : OpName) (note : Note) → a.client ≡ b.client → a.index < b.index → note_at notes b ≡ Some note → IsAbout table notes s a → IsAbout table notes s b
 later_about table notes s a b note same less at about n there = more (about n there) (inl (same, less, note, at))
 
--- the next suspect of a client, whose sweep has come as far as the one before
+-- the next suspect of a client, where the sweep has come as far as the one before
 module _ (table : List VersionedPut) (notes : List (List Note)) (firsts : List ℕ) (suspects : List Suspect) (floors : List ℕ) (are : AreFloors suspects floors) (in_order : AllPairs (λ s t. IsBefore s.op t.op) suspects)
     (k : ℕ) (inside : k < length suspects) (some : 0 < k) (same : (d : Suspect) → (get_or suspects (k - 1) d).op.client ≡ (get_or suspects k d).op.client) (s : Sweep)
     (after : IsAfter table notes firsts suspects floors k s) where
@@ -139,7 +139,7 @@ pub none_at : {A : Type 0} (P : Type 0) (o : Option A) → o ≡ None → IfNone
 none_at P None e p = p
 none_at P (Some y) e p = absurd cc
 
--- a sweep that forgot all it knew has room
+-- a restarted sweep has capacity
 pub room_again : (space : ℕ) (lengths : List ℕ) (clients puts : ℕ) (old new : Sweep) → clients ≡ length old.counts → puts ≡ length old.newest
     → IsFresh clients puts new → new.pending ≡ old.pending → HasRoom space lengths old → HasRoom space lengths new
 room_again space lengths clients puts old new same width fresh pending room =

@@ -16,13 +16,13 @@ one_get_version h got v w a b =
     let same : Some (read a.0 a.1 v) ≡ Some (read b.0 b.1 w) = sym a.2 ∙ b.2 in
     cc
 
--- the source of a get stands where its version does
+-- the source of a get is at the place of its version
 pub source_at : (h : Sessions) (table : List VersionedPut) → IsVersionTable h table → (put got : OpName) (v place : ℕ) → GetsVersion h got v → place < length table
     → ((d : VersionedPut) → (get_or table place d).version ≡ v) → SourceStep h put got → StandsAt table place put v
 source_at h table t put got v place gets inside at s =
     place_for h table t put v place (subst (PutsVersion h put) (one_get_version h got s.version v (s.key, s.content, s.got) gets) (s.key, s.content, s.put)) inside at
 
--- a get whose version no put bears
+-- a get has no source where no put has its version
 pub sourceless : (h : Sessions) (table : List VersionedPut) → IsVersionTable h table → (got : OpName) (v : ℕ) → GetsVersion h got v
     → ((k : ℕ) (d : VersionedPut) → k < length table → ¬ ((get_or table k d).version ≡ v)) → HasNoSource h got
 sourceless h table t got v gets none = record {
@@ -36,7 +36,7 @@ sourceless h table t got v gets none = record {
       none at.0 d at.1 (ap (λ (q : VersionedPut). q.version) (at.2 d));
 }
 
--- it has no source, and its version divides the puts where a search says so
+-- a get has no source where no put has its version, and the place that the search gives divides the puts by that version
 pub sourceless_at : (h : Sessions) (table : List VersionedPut) (t : IsVersionTable h table) (got : OpName) (v : ℕ) → GetsVersion h got v
     → ((k : ℕ) (d : VersionedPut) → k < length table → ¬ ((get_or table k d).version ≡ v)) → (place : ℕ) → Divides table place v → (f : HasNoSource h got) × Divides table place f.version
 unfolding sourceless
@@ -53,7 +53,7 @@ divides_at h table t place put version at = record {
   ];
 }
 
--- a place that a search among the versions gave divides them
+-- the place that a search for a version gives divides the puts by it
 pub divides_found : (table : List VersionedPut) (place version : ℕ) → place ≤ length table → ((k : ℕ) (d : VersionedPut) → k < place → (get_or table k d).version < version)
     → ((k : ℕ) (d : VersionedPut) → place ≤ k → k < length table → version ≤ (get_or table k d).version) → Divides table place version
 divides_found table place version le low high = record {

@@ -20,11 +20,11 @@ use Rattle.cops_audit.specs.Sweeps.{HasRoom, IsFresh, IsIdle}
 use Rattle.cops_audit.proofs.Bridging.{past_end}
 use Rattle.cops_audit.proofs.Flooring.{zero_at}
 
--- sessions without operations
+-- sessions without operations have no operations together
 pub count_empty : (n : ℕ) → count_of (replicate n []) ≡ 0
 count_empty n = omega (arith, sum_by-replicate (length {A = Operation}) n [])
 
--- a client's next operation
+-- a client gets its next operation
 module _ (h : Sessions) (client : ℕ) (op : Operation) (inside : client < length h) where
   abbrev own : List Operation
   own = slice_index_or h client []
@@ -47,7 +47,7 @@ module _ (h : Sessions) (client : ℕ) (op : Operation) (inside : client < lengt
     notes = fits.notes;
   }
 
--- the same room with no less space
+-- the same room with no less capacity
 pub fits_on : (h : Sessions) (old new : Room) (notes more : Flat) → Fits h old notes → HasSpace new.space new → old.space ≤ new.space → IsSameButSpace old new
     → new.space ≤ more.note_room → more.session_room ≡ notes.session_room → Fits h new more
 fits_on h old new notes more fits space higher but room sessions = record {
@@ -66,7 +66,7 @@ pub succeeded : {T E : Type 0} (r : Result T E) (P : Type 0) → OnOk r P → fa
 succeeded (Ok x) P p e = p
 succeeded (Err x) P p e = absurd cc
 
--- a note for each operation
+-- there is a summary for each operation
 as_long : (h : Sessions) (table : List VersionedPut) (notes : List (List Note)) → IsNoted h table notes
     → (c : ℕ) → length (slice_index_or notes c []) ≡ length (slice_index_or h c [])
 as_long h table notes noted c = elim (cases_lt c (length h)) [
@@ -74,7 +74,7 @@ as_long h table notes noted c = elim (cases_lt c (length h)) [
   | inr le ↦ ap length (past_end notes c [] (omega (arith, le, noted.clients))) ∙ sym (ap length (past_end h c [] le))
 ]
 
--- as many notes as operations
+-- there are as many summaries as operations
 sum_same : {A B : Type 0} (xs : List (List A)) (ys : List (List B)) → length xs ≡ length ys → ((i : ℕ) → length (get_or xs i []) ≡ length (get_or ys i [])) → sum_by (λ n. n) (map length xs) ≡ sum_by length ys
 sum_same [] [] len each = refl
 sum_same [] (y ∷ ys) len each = absurd (omega (arith, len))
@@ -85,7 +85,7 @@ sum_same (x ∷ xs) (y ∷ ys) len each =
 count_notes : (h : Sessions) (table : List VersionedPut) (notes : List (List Note)) → IsNoted h table notes → sum_by (λ n. n) (map length notes) ≡ count_of h
 count_notes h table notes noted = sum_same notes h noted.clients (as_long h table notes noted)
 
--- a sweep that knows nothing has room for the history that its room fits
+-- a sweep in which nothing is counted has capacity for the history that its room fits
 module _ (h : Sessions) (room : Room) (ready : IsReady h room) (sweep : Sweep)
     (fresh : IsFresh (length room.sweep.counts) (length room.sweep.newest) sweep) (pending : sweep.pending ≡ room.sweep.pending) where
   pub fresh_room : (notes : List (List Note)) → IsNoted h room.table.items notes → HasRoom room.space (map length notes) sweep

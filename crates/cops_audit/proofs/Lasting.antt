@@ -1,4 +1,4 @@
--- What is said so far, from the faults of each class.
+-- The verdict so far, from the faults of each class.
 use Rattle.std.proofs.Common.{◌≡◌, ◌∙◌, ◌<◌, ℕ, Bool, true, false, List, get_or, length, sym, subst, inl, inr}
 use Rattle.cops_types.specs.declared.op.OpName.{OpName}
 use Rattle.cops_types.specs.Histories.{Sessions, IsNamed, PutsVersion, SourceStep}
@@ -27,7 +27,7 @@ waiting_sourceless h n w = record {
 }
 
 module _ (h : Sessions) (doubled : NoneDoubled h) where
-  -- where a put bears a get's version with another key or value, no other put is the get's source
+  -- where a put has a get's version with another key or value, no other put is the get's source
   mismatched_sourceless : (got put : OpName) → IsMismatched h got put → HasNoSource h got
   mismatched_sourceless got put m = record {
     key = m.gets.0;
@@ -61,18 +61,18 @@ all_wait {h} all waits n f =
     let at = (all.members n).1 (_, f.got) in
     subst (IsWaiting h) at.2 (waits at.0 n at.1 (subst (HasNoSource h) (sym at.2) f))
 
--- those are all that wait
+-- the gets without a source are all the gets that wait
 pub waiting_listed : (h : Sessions) (gets : List OpName) → Lists (λ n. n) (HasNoSource h) gets → HaveSourcesOrWait h → Lists (λ n. n) (IsWaiting h) gets
 waiting_listed h gets lists sources = record {
   members = λ n. ((λ at. sources n ((lists.members n).0 at)), (λ w. (lists.members n).1 (waiting_sourceless h n w)));
   in_order = lists.in_order;
 }
 
--- what did not come out as true
+-- false is not true
 pub not_true : {b : Bool} → b ≡ false → ¬ (b ≡ true)
 not_true f t = let e : true ≡ false = sym t ∙ f in cc
 
--- names, or a table, or the notes by it, that are seen as another list
+-- names, or a table, or the summaries by it, in an equal list
 pub seen_names : {seen names : List OpName} (h : Sessions) → seen ≡ names → Lists (λ n. n) (IsNamed h) names → Lists (λ n. n) (IsNamed h) seen
 seen_names h e all = subst (Lists (λ n. n) (IsNamed h)) (sym e) all
 
@@ -87,7 +87,7 @@ pub record Waits (h : Sessions) (gets : List OpName) : Type 0 where
   pub lasting : ¬ HasLastingFault h
   pub waiting : Lists (λ n. n) (IsWaiting h) gets
 
--- what is known where no class that lasts has a fault among the names, and those without a source are listed
+-- the verdict so far where the names have no lasting fault of any class, and those without a source are listed
 pub waits : {h : Sessions} {table : List VersionedPut} {notes : List (List Note)} {names same_names gets : List OpName} → Lists (λ n. n) (IsNamed h) names → IsVersionTable h table → IsNoted h table notes
     → ((k : ℕ) (d : OpName) → k < length names → HasNoSource h (get_or names k d) → IsWaiting h (get_or names k d))
     → AllAbove h → NoneStale h → Lists (λ n. n) (IsNamed h) same_names → ListsAmong (λ n. n) (IsSourceless notes) same_names gets → Waits h gets

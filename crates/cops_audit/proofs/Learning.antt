@@ -1,4 +1,4 @@
--- What an operation saw is taken in.
+-- What an operation saw is recorded.
 use Rattle.std.proofs.Common.{◌≡◌, ◌<◌, ◌+◌, ◌-◌, ◌^◌, ℕ, List, length, get_or, Some, refl, sym, ◌∙◌, ap, subst, inl, inr, arith, slice_get, vec_len, Vec, Global}
 use Rattle.std.specs.Prelude.{sum_by}
 use Rattle.cops_types.specs.declared.op.OpName.{OpName}
@@ -10,7 +10,7 @@ use Rattle.cops_audit.specs.declared.sweep.Sweep.{Sweep}
 use Rattle.cops_audit.specs.Notes.{StandsAt}
 use Rattle.cops_audit.specs.Sweeps.{Counted, InSome, Learns, Raises, TakesPut}
 
--- one put stands at a place
+-- there is one put at a place
 pub one_put_at : (table : List VersionedPut) (i : ℕ) (p q : OpName) (v w : ℕ) → StandsAt table i p v → StandsAt table i q w → p ≡ q
 one_put_at table i p q v w a b =
     let e : Some (let x : VersionedPut = record { version = v; name = p } in x) ≡ Some (let x : VersionedPut = record { version = w; name = q } in x) = sym a ∙ b in

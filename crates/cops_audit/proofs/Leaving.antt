@@ -34,7 +34,7 @@ module _ (suspects : List Suspect) (in_order : AllPairs (λ s t. IsBefore s.op t
       subst (λ (x : Suspect). IsBefore x.op t.op) (get_or_from_slice_get suspects i s s a)
       (subst (λ (x : Suspect). IsBefore (get_or suspects i s).op x.op) (get_or_from_slice_get suspects j t s b) (in_order i j s less (slice_get_inside suspects j t b)))
 
-  -- suspects of one name are one
+  -- suspects with one name are one
   one_place : (i j : ℕ) (s t : Suspect) → slice_get suspects i ≡ Some s → slice_get suspects j ≡ Some t → s.op ≡ t.op → i ≡ j
   one_place i j s t a b same = elim (cases_order i j) [
     | inl e ↦ e
@@ -62,7 +62,7 @@ module _ (suspects : List Suspect) (in_order : AllPairs (λ s t. IsBefore s.op t
         let p = one_place l.place k x s l.at at (e ∙ get_or-map (λ (y : Suspect). y.op) suspects k s d inside ∙ ap (λ (y : Suspect). y.op) (get_or_from_slice_get suspects k s s at)) in
         let q : Some false ≡ Some true = sym l.not_cleared ∙ ap (slice_get cleared) p ∙ is in cc)
 
--- what is left are the suspects
+-- the suspects that are left list all names with a newer put in their past
 module _ (h : Sessions) (table : List VersionedPut) (t : IsVersionTable h table) (notes : List (List Note)) (noted : IsNoted h table notes) (sources : HaveSourcesOrWait h) (firsts : List ℕ) (first : AreFirsts h table firsts)
     (names : List OpName) (suspects : List Suspect) (are : AreSuspects h table names suspects) (cleared : List Bool) (is : (length cleared ≡ length suspects) × AreCleared table notes firsts suspects cleared)
     (left : List Suspect) (lists : ListsAmong (λ s. s.op) (IsLeft suspects cleared) (map (λ (s : Suspect). s.op) suspects) left) where

@@ -24,7 +24,7 @@ module _ (h : Sessions) (table : List VersionedPut) (rising : Rises table) where
   same_key t a b on_a on_b =
       one_key h on_a.0 on_b.0 a b on_a.1 on_b.1 on_a.3 on_b.3 (same_put_at table rising t on_a.0 on_b.0 on_a.1 on_b.1 on_a.2 on_b.2).0
 
-  -- the first place on the key after a put is the next one
+  -- the first place on the key after a put is the next one on its key
   pub next_is : (k i : ℕ) (key : List ℕ) (found : Option ℕ) → i ≡ k + 1 → OnKey h table k key → IsFirstFrom h table i key found → IsNext h table k found
   next_is k i key None e here none = λ other on later less there.
       none later (omega (arith, less, e)) (subst (OnKey h table later) (same_key k other key on here) there)
@@ -63,7 +63,7 @@ on_key h table t k put key version inside at puts =
     let same : version ≡ put.version = one_version h put.name put.name version put.version (key, puts.0, puts.1) own refl in
     (put.name, put.version, stands_item table k put inside at, subst (PutsKey h put.name key) same puts)
 
--- the put at a place has a key, whose number stands there too
+-- the put at a place has a key, whose number is at that place too
 pub keyed_at : (r : Recorded) (table : List VersionedPut) (numbers : List ℕ) → IsVersionTable r.sessions table → AreKeys r table numbers → (place : ℕ) → place < length table
     → (key : List ℕ) × OnKey r.sessions table place key × (slice_get r.keys (get_or numbers place 0) ≡ Some key)
 keyed_at r table numbers t are place inside =
@@ -74,11 +74,11 @@ keyed_at r table numbers t are place inside =
     let here : OnKey r.sessions table place own.0 = on_key r.sessions table t place put own.0 put.version inside is (own.1, own.2) in
     (own.0, here, are.each place (get_or numbers place 0) own.0 (stands numbers place 0 (omega (arith, inside, are.whole))) here)
 
--- nothing stands past the end
+-- no put is past the end
 pub none_past_end : (h : Sessions) (table : List VersionedPut) (key : List ℕ) → IsFirstFrom h table (length table) key None
 none_past_end h table key t le on = let l : t < length table = inside_table table t on.0 on.1 on.2 in omega (arith, l, le)
 
--- an element that is written at a place
+-- an element is written at a place
 pub written : {A : Type 0} (xs : List A) (k i : ℕ) (x y : A) → slice_get (slice_set xs k x) i ≡ Some y → ((i ≡ k) × (x ≡ y)) ⊎ ((i ≢ k) × (slice_get xs i ≡ Some y))
 written [] k i x y e = absurd cc
 written (z ∷ zs) zero zero x y e = inl (refl, let s : x ≡ y = cc in s)
@@ -89,12 +89,12 @@ written (z ∷ zs) (suc k) (suc i) x y e = elim (written zs k i x y e) [
   | inr w ↦ inr ((λ f. w.0 (omega (arith, f))), w.1)
 ]
 
--- the next put on the key, as it was read
+-- the link of a put, as it is read
 pub next_at : (h : Sessions) (table : List VersionedPut) (nexts : List ℕ) → AreNexts h table nexts → (place : ℕ) → place < length table → (next : ℕ) → next ≡ get_or nexts place 0
     → LinksTo h table place next
 next_at h table nexts are place inside next is = are.each place next (stands nexts place 0 (omega (arith, inside, are.whole)) ∙ ap (λ (n : ℕ). Some n) (sym is))
 
--- the next put's place, or the end where there is none, links to it
+-- a put is linked to the next one on its key, or to the end where there is none
 pub linked : (h : Sessions) (table : List VersionedPut) (place : ℕ) (key : List ℕ) (found : Option ℕ) → OnKey h table place key → IsNext h table place found → LinksTo h table place (unwrap_or found (length table))
 linked h table place key None here none = ((λ less. absurd (omega (arith, less))), λ le. none)
 linked h table place key (Some next) here is =

@@ -22,7 +22,7 @@ slice_get_there [] i less = absurd (omega (arith, less))
 slice_get_there (y ∷ ys) zero less = (y, refl)
 slice_get_there (y ∷ ys) (suc i) less = slice_get_there ys i (omega (arith, less))
 
--- a named operation has its place in its session, and its session in the history
+-- a named operation is in its session, and its session in the history
 pub named_index : (h : Sessions) (n : OpName) → IsNamed h n → n.index < length (slice_index_or h n.client [])
 named_index h n there = slice_get_below (slice_index_or h n.client []) n.index there.0 there.1
 
@@ -71,7 +71,7 @@ one_more h c i names n same_c same_i lists inside = record {
       | inr l ↦ Contains-append_left names (n ∷ []) m ((lists.members m).1 (named, inr (client, l)))
     ]
 
--- what comes before a place holds of the same names as what comes before another
+-- the list of the names before a place is that of the names before another, where these are the same names
 same_before : (h : Sessions) (c i d j : ℕ) (names : List OpName) → ListsBefore h c i names
     → ((n : OpName) → IsNamed h n → IsBefore n (record { client = c; index = i }) ↔ IsBefore n (record { client = d; index = j })) → ListsBefore h d j names
 same_before h c i d j names lists same = record {

@@ -1,11 +1,11 @@
--- The mark of a session: what its operations saw stands below it.
+-- The mark of a session: what its operations saw is below it.
 use Rattle.std.proofs.Common.{◌≡◌, ◌<◌, ◌≤◌, ◌+◌, ◌⊎◌, ℕ, zero, suc, List, [], ◌∷◌, ◌++◌, length, get_or, Some, refl, sym, ◌∙◌, ap, subst, inl, inr, arith, slice_get}
 use Rattle.std.proofs.Math.Nat.{eq-or-lt_of_le}
 use Rattle.cops_audit.specs.declared.notes.Note.{Note}
 use Rattle.cops_audit.specs.Notes.{above, AreMarks, IsMark}
 use Rattle.cops_audit.proofs.Unique.{stands}
 
--- an element before the last one, and the last one
+-- an element of a longer list is one before the last, or the last
 pub slice_get_push : {A : Type 0} (xs : List A) (y q : A) (i : ℕ) → slice_get (xs ++ y ∷ []) i ≡ Some q → (slice_get xs i ≡ Some q) ⊎ ((i ≡ length xs) × (y ≡ q))
 slice_get_push [] y q zero e = inr (refl, let s : y ≡ q = cc in s)
 slice_get_push [] y q (suc i) e = absurd cc
@@ -29,7 +29,7 @@ slice_get_inside (y ∷ ys) (suc i) x e = omega (arith, slice_get_inside ys i x 
 pub mark_none : IsMark [] 0 0
 mark_none = record { bounds = λ i note less at. absurd (omega (arith, less)); reached = inl refl }
 
--- a longer session leaves the marks that it had
+-- one more operation leaves the marks before it as they are
 pub mark_kept : (session : List Note) (note : Note) (count mark : ℕ) → count ≤ length session → IsMark session count mark → IsMark (session ++ note ∷ []) count mark
 mark_kept session note count mark short m = record {
   bounds = λ i x less at. elim (slice_get_push session note x i at) [ inl old ↦ m.bounds i x less old | inr new ↦ absurd (omega (arith, less, short, new.0)) ];
@@ -69,7 +69,7 @@ marks_rise session marks i j d le inside =
     mark_grows session (i + 1) (j + 1) (get_or session i d).mark (get_or session j d).mark
     (marks i (get_or session i d) (stands session i d (omega (arith, le, inside)))) (marks j (get_or session j d) (stands session j d inside)) (omega (arith, le))
 
--- where the mark first goes above a place, the operation itself saw that it does
+-- where the mark first rises above a place, the operation itself raises it
 pub mark_crosses : (session : List Note) → AreMarks session → (i place : ℕ) (note : Note) → slice_get session i ≡ Some note → place < note.mark
     → ((j : ℕ) (x : Note) → j < i → slice_get session j ≡ Some x → x.mark ≤ place) → place < above note.seen
 mark_crosses session marks i place note at high low =

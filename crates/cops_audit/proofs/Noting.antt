@@ -1,4 +1,4 @@
--- Notes on a session, one operation after the other.
+-- Causal summaries of a session, one operation after the other.
 use Rattle.std.proofs.Common.{◌≡◌, ◌≢◌, ◌<◌, ◌≤◌, ◌+◌, ◌-◌, ℕ, zero, suc, List, [], ◌∷◌, ◌++◌, length, get_or, map, length-append, Some, refl, sym, ◌∙◌, ap, subst, inl, inr, arith, max, slice_get, slice_index_or, slice_set}
 use Rattle.std.proofs.Math.ListN.{length-set}
 use Rattle.std.proofs.Math.Nat.{eq-or-lt_of_le}
@@ -24,7 +24,7 @@ few_places h table t name (Got place) s = let l : place < length table = inside_
 few_places h table t name Missed s = omega arith
 few_places h table t name (Sourceless place) s = s.1.inside
 
--- the notes so far and one more
+-- the summaries so far, which are `count`, with the mark
 pub record Noted (h : Sessions) (table : List VersionedPut) (client : ℕ) (session : List Note) (count mark : ℕ) : Type 0 where
   pub whole : length session ≡ count
   pub up_to : IsMark session count mark
@@ -52,7 +52,7 @@ pub no_notes : (h : Sessions) (table : List VersionedPut) (client : ℕ) → Not
 no_notes h table client = record { whole = refl; up_to = mark_none; seen = λ i x at. absurd cc; marks = λ i x at. absurd cc }
 
 module _ (h : Sessions) (table : List VersionedPut) (client : ℕ) (session : List Note) (count mark : ℕ) (seen : Seen) (n : Noted h table client session count mark) (is : IsSeen h table (record { client = client; index = count }) seen) where
-  -- a place above the mark becomes the mark, and any other leaves it
+  -- a place above the mark raises it, and any other leaves it
   pub raised_note : (m : ℕ) → m ≡ max mark (above seen) → Noted h table client (session ++ record { seen = seen; mark = m } ∷ []) (count + 1) m
   raised_note m is_max =
       one_note_more h table client session count mark (record { seen = seen; mark = m }) n is
@@ -61,7 +61,7 @@ module _ (h : Sessions) (table : List VersionedPut) (client : ℕ) (session : Li
         | inr low ↦ subst (λ (k : ℕ). IsMark (session ++ record { seen = seen; mark = m } ∷ []) (count + 1) k) (omega (arith, is_max, low)) (mark_stays session (record { seen = seen; mark = m }) count mark n.whole n.up_to (omega (arith, low)))
       ])
 
--- the mark of the last note
+-- the mark of the last summary
 pub mark_of_last : (session : List Note) (d : Note) → AreMarks session → 0 < length session → IsMark session (length session) (get_or session (length session - 1) d).mark
 mark_of_last session d marks some =
     let e : length session - 1 + 1 ≡ length session = omega arith in
@@ -71,16 +71,16 @@ pub mark_of_none : (session : List Note) → length session ≡ 0 → IsMark ses
 mark_of_none [] e = mark_none
 mark_of_none (x ∷ xs) e = absurd (omega (arith, e))
 
--- a front of the notes on a session, with its mark
+-- the summaries of a prefix of a session, with their mark
 pub front_noted : (h : Sessions) (table : List VersionedPut) (client : ℕ) (session : List Note) (count mark : ℕ) → IsFrontNoted h table client session → length session ≡ count → IsMark session (length session) mark
     → Noted h table client session count mark
 front_noted h table client session count mark front len up_to = record { whole = len; up_to = subst (λ (k : ℕ). IsMark session k mark) len up_to; seen = front.seen; marks = front.marks }
 
--- no notes are a front
+-- no summaries are those of an empty prefix
 pub front_of_none : (h : Sessions) (table : List VersionedPut) (client : ℕ) (session : List Note) → session ≡ [] → IsFrontNoted h table client session
 front_of_none h table client session e = subst (IsFrontNoted h table client) (sym e) (record { within = omega arith; seen = λ i x at. absurd cc; marks = λ i x at. absurd cc })
 
--- the note on an operation, and the session that it is in
+-- the summary of an operation, and the session that it is in
 pub session_of : (h : Sessions) (table : List VersionedPut) (notes : List (List Note)) → IsNoted h table notes → (name : OpName) (note : Note) → note_at notes name ≡ Some note
     → IsSessionNoted h table name.client (slice_index_or notes name.client [])
 session_of h table notes noted name note at = noted.sessions name.client (omega (arith, noted.clients, inside notes name.client name.index note at))
@@ -90,7 +90,7 @@ session_of h table notes noted name note at = noted.sessions name.client (omega 
     inside (s ∷ ss) zero i x e = omega arith
     inside (s ∷ ss) (suc c) i x e = omega (arith, inside ss c i x e)
 
--- each operation has a note
+-- each operation has a summary
 pub note_there : (h : Sessions) (table : List VersionedPut) (notes : List (List Note)) → IsNoted h table notes → (name : OpName) → IsNamed h name → (note : Note) × (note_at notes name ≡ Some note)
 note_there h table notes noted name named =
     let session = noted.sessions name.client (named_client h name named) in
@@ -129,7 +129,7 @@ module _ {A : Type 0} (f : A → List Note) (h : Sessions) (table : List Version
     | inr before ↦ subst (λ (s : List Note). length (slice_index_or h (first + c) []) ≤ length s) (sym (set_other f [] xs k c x (λ e. omega (arith, before, e)))) (whole c before)
   ]
 
--- where no session has notes, the fronts are empty
+-- where there are no summaries, the prefixes are empty
 pub fronts_of_none : {A : Type 0} (f : A → List Note) (h : Sessions) (table : List VersionedPut) (first : ℕ) (xs : List A) → first + length xs ≤ length h → ((k : ℕ) (d : A) → k < length xs → f (get_or xs k d) ≡ [])
     → AreFrontsNoted h table first (map f xs)
 fronts_of_none {A = A} f h table first xs len none = record {
@@ -145,7 +145,7 @@ fronts_of_none {A = A} f h table first xs len none = record {
         at (y ∷ ys) zero l e = e y
         at (y ∷ ys) (suc k) l e = at ys k (omega (arith, l)) e
 
--- fronts that are long enough are the notes on their sessions
+-- prefixes that are long enough are the whole sessions
 pub noted_whole : {A : Type 0} (h : Sessions) (table : List VersionedPut) (first end : ℕ) (f : A → List Note) (xs : List A) → first + length xs ≡ end → AreFrontsNoted h table first (map f xs) → AreLongEnough h first (length xs) (map f xs)
     → AreNoted h table first end (map f xs)
 noted_whole h table first end f xs count fronts whole = record {
@@ -155,7 +155,7 @@ noted_whole h table first end f xs count fronts whole = record {
       record { whole = omega (arith, front.within, whole k (omega (arith, less, length-map xs f))); seen = front.seen; marks = front.marks };
 }
 
--- the notes on the sessions of all clients
+-- the summaries of the sessions of all clients
 pub noted_all : (h : Sessions) (table : List VersionedPut) (first end : ℕ) (notes : List (List Note)) → first ≡ 0 → end ≡ length h → AreNoted h table first end notes → IsNoted h table notes
 noted_all h table first end notes from to n = record {
   clients = omega (arith, n.clients, from, to);
@@ -172,7 +172,7 @@ get_high [] ys k n d e = ap (λ (m : ℕ). get_or ys m d) (let s : n ≡ k = ome
 get_high (x ∷ xs) ys k zero d e = absurd (omega (arith, e))
 get_high (x ∷ xs) ys k (suc n) d e = get_high xs ys k n d (omega (arith, e))
 
--- the notes on the clients below one, and those on the others
+-- the summaries of the clients below one, and those of the others
 pub noted_joined : (h : Sessions) (table : List VersionedPut) (first mid end : ℕ) (low high : List (List Note)) → AreNoted h table first mid low → AreNoted h table mid end high
     → AreNoted h table first end (low ++ high)
 noted_joined h table first mid end low high a b = record {

@@ -1,4 +1,4 @@
--- The first place on each key, passed on from each put to the next one on its key.
+-- The first place on each key, handed on from each put to the next one on its key.
 use Rattle.std.proofs.Common.{◌≡◌, ◌≢◌, ◌<◌, ◌≤◌, ◌+◌, ◌⊎◌, ℕ, zero, suc, List, length, Some, sym, ◌∙◌, ap, subst, inl, inr, arith, slice_get, slice_set}
 use Rattle.std.proofs.Math.ListN.{length-set}
 use Rattle.std.proofs.Math.Nat.{eq-or-lt_of_le}
@@ -12,13 +12,13 @@ use Rattle.cops_audit.proofs.Listing.{slice_get_there}
 use Rattle.cops_audit.proofs.Marks.{slice_get_inside}
 use Rattle.cops_audit.proofs.Places.{inside_table, put_there, stands_at}
 
--- nothing before a place was passed on to this one, or what was is the first place on its key
+-- either no place before this one was handed on to it, or what was is the first place on its key
 abbrev pub Passed : Sessions → List VersionedPut → List ℕ → List ℕ → ℕ → ℕ → Type 0
 Passed h table nexts firsts i q =
     ((slice_get firsts q ≡ Some q) × ((p : ℕ) → p < i → slice_get nexts p ≢ Some q))
     ⊎ ((first : ℕ) × (slice_get firsts q ≡ Some first) × ((key : List ℕ) → OnKey h table q key → IsFirstOn h table key first))
 
--- the first places up to a put, and what was passed on to those from it on
+-- the first places of the puts before one, and what was handed on to those from it on
 pub record PassedTo (h : Sessions) (table : List VersionedPut) (nexts : List ℕ) (firsts : List ℕ) (i : ℕ) : Type 0 where
   pub whole : length firsts ≡ length table
   pub before : (q first : ℕ) (key : List ℕ) → q < i → slice_get firsts q ≡ Some first → OnKey h table q key → IsFirstOn h table key first
@@ -44,7 +44,7 @@ module _ (h : Sessions) (table : List VersionedPut) (t : IsVersionTable h table)
   on_inside : (q : ℕ) (key : List ℕ) → OnKey h table q key → q < length table
   on_inside q key on = inside_table table q on.0 on.1 on.2
 
-  -- a place on a key that comes before another has a next one that is not after it
+  -- a place on a key that is before another has a next one, which is not after the other
   next_of : (p q : ℕ) (key : List ℕ) → OnKey h table p key → OnKey h table q key → p < q → (n : ℕ) × (slice_get nexts p ≡ Some n) × (p < n) × (n ≤ q) × OnKey h table n key
   next_of p q key on_p on_q less =
       let there = slice_get_there nexts p (omega (arith, are.whole, on_inside p key on_p)) in
@@ -55,7 +55,7 @@ module _ (h : Sessions) (table : List VersionedPut) (t : IsVersionTable h table)
         | inr past ↦ absurd (links.1 past key on_p q less on_q)
       ]
 
-  -- so some place before it has it for its next
+  -- so some earlier place has it as its next
   previous : (fuel p q : ℕ) (key : List ℕ) → q ≤ p + fuel → OnKey h table p key → OnKey h table q key → p < q → (r : ℕ) × (r < q) × (slice_get nexts r ≡ Some q)
   previous zero p q key enough on_p on_q less = absurd (omega (arith, enough, less))
   previous (suc fuel) p q key enough on_p on_q less =
@@ -90,7 +90,7 @@ module _ (h : Sessions) (table : List VersionedPut) (t : IsVersionTable h table)
       | inr old ↦ so_far.before q first key old at on
     ]
 
-    -- the last put on its key passes nothing on
+    -- the last put on its key hands nothing on
     pub passed_none : (next : ℕ) → slice_get nexts i ≡ Some next → length table ≤ next → PassedTo h table nexts firsts (i + 1)
     passed_none next at_next past = record {
       whole = so_far.whole;
@@ -110,7 +110,7 @@ module _ (h : Sessions) (table : List VersionedPut) (t : IsVersionTable h table)
       ];
     }
 
-    -- a put passes it on to the next one
+    -- any other put hands its first place on to the next one
     pub passed_on : (next first : ℕ) → slice_get nexts i ≡ Some next → next < length table → slice_get firsts i ≡ Some first → PassedTo h table nexts (slice_set firsts next first) (i + 1)
     passed_on next first at_next inside_next at_first =
         let is = (are.each i next at_next).0 inside_next in

@@ -1,4 +1,4 @@
--- Whether an operation is in the past of another is decided, so the past is a finite set of pairs.
+-- A decision procedure for the past of an operation, so that the past is a finite set of pairs.
 use Rattle.std.proofs.Common.{◌≡◌, ◌<◌, ◌⊎◌, ◌||◌, ◌&&◌, ℕ, zero, suc, List, [], ◌∷◌, ◌++◌, Bool, true, false, cond, eqb, ltb, Option, Some, None, is_some, refl, sym, ◌∙◌, ap, subst, inl, inr, arith, slice_get, slice_index_or}
 use Rattle.std.proofs.lemmas.Bool.{eqb-true, eq-eqb, ltb-true, lt-ltb}
 use Rattle.cops_types.specs.declared.op.OpName.{OpName}
@@ -55,7 +55,7 @@ same_content_true (Some xs) None e = absurd cc
 same_content_true None (Some ys) e = absurd cc
 same_content_true None None e = refl
 
--- a put and a get that returned it
+-- whether they are a put and a get that returned it
 pub source_test : Option Operation → Option Operation → Bool
 source_test (Some (write k x v)) (Some (read l y w)) = same_bytes k l && (same_content x y && eqb v w)
 source_test _ _ = false
@@ -138,7 +138,7 @@ pub from_there : (h : Sessions) (a b : OpName) → Step h a b → (op : Operatio
 from_there h a b (inl s) = earlier_there _ a.index b.index s.earlier (s.is_there.0, ap (λ c. slice_get (slice_index_or h c []) b.index) s.same_client ∙ s.is_there.1)
 from_there h a b (inr s) = (write s.key s.content s.version, s.put)
 
--- the past, decided
+-- the past, as a decision
 pub past_test : Sessions → OpName → OpName → Bool
 past_test h a b = linked (step_test h) (names_of h) a b
 

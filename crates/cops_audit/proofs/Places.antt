@@ -16,7 +16,7 @@ use Rattle.cops_audit.proofs.Collect.{get_or-default}
 use Rattle.cops_audit.proofs.Emptiness.{at_index}
 use Rattle.cops_audit.proofs.Unique.{stands}
 
--- each put below the next, so below each later one
+-- each put is below the next, and so below each later one
 pub rises_by_neighbours : (table : List VersionedPut) → ((k : ℕ) (d : VersionedPut) → k + 1 < length table → (get_or table k d).version < (get_or table (k + 1) d).version) → Rises table
 rises_by_neighbours table next i zero d less inside = absurd (omega (arith, less))
 rises_by_neighbours table next i (suc j) d less inside =
@@ -38,7 +38,7 @@ place_of_put h table t p v put =
 pub put_at : (h : Sessions) (table : List VersionedPut) → IsPutTable h table → (k : ℕ) (d : VersionedPut) → k < length table → PutsVersion h (get_or table k d).name (get_or table k d).version
 put_at h table t k d inside = (t.members (get_or table k d)).0 (k, inside, get_or-default table k (get_or table k d) d inside)
 
--- two places with one version: each put of that version is doubled
+-- where two places have one version, each put of that version is doubled
 doubled_at : (h : Sessions) (table : List VersionedPut) → IsPutTable h table → (name : OpName) (v : ℕ) → PutsVersion h name v → (a b : ℕ) (d : VersionedPut) → a < b → b < length table
     → (get_or table a d).version ≡ v → (get_or table b d).version ≡ v → IsDoubled h name
 doubled_at h table t name v put a b d less inside va vb =
@@ -64,14 +64,14 @@ doubled_at h table t name v put a b d less inside va vb =
     either : (i j : ℕ) → (i ≡ j) ⊎ (i ≢ j)
     either i j = elim (eqb_tells i j) [ inl p ↦ inl p.1 | inr p ↦ inr p.1 ]
 
-    -- a name stands at one place
+    -- a name is at one place only
     one_place : (m n : OpName) (i j : ℕ) → i < length table → j < length table → (get_or table i d).name ≡ m → (get_or table j d).name ≡ n → m ≡ n → i ≡ j
     one_place m n i j in_i in_j at_i at_j same =
         let not_before : ¬ (i < j) = λ l. t.once i j d l in_j (at_i ∙ same ∙ sym at_j) in
         let not_after : ¬ (j < i) = λ l. t.once j i d l in_i (at_j ∙ sym same ∙ sym at_i) in
         omega (arith, not_before, not_after)
 
--- places next to each other, both ways round
+-- two neighbouring places with one version, in either order
 pub doubled_by_neighbour : (h : Sessions) (table : List VersionedPut) → IsPutTable h table → (name : OpName) (v : ℕ) → PutsVersion h name v → (k place : ℕ) → k < length table → place < length table
     → ((k + 1 ≡ place) ⊎ (place + 1 ≡ k)) → ((d : VersionedPut) → (get_or table place d).version ≡ v) → ((d : VersionedPut) → (get_or table k d).version ≡ (get_or table place d).version) → IsDoubled h name
 doubled_by_neighbour h table t name v put k place in_k in_place (inl e) at same =
@@ -81,11 +81,11 @@ doubled_by_neighbour h table t name v put k place in_k in_place (inr e) at same 
     let d : VersionedPut = record { version = v; name = name } in
     doubled_at h table t name v put place k d (omega (arith, e)) in_k (at d) (same d ∙ at d)
 
--- the version of a place stands at a place next to it
+-- a neighbouring place has the version of a place
 abbrev pub Beside : List VersionedPut → ℕ → Type 0
 Beside table place = (k : ℕ) × (k < length table) × ((k + 1 ≡ place) ⊎ (place + 1 ≡ k)) × ((d : VersionedPut) → (get_or table k d).version ≡ (get_or table place d).version)
 
--- a doubled put's version stands at neighbouring places
+-- the version of a doubled put is at neighbouring places
 pub neighbour_of_doubled : (h : Sessions) (table : List VersionedPut) → IsPutTable h table → (name : OpName) (v place : ℕ) → place < length table → ((d : VersionedPut) → (get_or table place d).version ≡ v)
     → PutsVersion h name v → IsDoubled h name → Beside table place
 neighbour_of_doubled h table t name v place inside at put f =
@@ -98,7 +98,7 @@ neighbour_of_doubled h table t name v place inside at put f =
       | inr p ↦ beside a.0 a.1 (λ d. ap (λ (q : VersionedPut). q.version) (a.2 d)) p.1
     ]
   where
-    -- what lies between two places of one version has it too
+    -- all places between two places of one version have it too
     between : (i j k : ℕ) (d : VersionedPut) → i ≤ k → k ≤ j → j < length table → (get_or table i d).version ≡ v → (get_or table j d).version ≡ v → (get_or table k d).version ≡ v
     between i j k d le le' in_j vi vj =
         let low : ¬ ((get_or table k d).version < (get_or table i d).version) = λ l. elim (eq-or-lt_of_le le) [
@@ -117,7 +117,7 @@ neighbour_of_doubled h table t name v place inside at put f =
       | inr le ↦ (place + 1, omega (arith, le, in_q, differs), inr refl, λ d. between place q (place + 1) d (omega arith) (omega (arith, le, differs)) in_q (at d) (at_q d) ∙ sym (at d))
     ]
 
--- what stands at a place is a put of that version, inside the table
+-- what is at a place is a put of that version, inside the table
 pub put_there : (h : Sessions) (table : List VersionedPut) → IsPutTable h table → (k : ℕ) (p : OpName) (v : ℕ) → StandsAt table k p v → PutsVersion h p v
 put_there h table t k p v at =
     let q : VersionedPut = record { version = v; name = p } in
@@ -131,15 +131,15 @@ inside_table table k p v at = let q : VersionedPut = record { version = v; name 
 pub version_at : (table : List VersionedPut) (k : ℕ) (p : OpName) (v : ℕ) → StandsAt table k p v → (get_or table k (record { version = v; name = p })).version ≡ v
 version_at table k p v at = let q : VersionedPut = record { version = v; name = p } in ap (λ (x : VersionedPut). x.version) (at_index table k q q at).1
 
--- the put that was read at a place stands there
+-- the put that was read at a place is there
 pub stands_item : (table : List VersionedPut) (k : ℕ) (put : VersionedPut) → k < length table → put ≡ get_or table k put → StandsAt table k put.name put.version
 stands_item table k put inside at = stands table k put inside ∙ ap (λ (x : VersionedPut). Some x) (sym at)
 
--- what stands at a place of a version
+-- what is at a place has its version
 pub stands_at : (table : List VersionedPut) (k : ℕ) (d : VersionedPut) → k < length table → StandsAt table k (get_or table k d).name (get_or table k d).version
 stands_at table k d inside = stands table k d inside
 
--- where two puts stand, their versions are in the order of their places
+-- puts have versions in the order of their places
 module _ (table : List VersionedPut) (rising : Rises table) where
   pub version_rises : (i j : ℕ) (p q : OpName) (v w : ℕ) → StandsAt table i p v → StandsAt table j q w → i < j → v < w
   version_rises i j p q v w at_i at_j less =
@@ -172,7 +172,7 @@ module _ (table : List VersionedPut) (rising : Rises table) where
       let r : (let x : VersionedPut = record { version = v; name = p } in x) ≡ record { version = w; name = q } = cc in
       (ap (λ (x : VersionedPut). x.name) r, ap (λ (x : VersionedPut). x.version) r)
 
--- the place of a put of a version, from any place of that version
+-- the place of a put, from any place of its version
 pub place_for : (h : Sessions) (table : List VersionedPut) → IsVersionTable h table → (p : OpName) (v k : ℕ) → PutsVersion h p v → k < length table → ((d : VersionedPut) → (get_or table k d).version ≡ v) → StandsAt table k p v
 place_for h table t p v k put inside at =
     let d : VersionedPut = record { version = v; name = p } in
@@ -182,7 +182,7 @@ place_for h table t p v k put inside at =
     let e : own.0 ≡ k = same_place table t.rising own.0 k p (get_or table k d).name v stands_own here in
     subst (λ j. StandsAt table j p v) e stands_own
 
--- a put stands somewhere with its version
+-- each put has a place, with its version
 pub stands_put : (h : Sessions) (table : List VersionedPut) → IsPutTable h table → (p : OpName) (v : ℕ) → PutsVersion h p v → (k : ℕ) × StandsAt table k p v
 stands_put h table t p v puts =
     let d : VersionedPut = record { version = v; name = p } in

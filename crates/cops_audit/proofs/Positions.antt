@@ -9,7 +9,7 @@ use Rattle.cops_audit.specs.Notes.{StandsAt}
 use Rattle.cops_audit.specs.Tables.{IsVersionTable}
 use Rattle.cops_audit.proofs.Places.{same_put_at, stands_at}
 
--- what stands in a list in which one element was written
+-- the elements of a list in which one was written
 module _ {A : Type 0} where
   set_at : (xs : List A) (i : ℕ) (x : A) → i < length xs → slice_get (slice_set xs i x) i ≡ Some x
   set_at [] i x inside = absurd (omega (arith, inside))
@@ -23,12 +23,12 @@ module _ {A : Type 0} where
   set_beside (y ∷ ys) (suc i) zero x differs = refl
   set_beside (y ∷ ys) (suc i) (suc j) x differs = set_beside ys i j x (λ e. differs (ap suc e))
 
--- the table's places up to one
+-- each of the table's places below the end is at the number of its put, where the put has a number
 abbrev pub TellPlacesBelow : ℕ → List OpName → List VersionedPut → List ℕ → Type 0
 TellPlacesBelow end puts table places =
     (k number : ℕ) (put : OpName) (version : ℕ) → k < end → StandsAt table k put version → slice_get puts number ≡ Some put → slice_get places number ≡ Some k
 
--- each of the table's places up to one stands at the number of its put
+-- each put of the table below the end has a number, and its place is at that number
 abbrev pub AllToldBelow : ℕ → List OpName → List VersionedPut → List ℕ → Type 0
 AllToldBelow end puts table places =
     (k : ℕ) (put : OpName) (version : ℕ) → k < end → StandsAt table k put version → (number : ℕ) × (slice_get puts number ≡ Some put) × (slice_get places number ≡ Some k)

@@ -34,7 +34,7 @@ module _ (xs : List ℕ) (c to : ℕ) (inside : c < length xs) where
   pub counted_raised : (n : OpName) → n.client ≡ c → n.index < to → Counted (slice_set xs c to) n
   counted_raised n same less = omega (arith, less, at_same n same)
 
-  -- what is newly counted stands in the range from the old count on
+  -- what is newly counted is in the range from the old count on
   pub newly_in_range : (n : OpName) → Counted (slice_set xs c to) n → Counted xs n ⊎ InRange (record { client = c; from = get_or xs c 0; to = to }) n
   newly_in_range n there = elim (either n.client c) [
     | inl same ↦ elim (cases_lt n.index (get_or xs c 0)) [

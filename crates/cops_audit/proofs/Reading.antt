@@ -1,4 +1,4 @@
--- What notes say of a history.
+-- What causal summaries say of a history.
 use Rattle.std.proofs.Common.{◌≡◌, ◌<◌, ◌≤◌, ◌↔◌, ◌⊎◌, ℕ, List, Some, refl, sym, ◌∙◌, ap, subst, inl, inr, arith}
 use Rattle.cops_types.specs.declared.op.OpName.{OpName}
 use Rattle.cops_types.specs.Histories.{Sessions, IsMissed, PutsVersion, SourceStep, write, read, missed}
@@ -15,7 +15,7 @@ use Rattle.cops_audit.proofs.Gets.{one_get_version}
 use Rattle.cops_audit.proofs.Noting.{note_there, session_of}
 use Rattle.cops_audit.proofs.Places.{place_rises}
 
--- an operation that nothing is no put and no get
+-- a get that found nothing is no put and no get of a version
 pub missed_puts_nothing : (h : Sessions) (n : OpName) (k : List ℕ) (v : ℕ) → IsMissed h n k → PutsVersion h n v → ⊥
 missed_puts_nothing h n k v nothing put = let e : Some (missed k) ≡ Some (write put.0 put.1 v) = sym nothing ∙ put.2 in cc
 
@@ -23,28 +23,28 @@ pub missed_gets_nothing : (h : Sessions) (n : OpName) (k : List ℕ) (v : ℕ) �
 missed_gets_nothing h n k v nothing got = let e : Some (missed k) ≡ Some (read got.0 got.1 v) = sym nothing ∙ got.2 in cc
 
 module _ (h : Sessions) (table : List VersionedPut) where
-  -- a put is seen at its own place
+  -- the summary of a put has its own place
   pub seen_put : (n : OpName) (v : ℕ) (seen : Seen) → IsSeen h table n seen → PutsVersion h n v → (p : ℕ) × (seen ≡ Put p) × StandsAt table p n v
   seen_put n v (Put p) s put = (p, refl, subst (StandsAt table p n) (one_version h n n s.0 v s.1 put refl) s.2)
   seen_put n v (Got p) s put = absurd (put_is_no_get h n n v s.1 put s.3 refl)
   seen_put n v Missed s put = absurd (missed_puts_nothing h n s.0 v s.1 put)
   seen_put n v (Sourceless p) s put = absurd (put_is_no_get h n n v s.0.version put (s.0.key, s.0.content, s.0.got) refl)
 
-  -- a get that has a source is seen at its source's place
+  -- the summary of a get that has a source has its source's place
   pub seen_got : (n : OpName) (v : ℕ) (seen : Seen) → ¬ HasNoSource h n → IsSeen h table n seen → GetsVersion h n v → (p : ℕ) × (s : OpName) × (seen ≡ Got p) × StandsAt table p s v × SourceStep h s n
   seen_got n v (Put p) some s got = absurd (put_is_no_get h n n s.0 v s.1 got refl)
   seen_got n v (Got p) some s got = (p, s.0, refl, subst (StandsAt table p s.0) (one_get_version h n s.1 v s.3 got) s.2, s.4)
   seen_got n v Missed some s got = absurd (missed_gets_nothing h n s.0 v s.1 got)
   seen_got n v (Sourceless p) some s got = absurd (some s.0)
 
-  -- a get is seen at its source's place or without one
+  -- the summary of a get has its source's place or none
   pub seen_get : (n : OpName) (v : ℕ) (seen : Seen) → IsSeen h table n seen → GetsVersion h n v → ((p : ℕ) × (seen ≡ Got p)) ⊎ ((p : ℕ) × (seen ≡ Sourceless p))
   seen_get n v (Put p) s got = absurd (put_is_no_get h n n s.0 v s.1 got refl)
   seen_get n v (Got p) s got = inl (p, refl)
   seen_get n v Missed s got = absurd (missed_gets_nothing h n s.0 v s.1 got)
   seen_get n v (Sourceless p) s got = inr (p, refl)
 
-  -- a get without a source is seen to have none
+  -- the summary of a get without a source has none
   pub seen_sourceless : (n : OpName) (seen : Seen) → IsSeen h table n seen → HasNoSource h n → (p : ℕ) × (seen ≡ Sourceless p)
   seen_sourceless n (Put p) s f = absurd (put_is_no_get h n n s.0 f.version s.1 (f.key, f.content, f.got) refl)
   seen_sourceless n (Got p) s f = absurd (f.none s.0 s.4)
@@ -52,7 +52,7 @@ module _ (h : Sessions) (table : List VersionedPut) where
   seen_sourceless n (Sourceless p) s f = (p, refl)
 
 module _ (h : Sessions) (table : List VersionedPut) (t : IsVersionTable h table) (notes : List (List Note)) (noted : IsNoted h table notes) where
-  -- what a note says
+  -- what a summary says
   pub says : (n : OpName) (note : Note) → note_at notes n ≡ Some note → IsSeen h table n note.seen
   says n note at = (session_of h table notes noted n note at).seen n.index note at
 
@@ -65,7 +65,7 @@ module _ (h : Sessions) (table : List VersionedPut) (t : IsVersionTable h table)
         (is.0, there.0.mark, there.1 ∙ ap (λ (s : Seen). Some (let x : Note = record { seen = s; mark = there.0.mark } in x)) is.1)),
   )
 
-  -- a put at a place and what was seen not below it
+  -- an operation whose `above` is greater than a put's place has a version that is not below the put's
   pub above_version : (own place : ℕ) (name e : OpName) (seen : Seen) → StandsAt table place name own → IsSeen h table e seen → place < above seen → (w : ℕ) × HasVersion h e w × (own ≤ w)
   above_version own place name e (Put p) at s less =
       let not : ¬ (s.0 < own) = λ l. let q : p < place = place_rises table t.rising p place e name s.0 own s.2 at l in omega (arith, q, less) in

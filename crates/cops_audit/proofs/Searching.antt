@@ -65,7 +65,7 @@ module _ (h : Sessions) where
     ];
   }
 
-  -- the sources of a get bear its version
+  -- the sources of a get have its version
   source_version : (put name : OpName) (own version : ℕ) → PutsVersion h put own → GetsVersion h name version → SourceStep h put name → own ≡ version
   source_version put name own version puts gets s =
       one_version h put put own s.version puts (s.key, s.content, s.put) refl ∙ one_get_version h name s.version version (s.key, s.content, s.got) gets
@@ -81,7 +81,7 @@ module _ (h : Sessions) where
     pub none_before : (first : ℕ) (s : Sweep) → ((k : ℕ) (d : VersionedPut) → k < first → (get_or table k d).version < version) → CountedTo table name first s
     none_before first s low k d less inside source = absurd (omega (arith, low k d less, at_version k d inside source))
 
-    -- no source stands from a place with a higher version on
+    -- where the next place has a higher version, all sources are counted
     pub none_after : (place : ℕ) (s : Sweep) → place < length table → ((d : VersionedPut) → version < (get_or table place d).version) → CountedTo table name place s → (put : OpName) → SourceStep h put name → Counted s.counts put
     none_after place s inside high so_far put source = by_place (place_of_put h table t put version (subst (PutsVersion h put) (one_get_version h name source.version version (source.key, source.content, source.got) gets) (source.key, source.content, source.put)))
       where
@@ -105,7 +105,7 @@ module _ (h : Sessions) where
         let is : (get_or table at.0 d).name ≡ put = ap (λ (q : VersionedPut). q.name) (at.2 d) in
         subst (Counted s.counts) is (so_far at.0 d (omega (arith, at.1, enough)) at.1 (subst (λ x. SourceStep h x name) (sym is) source))
 
-  -- one operation of a range is looked at
+  -- one operation of a range is visited
   pub search_on : (old new : Sweep) (name : OpName) (to : ℕ) → name.index < to → IsSearching h old (InRange (record { client = name.client; from = name.index; to = to })) → TakesSources h name old new
       → ((put : OpName) → SourceStep h put name → Counted new.counts put) → IsSearching h new (InRange (record { client = name.client; from = name.index + 1; to = to }))
   search_on old new name to inside was takes sources = record {
@@ -145,7 +145,7 @@ module _ (h : Sessions) where
     ];
   }
 
-  -- nothing is left open
+  -- nothing is left to visit in the range
   pub search_ends : (s : Sweep) (IsOpen : OpName → Type 0) → ((n : OpName) → ¬ IsOpen n) → IsSearching h s IsOpen → IsSearching h s (λ _. ⊥)
   search_ends s IsOpen none was = record {
     clients = was.clients;
@@ -157,7 +157,7 @@ module _ (h : Sessions) where
     ];
   }
 
-  -- a range that is taken from those that are pending
+  -- a range is taken from those that are pending
   pub search_popped : (old new : Sweep) (range : Range) → new.counts ≡ old.counts → old.pending.items ≡ new.pending.items ++ range ∷ [] → IsSearching h old (λ _. ⊥) → IsSearching h new (InRange range)
   search_popped old new range counts pending was = record {
     clients = ap length counts ∙ was.clients;
@@ -175,7 +175,7 @@ module _ (h : Sessions) where
       now : (n : OpName) → Counted old.counts n → Counted new.counts n
       now n there = subst (λ cs. Counted cs n) (sym counts) there
 
-  -- where nothing is left to look at
+  -- nothing is left to visit at all
   pub search_done : (old new : Sweep) → new.counts ≡ old.counts → old.pending.items ≡ [] → new.pending.items ≡ [] → IsSearching h old (λ _. ⊥) → IsSearching h new (λ _. ⊥)
   search_done old new counts empty still was = record {
     clients = ap length counts ∙ was.clients;

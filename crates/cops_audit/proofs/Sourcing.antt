@@ -1,4 +1,4 @@
--- Where the sources of open gets stand.
+-- The places of the sources of pending reads.
 use Rattle.std.proofs.Common.{◌≡◌, ◌<◌, ℕ, List, [], ◌∷◌, ◌++◌, length, get_or, Option, Some, sym, ap, ◌∙◌, subst, inl, inr, arith, slice_get}
 use Rattle.std.specs.Prelude.{◌⊎◌}
 use Rattle.std.proofs.lemmas.Option.{slice_get_within}
@@ -15,13 +15,13 @@ use Rattle.cops_audit.proofs.Listing.{slice_get_there}
 use Rattle.cops_audit.proofs.Marks.{slice_get_push}
 use Rattle.cops_audit.proofs.Unique.{stands}
 
--- the get of that name, whose source stands at that place
+-- the get with that name, whose source is at that place
 pub source_seen : (h : Sessions) (table : List VersionedPut) (got : OpName) (op : Operation) (place : ℕ) → IsSourcePlace h table op place → op_at h got ≡ Some op → IsSeen h table got (SeenGot place)
 source_seen h table got op place p at =
     let is : op_at h got ≡ Some (read p.1 p.2 p.3) = at ∙ ap (λ (o : Operation). Some o) p.6 in
     (p.0, p.3, p.4, (p.1, p.2, is), record { key = p.1; content = p.2; version = p.3; put = p.5; got = is })
 
--- a put that was looked at, where it stands
+-- the put at the place that was looked up
 pub source_stands : (h : Sessions) (table : List VersionedPut) (op : Operation) (place : ℕ) (d : VersionedPut) → place < length table
     → (key : List ℕ) (content : Option (List ℕ)) (version : ℕ) → (get_or table place d).version ≡ version → IsPut h (get_or table place d).name key content version → op ≡ read key content version → IsSourcePlace h table op place
 source_stands h table op place d inside key content version bears puts got =
@@ -36,7 +36,7 @@ places_push r table places place are is number found op get at = elim (slice_get
   | inr new ↦ subst (IsSourcePlace r.sessions table op) new.1 (is op (sym (ap (slice_get r.gets) new.0) ∙ get))
 ]
 
--- where there is a place for each open get, each get has its source
+-- where there is a place for each pending read, each get has its source
 pub all_sourced : (r : Recorded) (table : List VersionedPut) (places : List ℕ) → AreSourcePlaces r table places → length places ≡ length r.gets
     → ((got : OpName) (version : ℕ) → GetsVersion r.sessions got version → ((number : ℕ) × IsOpenAt r number got) ⊎ ((put : OpName) × SourceStep r.sessions put got)) → AllHaveSources r.sessions
 all_sourced r table places are whole others name f = elim (others name f.version (f.key, f.content, f.got)) [

@@ -1,4 +1,4 @@
--- Gets that may be stale, and gets that the window on versions clears.
+-- Gets that may be stale, and gets that are not suspects.
 use Rattle.std.proofs.Common.{◌≡◌, ◌≢◌, ◌<◌, ◌≤◌, ℕ, List, Option, Some, None, refl, sym, ◌∙◌, subst, inl, inr, arith}
 use Rattle.cops_types.specs.declared.op.OpName.{OpName}
 use Rattle.cops_types.specs.Histories.{Sessions, IsGot, IsMissed, PutsKey, PutsVersion, read, missed}
@@ -27,7 +27,7 @@ one_got h n a b x y v w first second =
     (let k : a ≡ b = cc in k, let s : v ≡ w = cc in s)
 
 module _ (h : Sessions) (table : List VersionedPut) (t : IsVersionTable h table) where
-  -- the first place on a key is that of each put on it
+  -- the first place on a key is the first place of each put on it
   has_first : (p first : ℕ) (k : List ℕ) → OnKey h table p k → IsFirstFrom h table 0 k (Some first) → HasFirst h table p first
   has_first p first k on is key on' =
       let same : k ≡ key = same_key h table t.rising p k key on on' in
@@ -90,7 +90,7 @@ module _ (h : Sessions) (table : List VersionedPut) (t : IsVersionTable h table)
     key : List ℕ
     key = got.4.key
 
-    -- the source's version
+    -- the version of the source
     version_is : got.4.version ≡ got.1
     version_is = one_get_version h op got.4.version got.1 (got.4.key, got.4.content, got.4.got) got.3
 

@@ -1,4 +1,4 @@
--- A past that is learned by walking notes backward.
+-- A past that is built by walking causal summaries backward.
 use Rattle.std.proofs.Common.{◌≡◌, ◌<◌, ◌≤◌, ◌+◌, ◌⊎◌, ℕ, List, [], ◌∷◌, ◌++◌, length, get_or, Some, None, refl, sym, ◌∙◌, ap, subst, inl, inr, arith, slice_get, slice_index_or, append-nil, Vec, Global}
 use Rattle.std.proofs.Math.Nat.{eq-or-lt_of_le}
 use Rattle.cops_types.specs.declared.op.OpName.{OpName}
@@ -38,7 +38,7 @@ above_few table notes rising n (Got place) mark at = let s = rising.seen_gets n 
 above_few table notes rising n Missed mark at = omega arith
 above_few table notes rising n (Sourceless place) mark at = rising.seen_sourceless n place mark at
 
--- a note is one
+-- an operation has one summary
 one_note : (notes : List (List Note)) (n : OpName) (x y : Note) → note_at notes n ≡ Some x → note_at notes n ≡ Some y → x ≡ y
 one_note notes n x y a b = let e : Some x ≡ Some y = sym a ∙ b in cc
 
@@ -49,11 +49,11 @@ module _ (table : List VersionedPut) (notes : List (List Note)) (rising : AreRis
     got = λ place put version is at. learns.kept put (was.got place put version is at);
   }
 
-  -- the note on an operation, by what it saw
+  -- the summary of an operation, by what it saw
   as_seen : (n : OpName) (note : Note) (seen : Seen) → note_at notes n ≡ Some note → note.seen ≡ seen → note_at notes n ≡ Some (let x : Note = record { seen = seen; mark = note.mark } in x)
   as_seen n note seen at is = at ∙ ap (λ (s : Seen). Some (let x : Note = record { seen = s; mark = note.mark } in x)) is
 
-  -- one operation of a range is taken in
+  -- one operation of a range is recorded
   pub sweep_on : (old new : Sweep) (name : OpName) (from : ℕ) (note : Note) → from ≤ name.index → note_at notes name ≡ Some note → Learns table firsts old new note.seen
       → IsSweeping table notes firsts floor old (InRange (record { client = name.client; from = from; to = name.index + 1 }))
       → IsSweeping table notes firsts floor new (InRange (record { client = name.client; from = from; to = name.index }))
@@ -93,7 +93,7 @@ module _ (table : List VersionedPut) (notes : List (List Note)) (rising : AreRis
         | inr less ↦ inr (inr (range.0, range.1, less))
       ]
 
-  -- what is newly counted is in the past of the operation that was taken in
+  -- what is newly counted is in the past of the operation that was recorded
   pub sweep_grows : (old new : Sweep) (name : OpName) (note : Note) → note_at notes name ≡ Some note → Counted old.counts name → Learns table firsts old new note.seen → Grows table notes old new
   sweep_grows old new name note at own learns = record {
     kept = learns.kept;
@@ -111,7 +111,7 @@ module _ (table : List VersionedPut) (notes : List (List Note)) (rising : AreRis
             | inr less ↦ let there = rising.puts place put version stands in more (step (inl (client, less, _, there.1))) source
           ]
 
-  -- an operation without a note is passed over
+  -- an operation without a summary is skipped
   pub sweep_past : (s : Sweep) (name : OpName) (from : ℕ) → note_at notes name ≡ None
       → IsSweeping table notes firsts floor s (InRange (record { client = name.client; from = from; to = name.index + 1 }))
       → IsSweeping table notes firsts floor s (InRange (record { client = name.client; from = from; to = name.index }))
@@ -133,7 +133,7 @@ module _ (table : List VersionedPut) (notes : List (List Note)) (rising : AreRis
     ];
   }
 
-  -- nothing is left open where none of what is open has a mark above the floor
+  -- nothing is left to visit in a range whose marks are not above the floor
   pub none_open : (s : Sweep) (IsOpen : OpName → Type 0) → ((n : OpName) (x : Note) → IsOpen n → note_at notes n ≡ Some x → ¬ (floor < x.mark))
       → IsSweeping table notes firsts floor s IsOpen → IsSweeping table notes firsts floor s (λ _. ⊥)
   none_open s IsOpen low was = record {
@@ -156,7 +156,7 @@ module _ (table : List VersionedPut) (notes : List (List Note)) (rising : AreRis
       let le = mark_grows (slice_index_or notes name.client []) (n.index + 1) (name.index + 1) x.mark note.mark (rising.marks name.client n.index x at') (rising.marks name.client name.index note at) (omega (arith, range.2)) in
       omega (arith, le, low, high)
 
-  -- a range that is taken from those that are pending
+  -- a range is taken from those that are pending
   pub popped : (old new : Sweep) (range : Range) → new.counts ≡ old.counts → new.newest ≡ old.newest → old.pending.items ≡ new.pending.items ++ range ∷ []
       → IsSweeping table notes firsts floor old (λ _. ⊥) → IsSweeping table notes firsts floor new (InRange range)
   popped old new range counts newest pending was = record {
@@ -182,7 +182,7 @@ module _ (table : List VersionedPut) (notes : List (List Note)) (rising : AreRis
       now : (n : OpName) → Counted old.counts n → Counted new.counts n
       now n there = subst (λ cs. Counted cs n) (sym counts) there
 
-  -- where there is none to take, all stays
+  -- where no range is pending, nothing changes
   pub none_popped : (old : Sweep) (pending : Vec Range Global) → old.pending.items ≡ pending.items ++ [] → IsSweeping table notes firsts floor old (λ _. ⊥)
       → IsSweeping table notes firsts floor (record old { pending = pending }) (λ _. ⊥)
   none_popped old pending same was =

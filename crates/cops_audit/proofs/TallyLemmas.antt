@@ -1,4 +1,4 @@
--- Numbers that count only in the age that they were written in.
+-- Epoch arrays: numbers that count only in the epoch in which they were written.
 use Rattle.std.proofs.Common.{◌≡◌, ◌<◌, ◌+◌, ◌++◌, ◌∙◌, ℕ, zero, suc, List, [], ◌∷◌, length, map, replicate, Bool, cond, true, false, eqb, refl, sym, ap, arith, All, append_assoc, length-append, slice_set}
 use Rattle.std.proofs.lemmas.Bool.{eqb-true, eq-eqb, false_from_ne_true}
 use Rattle.std.proofs.lemmas.List.{length-map, length-replicate, map-append, map-set, replicate-append-replicate, set-append_left}
@@ -11,7 +11,7 @@ same_age t n = ap (λ b. cond b n 0) (eq-eqb t t refl)
 other_age : (t : ℕ) (e : Entry) → e.age < t → number_in t e ≡ 0
 other_age t e less = ap (λ b. cond b e.number 0) (false_from_ne_true (eqb e.age t) (λ same. let s : e.age ≡ t = eqb-true _ _ same in omega (arith, s, less)))
 
--- in an age after all of them, none counts
+-- in an epoch after all of them, none counts
 all_zero : (t : ℕ) (xs : List Entry) → All (λ e. e.age < t) xs → map (number_in t) xs ≡ replicate (length xs) 0
 all_zero t [] earlier = refl
 all_zero t (x ∷ xs) earlier =

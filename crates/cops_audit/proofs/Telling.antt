@@ -1,4 +1,4 @@
--- Suspects that turn out to be stale, and those that do not.
+-- Suspects that are stale, and those that are not.
 use Rattle.std.proofs.Common.{◌≡◌, ◌<◌, ◌≤◌, ◌+◌, ℕ, List, [], ◌∷◌, ◌++◌, length, get_or, map, take, sym, ◌∙◌, ap, subst, arith, AllPairs}
 use Rattle.std.proofs.lemmas.List.{length-map, get_or-map}
 use Rattle.cops_types.specs.declared.op.OpName.{OpName}
@@ -24,7 +24,7 @@ use Rattle.cops_audit.proofs.Places.{inside_table, same_place, stands_item}
 same_fault : (a b : Stale) → a.op ≡ b.op → a.newer ≡ b.newer → a ≡ b
 same_fault a b e f = ap (λ (p : OpName × OpName). let n : Stale = record { op = p.0; newer = p.1 } in n) (let q : (a.op, a.newer) ≡ (b.op, b.newer) = cc in q)
 
--- one newest put
+-- there is one newest put
 one_newest : (h : Sessions) (table : List VersionedPut) → IsVersionTable h table → (name a b : OpName) → IsStale h name a → IsStale h name b → a ≡ b
 one_newest h table t name a b f g =
     let at_a = stands_for h table t.table a f.version (f.is_newer.key, f.is_newer.put.0, f.is_newer.put.1) in

@@ -29,7 +29,7 @@ op_of (NoSource name) = name
 op_of (NotAbove fault) = fault.op
 op_of (Stale fault) = fault.op
 
--- what the class is called
+-- the name of the class
 abbrev pub class_text : Fault → List ℕ
 class_text (Doubled name) = codes "doubled"
 class_text (NoSource name) = codes "no source"

@@ -1,4 +1,4 @@
--- Suspects that are judged one after the other, each client's by one sweep.
+-- Suspects that are judged one by one, each client's by one sweep.
 use Rattle.std.specs.Prelude.{◌≡◌, ◌<◌, ◌≤◌, ◌+◌, ℕ, List, [], length, slice_index, slice_index_or, Some}
 use Rattle.cops_types.specs.declared.versioned_put.VersionedPut.{VersionedPut}
 use Rattle.cops_audit.specs.declared.notes.Note.{Note}
@@ -8,19 +8,19 @@ use Rattle.cops_audit.specs.declared.window.Suspect.{Suspect}
 use Rattle.cops_audit.specs.Notes.{note_at}
 use Rattle.cops_audit.specs.Sweeps.{IsAbout, IsSweeping}
 
--- of each suspect, a place that is not above where its puts and those of its client's later suspects begin
+-- for each suspect a lower bound of the places of the puts that matter to it and to its client's later suspects
 pub record AreFloors (suspects : List Suspect) (floors : List ℕ) : Type 0 where
   pub whole : length floors ≡ length suspects
   pub low : (k : ℕ) (d : Suspect) → k < length suspects → slice_index floors k ≤ (slice_index_or suspects k d).from
   pub rising : (k : ℕ) (d : Suspect) → k + 1 < length suspects → (slice_index_or suspects k d).op.client ≡ (slice_index_or suspects (k + 1) d).op.client → slice_index floors k ≤ slice_index floors (k + 1)
 
--- a suspect with a note, whose source stands before the puts that would be newer
+-- a suspect with its causal summary, whose source is before the puts that would be newer
 pub record IsNotedSuspect (notes : List (List Note)) (suspect : Suspect) : Type 0 where
   pub note : Note
   pub at : note_at notes suspect.op ≡ Some note
   pub source : (place mark : ℕ) → note_at notes suspect.op ≡ Some (record { seen = Got place; mark = mark }) → place < suspect.from
 
--- the sweep has come as far as the suspect before this one
+-- the state of the sweep after the suspect before this one
 pub record IsAfter (table : List VersionedPut) (notes : List (List Note)) (firsts : List ℕ) (suspects : List Suspect) (floors : List ℕ) (k : ℕ) (sweep : Sweep) : Type 0 where
   pub empty : sweep.pending.items ≡ []
   pub clients : length sweep.counts ≡ length notes

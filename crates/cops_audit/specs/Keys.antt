@@ -8,7 +8,7 @@ use Rattle.cops_types.specs.Recorded.{Recorded}
 use Rattle.cops_types.specs.declared.versioned_put.VersionedPut.{VersionedPut}
 use Rattle.cops_audit.specs.Notes.{StandsAt}
 
--- a put on this key stands at this place
+-- the put at this place is on this key
 abbrev pub OnKey : Sessions → List VersionedPut → ℕ → List ℕ → Type 0
 OnKey h table place key = (put : OpName) × (version : ℕ) × StandsAt table place put version × PutsKey h put key version
 
@@ -26,12 +26,12 @@ IsFirstFrom h table i key (Some first) = (i ≤ first) × OnKey h table first ke
 abbrev pub IsOnKey : Sessions → OpName → List ℕ → Type 0
 IsOnKey h name key = option_map key_of (op_at h name) ≡ Some key
 
--- of each put, the number of its key
+-- the number of the key of each put
 pub record AreKeys (r : Recorded) (table : List VersionedPut) (numbers : List ℕ) : Type 0 where
   pub whole : length numbers ≡ length table
   pub each : (place number : ℕ) (key : List ℕ) → slice_get numbers place ≡ Some number → OnKey r.sessions table place key → slice_get r.keys number ≡ Some key
 
--- of each key, by its number, the first put on it
+-- the first put on each key, at the key's number
 abbrev pub KnowsFirsts : Recorded → List VersionedPut → List (Option ℕ) → Type 0
 KnowsFirsts r table firsts = (number : ℕ) (key : List ℕ) → slice_get r.keys number ≡ Some key → IsFirstFrom r.sessions table 0 key (slice_index_or firsts number None)
 
@@ -44,12 +44,12 @@ IsNext h table place (Some next) = (place < next) × ((key : List ℕ) → OnKey
 abbrev pub LinksTo : Sessions → List VersionedPut → ℕ → ℕ → Type 0
 LinksTo h table place next = (next < length table → IsNext h table place (Some next)) × (length table ≤ next → IsNext h table place None)
 
--- of each put, the next one on its key
+-- the next put on the key of each put
 pub record AreNexts (h : Sessions) (table : List VersionedPut) (nexts : List ℕ) : Type 0 where
   pub whole : length nexts ≡ length table
   pub each : (place next : ℕ) → slice_get nexts place ≡ Some next → LinksTo h table place next
 
--- of each put, the first one on its key
+-- the first put on the key of each put
 pub record AreFirsts (h : Sessions) (table : List VersionedPut) (firsts : List ℕ) : Type 0 where
   pub whole : length firsts ≡ length table
   pub each : (place first : ℕ) (key : List ℕ) → slice_get firsts place ≡ Some first → OnKey h table place key → IsFirstOn h table key first

@@ -5,7 +5,7 @@ use Rattle.cops_audit.specs.declared.links.Links.{Links}
 use Rattle.cops_types.specs.declared.versioned_put.VersionedPut.{VersionedPut}
 use Rattle.cops_audit.specs.Keys.{AreFirsts, AreNexts, KnowsFirsts}
 
--- of each put the next one on its key and, where they are there, the first one, and of each key the first put on it
+-- for each put the next one on its key and, if they are listed, the first one; for each key the first put on it
 pub record AreLinks (r : Recorded) (table : List VersionedPut) (links : Links) : Type 0 where
   pub nexts : AreNexts r.sessions table links.nexts.items
   pub knows : KnowsFirsts r table links.by_key.items

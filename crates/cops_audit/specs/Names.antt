@@ -1,4 +1,4 @@
--- Names in their order, as far as a loop has come.
+-- Names in their order, up to where a loop is.
 use Rattle.std.specs.Prelude.{◌↔◌, ℕ, List, Contains, AllPairs}
 use Rattle.cops_types.specs.declared.op.OpName.{OpName}
 use Rattle.cops_types.specs.Histories.{Sessions, IsNamed}

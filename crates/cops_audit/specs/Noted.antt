@@ -1,4 +1,4 @@
--- What faults are looked up in, of a history in which no version is borne by two puts.
+-- The tables in which faults are looked up, of a history in which no two puts have the same version.
 use Rattle.std.specs.Prelude.{List}
 use Rattle.cops_types.specs.declared.op.OpName.{OpName}
 use Rattle.cops_types.specs.Histories.{Sessions, IsNamed}
@@ -8,13 +8,13 @@ use Rattle.cops_audit.specs.declared.notes.Note.{Note}
 use Rattle.cops_audit.specs.Notes.{IsNoted}
 use Rattle.cops_audit.specs.Tables.{IsVersionTable}
 
--- a history with its names, and the notes on its operations
+-- a history with its names and the causal summaries of its operations
 pub record Noted : Type 0 where
   pub sessions : Sessions
   pub names : List OpName
   pub notes : List (List Note)
 
--- all names in order, all puts in order of versions, none of which stands twice, and the notes on all operations
+-- all names in order, all puts in order of versions without duplicates, and the summaries of all operations
 pub record AreTables (table : List VersionedPut) (noted : Noted) : Type 0 where
   pub names : Lists (λ n. n) (IsNamed noted.sessions) noted.names
   pub puts : IsVersionTable noted.sessions table

@@ -1,4 +1,4 @@
--- What a look for faults fills, with room for a history.
+-- The vectors that the search for faults fills, with capacity for a history.
 use Rattle.std.specs.Prelude.{◌≡◌, ◌≤◌, ℕ, List, [], length, map, vec_capacity}
 use Rattle.cops_types.specs.Histories.{Sessions, IsNamed}
 use Rattle.cops_types.specs.Faults.{Lists}
@@ -13,7 +13,7 @@ use Rattle.cops_audit.specs.Sweeps.{HasRoom, IsIdle}
 use Rattle.cops_audit.specs.Tables.{IsVersionTable}
 use Rattle.cops_audit.specs.Windows.{AreAllSuspects}
 
--- space for so many operations
+-- capacity for `count` operations
 pub record HasSpace (count : ℕ) (room : Room) : Type 0 where
   pub names : count ≤ vec_capacity room.names
   pub table : count ≤ vec_capacity room.table
@@ -26,32 +26,32 @@ pub record HasSpace (count : ℕ) (room : Room) : Type 0 where
   pub pending : count ≤ vec_capacity room.sweep.pending
   pub newest : count ≤ length room.sweep.newest
 
--- all names, and the puts in order of versions, none twice
+-- all names, and the puts in order of versions without duplicates
 pub record IsFilled (h : Sessions) (room : Room) : Type 0 where
   pub names : Lists (λ n. n) (IsNamed h) room.names.items
   pub count : length room.names.items ≡ count_of h
   pub table : IsVersionTable h room.table.items
   pub few : length room.table.items ≤ count_of h
 
--- the same counts, and nothing left to look at
+-- the same counts, and still nothing to visit
 pub record IsSameButSpace (old new : Room) : Type 0 where
   pub counts : new.sweep.counts ≡ old.sweep.counts
   pub empty : old.sweep.pending.items ≡ [] → new.sweep.pending.items ≡ []
 
--- space for all operations, and a count for each client; nothing is left to look at
+-- capacity for all operations, and a count for each client; nothing is left to visit
 pub record IsReady (h : Sessions) (room : Room) : Type 0 where
   pub space : HasSpace room.space room
   pub enough : count_of h ≤ room.space
   pub counts : length room.sweep.counts ≡ length h
   pub empty : room.sweep.pending.items ≡ []
 
--- that, and room for the notes on as many operations
+-- a ready room, with capacity for the summaries of as many operations
 pub record Fits (h : Sessions) (room : Room) (flat : Flat) : Type 0 where
   pub ready : IsReady h room
   pub sessions : length h ≤ flat.session_room
   pub notes : room.space ≤ flat.note_room
 
--- room for a history, with its puts, and the notes on its operations
+-- a ready room for a history, with its puts and the summaries of its operations
 pub record IsNotedIn (h : Sessions) (room : Room) (sessions : List (List Note)) : Type 0 where
   pub ready : IsReady h room
   pub limits : IsWithinLimits h
@@ -59,7 +59,7 @@ pub record IsNotedIn (h : Sessions) (room : Room) (sessions : List (List Note)) 
   pub few : length room.table.items ≤ count_of h
   pub notes : IsNoted h room.table.items sessions
 
--- the gets that may be stale are found, with what tells whether they are, and the sweep begins anew
+-- the gets that may be stale are listed, with the tables that decide whether they are, and the sweep is at its start
 pub record IsSuspected (h : Sessions) (room : Room) (notes : List (List Note)) : Type 0 where
   pub suspects : AreAllSuspects h room.table.items room.suspects.items
   pub nexts : AreNexts h room.table.items room.nexts.items

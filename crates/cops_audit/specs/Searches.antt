@@ -6,20 +6,20 @@ use Rattle.cops_types.specs.Past.{Past}
 use Rattle.cops_audit.specs.declared.sweep.Sweep.{Sweep}
 use Rattle.cops_audit.specs.Sweeps.{Counted, InSome}
 
--- of each client that has some, how many of its first operations are in the past of an operation, in order of clients
+-- for each client that has operations in the past of an operation, how many of its first operations are in it, in order of clients
 pub record IsPast (h : Sessions) (op : OpName) (counts : List (ℕ × ℕ)) : Type 0 where
   pub exact : (name : OpName) → Past h name op ↔ ((count : ℕ) × Contains counts (name.client, count) × (name.index < count))
   pub positive : (client count : ℕ) → Contains counts (client, count) → 0 < count
   pub in_order : AllPairs (λ a b. a.0 < b.0) counts
 
--- of all that is counted the sources are counted, but for what is still to be looked at
+-- the sources of all that is counted are counted, except for the operations that are still to be visited
 pub record IsSearching (h : Sessions) (search : Sweep) (IsOpen : OpName → Type 0) : Type 0 where
   pub clients : length search.counts ≡ length h
   pub open_counted : (name : OpName) → IsOpen name → Counted search.counts name
   pub pending_counted : (name : OpName) → InSome search.pending.items name → Counted search.counts name
   pub sources : (name put : OpName) → Counted search.counts name → SourceStep h put name → Counted search.counts put ⊎ (InSome search.pending.items name ⊎ IsOpen name)
 
--- more is counted: what is new is in the past of what was counted
+-- more is counted, and what is new is in the past of what was counted
 pub record Finds (h : Sessions) (old new : Sweep) : Type 0 where
   pub kept : (name : OpName) → Counted old.counts name → Counted new.counts name
   pub past : (name : OpName) → Counted new.counts name → Counted old.counts name ⊎ ((by : OpName) × Counted old.counts by × Past h name by)

@@ -1,4 +1,4 @@
--- Pasts as counts, learned by walking notes backward.
+-- Pasts as counts, built by walking causal summaries backward.
 use Rattle.std.specs.Prelude.{◌≡◌, ◌<◌, ◌≤◌, ◌+◌, ◌-◌, ◌*◌, ◌^◌, ◌⊎◌, ℕ, List, [], length, slice_index, slice_index_or, slice_get, Some, Contains, sum_by, vec_len, vec_capacity, replicate}
 use Rattle.cops_types.specs.declared.limits.TheConstants.{MAX_CLIENT_OPS, MAX_OPS}
 use Rattle.cops_types.specs.declared.op.OpName.{OpName}
@@ -10,11 +10,11 @@ use Rattle.cops_audit.specs.declared.sweep.Range.{Range}
 use Rattle.cops_audit.specs.declared.sweep.Sweep.{Sweep}
 use Rattle.cops_audit.specs.Notes.{AreMarks, StandsAt, note_at}
 
--- the names that counts stand for: of each client, so many of its first operations
+-- the names that counts stand for: for each client, as many of its first operations as its count says
 abbrev pub Counted : List ℕ → OpName → Type 0
 Counted counts name = name.index < slice_index counts name.client
 
--- notes that fit the table, where each put is above all that its session saw before
+-- summaries that fit the table, where each put is above all that its session saw before
 pub record AreRising (table : List VersionedPut) (notes : List (List Note)) : Type 0 where
   pub marks : (client : ℕ) → AreMarks (slice_index_or notes client [])
   pub puts : (place : ℕ) (put : OpName) (version : ℕ) → StandsAt table place put version → (mark : ℕ) × (note_at notes put ≡ Some (record { seen = Put place; mark = mark })) × (mark ≤ place + 1)
@@ -35,19 +35,19 @@ pub data NotePast (table : List VersionedPut) (notes : List (List Note)) (from :
   step : {to : OpName} → NoteStep table notes from to → NotePast table notes from to
   more : {by to : OpName} → NotePast table notes from by → NoteStep table notes by to → NotePast table notes from to
 
--- an operation that stands in a range, or in one of the ranges
+-- the operation is in the range, or in one of the ranges
 abbrev pub InRange : Range → OpName → Type 0
 InRange range name = (name.client ≡ range.client) × (range.from ≤ name.index) × (name.index < range.to)
 
 abbrev pub InSome : List Range → OpName → Type 0
 InSome ranges name = (range : Range) × Contains ranges range × InRange range name
 
--- what an operation saw was taken in: of a put its place, of a get its source
+-- what an operation saw is recorded: of a put its place, of a get its source
 pub record IsLearned (table : List VersionedPut) (firsts : List ℕ) (sweep : Sweep) (seen : Seen) : Type 0 where
   pub put : (place first : ℕ) → seen ≡ Put place → slice_get firsts place ≡ Some first → place < slice_index sweep.newest first
   pub got : (place : ℕ) (put : OpName) (version : ℕ) → seen ≡ Got place → StandsAt table place put version → Counted sweep.counts put
 
--- all that is counted and has a mark above the floor was taken in, but for what is still to be looked at
+-- what is counted and has a mark above the floor is recorded, except for the operations that are still to be visited
 pub record IsSweeping (table : List VersionedPut) (notes : List (List Note)) (firsts : List ℕ) (floor : ℕ) (sweep : Sweep) (IsOpen : OpName → Type 0) : Type 0 where
   pub clients : length sweep.counts ≡ length notes
   pub places : length table ≤ length sweep.newest
@@ -57,16 +57,16 @@ pub record IsSweeping (table : List VersionedPut) (notes : List (List Note)) (fi
   pub learned : (name : OpName) (note : Note) → Counted sweep.counts name → note_at notes name ≡ Some note → floor < note.mark
       → IsLearned table firsts sweep note.seen ⊎ (InSome sweep.pending.items name ⊎ IsOpen name)
 
--- more is counted: what is new is in the past of what was counted
+-- more is counted, and what is new is in the past of what was counted
 pub record Grows (table : List VersionedPut) (notes : List (List Note)) (old new : Sweep) : Type 0 where
   pub kept : (name : OpName) → Counted old.counts name → Counted new.counts name
   pub past : (name : OpName) → Counted new.counts name → Counted old.counts name ⊎ ((by : OpName) × Counted old.counts by × NotePast table notes name by)
 
--- how much there is still to count, and to look at
+-- a bound of how much is still to be counted and visited
 abbrev pub work_left : Sweep → ℕ
 work_left sweep = 2 * sum_by (λ count. 2 ^ 32 - count) sweep.counts + vec_len sweep.pending
 
--- counts with the first operations of a client, so many
+-- the first `to` operations of a client are counted too
 pub record Raises (old new : Sweep) (client to : ℕ) : Type 0 where
   pub counts : (name : OpName) → Counted new.counts name → Counted old.counts name ⊎ ((name.client ≡ client) × (name.index < to))
   pub kept : (name : OpName) → Counted old.counts name → Counted new.counts name
@@ -83,14 +83,14 @@ pub record ArePlaces (table : List VersionedPut) (firsts : List ℕ) : Type 0 wh
   pub whole : length firsts ≡ length table
   pub inside : (place first : ℕ) → slice_get firsts place ≡ Some first → first < length table
 
--- a put at a place is the newest one of its key, where none newer was known
+-- the put at a place becomes the newest one on its key, unless a newer one was known
 pub record TakesPut (firsts old new : List ℕ) (place : ℕ) : Type 0 where
   pub width : length new ≡ length old
   pub higher : (first : ℕ) → slice_index old first ≤ slice_index new first
   pub known : (first : ℕ) → slice_get firsts place ≡ Some first → place < slice_index new first
   pub only : (first other : ℕ) → slice_index new first ≡ other + 1 → (slice_index old first ≡ other + 1) ⊎ ((place ≡ other) × (slice_get firsts place ≡ Some first))
 
--- what an operation saw is taken in
+-- what an operation saw is recorded
 pub record Learns (table : List VersionedPut) (firsts : List ℕ) (old new : Sweep) (seen : Seen) : Type 0 where
   pub counts : (name : OpName) → Counted new.counts name → Counted old.counts name
       ⊎ ((place : ℕ) × (put : OpName) × (version : ℕ) × (seen ≡ Got place) × StandsAt table place put version × (name.client ≡ put.client) × (name.index ≤ put.index))
@@ -105,11 +105,11 @@ pub record Learns (table : List VersionedPut) (firsts : List ℕ) (old new : Swe
   pub learned : IsLearned table firsts new seen
   pub work : work_left new ≤ work_left old
 
--- an earlier operation of the session, or in the past of what is counted: all that is counted is in the past of an operation
+-- all that is counted is in the past of the operation
 abbrev pub IsAbout : List VersionedPut → List (List Note) → Sweep → OpName → Type 0
 IsAbout table notes sweep op = (name : OpName) → Counted sweep.counts name → NotePast table notes name op
 
--- a put at this place is in the past, and no put at a later place with this first place is
+-- the put at this place is in the past, and no put at a later place with this first place is
 pub record IsNewestIn (table : List VersionedPut) (notes : List (List Note)) (firsts : List ℕ) (op : OpName) (first place : ℕ) : Type 0 where
   pub put : OpName
   pub version : ℕ
@@ -122,23 +122,24 @@ pub record IsNewestIn (table : List VersionedPut) (notes : List (List Note)) (fi
 abbrev pub NoneFrom : List VersionedPut → List (List Note) → List ℕ → OpName → ℕ → ℕ → Type 0
 NoneFrom table notes firsts op first from = (place : ℕ) (put : OpName) (version : ℕ) → StandsAt table place put version → slice_get firsts place ≡ Some first → from ≤ place → ¬ NotePast table notes put op
 
--- nothing is known, of so many clients and puts
+-- nothing is counted, for this number of clients and puts
 pub record IsFresh (clients puts : ℕ) (sweep : Sweep) : Type 0 where
   pub counts : sweep.counts ≡ replicate clients 0
   pub newest : sweep.newest ≡ replicate puts 0
   pub pending : sweep.pending.items ≡ []
 
--- nothing is left to look at, and there is a count for each session and a place for each put
+-- nothing is left to visit, and there is a count for each session and a place for each put
 pub record IsIdle (sessions puts : ℕ) (sweep : Sweep) : Type 0 where
   pub empty : sweep.pending.items ≡ []
   pub clients : length sweep.counts ≡ sessions
   pub places : puts ≤ length sweep.newest
 
--- each put stands in its session
+-- each put is in its session
 abbrev pub Covers : List ℕ → List VersionedPut → Type 0
 Covers lengths table = (place : ℕ) (put : OpName) (version : ℕ) → StandsAt table place put version → put.index < slice_index lengths put.client
 
--- what is still to be looked at has room, whatever else of sessions of these lengths is counted, and there is space for so many ranges and places
+-- `pending` has capacity for all ranges that may still be added, whatever more is counted of sessions of these lengths, and there is space for
+-- `space` ranges and places
 pub record HasRoom (space : ℕ) (lengths : List ℕ) (sweep : Sweep) : Type 0 where
   pub width : length sweep.counts ≡ length lengths
   pub within : (client : ℕ) → slice_index sweep.counts client ≤ slice_index lengths client

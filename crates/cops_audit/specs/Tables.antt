@@ -7,11 +7,11 @@ use Rattle.cops_types.specs.declared.op.OpName.{OpName}
 use Rattle.cops_types.specs.Recorded.{Recorded}
 use Rattle.cops_types.specs.declared.versioned_put.VersionedPut.{VersionedPut}
 
--- in order of versions, where one may stand twice
+-- in order of versions, perhaps with duplicates
 abbrev pub VersionsNeverFall : List VersionedPut → Type 0
 VersionsNeverFall puts = AllPairs (λ p q. p.version ≤ q.version) puts
 
--- in order of versions, none twice
+-- in order of versions, without duplicates
 abbrev pub Rises : List VersionedPut → Type 0
 Rises puts = AllPairs (λ p q. p.version < q.version) puts
 
@@ -26,17 +26,17 @@ pub record IsPutTable (h : Sessions) (puts : List VersionedPut) : Type 0 where
   pub in_order : VersionsNeverFall puts
   pub few : length puts ≤ MAX_OPS
 
--- all puts with their versions, in order of versions, no version twice
+-- all puts with their versions, in order of versions, without duplicate versions
 pub record IsVersionTable (h : Sessions) (puts : List VersionedPut) : Type 0 where
   pub table : IsPutTable h puts
   pub rising : Rises puts
 
--- exactly the puts whose versions other puts bear, in order of versions
+-- exactly the puts that have the version of another put, in order of versions
 pub record AreDoubledPuts (h : Sessions) (puts : List VersionedPut) : Type 0 where
   pub members : (p : VersionedPut) → Contains puts p ↔ (PutsVersion h p.name p.version × IsDoubled h p.name)
   pub in_order : VersionsNeverFall puts
 
--- of each put, by its number, whether another put bears its version
+-- for each put, at its number, whether another put has its version
 pub record TellDoubled (r : Recorded) (doubled : List Bool) : Type 0 where
   pub whole : length doubled ≡ length r.puts
   pub each : (number : ℕ) (put : OpName) → slice_get r.puts number ≡ Some put → (slice_index_or doubled number false ≡ true) ↔ IsDoubled r.sessions put

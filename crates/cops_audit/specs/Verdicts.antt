@@ -18,7 +18,7 @@ IsVerdict h (Refused (class.NoSource names)) = RefusesNoSource h names.items
 IsVerdict h (Refused (class.NotAbove faults)) = RefusesNotAbove h (λ f. f.op) (λ f. f.earlier) faults.items
 IsVerdict h (Refused (class.Stale faults)) = RefusesStale h (λ f. f.op) (λ f. f.newer) faults.items
 
--- no version is borne by two puts, and the history converges by the order of its versions
+-- no two puts have the same version, and the history converges by the order of its versions
 abbrev pub ConvergesByVersions : Sessions → Type 0
 ConvergesByVersions h = NoneDoubled h × ((puts : List OpName) × IsVersionOrder h puts × ConvergesBy h puts)
 
@@ -35,7 +35,7 @@ SameFaults (class.NotAbove a) (class.NotAbove b) = a.items ≡ b.items
 SameFaults (class.Stale a) (class.Stale b) = a.items ≡ b.items
 SameFaults _ _ = ⊥
 
--- two verdicts that say the same
+-- two equal verdicts
 abbrev pub SameVerdict : Verdict → Verdict → Type 0
 SameVerdict (Accepted a) (Accepted b) = a.items ≡ b.items
 SameVerdict (Refused a) (Refused b) = SameFaults a b

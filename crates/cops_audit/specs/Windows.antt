@@ -14,22 +14,22 @@ abbrev pub WouldBeNewer : Sessions → OpName → OpName → ℕ → Type 0
 WouldBeNewer h name newer version = (key : List ℕ) × PutsKey h newer key version
     × (((content : Option (List ℕ)) × (old : ℕ) × IsGot h name key content old × (old < version)) ⊎ IsMissed h name key)
 
--- the put at this place is on the key whose first place this is
+-- this is the first place on the key of the put at this place
 abbrev pub HasFirst : Sessions → List VersionedPut → ℕ → ℕ → Type 0
 HasFirst h table place first = (key : List ℕ) → OnKey h table place key → IsFirstOn h table key first
 
--- the puts that would be newer are those on its key from a place on, and its own source stands before them
+-- the puts that would be newer are those on its key from a place on, and its own source is before them
 pub record IsSuspect (h : Sessions) (table : List VersionedPut) (suspect : Suspect) : Type 0 where
   pub named : IsNamed h suspect.op
   pub later : (place : ℕ) (put : OpName) (version : ℕ) → StandsAt table place put version → WouldBeNewer h suspect.op put version → (suspect.from ≤ place) × HasFirst h table place suspect.first
   pub newer : (place : ℕ) (put : OpName) (version : ℕ) → StandsAt table place put version → suspect.from ≤ place → HasFirst h table place suspect.first → WouldBeNewer h suspect.op put version
   pub source : (place : ℕ) (put : OpName) (version : ℕ) → StandsAt table place put version → SourceStep h put suspect.op → place < suspect.from
 
--- no put that would be newer stands below the mark
+-- no put that would be newer is below the mark
 abbrev pub NoneWithin : Sessions → List VersionedPut → OpName → ℕ → Type 0
 NoneWithin h table name mark = (place : ℕ) (put : OpName) (version : ℕ) → StandsAt table place put version → WouldBeNewer h name put version → mark ≤ place
 
--- the suspects among these names, in order of names: no other of them has a newer put in its past
+-- the suspects among these names, in order of names: none of the other names has a newer put in its past
 pub record AreSuspects (h : Sessions) (table : List VersionedPut) (names : List OpName) (suspects : List Suspect) : Type 0 where
   pub each : (s : Suspect) → Contains suspects s → IsSuspect h table s × Contains names s.op
   pub others : (name newer : OpName) (version : ℕ) → Contains names name → IsNewer h name newer version → (s : Suspect) × (s.op ≡ name) × Contains suspects s

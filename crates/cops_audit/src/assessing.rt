@@ -23,7 +23,7 @@ use crate::window::set_suspects;
 use cops_types::{History, OpName, VersionedPut};
 use std::alloc::AllocError;
 
-/// Whether a put bears the version of a get that has no source.
+/// Whether a put has the version of a get that has no source.
 fn is_mismatched(history: &History, table: &[VersionedPut], got: OpName) -> bool
     requires table { IsVersionTable history.now.sessions table.now }
     requires sourceless { HasNoSource history.now.sessions got }
@@ -39,7 +39,7 @@ fn is_mismatched(history: &History, table: &[VersionedPut], got: OpName) -> bool
     }
 }
 
-/// Whether a put bears the version of a get without a source among these names.
+/// Whether some put has the version of a get among these names that has no source.
 fn has_mismatched(
     history: &History,
     table: &[VersionedPut],
@@ -62,8 +62,8 @@ fn has_mismatched(
 }
 
 impl Room {
-    /// Finds the gets that may be stale, in a history where each get has its source or waits for it, and each put is
-    /// above what its session saw. It takes no memory.
+    /// Finds the gets that may be stale, in a history where each get has its source or no put has its version yet, and
+    /// each put is above what its session saw. It allocates nothing and always returns `Ok`.
     pub fn suspect(&mut self, history: &History, notes: &Notes) -> Result<(), AllocError>
         requires noted { IsNotedIn history.now.sessions self.old notes.now }
         requires places { ArePutPlaces history.now.puts self.old.table.items self.old.places.items }
@@ -77,7 +77,7 @@ impl Room {
         ensures table { OnOk result (self.new.table ≡ self.old.table) }
     {
         let table = self.table.as_slice();
-        // The numbers of their keys lie where the first put on each key will.
+        // `self.firsts` holds the numbers of the puts' keys until `set_firsts` overwrites it.
         let places = self.places.as_slice();
         set_keys(&mut self.firsts, history, table, places)?;
         let keys = self.firsts.as_slice();
@@ -91,7 +91,7 @@ impl Room {
         Ok(())
     }
 
-    /// Whether a get is stale in such a history.
+    /// Whether a get is stale, in a history as for `suspect`. It allocates nothing and always returns `Ok`.
     fn has_stale(&mut self, history: &History, notes: &Notes) -> Result<bool, AllocError>
         requires noted { IsNotedIn history.now.sessions self.old notes.now }
         requires places { ArePutPlaces history.now.puts self.old.table.items self.old.places.items }
@@ -121,8 +121,8 @@ impl Room {
         Ok(found)
     }
 
-    /// What is said so far of a history in which no version is borne by two puts, each is above what its session saw,
-    /// and whose operations are noted.
+    /// The verdict so far on a history in which no two puts have the same version, each put is above what its session
+    /// saw, and all operations have their causal summaries. It always returns `Ok`.
     fn assess_notes(&mut self, history: &History, notes: &Notes) -> Result<SoFar, AllocError>
         requires above { AllAbove history.now.sessions }
         requires noted { IsNotedIn history.now.sessions self.old notes.now }
@@ -149,8 +149,8 @@ impl Room {
         Ok(SoFar::Waiting(waiting))
     }
 
-    /// What is said so far of a history in which no version is borne by two puts, and each is above what its session
-    /// saw.
+    /// The verdict so far on a history in which no two puts have the same version and each put is above what its
+    /// session saw. It always returns `Ok`.
     fn assess_gets(&mut self, flat: &mut FlatNotes, history: &History) -> Result<SoFar, AllocError>
         requires above { AllAbove history.now.sessions }
         requires fits { Fits history.now.sessions self.old flat.old }
@@ -168,7 +168,7 @@ impl Room {
         Ok(so_far)
     }
 
-    /// What is said so far of a history that goes on. It takes no memory.
+    /// The verdict so far on a history that may go on. It allocates nothing and always returns `Ok`.
     pub fn assess(&mut self, flat: &mut FlatNotes, history: &History) -> Result<SoFar, AllocError>
         requires { Fits history.now.sessions self.old flat.old }
         ensures ok { IsOk result }

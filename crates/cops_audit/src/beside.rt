@@ -12,10 +12,11 @@ use std::alloc::{AllocError, Global};
 use std::thread;
 use std::thread::Threads;
 
-/// From so many threads on the links are made beside the notes.
+/// The least number of threads with which the links are built in parallel with the causal summaries.
 const THREADS_FOR_LINKS: u8 = 3;
 
-/// The notes on all operations, those of the first half of the clients beside those of the rest.
+/// The causal summaries of all operations: those of the first half of the clients are built in parallel with those of
+/// the rest.
 fn notes_in_halves<R: Threads + Sync>(
     rt: &R,
     alloc: Global,
@@ -52,7 +53,7 @@ fn notes_in_halves<R: Threads + Sync>(
     Ok(notes)
 }
 
-/// The notes in halves beside the links.
+/// The causal summaries, in two halves, built in parallel with the links.
 fn notes_beside_links<R: Threads + Sync>(
     rt: &R,
     alloc: Global,
@@ -84,8 +85,8 @@ fn notes_beside_links<R: Threads + Sync>(
     Ok((notes?, links?))
 }
 
-/// The notes and the links, by at most so many threads. Where there are two, the notes are made in two parts beside
-/// each other; where there are more, the links beside those.
+/// The causal summaries and the links, built by at most `threads` threads. With two threads the summaries are built in
+/// two halves in parallel; with more, the links are built in parallel with those.
 pub fn notes_and_links<R: Threads + Sync>(
     rt: &R,
     alloc: Global,

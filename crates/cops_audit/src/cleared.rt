@@ -21,21 +21,21 @@ use crate::window::Suspect;
 use cops_types::{History, OpName, VersionedPut};
 use std::alloc::{AllocError, Global};
 
-/// Up to so many clients what all sessions know of is told for each operation: beside more a search that goes by
-/// suspects costs less.
+/// The greatest number of clients with which `clear` runs. With more clients, tracking what every session knows of
+/// after each operation costs more than one search for each suspect.
 const MOST_CLIENTS: usize = 64;
 
-/// It is told where there is a suspect for so many operations, or more of them.
+/// `clear` runs only where there is at least one suspect for this many operations.
 const OPS_OF_A_SUSPECT: usize = 32;
 
-/// So many newer puts on a suspect's key are looked at before it is left to such a search.
+/// How many newer puts on a suspect's key are compared at most. A suspect with more of them is left to the sweep.
 const MOST_NEWER: usize = 16;
 
-/// So many more suspects may be left than were cleared: with more it is given up.
+/// `clear` gives up once the suspects that were not cleared outnumber the cleared ones by more than this.
 const MOST_LEFT: usize = 4_096;
 
-/// Sessions that are passed side by side, the place of each client's next suspect, which of the suspects are cleared,
-/// and how many are and are not.
+/// The state of `clear`: the vector clocks of all sessions, each client's next suspect, which suspects are cleared, and
+/// how many are (`told`) and are not (`left`).
 #[derive(Drop)]
 struct Clearing {
     clocks: Clocks,
@@ -45,7 +45,7 @@ struct Clearing {
     left: usize,
 }
 
-/// Whether an operation is counted.
+/// Whether the counts include an operation.
 fn is_counted(counts: &[u32], name: OpName) -> bool
     ensures { IsTrue result ↔ Counted counts.now name }
 {
@@ -55,8 +55,8 @@ fn is_counted(counts: &[u32], name: OpName) -> bool
     }
 }
 
-/// Whether none of the puts is counted that would be newer than what a suspect returned, of those below a mark. False
-/// too where the puts on its key are not linked from its place on, or are many.
+/// Whether the counts include none of the puts below `mark` that would be newer than what the suspect returned. Also
+/// false where the puts on its key are not linked from `suspect.from` on, or where they are more than `MOST_NEWER`.
 fn none_counted(
     table: &[VersionedPut],
     nexts: &[u32],
@@ -90,7 +90,7 @@ fn none_counted(
     false
 }
 
-/// Of so many clients, the place of each one's first suspect.
+/// For each of `clients` clients, the place of its first suspect.
 fn first_suspects(
     alloc: Global,
     clients: usize,
@@ -103,7 +103,7 @@ fn first_suspects(
     Ok(first)
 }
 
-/// So many suspects, none of which is cleared.
+/// `count` flags, none of them set.
 fn none_cleared(alloc: Global, count: usize) -> Result<Vec<bool>, AllocError>
     ensures { IfOk result (λ cleared. cleared.items ≡ replicate count false) }
 {
@@ -111,7 +111,7 @@ fn none_cleared(alloc: Global, count: usize) -> Result<Vec<bool>, AllocError>
 }
 
 impl Clearing {
-    /// No session was passed, and no suspect cleared.
+    /// The state at the start: no operation is passed, and no suspect is cleared.
     fn new(
         alloc: Global,
         clients: usize,
@@ -132,7 +132,8 @@ impl Clearing {
         })
     }
 
-    /// Clears the client's next suspect where it is this operation, and where what its session knows of clears it.
+    /// Clears the client's next suspect if it is the operation `name` and `none_counted` finds that its session knows
+    /// of no newer put.
     fn look(
         &mut self,
         table: &[VersionedPut],
@@ -173,13 +174,13 @@ impl Clearing {
         }
     }
 
-    /// Whether so few suspects are cleared that the search from each would have been made sooner.
+    /// Whether so few suspects are cleared that a sweep from each of them would have been faster.
     fn is_in_vain(&self) -> bool {
         self.left.saturating_sub(self.told) > MOST_LEFT
     }
 
-    /// Passes the operations of a client up to an index. False where one is not there, or got a put that was not passed
-    /// before.
+    /// Passes the operations of a client up to the index `end`. Returns false where one of them does not exist, or
+    /// where one got a put that was not passed before it or whose clock is not kept.
     fn pass_to(
         &mut self,
         table: &[VersionedPut],
@@ -212,7 +213,8 @@ impl Clearing {
         Ok(true)
     }
 
-    /// Passes all operations of all sessions that are left.
+    /// Passes the remaining operations of all sessions. Returns false where one of them got a put that was not passed
+    /// before it or whose clock is not kept.
     fn pass_rest(
         &mut self,
         history: &History,
@@ -238,7 +240,7 @@ impl Clearing {
         Ok(true)
     }
 
-    /// Keeps what was passed, now that the puts below a place were, after each so many puts.
+    /// Keeps a checkpoint after every `STAGE` puts, once the puts below the place `below` are passed.
     fn keep_passed(&mut self, alloc: Global, below: u32) -> Result<(), AllocError>
         ensures clearing { (table : List APut) (notes : List (List ANote)) (firsts : List ℕ) (suspects : List ASuspect) → IsClearing table notes firsts suspects self.old
             → ArePassed table self.old.clocks.passed.items below → OnOk result (IsClearing table notes firsts suspects self.new) }
@@ -251,7 +253,8 @@ impl Clearing {
         Ok(())
     }
 
-    /// Passes all sessions, put by put in order of versions.
+    /// Passes all sessions, put by put in order of versions. Returns false where it gives up, or where a get returned a
+    /// put that was not passed before it or whose clock is not kept.
     fn pass_all(
         &mut self,
         alloc: Global,
@@ -302,8 +305,8 @@ fn left_suspects(
     Ok(left)
 }
 
-/// Takes those away from the suspects that have no newer put in their past, as far as that is told by what all sessions
-/// know of while they are passed side by side. That is done where there are few sessions, and many suspects.
+/// Removes suspects that have no newer put in their past, as far as one interleaved pass over all sessions shows it. It
+/// runs only where there are few clients and many suspects, and otherwise leaves the suspects as they are.
 pub fn clear(
     suspects: &mut Vec<Suspect>,
     alloc: Global,

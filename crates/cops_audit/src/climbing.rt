@@ -9,7 +9,7 @@ use crate::verdict::NotAbove;
 use cops_types::{History, OpName};
 use std::alloc::{AllocError, Global};
 
-/// The version that an operation put or got, as a number: 0 where it did neither.
+/// The version that an operation put or got, as a number; 0 for a get that found nothing.
 fn version_number(history: &History, name: OpName) -> u64
     ensures version { (version : ℕ) → HasVersion history.now.sessions name version → result ≡ version }
     ensures none { (result ≡ 0) ⊎ HasVersion history.now.sessions name result }
@@ -23,7 +23,7 @@ fn version_number(history: &History, name: OpName) -> u64
     }
 }
 
-/// The last of a session's heights, 0 where there is none.
+/// The session maximum after the last operation so far; 0 where there is none.
 fn last_height(heights: &[u64]) -> u64
     ensures none { length heights.now ≡ 0 → result ≡ 0 }
     ensures last { (i : ℕ) → i + 1 ≡ length heights.now → slice_get heights.now i ≡ Some result }
@@ -31,7 +31,7 @@ fn last_height(heights: &[u64]) -> u64
     heights.last().copied().unwrap_or(0)
 }
 
-/// Adds the heights of a session, up to so many operations.
+/// Extends the session maxima to the first `count` operations of a session.
 fn climb(
     heights: &mut Vec<u64>,
     history: &History,
@@ -54,7 +54,7 @@ fn climb(
     Ok(())
 }
 
-/// The first operation of a session after which its height is not below a number.
+/// The first operation of a session after which its session maximum is at least `version`.
 fn first_from(heights: &[u64], version: u64) -> usize
     requires { (h : Sessions) × (client : ℕ) × AreHeights h client heights.now }
     ensures before { (i height : ℕ) → i < result → slice_get heights.now i ≡ Some height → height < version }
@@ -63,7 +63,8 @@ fn first_from(heights: &[u64], version: u64) -> usize
     heights.partition_point(|height| *height < version)
 }
 
-/// The first earlier operation of a put's session that the put is not above, by the session's heights before the put.
+/// The first earlier operation of a put's session whose version is not below the put's, by the session maxima before
+/// the put.
 fn first_not_below(history: &History, heights: &[u64], name: OpName) -> Option<OpName>
     requires heights { AreHeights history.now.sessions name.client heights.now }
     requires before { name.index ≤ length heights.now }
@@ -87,8 +88,9 @@ fn first_not_below(history: &History, heights: &[u64], name: OpName) -> Option<O
     })
 }
 
-/// The first earlier operation of a put's session that the put is not above. The session's heights are known up to some
-/// operation, and are made up to the put where the session has a put that is not above what it saw.
+/// The first earlier operation of a put's session whose version is not below the put's. `heights` holds the session
+/// maxima of some first operations; it is extended up to the put unless the history records that all puts of the
+/// session are above what it saw.
 fn earlier_not_below(
     heights: &mut Vec<u64>,
     history: &History,
@@ -106,7 +108,8 @@ fn earlier_not_below(
     Ok(first_not_below(history, heights.as_slice(), name))
 }
 
-/// The puts among these names that are not above what their sessions saw, each with the first such operation.
+/// The puts among these names that are not above what their sessions saw, each with the first earlier operation whose
+/// version is not below its own.
 pub fn not_above(
     alloc: Global,
     history: &History,

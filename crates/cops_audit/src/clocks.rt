@@ -11,15 +11,17 @@ use crate::notes::{Note, Notes, Seen};
 use cops_types::VersionedPut;
 use std::alloc::{AllocError, Global};
 
-/// Of how many puts passed last it is kept what they know of, at most, and how many counts these are together.
+/// The greatest number of recent puts whose clocks are kept.
 const MOST_RECENT: usize = 16_384;
 
+/// The greatest number of counts in all these clocks together.
 const RECENT_COUNTS: usize = 524_288;
 
-/// After so many puts it is kept what was passed.
+/// A checkpoint is kept after each `STAGE` puts.
 pub const STAGE: usize = 64;
 
-/// Of each session, how many of its first operations the puts from one place up to another know of, at most.
+/// For each session, an upper bound on how many of its first operations are known to the puts at the places `from` to
+/// `below - 1`.
 #[derive(Drop)]
 struct Known {
     from: u32,
@@ -27,10 +29,10 @@ struct Known {
     counts: Vec<u32>,
 }
 
-/// What the sessions know of while they are passed side by side, operation by operation, so that each get comes after
-/// its put: of each session how many of its operations were passed, and of each how many of all sessions' first
-/// operations are in its past. Of puts passed last it is kept what they know of, and of others what had been passed
-/// some puts later.
+/// The vector clocks of all sessions during one pass that interleaves them so that each get comes after its put: how
+/// many operations of each session are passed, and for each session how many first operations of every session are in
+/// its past. For recent puts their own clocks are kept; for older ones a checkpoint, which is what had been passed some
+/// puts later.
 #[derive(Drop)]
 pub struct Clocks {
     pub passed: Vec<u32>,
@@ -39,7 +41,7 @@ pub struct Clocks {
     stages: Vec<Known>,
 }
 
-/// Raises counts to others, where these are higher.
+/// Raises each count to the other one where that is higher.
 fn raise_all(counts: &mut Vec<u32>, others: &[u32])
     requires { length others.now ≡ vec_len counts.old }
     ensures len { vec_len counts.new ≡ vec_len counts.old }
@@ -51,7 +53,7 @@ fn raise_all(counts: &mut Vec<u32>, others: &[u32])
     }
 }
 
-/// The counts of what the put at a place knows of, where it is known here.
+/// The counts of `known`, if they cover the put at a place.
 fn counts_in<'a>(known: &'a Known, place: u32) -> Option<&'a [u32]>
     ensures { IfSome result (λ counts. (counts.now ≡ known.now.counts.items) × (known.now.from ≤ place) × (place < known.now.below)) }
 {
@@ -62,7 +64,8 @@ fn counts_in<'a>(known: &'a Known, place: u32) -> Option<&'a [u32]>
     }
 }
 
-/// The counts of what the put at a place knows of, at most.
+/// An upper bound on the clock of the put at a place, from the recent clocks or from a checkpoint, if one of them
+/// covers it.
 fn counts_at<'a>(recent: &'a [Known], stages: &'a [Known], place: u32) -> Option<&'a [u32]>
     ensures { (table : List APut) (notes : List (List ANote)) → AreKnown table notes recent.now → AreKnown table notes stages.now
         → IfSome result (λ counts. (length counts.now ≡ length notes) × KnowsPut table notes counts.now place) }
@@ -79,7 +82,7 @@ fn counts_at<'a>(recent: &'a [Known], stages: &'a [Known], place: u32) -> Option
     }
 }
 
-/// Keeps what the put at a place knows of, where that of an earlier one was kept.
+/// Keeps the clock of the put at a place, in place of an earlier put's. It keeps none where `recent` is empty.
 fn remember(recent: &mut Vec<Known>, place: u32, counts: &[u32]) -> Result<(), AllocError>
     requires { place < MAX_OPS }
     ensures { (table : List APut) (notes : List (List ANote)) → AreKnown table notes recent.old.items → length counts.now ≡ length notes → KnowsPut table notes counts.now place
@@ -96,14 +99,14 @@ fn remember(recent: &mut Vec<Known>, place: u32, counts: &[u32]) -> Result<(), A
     Ok(())
 }
 
-/// So many counts of nothing.
+/// `count` zeros.
 fn zeros(alloc: Global, count: usize) -> Result<Vec<u32>, AllocError>
     ensures { IfOk result (λ counts. counts.items ≡ replicate count 0) }
 {
     Ok(vec![in alloc; 0u32; count]?)
 }
 
-/// So many counts of what no put knows of.
+/// `count` clocks that cover no put.
 fn nothing_known(alloc: Global, count: usize, clients: usize) -> Result<Vec<Known>, AllocError>
     ensures { (table : List APut) (notes : List (List ANote)) → length notes ≡ clients → IfOk result (λ v. AreKnown table notes v.items) }
 {
@@ -119,7 +122,7 @@ fn nothing_known(alloc: Global, count: usize, clients: usize) -> Result<Vec<Know
     Ok(all)
 }
 
-/// For each of so many clients, that nothing is known.
+/// For each of `clients` clients, a clock of zeros.
 fn nothing_counted(alloc: Global, clients: usize) -> Result<Vec<Vec<u32>>, AllocError>
     ensures count { IfOk result (λ v. length v.items ≡ clients) }
     ensures zero { IfOk result (λ v. (client : ℕ) → client < clients → slice_index_or (map (λ c. c.items) v.items) client [] ≡ replicate clients 0) }
@@ -132,7 +135,7 @@ fn nothing_counted(alloc: Global, clients: usize) -> Result<Vec<Vec<u32>>, Alloc
 }
 
 impl Clocks {
-    /// Nothing was passed, of so many clients and puts.
+    /// The clocks of `clients` clients and `puts` puts, before anything is passed.
     pub fn new(alloc: Global, clients: usize, puts: usize) -> Result<Self, AllocError>
         ensures { (table : List APut) (notes : List (List ANote)) → length notes ≡ clients → IfOk result (AreClocks table notes) }
     {
@@ -148,7 +151,8 @@ impl Clocks {
         })
     }
 
-    /// Has a session know of what the put at a place knows of. False where that is not told here.
+    /// Raises a session's clock by that of the put at a place. Returns false where no clock that covers the put is
+    /// kept.
     fn learn(&mut self, client: usize, place: u32) -> bool
         requires client { client < length self.old.known.items }
         requires clocks { (table : List APut) × (notes : List (List ANote)) × AreClocks table notes self.old }
@@ -165,7 +169,8 @@ impl Clocks {
         }
     }
 
-    /// Has a session know of what its next operation saw. False where it got a put that was not passed before.
+    /// Raises a session's clock by what its next operation saw. Returns false where that is a put that was not passed
+    /// before, or whose clock is not kept.
     fn learn_seen(&mut self, table: &[VersionedPut], client: usize, seen: Seen) -> bool
         requires client { client < length self.old.known.items }
         requires clocks { (notes : List (List ANote)) × AreRising table.now notes × AreClocks table.now notes self.old }
@@ -185,7 +190,7 @@ impl Clocks {
         }
     }
 
-    /// Counts the next operation of a client, whose session knows of what it saw.
+    /// Counts the next operation of a client, whose session's clock already includes what it saw.
     fn count_next(&mut self, client: usize)
         requires client { client < length self.old.known.items }
         requires clocks { (table : List APut) × (notes : List (List ANote)) × AreClocks table notes self.old }
@@ -203,8 +208,8 @@ impl Clocks {
         known[client] = known[client].max(count);
     }
 
-    /// Passes the next operation of a client, on which this is the note. False where it got a put that was not passed
-    /// before.
+    /// Passes the next operation of a client, whose causal summary is `note`. Returns false where it got a put that was
+    /// not passed before, or whose clock is not kept.
     pub fn pass(
         &mut self,
         table: &[VersionedPut],
@@ -231,7 +236,7 @@ impl Clocks {
         Ok(true)
     }
 
-    /// Keeps what was passed, now that the puts below a place were.
+    /// Keeps what is passed as a checkpoint, once the puts below the place `below` are passed.
     pub fn keep_passed(&mut self, alloc: Global, below: u32) -> Result<(), AllocError>
         ensures clocks { (table : List APut) (notes : List (List ANote)) → AreClocks table notes self.old → ArePassed table self.old.passed.items below → OnOk result (AreClocks table notes self.new) }
         ensures passed { OnOk result (self.new.passed ≡ self.old.passed) }

@@ -23,7 +23,8 @@ use crate::verdict::{Faults, NotAbove, Stale, Verdict};
 use cops_types::{History, OpName, VersionedPut};
 use std::alloc::{AllocError, Global};
 
-/// All gets without a source. The names of the operations are made only where it is not known that there is none.
+/// All gets without a source. It lists the names of the operations only where `are_all` does not say that every get has
+/// its source.
 fn all_without_source(
     alloc: Global,
     history: &History,
@@ -42,7 +43,8 @@ fn all_without_source(
     Ok(faults)
 }
 
-/// All puts that are not above what their sessions saw, each with the first such operation.
+/// All puts that are not above what their sessions saw, each with the first earlier operation whose version is not
+/// below its own.
 fn all_not_above(alloc: Global, history: &History) -> Result<Vec<NotAbove>, AllocError>
     ensures { IfOk result (λ v. Lists (λ f. f.op) (λ f. IsNotAbove history.now.sessions f.op f.earlier) v.items) }
 {
@@ -55,7 +57,7 @@ fn all_not_above(alloc: Global, history: &History) -> Result<Vec<NotAbove>, Allo
 }
 
 impl Room {
-    /// Takes those away from the suspects that are told to have no newer put in their past.
+    /// Removes suspects for which `clear` shows that no newer put is in their past.
     fn clear_suspects(
         &mut self,
         alloc: Global,
@@ -102,7 +104,7 @@ impl Room {
     {
         self.suspect(history, notes)?;
         self.clear_suspects(alloc, history, notes)?;
-        // The places and the links are let go before the sweep takes memory.
+        // The places and the links are dropped before the sweep allocates memory.
         self.places = Vec::new(alloc);
         self.nexts = Vec::new(alloc);
         self.by_key = Vec::new(alloc);
@@ -123,8 +125,8 @@ impl Room {
         Ok(faults)
     }
 
-    /// The verdict on a history by the classes before the stale gets: none where they are empty. It may be known that
-    /// each get has its source.
+    /// The verdict on a history by the classes before the stale gets, or `None` where they are empty. `are_all` says
+    /// that each get is known to have its source.
     fn judge_classes(
         &self,
         alloc: Global,
@@ -148,7 +150,7 @@ impl Room {
         Ok(None)
     }
 
-    /// The verdict on a history in which no version is borne by two puts.
+    /// The verdict on a history in which no two puts have the same version.
     fn judge_gets(&mut self, alloc: Global, history: &History) -> Result<Verdict, AllocError>
         requires ready { IsReady history.now.sessions self.old }
         requires limits { IsWithinLimits history.now.sessions }
@@ -176,9 +178,9 @@ impl Room {
         Ok(Verdict::Accepted(puts))
     }
 
-    /// The verdict on a history. Beside the room it takes memory for the faults, and then for the names of all
-    /// operations, or for the names of the puts; 4 bytes for each open get; and as long as the sources of many of these
-    /// are looked for, for hints of where puts stand.
+    /// The verdict on a history. Besides the room it allocates memory for the faults, and then for the names of all
+    /// operations or of the puts; 4 bytes for each pending read; and, while the sources of many of these are looked
+    /// for, the table of hints where puts are.
     pub fn judge(&mut self, alloc: Global, history: &History) -> Result<Verdict, AllocError>
         requires { IsReady history.now.sessions self.old }
         ensures { IfOk result (IsVerdict history.now.sessions) }

@@ -13,7 +13,7 @@ pub enum Did {
 }
 
 impl Did {
-    /// What the operation of that name did.
+    /// What the operation with this name did.
     pub fn of(history: &History, name: OpName) -> Self
         requires { IsNamed history.now.sessions name }
         ensures { HasDone history.now.sessions name result }
@@ -27,7 +27,7 @@ impl Did {
         }
     }
 
-    /// The version that was put or got.
+    /// The version that was put or got, or `None` for a get that found nothing.
     pub fn version(&self) -> Option<Version> {
         match self {
             Did::Put(version) | Did::Got(version) => Some(*version),

@@ -11,7 +11,7 @@ pub enum Fault {
     Stale(Stale),
 }
 
-/// Its class and the name of its operation, as in the report.
+/// Writes the fault's class and the name of its operation, as in the report.
 impl fmt::Display for Fault {
     ghost use Rattle.std.specs.Prelude.{Some};
     ghost use Rattle.cops_audit.specs.Faults.{fault_text};
@@ -69,7 +69,7 @@ impl Faults {
         self.len() == 0
     }
 
-    /// The fault at a place, from 0, if there is one.
+    /// The fault at a place, counted from 0, if there is one.
     pub fn get(&self, place: usize) -> Option<Fault>
         ensures { result ≡ slice_get (faults_of self.now) place }
     {
@@ -81,7 +81,7 @@ impl Faults {
         }
     }
 
-    /// The fault of a number, counted from 1 in their order, if there is one.
+    /// The fault with a number, counted from 1 in the faults' order, if there is one.
     pub fn of_number(&self, number: u32) -> Option<Fault>
         ensures { result ≡ fault_of_number (faults_of self.now) number }
     {

@@ -1,4 +1,4 @@
-//! Why an operation was not fed.
+//! Why the auditor did not take an operation.
 ghost use Rattle.std.specs.Prelude.{◌≡◌, ◌↔◌};
 
 use cops_types::TypeFault;
@@ -19,7 +19,7 @@ pub enum FeedFault {
 }
 
 impl FeedFault {
-    /// The same of a history that did not take it.
+    /// The fault of a history that did not take an operation, as a fault of the auditor.
     pub(crate) fn of(fault: TypeFault) -> FeedFault
         ensures unknown { (result ≡ FeedFault.UnknownClient) ↔ (fault ≡ TypeFault.UnknownClient) }
         ensures too_many { (result ≡ FeedFault.TooManyOps) ↔ (fault ≡ TypeFault.TooManyOps) }

@@ -10,15 +10,15 @@ use cops_types::{History, OpName, VersionedPut};
 use std::alloc::{AllocError, Global};
 use std::marker::Model;
 
-/// Where the notes on a session stand: from one place up to another.
+/// The range in which the causal summaries of a session are: from one place up to, not including, another.
 #[derive(Clone, Copy)]
 pub struct Span {
     pub from: usize,
     pub to: usize,
 }
 
-/// The notes on the operations of a history, one session's after the other's, in room that is made before: it is not
-/// touched until they are made.
+/// The causal summaries of the operations of a history, session by session in one vector. Its capacity is reserved in
+/// advance and not touched until the summaries are built.
 #[derive(Drop)]
 pub struct FlatNotes {
     notes: Vec<Note>,
@@ -36,7 +36,7 @@ impl Model for FlatNotes {
     ghost invariant = { λ f. All (IsWithin f.notes.items) f.spans.items };
 }
 
-/// Adds the notes on the operations of a session, for which there is room.
+/// Adds the causal summaries of the operations of a session. The vector must have the capacity for them.
 fn push_session(notes: &mut Vec<Note>, history: &History, table: &[VersionedPut], client: u16)
     requires table { IsVersionTable history.now.sessions table.now }
     requires room { vec_len notes.old + length (slice_index_or history.now.sessions client []) ≤ vec_capacity notes.old }
@@ -62,7 +62,7 @@ impl FlatNotes {
     ghost use Rattle.cops_types.specs.Counts.{count_of};
     ghost use Rattle.cops_audit.specs.Notes.{IsNoted};
 
-    /// Room for no notes, on the operations of so many clients.
+    /// No summaries, with capacity for the spans of `clients` clients.
     pub fn new(alloc: Global, clients: u16) -> Result<Self, AllocError>
         ensures { IfOk result (λ flat. clients ≤ flat.session_room) }
     {
@@ -73,7 +73,7 @@ impl FlatNotes {
         })
     }
 
-    /// Makes room for so many notes. Those that are there are let go.
+    /// Reserves capacity for `count` summaries. Those that are there are dropped.
     pub fn reserve(&mut self, count: usize) -> Result<(), AllocError>
         ensures ok { OnOk result (count ≤ self.new.note_room) }
         ensures kept { self.old.note_room ≤ self.new.note_room }
@@ -84,7 +84,7 @@ impl FlatNotes {
         self.notes.reserve(count)
     }
 
-    /// Notes all operations anew, for which there is room. It takes no memory.
+    /// Rebuilds the summaries of all operations. The capacity for them must be reserved, and it allocates nothing.
     pub fn renew(&mut self, history: &History, table: &[VersionedPut])
         requires table { IsVersionTable history.now.sessions table.now }
         requires sessions { length history.now.sessions ≤ self.old.session_room }
@@ -103,7 +103,7 @@ impl FlatNotes {
         }
     }
 
-    /// The notes, to look in.
+    /// A view of the summaries for reading.
     pub fn look(&self) -> Notes<'_>
         ensures { result ≡ self.now.sessions }
     {

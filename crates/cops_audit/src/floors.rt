@@ -21,8 +21,8 @@ fn goes_on(suspects: &[Suspect], k: usize) -> bool
     suspects[k + 1].op.client == suspects[k].op.client
 }
 
-/// Makes it, of each suspect, the least place that matters to it and to its client's later suspects. It takes no memory
-/// where there is room for as many as there are suspects.
+/// Fills `floors` with the least place that matters to each suspect and to its client's later suspects. It allocates
+/// nothing where the capacity is at least the number of suspects.
 pub fn set_floors(floors: &mut Vec<u32>, suspects: &[Suspect]) -> Result<(), AllocError>
     ensures floors { OnOk result (AreFloors suspects.now floors.new.items) }
     ensures capacity { vec_capacity floors.old ≤ vec_capacity floors.new }
@@ -44,7 +44,7 @@ pub fn set_floors(floors: &mut Vec<u32>, suspects: &[Suspect]) -> Result<(), All
     Ok(())
 }
 
-/// Whether the suspect before is of the same client.
+/// Whether the previous suspect is of the same client.
 fn follows(suspects: &[Suspect], k: usize) -> bool
     requires { k < length suspects.now }
     ensures before { IsTrue result → 0 < k }
@@ -56,8 +56,8 @@ fn follows(suspects: &[Suspect], k: usize) -> bool
     suspects[k - 1].op.client == suspects[k].op.client
 }
 
-/// The place of the newest put of a suspect's key in its past, if one stands where the suspect says or later; by a
-/// sweep that has come as far as the suspect before.
+/// The place of the newest put on a suspect's key in its past, if there is one at `from` of the suspect or later. The
+/// sweep must have come as far as the suspect before.
 pub fn judge_next(
     sweep: &mut Sweep,
     table: &[VersionedPut],

@@ -9,7 +9,7 @@ use crate::table::place_of;
 use cops_types::{Version, VersionedPut};
 use std::alloc::{AllocError, Global};
 
-/// Whether a put of this version stands at a place.
+/// Whether the put at a place has this version.
 fn stands_at(table: &[VersionedPut], place: u32, version: Version) -> bool
     ensures inside { IsTrue result → place < length table.now }
     ensures version { IsTrue result → (d : VersionedPut) → (slice_index_or table.now place d).version ≡ version }
@@ -20,12 +20,14 @@ fn stands_at(table: &[VersionedPut], place: u32, version: Version) -> bool
     }
 }
 
-/// For so many hints the stretches are made: a search in the whole table for each of fewer takes less time.
+/// The least number of lookups for which the buckets are built. For fewer, a binary search in the whole table for each
+/// is faster.
 const MANY: usize = 16_384;
 
-/// Where puts of a version may stand in a table of puts in order of versions. The versions are cut into stretches of
-/// one width, about as many as there are puts, and of each it is known where its puts begin. These are but hints: each
-/// is looked up in the table, and a version that does not stand there is searched for.
+/// An index of a table of puts in order of versions, which says where a version may be. The range of versions is
+/// divided into buckets of one width, about as many as there are puts, and for each bucket the place of its first put
+/// is kept. The index gives only hints: the caller looks in the table, and searches the whole table where the version
+/// is not at the hint.
 #[derive(Drop)]
 pub struct Stretches {
     lowest: u64,
@@ -34,7 +36,7 @@ pub struct Stretches {
 }
 
 impl Stretches {
-    /// Those of a table, for so many hints: none where there are few, or no memory.
+    /// The buckets of a table for `count` lookups: none where these are few or memory runs out.
     pub fn new(alloc: Global, table: &[VersionedPut], count: usize) -> Self
         requires { length table.now ≤ MAX_OPS }
     {
@@ -49,7 +51,7 @@ impl Stretches {
         stretches
     }
 
-    /// Makes the stretches of a table.
+    /// Builds the buckets of a table.
     fn make(&mut self, table: &[VersionedPut]) -> Result<(), AllocError>
         requires { length table.now ≤ MAX_OPS }
     {
@@ -72,12 +74,12 @@ impl Stretches {
         version.as_u64().wrapping_sub(self.lowest)
     }
 
-    /// Which stretch a version is in.
+    /// The bucket that a version is in.
     fn stretch(&self, version: Version) -> usize {
         self.offset(version).wrapping_shr(self.shift) as usize
     }
 
-    /// The hint for a version: `NO_PLACE` where nothing is known of it.
+    /// The hint for a version, or `NO_PLACE` where the buckets do not cover it.
     pub fn hint(&self, table: &[VersionedPut], version: Version) -> u32
         requires { length table.now ≤ MAX_OPS }
     {
@@ -92,12 +94,13 @@ impl Stretches {
     }
 }
 
-/// How many low bits of the versions count for nothing, where the highest is so far above the lowest of so many.
+/// How many low bits of the versions the buckets ignore, where the highest of `count` versions is `span` above the
+/// lowest.
 fn shift_for(span: u64, count: u64) -> u32 {
     count.leading_zeros().saturating_sub(span.leading_zeros())
 }
 
-/// The first place between two places whose put has this version or a later one.
+/// The first place from `start` to `end` whose put has this version or a later one; `end` where there is none.
 fn first_within(table: &[VersionedPut], start: u32, end: u32, version: Version) -> u32 {
     let to = (end as usize).min(table.len());
     let from = (start as usize).min(to);
@@ -106,7 +109,7 @@ fn first_within(table: &[VersionedPut], start: u32, end: u32, version: Version) 
     from.saturating_add(before).min(NO_PLACE as usize) as u32
 }
 
-/// The place of a put that bears a version, which may stand at a hint.
+/// The place of a put that has this version, looked for first at the hint and then in the whole table.
 pub fn hinted_place(table: &[VersionedPut], hint: u32, version: Version) -> Option<usize>
     requires { VersionsNeverFall table.now }
     ensures inside { IfSome result (λ place. place < length table.now) }
@@ -119,10 +122,11 @@ pub fn hinted_place(table: &[VersionedPut], hint: u32, version: Version) -> Opti
     place_of(table, version)
 }
 
-/// How far from a place a version is looked for, before it is searched for in the whole table.
+/// How far from a place `hint_near` looks for a version, narrowest first.
 const WIDTHS: [usize; 3] = [16, 256, 4096];
 
-/// A hint for the version that was put or got, by the puts that stand near a place.
+/// A hint for the version that was put or got, from the puts near a place. It is `NO_PLACE` where there is no version
+/// or it is not near.
 pub fn hint_near(table: &[VersionedPut], did: &Did, place: u32) -> u32 {
     let Some(version) = did.version() else {
         return NO_PLACE;

@@ -2,7 +2,7 @@ use crate::verdict::Verdict;
 use cops_types::History;
 use std::marker::Model;
 
-/// The verdict on a history, with the history's sessions, whose values are left out: no report tells of them.
+/// The verdict on a history, and the history. The model has the sessions without their values, which no report needs.
 #[derive(Debug, Drop)]
 pub struct Judged {
     history: History,
@@ -46,7 +46,7 @@ impl Judged {
         self.verdict
     }
 
-    /// A history with these sessions and this verdict.
+    /// A history with these sessions, up to their values, and this verdict.
     pub fn history(&self) -> &History
         ensures { IsJudged result.now.sessions self.now }
     {

@@ -10,8 +10,8 @@ use crate::verdict::Verdict;
 use cops_types::{History, Memory};
 use std::alloc::Global;
 
-/// The verdict on a history. It is accepted exactly where no version is borne by two puts and the history converges by
-/// the order of its versions; then it is causally convergent.
+/// The verdict on a history. It is accepted exactly where no two puts have the same version and the history converges
+/// by the order of its versions; then it is causally convergent. The only error is `Memory`, where memory runs out.
 pub fn judge(alloc: Global, history: &History) -> Result<Verdict, Memory>
     ensures verdict { IfOk result (IsVerdict history.now.sessions) }
     ensures convergent { IfOk result (λ v. Accepts v → IsCausallyConvergent history.now.sessions) }
@@ -33,7 +33,8 @@ fn classify(alloc: Global, history: &History) -> Result<Verdict, Memory>
     classify_gets(alloc, puts)
 }
 
-/// The same of a history in which no version is borne by two puts.
+/// The first class of faults that is not empty, or the puts in order of versions, for a history in which no two puts
+/// have the same version.
 fn classify_gets(alloc: Global, puts: Puts) -> Result<Verdict, Memory>
     requires { Rises puts.table }
     ensures { IfOk result (IsVerdict puts.entry.sessions) }
@@ -48,7 +49,8 @@ fn classify_gets(alloc: Global, puts: Puts) -> Result<Verdict, Memory>
     classify_stale(alloc, &tables)
 }
 
-/// The same of a history in which the classes before the stale gets are empty.
+/// The stale gets, or the puts in order of versions, for a history in which the classes before the stale gets are
+/// empty.
 fn classify_stale(alloc: Global, tables: &Tables) -> Result<Verdict, Memory>
     requires sources { AllHaveSources tables.now.sessions }
     requires above { AllAbove tables.now.sessions }

@@ -23,7 +23,8 @@ fn number_of(history: &History, name: OpName) -> u32
     }
 }
 
-/// The place of the first put on the key of an operation, of the first puts by the numbers of their keys.
+/// The place of the first put on the key of an operation, if there is one. `firsts` has the first put on each key, by
+/// the key's number.
 pub fn first_on(history: &History, firsts: &[Option<u32>], name: OpName) -> Option<u32>
     requires { IsNamed history.now.sessions name }
     ensures { (table : List APut) (key : List ℕ) → KnowsFirsts history.now table firsts.now → IsOnKey history.now.sessions name key
@@ -35,7 +36,7 @@ pub fn first_on(history: &History, firsts: &[Option<u32>], name: OpName) -> Opti
     }
 }
 
-/// Empties it, and makes it so many that are none. It takes no memory where there is room for them.
+/// Fills `places` with `count` times `None`. It allocates nothing where the capacity is at least `count`.
 fn set_none(places: &mut Vec<Option<u32>>, count: usize) -> Result<(), AllocError>
     ensures count { OnOk result (length places.new.items ≡ count) }
     ensures none { OnOk result ((k : ℕ) → slice_index_or places.new.items k None ≡ None) }
@@ -46,9 +47,9 @@ fn set_none(places: &mut Vec<Option<u32>>, count: usize) -> Result<(), AllocErro
     places.resize(count, None)
 }
 
-/// Makes it, of each put, the number of its key. They are looked up in the order of the puts' numbers, in which a
-/// history keeps its puts: a processor foresees what is read one after the other. It takes no memory where there is
-/// room for as many as there are puts.
+/// Fills `keys` with the number of the key of each put. The puts are looked up in the order of their numbers, in which
+/// a history stores them: memory is then read in sequence, which processors prefetch. It allocates nothing where the
+/// capacity is at least the number of puts.
 pub fn set_keys(
     keys: &mut Vec<u32>,
     history: &History,
@@ -73,7 +74,8 @@ pub fn set_keys(
     Ok(())
 }
 
-/// Makes it so many links that point past the end. It takes no memory where there is room for them.
+/// Fills `nexts` with `count` links that point past the end. It allocates nothing where the capacity is at least
+/// `count`.
 fn set_past_end(nexts: &mut Vec<u32>, count: usize) -> Result<(), AllocError>
     ensures count { OnOk result (length nexts.new.items ≡ count) }
     ensures capacity { vec_capacity nexts.old ≤ vec_capacity nexts.new }
@@ -83,9 +85,9 @@ fn set_past_end(nexts: &mut Vec<u32>, count: usize) -> Result<(), AllocError>
     nexts.resize(count, NO_PLACE)
 }
 
-/// Links each put to the next one on its key, past the end where there is none, and gives of each key, by its number,
-/// the first put on it. It takes no memory where there is room for as many links as there are puts and as many first
-/// puts as there are operations.
+/// Links each put to the next one on its key, or past the end where there is none, and fills `firsts` with the first
+/// put on each key, by the key's number. It allocates nothing where the capacity of `nexts` is at least the number of
+/// puts and that of `firsts` at least the number of operations.
 pub fn link(
     nexts: &mut Vec<u32>,
     firsts: &mut Vec<Option<u32>>,
@@ -112,7 +114,7 @@ pub fn link(
     Ok(())
 }
 
-/// Makes it so many places, each with itself. It takes no memory where there is room for them.
+/// Fills `places` with the numbers from 0 to `count - 1`. It allocates nothing where the capacity is at least `count`.
 fn set_own_places(places: &mut Vec<u32>, count: usize) -> Result<(), AllocError>
     requires { count ≤ MAX_OPS }
     ensures count { OnOk result (length places.new.items ≡ count) }
@@ -128,8 +130,8 @@ fn set_own_places(places: &mut Vec<u32>, count: usize) -> Result<(), AllocError>
     Ok(())
 }
 
-/// Makes it, of each put, the place of the first put on its key: each put passes that place on to the next put on the
-/// key. It takes no memory where there is room for as many as there are puts.
+/// Fills `places` with the place of the first put on each put's key: each put hands that place on to the next put on
+/// its key. It allocates nothing where the capacity is at least the number of puts.
 pub fn set_firsts(
     places: &mut Vec<u32>,
     table: &[VersionedPut],
@@ -150,7 +152,7 @@ pub fn set_firsts(
     Ok(())
 }
 
-/// Of each put, the place of the first put on its key, from the links alone.
+/// For each put, the place of the first put on its key, computed from the links alone.
 pub fn passed_firsts(
     alloc: Global,
     table: &[VersionedPut],

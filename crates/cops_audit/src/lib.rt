@@ -1,10 +1,12 @@
-//! The auditor: the verdict on a history. It is the first of four classes of faults that is not empty, with all its
-//! faults in order of names, or the puts in order of versions. A history that is accepted is causally convergent: in
-//! the sense of CCv (Bouajjani, Enea, Guerraoui, Hamza, POPL 2017), for puts that carry versions, with the order of
-//! versions as the arbitration. Stands on cops_types, which has the definitions. The layers above use the verdict, that
-//! it is the only one, that acceptance is convergence by the order of versions, and the past of an operation. A judge
-//! that shares the work uses the puts and the tables of a history, which find the faults among some of the operations,
-//! and say the verdict by those of all. Reports use what single operations put and got.
+//! The auditor's verdict on a history: the first of four classes of faults that is not empty, with all its faults in
+//! order of names, or the puts in order of versions. An accepted history is causally convergent in the sense of CCv
+//! (Bouajjani, Enea, Guerraoui, Hamza, POPL 2017), for puts that have versions, with the order of versions as the
+//! arbitration.
+//!
+//! The definitions are in cops_types. The layers above use the verdict, that there is only one, that acceptance is
+//! convergence by the order of versions, and the past of an operation. A parallel judge uses `Puts` and `Tables` of a
+//! history, which find the faults among some of the operations and give the verdict from those of all. Reports use what
+//! single operations put and got.
 #![tactic(auto)]
 
 mod assessing;

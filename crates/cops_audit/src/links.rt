@@ -2,8 +2,9 @@ use crate::keys::{link, passed_firsts, set_keys};
 use cops_types::{History, VersionedPut};
 use std::alloc::{AllocError, Global};
 
-/// The puts by their keys: of each put the next one on its key, past the end where there is none, of each key, by its
-/// number, the first put on it, and where many look for stale gets of each put the place of the first put on its key.
+/// The puts by their keys: for each put the next one on its key, or past the end where there is none; for each key, by
+/// its number, the first put on it; and, where stale gets are looked up many times, for each put the place of the first
+/// put on its key.
 #[derive(Drop)]
 pub struct Links {
     pub nexts: Vec<u32>,
@@ -17,7 +18,7 @@ impl Links {
     ghost use Rattle.cops_audit.specs.Placing.{ArePutPlaces};
     ghost use Rattle.cops_audit.specs.Tables.{IsVersionTable};
 
-    /// The links of a table for one look.
+    /// The links of a table for a single lookup of stale gets.
     pub fn once(
         alloc: Global,
         history: &History,
@@ -40,7 +41,7 @@ impl Links {
         })
     }
 
-    /// The links of a table for many looks.
+    /// The links of a table for many lookups of stale gets.
     pub fn new(
         alloc: Global,
         history: &History,

@@ -9,7 +9,7 @@ ghost use Rattle.cops_audit.specs.Names.{ListsBefore};
 use cops_types::{History, OpName};
 use std::alloc::{AllocError, Global};
 
-/// Adds the names of one session, for which there is room.
+/// Adds the names of the operations of one session. The vector must have the capacity for them.
 fn push_session(names: &mut Vec<OpName>, history: &History, client: u16)
     requires names { ListsBefore history.now.sessions client 0 names.old.items }
     requires room { vec_len names.old + length (slice_index_or history.now.sessions client []) ≤ vec_capacity names.old }
@@ -23,7 +23,7 @@ fn push_session(names: &mut Vec<OpName>, history: &History, client: u16)
     }
 }
 
-/// Makes it the names of all operations, in their order; there is room for them.
+/// Fills `names` with the names of all operations, in their order. The vector must have the capacity for them.
 pub fn set_names(names: &mut Vec<OpName>, history: &History)
     requires { count_of history.now.sessions ≤ vec_capacity names.old }
     ensures names { Lists (λ n. n) (IsNamed history.now.sessions) names.new.items }

@@ -22,28 +22,29 @@ use std::marker::Model;
 /// What an operation did, by places in the table of puts in order of versions.
 #[derive(Clone, Copy, Debug, PartialEq, Eq)]
 pub enum Seen {
-    /// A put, which stands at this place.
+    /// A put, which is at this place.
     Put(u32),
-    /// A get, whose source stands at this place.
+    /// A get, whose source is at this place.
     Got(u32),
     /// A get that found nothing.
     Missed,
-    /// A get that no put is the source of: the puts before this place have lower versions.
+    /// A get that has no put as its source. The puts before this place have lower versions.
     Sourceless(u32),
 }
 
-/// What an operation did, and the least number above the places of all that its session saw up to it.
+/// The causal summary of an operation: what it did, and the least number above the places of all that its session saw
+/// up to it.
 #[derive(Clone, Copy, Debug, PartialEq, Eq)]
 pub struct Note {
     pub seen: Seen,
     pub mark: u32,
 }
 
-/// How many places the sessions' marks rise in a round, in which each session is noted on: operations that are near in
-/// time look up what lies near together.
+/// How far `mark` rises in a round, in which the summaries of each session are extended. In rounds, operations that are
+/// near in time look up places that are near in memory.
 const STEP: usize = 4096;
 
-/// What an operation did, by the table.
+/// What an operation did, by the table. The hint is where its version may be.
 pub fn see(history: &History, table: &[VersionedPut], hint: u32, name: OpName, did: &Did) -> Seen
     requires table { IsVersionTable history.now.sessions table.now }
     requires did { HasDone history.now.sessions name did.now }
@@ -62,7 +63,7 @@ pub fn see(history: &History, table: &[VersionedPut], hint: u32, name: OpName, d
     }
 }
 
-/// A get whose version stands at this place.
+/// What a get saw whose version is at this place.
 fn see_source(history: &History, table: &[VersionedPut], got: OpName, place: usize) -> Seen
     requires table { IsVersionTable history.now.sessions table.now }
     requires inside { place < length table.now }
@@ -77,7 +78,8 @@ fn see_source(history: &History, table: &[VersionedPut], got: OpName, place: usi
     }
 }
 
-/// What an operation did, where it is a put, or a get whose put the history knows or was found.
+/// What an operation did, where it is a put or a get whose put is known to the history or is in `sources`; otherwise
+/// `None`.
 fn see_named(
     history: &History,
     table: &[VersionedPut],
@@ -103,7 +105,7 @@ fn see_named(
     Some(Seen::Got(place))
 }
 
-/// What an operation did, by a search where its put is not known.
+/// What an operation did, by a search in the table where its put is not known.
 fn see_placed(
     history: &History,
     table: &[VersionedPut],
@@ -125,7 +127,7 @@ fn see_placed(
 }
 
 impl Seen {
-    /// Just above the place of what was seen, 0 where nothing was found.
+    /// The number just above the place of what was seen; 0 where nothing was found.
     pub fn above(self) -> u32
         requires { above_of self < 2 ^ 32 }
         ensures { result ≡ above_of self }
@@ -138,7 +140,7 @@ impl Seen {
     }
 }
 
-/// The last note's mark.
+/// The mark of the last summary; 0 where there is none.
 fn last_mark(notes: &[Note]) -> u32
     ensures { AreMarks notes.now → IsMark notes.now (length notes.now) result }
 {
@@ -148,7 +150,7 @@ fn last_mark(notes: &[Note]) -> u32
     notes[notes.len() - 1].mark
 }
 
-/// Notes the next operations of a session, until its mark is above a place.
+/// Extends the summaries of a session, until its mark is above a place.
 fn note_on(
     notes: &mut Vec<Note>,
     history: &History,
@@ -181,7 +183,7 @@ fn note_on(
     Ok(())
 }
 
-/// Notes the next operations of the sessions of some clients, from one on, until each session's mark is above a place.
+/// Extends the summaries of the sessions of the clients from `first` on, until each session's mark is above a place.
 fn note_all(
     sessions: &mut Vec<Vec<Note>>,
     history: &History,
@@ -208,7 +210,7 @@ fn note_all(
     Ok(())
 }
 
-/// No notes yet on the sessions of the clients from one up to another, with room for them.
+/// Empty summaries for the sessions of the clients from `first` up to `end`, with capacity for all their operations.
 fn no_notes(
     alloc: Global,
     history: &History,
@@ -226,7 +228,7 @@ fn no_notes(
     Ok(sessions)
 }
 
-/// The notes on the operations of a history, each session's in a vector of its own.
+/// The causal summaries of the operations of a history, each session's in its own vector.
 #[derive(Drop)]
 pub struct SessionNotes {
     sessions: Vec<Vec<Note>>,
@@ -249,7 +251,7 @@ impl SessionNotes {
     ghost use Rattle.cops_audit.specs.Placing.{ArePutPlaces, AreSourcePlaces};
     ghost use Rattle.cops_audit.specs.Tables.{IsVersionTable};
 
-    /// The notes on all operations, by the places of the puts, and of the sources of open gets.
+    /// The causal summaries of all operations, from the places of the puts and of the sources of pending reads.
     pub fn new(
         alloc: Global,
         history: &History,
@@ -267,7 +269,7 @@ impl SessionNotes {
         Ok(notes)
     }
 
-    /// The notes on the operations of the clients from one up to another.
+    /// The causal summaries of the operations of the clients from `first` up to `end`.
     pub fn on_clients(
         alloc: Global,
         history: &History,
@@ -297,7 +299,8 @@ impl SessionNotes {
         Ok(SessionNotes { sessions })
     }
 
-    /// The notes on the operations of some clients, of those on the clients below one and those on the others.
+    /// The causal summaries of `low` and `high` in one: `low` has those of the clients below some client, `high` those
+    /// of the clients from it on.
     pub fn joined(low: SessionNotes, high: SessionNotes) -> Result<Self, AllocError>
         ensures { (h : Sessions) (table : List VersionedPut) (first mid end : ℕ) → AreNoted h table first mid low → AreNoted h table mid end high
             → IfOk result (AreNoted h table first end) }
@@ -310,7 +313,7 @@ impl SessionNotes {
         Ok(SessionNotes { sessions })
     }
 
-    /// The notes, to look in.
+    /// A view of the summaries for reading.
     pub fn look(&self) -> Notes<'_>
         ensures { result ≡ self.now }
     {
@@ -322,8 +325,8 @@ impl SessionNotes {
     }
 }
 
-/// Notes to look in, by client and index: those of the first sessions each in a vector of its own, then those of the
-/// others in one piece, each from one place up to another.
+/// A view of causal summaries, by client and index: those of the first sessions are each in a vector of its own
+/// (`sessions`), and those of the others in one slice (`flat`), each in the range that `spans` gives.
 #[derive(Drop)]
 pub struct Notes<'a> {
     pub sessions: &'a [Vec<Note>],
@@ -348,7 +351,7 @@ impl<'a> Notes<'a> {
     ghost use Rattle.std.specs.Option.{option_copied};
     ghost use Rattle.cops_audit.specs.Notes.{note_at};
 
-    /// The notes on a client's operations, in their order.
+    /// The causal summaries of a client's operations, in their order.
     #[inline(always)]
     pub fn session(&self, client: u16) -> &[Note]
         ensures { result.now ≡ slice_index_or self.now client [] }
@@ -363,7 +366,7 @@ impl<'a> Notes<'a> {
         }
     }
 
-    /// The note on an operation.
+    /// The causal summary of an operation.
     #[inline(always)]
     pub fn get(&self, name: OpName) -> Option<Note>
         ensures { result ≡ note_at self.now name }
@@ -372,7 +375,7 @@ impl<'a> Notes<'a> {
     }
 }
 
-/// Whether it is a get that was seen to have no source.
+/// Whether its summary says that it is a get without a source.
 pub fn is_sourceless(notes: &Notes, name: OpName) -> bool
     ensures { IsTrue result ↔ IsSourceless notes.now name }
 {

@@ -7,9 +7,9 @@ use cops_types::{History, Memory, Op, OpView};
 use std::alloc::Global;
 use std::marker::Model;
 
-/// An auditor that is fed one operation after the other: the clients in any order, and each client's operations in
-/// their own. Beside what was fed it holds the room that an answer takes, some hundred bytes for each operation, which
-/// are not touched before.
+/// An auditor that takes operations one by one: the clients in any order, and each client's operations in their own.
+/// Besides what was fed it reserves the memory for an answer, some hundred bytes for each operation, which is not
+/// touched before.
 #[derive(Drop)]
 pub struct Online {
     alloc: Global,
@@ -39,7 +39,7 @@ impl Online {
     ghost use Rattle.cops_audit.specs.SoFar.{IsSoFar};
     ghost use Rattle.cops_audit.specs.Verdicts.{IsVerdict};
 
-    /// An auditor of so many clients that was fed nothing.
+    /// An auditor of `clients` clients that has no operations yet. The only error is `Memory`, where memory runs out.
     pub fn new(alloc: Global, clients: u16) -> Result<Self, Memory>
         ensures { IfOk result (λ online. online ≡ replicate clients []) }
     {
@@ -54,8 +54,9 @@ impl Online {
         })
     }
 
-    /// Takes a client's next operation: `UnknownClient` where there is no such client, then `TooManyOps` where the
-    /// client has 1,000,000 operations or there are 16,000,000. A fault changes nothing.
+    /// Takes a client's next operation. The errors, in this order: `UnknownClient` where there is no such client,
+    /// `TooManyOps` where the client has 1,000,000 operations or there are 16,000,000, and `Memory` where memory runs
+    /// out. An error changes nothing.
     #[inline(always)]
     pub fn feed(&mut self, client: u16, op: Op) -> Result<(), FeedFault>
         ensures ok { OnOk result (self.new ≡ with_op self.old client (operation_of op)) }
@@ -77,7 +78,7 @@ impl Online {
         }
     }
 
-    /// The same with an operation that is seen: what of it is new is copied.
+    /// Like `feed`, but takes a borrowed operation and copies only what of it is new. The errors are those of `feed`.
     #[inline(always)]
     pub fn feed_seen(&mut self, client: u16, op: &OpView<'_>) -> Result<(), FeedFault>
         ensures ok { OnOk result (self.new ≡ with_op self.old client (viewed op.now)) }
@@ -98,13 +99,13 @@ impl Online {
         Ok(())
     }
 
-    /// Whether it is of use to foresee operations.
+    /// Whether it is worth prefetching operations with `foresee`.
     pub fn looks_ahead(&self) -> bool {
         self.history.looks_ahead()
     }
 
-    /// Fetches from memory what will be needed for operations that come, where these are fed next and in this order.
-    /// Nothing that is said of what was fed changes.
+    /// Prefetches the memory that the coming operations will need, if they are fed next and in this order. It changes
+    /// no answer.
     pub fn foresee(&mut self, coming: &[OpView<'_>])
         ensures { self.new ≡ self.old }
     {
@@ -120,7 +121,7 @@ impl Online {
         history
     }
 
-    /// What is said so far of what was fed. It takes no memory, and about the time of a judge.
+    /// The verdict so far on what was fed. It allocates nothing, and takes about as long as judging the history.
     pub fn so_far(&mut self) -> SoFar
         ensures so_far { IsSoFar self.old result }
         ensures same { self.new ≡ self.old }
@@ -131,7 +132,7 @@ impl Online {
         }
     }
 
-    /// The verdict on what was fed.
+    /// The verdict on what was fed. The only error is `Memory`, where memory runs out.
     pub fn finish(self) -> Result<Verdict, Memory>
         ensures { IfOk result (IsVerdict self) }
     {
@@ -139,9 +140,9 @@ impl Online {
         Ok(judged.into_verdict())
     }
 
-    /// The verdict on what was fed, with the sessions that were fed, whose values are left out. It judges in the room
-    /// that is kept, and copies nothing that was fed. While it judges it takes memory for names and for notes, 20 bytes
-    /// for each operation.
+    /// The verdict on what was fed, with the history. It judges in the memory that is reserved and copies nothing that
+    /// was fed. While it judges it allocates memory for names and for causal summaries, 20 bytes for each operation.
+    /// The only error is `Memory`, where memory runs out.
     pub fn close(self) -> Result<Judged, Memory>
         ensures { IfOk result (IsJudged self) }
     {
@@ -152,7 +153,8 @@ impl Online {
             notes,
         } = self;
         history.forget_guesses();
-        // The room for notes is given back before they are made for all at once, in rounds, which is sooner done.
+        // The memory that is reserved for summaries is freed before `judge` builds them for all operations at once, in
+        // rounds, which is faster.
         drop(notes);
         let verdict = room.judge(alloc, &history)?;
         Ok(Judged::new(history, verdict))

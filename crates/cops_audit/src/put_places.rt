@@ -9,8 +9,8 @@ use std::alloc::{AllocError, Global};
 /// No place of a table.
 pub const NO_PLACE: u32 = u32::MAX;
 
-/// Makes it, of each put by its number, the place where it stands in the table of puts in order of versions. It takes
-/// no memory where there is room for as many as there are operations.
+/// Fills `places` with the place of each put in the table of puts in order of versions, at the number of the put. It
+/// allocates nothing where the capacity is at least the number of operations.
 pub fn set_places(
     places: &mut Vec<u32>,
     history: &History,
@@ -32,7 +32,7 @@ pub fn set_places(
     Ok(())
 }
 
-/// The places of the puts of a history, in a vector of their own.
+/// The places of the puts of a history, at their numbers, in a new vector.
 pub fn put_places(
     alloc: Global,
     history: &History,
@@ -46,7 +46,7 @@ pub fn put_places(
     Ok(places)
 }
 
-/// The place of the put of that number, if there is one.
+/// The place of the put with this number, if there is one.
 #[inline(always)]
 pub fn place_at(places: &[u32], number: u32) -> Option<u32>
     ensures { result ≡ slice_get places.now number }

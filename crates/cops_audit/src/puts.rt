@@ -13,8 +13,8 @@ use std::marker::Model;
 use std::thread;
 use std::thread::Threads;
 
-/// A history, the names of its operations in their order, its puts in order of versions, and where the sources of its
-/// open gets stand.
+/// A history, the names of its operations in their order, its puts in order of versions, and the places of the sources
+/// of its pending reads.
 #[derive(Drop)]
 pub struct Puts<'a> {
     pub(crate) history: &'a History,
@@ -23,7 +23,7 @@ pub struct Puts<'a> {
     pub(crate) sources: Sources,
 }
 
-/// The places of the sources of open gets where no version is borne by two puts, and else none.
+/// The places of the sources of pending reads where no two puts have the same version; otherwise none.
 fn sources_where_rising(
     alloc: Global,
     history: &History,
@@ -60,7 +60,7 @@ impl<'a> Puts<'a> {
     ghost use Rattle.cops_audit.specs.Tables.{IsPutTable, Repeats, Rises};
     ghost use Rattle.cops_audit.specs.Verdicts.{IsVerdict};
 
-    /// Those of a history.
+    /// The puts of a history. The only error is `AllocError`, where memory runs out.
     pub fn new(alloc: Global, history: &'a History) -> Result<Self, AllocError>
         ensures { IfOk result (λ puts. puts.sessions ≡ history.entry.now.sessions) }
     {
@@ -75,7 +75,8 @@ impl<'a> Puts<'a> {
         })
     }
 
-    /// The same by at most so many threads: where there are two or more, the names are made beside the puts.
+    /// Like `new`, but with at most `threads` threads: with two or more, the names are listed in parallel with the
+    /// puts. The only error is `AllocError`, where memory runs out.
     pub fn beside<R: Threads + Sync>(
         rt: &R,
         alloc: Global,
@@ -115,7 +116,7 @@ impl<'a> Puts<'a> {
         self.names.len()
     }
 
-    /// Whether no version is borne by two puts.
+    /// Whether no two puts have the same version.
     pub fn is_rising(&self) -> bool
         ensures rising { IsTrue result → Rises self.now.table }
         ensures equal { ¬ IsTrue result → Repeats self.now.table }
@@ -123,7 +124,8 @@ impl<'a> Puts<'a> {
         is_rising(self.table.as_slice())
     }
 
-    /// The puts among so many names from a place on whose versions other puts bear.
+    /// The puts among the `len` names from `start` on that have the version of another put. The only error is
+    /// `AllocError`, where memory runs out.
     pub fn doubled(
         &self,
         alloc: Global,
@@ -137,7 +139,7 @@ impl<'a> Puts<'a> {
         doubled(alloc, self.history, names, self.table.as_slice())
     }
 
-    /// The verdict where a version is borne by two puts: the puts at fault among all names.
+    /// The verdict where two puts have the same version. `faults` are the puts at fault among all names.
     pub fn refused_doubled(&self, faults: Vec<OpName>) -> Verdict
         requires repeats { Repeats self.now.table }
         requires faults { ListsAmong (λ n. n) (IsDoubled self.now.sessions) self.now.names faults.items }
@@ -147,7 +149,8 @@ impl<'a> Puts<'a> {
         Verdict::Refused(Faults::Doubled(faults))
     }
 
-    /// The gets without a source among so many names from a place on, where no version is borne by two puts.
+    /// The gets without a source among the `len` names from `start` on, where no two puts have the same version. The
+    /// only error is `AllocError`, where memory runs out.
     pub fn without_source(
         &self,
         alloc: Global,
@@ -165,8 +168,8 @@ impl<'a> Puts<'a> {
         without_source(alloc, self.history, self.table.as_slice(), names)
     }
 
-    /// The puts among so many names from a place on that are not above what their sessions saw, each with the first
-    /// such operation.
+    /// The puts among the `len` names from `start` on that are not above what their sessions saw, each with the first
+    /// earlier operation whose version is not below its own. The only error is `AllocError`, where memory runs out.
     pub fn not_above(
         &self,
         alloc: Global,
@@ -183,8 +186,8 @@ impl<'a> Puts<'a> {
         not_above(alloc, self.history, names)
     }
 
-    /// The verdict by the classes before the stale gets, where no version is borne by two puts, of the faults among all
-    /// names: none where they are empty.
+    /// The verdict by the classes before the stale gets, where no two puts have the same version, from the faults of
+    /// these classes among all names; `None` where the classes are empty.
     pub fn verdict_before_stale(
         &self,
         sourceless: Vec<OpName>,

@@ -8,11 +8,12 @@ use crate::window::Suspect;
 use cops_types::{History, OpName, VersionedPut};
 use std::alloc::{AllocError, Global};
 
-/// What a look for faults fills, with room for a history as it grows: with the notes 96 bytes for each operation. A
-/// vector doubles as it grows, so that up to twice as much may be held. The room is not touched until the look.
+/// The vectors that the search for faults fills, with capacity for a history as it grows: together with the causal
+/// summaries 96 bytes for each operation. A vector doubles as it grows, so up to twice as much may be reserved. The
+/// memory is not touched until the search.
 #[derive(Drop)]
 pub struct Room {
-    /// For how many operations there is space.
+    /// The number of operations that the capacity is for.
     pub space: usize,
     pub names: Vec<OpName>,
     pub table: Vec<VersionedPut>,
@@ -25,11 +26,11 @@ pub struct Room {
     pub sweep: Sweep,
 }
 
-/// The least number of operations that there is space for, once there is any. Each vector of so many lies in pages of
-/// its own, where the system lets it grow without a copy of what was never written.
+/// The least capacity, in operations, once there is any. Vectors of this size have memory pages of their own, which the
+/// system can enlarge without copying what was never written.
 const LEAST_SPACE: usize = 32_768;
 
-/// Empties it, and makes room for so many.
+/// Empties a vector and reserves capacity for `count` items.
 fn make_room<T: Drop>(items: &mut Vec<T>, count: usize) -> Result<(), AllocError>
     ensures empty { items.new.items ≡ [] }
     ensures ok { OnOk result (count ≤ vec_capacity items.new) }
@@ -44,7 +45,7 @@ impl Room {
     ghost use Rattle.cops_types.specs.Histories.{Operation, with_op};
     ghost use Rattle.cops_audit.specs.Rooms.{Fits, HasSpace, IsSameButSpace};
 
-    /// Room for no operations, of so many clients.
+    /// Room for no operations, of `clients` clients.
     pub fn new(alloc: Global, clients: u16) -> Result<Self, AllocError>
         ensures ready { IfOk result (IsReady (replicate clients [])) }
         ensures space { IfOk result (λ room. room.space ≡ 0) }
@@ -64,8 +65,8 @@ impl Room {
         })
     }
 
-    /// Makes space for a quarter more than so many operations, which are more than there is space for, and for the
-    /// least number at least.
+    /// Reserves capacity for `count` operations, which exceeds the present capacity, and a quarter more, at least for
+    /// `LEAST_SPACE`.
     fn reserve(&mut self, notes: &mut FlatNotes, count: usize) -> Result<(), AllocError>
         requires more { self.old.space < count }
         requires few { count ≤ MAX_OPS + 1 }
@@ -96,7 +97,7 @@ impl Room {
         Ok(())
     }
 
-    /// Makes room for one more operation, and for the note on it.
+    /// Reserves capacity for one more operation and its causal summary.
     pub fn grow(&mut self, notes: &mut FlatNotes, history: &History) -> Result<(), AllocError>
         requires { Fits history.now.sessions self.old notes.old }
         ensures ok { (client : ℕ) (op : Operation) → client < length history.now.sessions → OnOk result (Fits (with_op history.now.sessions client op) self.new notes.new) }

@@ -12,7 +12,7 @@ use crate::table::{first_from, puts_by_version};
 use cops_types::{History, Memory, OpName, VersionedPut};
 use std::alloc::{AllocError, Global};
 
-/// Counts a put, with all before it in its session, if it is a source of an operation.
+/// If a put is a source of an operation, counts the put and all that is before it in its session.
 fn take_source(
     search: &mut Sweep,
     history: &History,
@@ -30,7 +30,7 @@ fn take_source(
     Ok(())
 }
 
-/// Counts the puts that are sources of an operation, with all before them in their sessions.
+/// Counts the puts that are sources of an operation, and all that is before them in their sessions.
 fn take_sources(
     search: &mut Sweep,
     history: &History,
@@ -57,7 +57,7 @@ fn take_sources(
     Ok(())
 }
 
-/// Looks at the operations of a range.
+/// Counts the sources of the operations of a range.
 fn look_through(
     search: &mut Sweep,
     history: &History,
@@ -80,7 +80,7 @@ fn look_through(
     Ok(())
 }
 
-/// Looks at all that is still to be looked at.
+/// Counts the sources of the operations of all pending ranges, until none is pending.
 fn look_at_all(
     search: &mut Sweep,
     history: &History,
@@ -114,7 +114,7 @@ fn counted(alloc: Global, search: &Sweep, clients: usize) -> Result<Vec<(u16, u3
     Ok(counts)
 }
 
-/// The past of an operation that is there.
+/// The past of an operation of the history.
 fn find_past(alloc: Global, history: &History, op: OpName) -> Result<Vec<(u16, u32)>, AllocError>
     requires { IsNamed history.now.sessions op }
     ensures { IfOk result (λ v. IsPast history.now.sessions op v.items) }
@@ -129,8 +129,9 @@ fn find_past(alloc: Global, history: &History, op: OpName) -> Result<Vec<(u16, u
     Ok(counts)
 }
 
-/// The past of an operation, in any history: of each client that has operations in it, how many of the client's first
-/// operations those are, in order of clients. It is empty for a name that is not there.
+/// The past of an operation, in any history: for each client that has operations in it, how many of the client's first
+/// operations those are, in order of clients. It is empty for a name that is not in the history. The only error is
+/// `Memory`, where memory runs out.
 pub fn past(alloc: Global, history: &History, op: OpName) -> Result<Vec<(u16, u32)>, Memory>
     ensures { IfOk result (λ v. IsPast history.now.sessions op v.items) }
 {

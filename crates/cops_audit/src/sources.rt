@@ -13,8 +13,8 @@ use crate::put_places::NO_PLACE;
 use cops_types::{History, OpName, OpRef, VersionedPut};
 use std::alloc::{AllocError, Global};
 
-/// The places of the sources of open gets in a table of puts, each at the get's number, and whether each get of the
-/// history has its source.
+/// The places of the sources of pending reads in a table of puts, each at the get's number, and whether it is known
+/// that each get of the history has its source.
 #[derive(Drop)]
 pub struct Sources {
     pub places: Vec<u32>,
@@ -22,7 +22,7 @@ pub struct Sources {
 }
 
 impl Sources {
-    /// None: of no get it is known whether it has a source.
+    /// No places: it is not known that every get has its source.
     pub fn none(alloc: Global) -> Self
         ensures unknown { result.are_all ≡ false }
         ensures empty { result.places.items ≡ [] }
@@ -34,7 +34,7 @@ impl Sources {
     }
 }
 
-/// The place of the source of the open get of that number, if it has one.
+/// The place of the source of the pending read with this number, if it has one.
 fn source_place(
     history: &History,
     table: &[VersionedPut],
@@ -57,7 +57,7 @@ fn source_place(
     None
 }
 
-/// The places of the sources of the open gets, up to the first that has none.
+/// The places of the sources of the pending reads, up to the first that has none.
 pub fn find_sources(
     alloc: Global,
     history: &History,
@@ -84,7 +84,7 @@ pub fn find_sources(
     })
 }
 
-/// Whether it is a get without a source.
+/// Whether the operation is a get without a source.
 fn is_sourceless(history: &History, table: &[VersionedPut], name: OpName) -> bool
     requires { IsVersionTable history.now.sessions table.now }
     ensures { IsTrue result ↔ HasNoSource history.now.sessions name }

@@ -25,8 +25,8 @@ use crate::window::{Suspect, push_suspects};
 use cops_types::{History, OpName, VersionedPut};
 use std::alloc::{AllocError, Global};
 
-/// The stale gets among the suspects, each with the newest put on its key in its past, by a sweep that has looked at
-/// nothing or that is through with what it looked at.
+/// The stale gets among the suspects, each with the newest put on its key in its past. The sweep must have nothing
+/// pending.
 pub fn stale_suspects(
     alloc: Global,
     sweep: &mut Sweep,
@@ -64,7 +64,8 @@ pub fn stale_suspects(
     Ok(faults)
 }
 
-/// The same, by a sweep of its own, of which those are told first that have no newer put in their past.
+/// Like `stale_suspects`, but with a sweep of its own, and after `clear` has removed suspects that have no newer put in
+/// their past.
 fn judge_suspects(
     alloc: Global,
     history: &History,
@@ -137,8 +138,8 @@ pub fn stale_among(
     )
 }
 
-/// Whether a suspect is stale, by a sweep that has looked at nothing or that is through with what it looked at. It
-/// takes no memory where the sweep has room.
+/// Whether one of the suspects is stale. The sweep must have nothing pending. It allocates nothing where the sweep has
+/// the capacity.
 pub fn has_stale(
     sweep: &mut Sweep,
     history: &History,

@@ -11,7 +11,7 @@ use crate::window::Suspect;
 use cops_types::{OpName, VersionedPut};
 use std::alloc::{AllocError, Global};
 
-/// Operations of one client, from one place up to another.
+/// The operations of one client from the index `from` up to, not including, `to`.
 #[derive(Clone, Copy)]
 pub struct Range {
     pub client: u16,
@@ -19,8 +19,9 @@ pub struct Range {
     pub to: u32,
 }
 
-/// What is known of a past: of each client how many of its first operations are in it; of each key, by the place of
-/// its first put, just above the place of its newest put in it; and the operations that are still to be looked at.
+/// A part of the past of an operation: for each client, how many of its first operations are in it; for each key, at
+/// the place of its first put, the number just above the place of its newest put in it; and the operations that are
+/// still to be visited.
 #[derive(Drop)]
 pub struct Sweep {
     pub counts: Tally,
@@ -29,7 +30,7 @@ pub struct Sweep {
 }
 
 impl Sweep {
-    /// Nothing known, of so many clients and puts.
+    /// An empty past, for `clients` clients and `puts` puts.
     pub fn new(alloc: Global, clients: usize, puts: usize) -> Result<Self, AllocError>
         ensures { IfOk result (IsFresh clients puts) }
     {
@@ -42,7 +43,7 @@ impl Sweep {
         })
     }
 
-    /// Forgets all that is known.
+    /// Forgets all counts and newest puts.
     pub fn restart(&mut self)
         ensures fresh { self.old.pending.items ≡ [] → IsFresh (length self.old.counts) (length self.old.newest) self.new }
         ensures pending { self.new.pending ≡ self.old.pending }
@@ -51,7 +52,7 @@ impl Sweep {
         self.newest.restart();
     }
 
-    /// Counts the first operations of a client, so many.
+    /// Counts the first `to` operations of a client.
     pub fn raise(&mut self, client: u16, to: u32) -> Result<(), AllocError>
         requires { client < length self.old.counts }
         ensures raises { OnOk result (Raises self.old self.new client to) }
@@ -66,7 +67,7 @@ impl Sweep {
         Ok(())
     }
 
-    /// Takes in a put at a place.
+    /// Records the put at a place as the newest on its key, unless a newer one is recorded.
     fn take_put(&mut self, firsts: &[u32], place: u32)
         requires inside { place < length firsts.now }
         requires small { place < MAX_OPS }
@@ -81,7 +82,7 @@ impl Sweep {
         }
     }
 
-    /// Takes in what an operation saw.
+    /// Records what an operation saw: of a put its place, of a get its source.
     fn learn(
         &mut self,
         table: &[VersionedPut],
@@ -111,8 +112,8 @@ impl Sweep {
         }
     }
 
-    /// Looks at the note on an operation, the last one of those that are left of a range from a place on: whether its
-    /// mark is above the floor, so that the one before it is to be looked at too.
+    /// Visits an operation of a range whose later operations are visited. Returns whether its mark is above the floor,
+    /// so that the operation before it must be visited too; true where it has no summary.
     #[inline(always)]
     fn look_at(
         &mut self,
@@ -146,7 +147,7 @@ impl Sweep {
         Ok(true)
     }
 
-    /// Looks at the operations of a range, from the last one down, as far as their marks are above the floor.
+    /// Visits the operations of a range, from the last one down, while their marks are above the floor.
     fn look(
         &mut self,
         table: &[VersionedPut],
@@ -179,7 +180,7 @@ impl Sweep {
         Ok(())
     }
 
-    /// Looks at all that is still to be looked at.
+    /// Visits all operations that are still to be visited.
     fn drain(
         &mut self,
         table: &[VersionedPut],
@@ -202,7 +203,7 @@ impl Sweep {
         Ok(())
     }
 
-    /// The place of the newest put of a suspect's key in its past, if one stands where the suspect says or later.
+    /// The place of the newest put on a suspect's key in its past, if there is one at `suspect.from` or later.
     pub fn newest_in_past(
         &mut self,
         table: &[VersionedPut],

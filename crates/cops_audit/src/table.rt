@@ -12,8 +12,8 @@ ghost use Rattle.cops_audit.specs.Tables.{AreDoubledPuts, IsPutTable, Repeats, R
 use cops_types::{History, OpName, Version, VersionedPut};
 use std::alloc::{AllocError, Global};
 
-/// Makes it the puts with their versions, in order of versions. It takes no memory where there is room for as many as
-/// there are operations.
+/// Fills `puts` with the puts and their versions, in order of versions. It allocates nothing where the capacity is at
+/// least the number of operations.
 pub fn set_puts(puts: &mut Vec<VersionedPut>, history: &History) -> Result<(), AllocError>
     ensures puts { OnOk result (IsPutTable history.now.sessions puts.new.items) }
     ensures count { OnOk result (vec_len puts.new ≤ count_of history.now.sessions) }
@@ -35,7 +35,7 @@ pub fn puts_by_version(alloc: Global, history: &History) -> Result<Vec<Versioned
     Ok(puts)
 }
 
-/// Whether no version stands twice in a table of puts in order of versions.
+/// Whether no version occurs twice in a table of puts in order of versions.
 pub fn is_rising(table: &[VersionedPut]) -> bool
     ensures rising { IsTrue result → Rises table.now }
     ensures equal { ¬ IsTrue result → Repeats table.now }
@@ -50,7 +50,7 @@ pub fn is_rising(table: &[VersionedPut]) -> bool
     true
 }
 
-/// The place of a put that bears a version.
+/// The place of a put that has this version, if there is one.
 pub fn place_of(table: &[VersionedPut], version: Version) -> Option<usize>
     requires { VersionsNeverFall table.now }
     ensures inside { IfSome result (λ place. place < length table.now) }
@@ -74,7 +74,7 @@ pub fn first_from(table: &[VersionedPut], version: Version) -> usize
     table.partition_point(|put| put.version.as_u64() < version)
 }
 
-/// Whether a put at the place before or after bears the same version.
+/// Whether the put at the place before or after has the same version.
 fn has_equal_neighbour(table: &[VersionedPut], place: usize) -> bool
     requires { place < length table.now }
     ensures { IsTrue result ↔ ((k : ℕ) × (k < length table.now) × ((k + 1 ≡ place) ⊎ (place + 1 ≡ k)) × ((d : VersionedPut) → (slice_index_or table.now k d).version ≡ (slice_index_or table.now place d).version)) }
@@ -95,7 +95,7 @@ fn has_equal_neighbour(table: &[VersionedPut], place: usize) -> bool
     false
 }
 
-/// The puts whose versions other puts bear, in order of versions: those that stand next to one of their version.
+/// The puts that have the version of another put, in order of versions: those next to a put with their version.
 fn doubled_puts(alloc: Global, table: &[VersionedPut]) -> Result<Vec<VersionedPut>, AllocError>
     requires { (h : Sessions) × IsPutTable h table.now }
     ensures { (h : Sessions) → IsPutTable h table.now → IfOk result (λ v. AreDoubledPuts h v.items) }
@@ -109,7 +109,7 @@ fn doubled_puts(alloc: Global, table: &[VersionedPut]) -> Result<Vec<VersionedPu
     Ok(puts)
 }
 
-/// Of each put, by its number, whether another put bears its version.
+/// For each put, at its number, whether another put has its version.
 fn doubled_numbers(
     alloc: Global,
     history: &History,
@@ -130,7 +130,7 @@ fn doubled_numbers(
     Ok(are_doubled)
 }
 
-/// Whether another put bears the put's version.
+/// Whether another put has the version of this put.
 fn is_doubled(history: &History, are_doubled: &[bool], name: OpName) -> bool
     requires { TellDoubled history.now are_doubled.now }
     ensures { IsTrue result ↔ IsDoubled history.now.sessions name }
@@ -141,7 +141,7 @@ fn is_doubled(history: &History, are_doubled: &[bool], name: OpName) -> bool
     are_doubled[number as usize]
 }
 
-/// The puts among these names whose versions other puts bear.
+/// The puts among these names that have the version of another put.
 pub fn doubled(
     alloc: Global,
     history: &History,

@@ -11,8 +11,8 @@ use std::alloc::{AllocError, Global};
 use std::marker::Model;
 use std::thread::Threads;
 
-/// What stale gets are looked up in, of a history in which no version is borne by two puts: its puts, the notes on its
-/// operations, and where many look for them the links between its puts.
+/// The tables in which stale gets are looked up, of a history in which no two puts have the same version: its puts, the
+/// causal summaries of its operations, and, for many lookups, the links between its puts.
 #[derive(Drop)]
 pub struct Tables<'a> {
     history: &'a History,
@@ -43,7 +43,8 @@ impl<'a> Tables<'a> {
     ghost use Rattle.cops_audit.specs.Tables.{Rises};
     ghost use Rattle.cops_audit.specs.Verdicts.{IsVerdict};
 
-    /// The puts and the notes, for one look at all operations.
+    /// The puts and the summaries, for a single lookup among all operations. The only error is `AllocError`, where
+    /// memory runs out.
     pub fn new(alloc: Global, puts: Puts<'a>) -> Result<Self, AllocError>
         requires { Rises puts.table }
         ensures sessions { IfOk result (λ tables. tables.sessions ≡ puts.entry.sessions) }
@@ -72,7 +73,8 @@ impl<'a> Tables<'a> {
         })
     }
 
-    /// The puts, the notes and the links, by at most so many threads, for a look at each piece of the operations.
+    /// The puts, the summaries and the links, built by at most `threads` threads, for one lookup in each part of the
+    /// operations. The only error is `AllocError`, where memory runs out.
     pub fn linked<R: Threads + Sync>(
         rt: &R,
         alloc: Global,
@@ -114,8 +116,8 @@ impl<'a> Tables<'a> {
         self.names.len()
     }
 
-    /// The stale gets among so many names from a place on, each with the newest put on its key in its past, where the
-    /// classes before them are empty.
+    /// The stale gets among the `len` names from `start` on, each with the newest put on its key in its past, where the
+    /// classes before them are empty. The only error is `AllocError`, where memory runs out.
     pub fn stale(&self, alloc: Global, start: usize, len: usize) -> Result<Vec<Stale>, AllocError>
         requires inside { start + len ≤ length self.now.names }
         requires sources { AllHaveSources self.now.sessions }
@@ -134,7 +136,7 @@ impl<'a> Tables<'a> {
     }
 
     /// The verdict where the classes before the stale gets are empty: the stale gets among all names, or the puts in
-    /// order of versions.
+    /// order of versions. The only error is `Memory`, where memory runs out.
     pub fn verdict(&self, alloc: Global, stale: Vec<Stale>) -> Result<Verdict, Memory>
         requires sources { AllHaveSources self.now.sessions }
         requires above { AllAbove self.now.sessions }

@@ -4,15 +4,15 @@ ghost use Rattle.cops_audit.specs.declared.tally.Entry.{Entry};
 use std::alloc::{AllocError, Global};
 use std::marker::Model;
 
-/// A number, and when it was written.
+/// A number, and the epoch in which it was written.
 #[derive(Clone, Copy)]
 struct Entry {
     age: u32,
     number: u32,
 }
 
-/// Numbers that only grow, and that all become 0 at once at no cost: those that were written in earlier ages count
-/// as 0. So do those past the last one that was ever written: there is room for them, which is not touched before.
+/// An epoch array: numbers that all become 0 at once at no cost, because those written in an earlier epoch count as 0.
+/// So do those past the last one that was ever written, whose memory is reserved and not touched before.
 #[derive(Drop)]
 pub struct Tally {
     entries: Vec<Entry>,
@@ -20,7 +20,7 @@ pub struct Tally {
     age: u32,
 }
 
-/// Adds entries that count as 0, up to so many, for which there is room.
+/// Adds entries that count as 0, up to `len` entries. The vector must have the capacity for them.
 fn fill(entries: &mut Vec<Entry>, len: usize)
     requires more { vec_len entries.old ≤ len }
     requires room { len ≤ vec_capacity entries.old }
@@ -48,7 +48,7 @@ impl Model for Tally {
 impl Tally {
     ghost use Rattle.std.specs.Prelude.{◌≡◌, ◌<◌, ◌≤◌, ◌-◌, ◌++◌, IfOk, OnErr, OnOk, length, slice_index, slice_set, replicate};
 
-    /// So many zeros.
+    /// `len` zeros.
     pub fn new(alloc: Global, len: usize) -> Result<Self, AllocError>
         ensures { IfOk result (λ tally. tally ≡ replicate len 0) }
     {
@@ -60,7 +60,7 @@ impl Tally {
         })
     }
 
-    /// Makes all numbers 0.
+    /// Makes all numbers 0, by starting a new epoch.
     pub fn restart(&mut self)
         ensures { self.new ≡ replicate (length self.old) 0 }
     {
@@ -102,7 +102,7 @@ impl Tally {
         self.len
     }
 
-    /// Adds zeros, up to so many numbers. A refusal changes nothing.
+    /// Adds zeros, up to `len` numbers. It changes nothing where the allocation fails.
     pub fn extend(&mut self, len: usize) -> Result<(), AllocError>
         requires { length self.old ≤ len }
         ensures ok { OnOk result (self.new ≡ self.old ++ replicate (len - length self.old) 0) }

@@ -24,18 +24,18 @@ pub enum Faults {
     Stale(Vec<Stale>),
 }
 
-/// What is said of a history that goes on.
+/// The verdict so far on a history that may go on.
 #[derive(Clone, Copy, Debug, PartialEq, Eq)]
 pub enum SoFar {
     /// It is accepted.
     Clean,
-    /// It has no lasting fault, and so many gets, above 0, have no put of their version yet.
+    /// It has no lasting fault, but for this number of gets, above 0, no put has their version yet.
     Waiting(usize),
-    /// It has a fault that no further operation takes away.
+    /// It has a fault that no further operation removes.
     Refused,
 }
 
-/// What the auditor says of a history.
+/// The auditor's verdict on a history.
 #[derive(Debug, Drop, PartialEq, Eq)]
 pub enum Verdict {
     /// The puts, in order of versions.

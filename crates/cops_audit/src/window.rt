@@ -15,7 +15,8 @@ use crate::notes::{Notes, Seen};
 use cops_types::{History, OpName, VersionedPut};
 use std::alloc::AllocError;
 
-/// A get that is stale where its past has a put from this place on, on the key whose first put stands at `first`.
+/// A get that is stale if its past contains a put at the place `from` or later on its key, whose first put is at
+/// `first`.
 #[derive(Clone, Copy, Debug, PartialEq, Eq)]
 pub struct Suspect {
     pub op: OpName,
@@ -23,7 +24,7 @@ pub struct Suspect {
     pub from: u32,
 }
 
-/// A get whose source stands at a place: no suspect where no put on the key stands between it and the mark.
+/// The suspect for a get whose source is at a place: none where no put on the key is between the source and the mark.
 fn got_suspect(
     history: &History,
     table: &[VersionedPut],
@@ -50,7 +51,7 @@ fn got_suspect(
     Some(Suspect { op, first, from })
 }
 
-/// A get that found nothing on a key: no suspect where no put on the key stands below the mark.
+/// The suspect for a get that found nothing on a key: none where no put on the key is below the mark.
 fn missed_suspect(
     history: &History,
     table: &[VersionedPut],
@@ -77,8 +78,8 @@ fn missed_suspect(
     })
 }
 
-/// A get that waits for its source, whose version divides the puts at a place: no suspect where the place is not below
-/// the mark, or there is no put on the key.
+/// The suspect for a get without a source, where the puts before a place have lower versions: none where the place is
+/// not below the mark, or there is no put on the key.
 fn waiting_suspect(
     history: &History,
     table: &[VersionedPut],
@@ -107,7 +108,7 @@ fn waiting_suspect(
     })
 }
 
-/// The suspect that an operation is, if it is one: else no put in its past is newer than what it returned.
+/// The suspect for an operation; where there is none, no put in its past is newer than what it returned.
 #[inline(always)]
 fn find_suspect(
     history: &History,
@@ -137,7 +138,7 @@ fn find_suspect(
     }
 }
 
-/// Adds the suspects among these names. It takes no memory where there is room for as many as there are names.
+/// Adds the suspects among these names. It allocates nothing where the capacity is at least the number of names.
 pub fn push_suspects(
     suspects: &mut Vec<Suspect>,
     history: &History,
@@ -168,8 +169,8 @@ pub fn push_suspects(
     Ok(())
 }
 
-/// Adds the suspects of a session, behind those of the sessions before it. It takes no memory where there is room for
-/// as many as there are operations.
+/// Adds the suspects of a session, after those of the sessions before it. It allocates nothing where the capacity is at
+/// least the number of operations.
 fn push_session_suspects(
     suspects: &mut Vec<Suspect>,
     history: &History,
@@ -203,7 +204,7 @@ fn push_session_suspects(
     Ok(())
 }
 
-/// Makes it all suspects. It takes no memory where there is room for as many as there are operations.
+/// Fills `suspects` with all suspects. It allocates nothing where the capacity is at least the number of operations.
 pub fn set_suspects(
     suspects: &mut Vec<Suspect>,
     history: &History,

@@ -6,7 +6,7 @@ use std::alloc::Global;
 use std::test::Fail;
 use std::thread::Threads;
 
-/// The puts are told in order of versions, and not of names.
+/// The puts are listed in order of versions, and not of names.
 #[test]
 fn an_accepted_history(rt: HostRuntime) -> Result<(), Fail> {
     let entries = [
@@ -20,19 +20,19 @@ fn an_accepted_history(rt: HostRuntime) -> Result<(), Fail> {
     Ok(())
 }
 
-/// The names of a history's puts, as they are listed.
+/// The names of a history's puts, in the order in which the history lists them.
 fn listed(alloc: Global, history: &History) -> Result<Vec<OpName>, Fail> {
     let mut puts = Vec::new(alloc);
     history.list_puts(&mut puts)?;
     Ok(puts.iter().map(|put| put.name).collect(alloc)?)
 }
 
-/// The numbers of the puts of some names.
+/// The numbers of the puts with four names.
 fn numbers(history: &History) -> [Option<u32>; 4] {
     [name(0, 0), name(1, 0), name(1, 1), name(2, 0)].map(|name| history.put_number(name))
 }
 
-/// Puts are numbered and listed in the order in which they came, and a get knows the number of its put.
+/// Puts are numbered and listed in the order in which they were recorded, and a get knows the number of its put.
 #[test]
 fn puts_have_numbers(rt: HostRuntime) -> Result<(), Fail> {
     let entries = [
@@ -55,7 +55,7 @@ fn puts_have_numbers(rt: HostRuntime) -> Result<(), Fail> {
     Ok(())
 }
 
-/// A deletion has its number among the puts, and is what a get returned that found it.
+/// A deletion has a number like any put, and is the source of a get that found it.
 #[test]
 fn a_deletion_has_a_number(rt: HostRuntime) -> Result<(), Fail> {
     let entries = [
@@ -77,7 +77,8 @@ fn a_deletion_has_a_number(rt: HostRuntime) -> Result<(), Fail> {
     Ok(())
 }
 
-/// How many operations workers share by so many threads, and the puts among them whose versions other puts bear.
+/// How many operations the workers share, and the puts among them that have the version of another put; built with at
+/// most `threads` threads.
 fn shared<R: Threads + Sync>(
     rt: &R,
     alloc: Global,
@@ -91,7 +92,7 @@ fn shared<R: Threads + Sync>(
     Ok((count, doubled?))
 }
 
-/// One thread and several make the same of a history.
+/// One thread and several build the same.
 #[test]
 fn puts_beside_names(rt: HostRuntime) -> Result<(), Fail> {
     let entries = [
@@ -111,7 +112,7 @@ fn puts_beside_names(rt: HostRuntime) -> Result<(), Fail> {
     Ok(())
 }
 
-/// Whether just this get is stale. The verdict is let go.
+/// Whether exactly this get is stale. The verdict is dropped.
 fn is_stale(verdict: Verdict, fault: Stale) -> bool {
     let is_stale = match &verdict {
         Verdict::Refused(Faults::Stale(faults)) => faults.as_slice() == [fault].as_slice(),
@@ -136,14 +137,14 @@ fn a_refused_history(rt: HostRuntime) -> Result<(), Fail> {
 }
 
 /// The first four operations of a client that put, deleted and put again, and of one that got the last put, and then
-/// what that one did last.
+/// `last` as the second operation of the latter.
 fn ending_with(last: Did) -> [(u16, Did); 5] {
     let mut entries = STALE_BELOW_A_DELETION;
     entries[4] = (1, last);
     entries
 }
 
-/// Whether the get that such a history ends with has no source.
+/// Whether the get with which such a history ends has no source.
 fn ends_without_source(alloc: Global, last: Did) -> Result<bool, Fail> {
     let history = history(alloc, 2, &ending_with(last))?;
     let is_sourceless = is_sourceless(alloc, &history, name(1, 1));
@@ -151,7 +152,8 @@ fn ends_without_source(alloc: Global, last: Did) -> Result<bool, Fail> {
     is_sourceless
 }
 
-/// A get that found a deletion has it as its source, and no put of a value; a get of a value has no deletion.
+/// A get that found a deletion has it as its source, and not a put of a value; a get of a value does not have a
+/// deletion as its source.
 #[test]
 fn gets_behind_a_deletion(rt: HostRuntime) -> Result<(), Fail> {
     let entries = ending_with(Did::Gone(b'x', 2, 0));
@@ -204,7 +206,7 @@ fn is_accepted(alloc: Global, history: &History) -> Result<bool, Fail> {
     Ok(accepts(verdict, &[name(0, 0)]))
 }
 
-/// Whether just the get of this name has no source.
+/// Whether exactly the get with this name has no source.
 fn is_sourceless(alloc: Global, history: &History, get: OpName) -> Result<bool, Fail> {
     let verdict = judge(alloc, history)?;
     let is_sourceless = match &verdict {
@@ -215,7 +217,7 @@ fn is_sourceless(alloc: Global, history: &History, get: OpName) -> Result<bool, 
     Ok(is_sourceless)
 }
 
-/// Whether the largest put is the source of a get with all of its value, and not of one with a shorter value.
+/// Whether the largest put is the source of a get of its whole value, and not of one of a shorter value.
 fn is_source_of_all(alloc: Global, history: &mut History) -> Result<bool, Fail> {
     push_largest(alloc, history, 0, 4096)?;
     push_largest(alloc, history, 1, 4096)?;
@@ -233,7 +235,7 @@ fn limits_of_keys_and_values(rt: HostRuntime) -> Result<(), Fail> {
     Ok(())
 }
 
-/// Whether the past of an operation has so many of each client's first operations.
+/// Whether the past of an operation has exactly these numbers of each client's first operations.
 fn has_past(
     alloc: Global,
     clients: u16,
@@ -315,7 +317,7 @@ fn past_through_a_deletion(rt: HostRuntime) -> Result<(), Fail> {
     Ok(())
 }
 
-/// Each put that a get may have returned is in its past, where two bear one version.
+/// Each put that a get may have returned is in its past, where two puts have one version.
 #[test]
 fn past_with_two_sources(rt: HostRuntime) -> Result<(), Fail> {
     let entries = [

@@ -7,7 +7,7 @@ use std::sync::Wait;
 use std::test::Fail;
 use std::thread::Threads;
 
-/// One version of three puts.
+/// Three puts with one version.
 const DOUBLED: [(u16, Did); 5] = [
     (0, Did::Put(b'x', 1, 1, 0)),
     (1, Did::Put(b'y', 1, 1, 0)),
@@ -16,7 +16,7 @@ const DOUBLED: [(u16, Did); 5] = [
     (2, Did::Put(b'x', 3, 1, 0)),
 ];
 
-/// A get that found a deletion, of a version that a put of a value has, and the other way round.
+/// A get that found a deletion, with a version that a put of a value has, and the other way round.
 const SOURCELESS: [(u16, Did); 4] = [
     (0, Did::Put(b'x', 1, 1, 0)),
     (0, Did::Del(b'x', 2, 0)),
@@ -24,7 +24,7 @@ const SOURCELESS: [(u16, Did); 4] = [
     (2, Did::Got(b'x', 1, 2, 0)),
 ];
 
-/// Whether so many workers give this verdict.
+/// Whether this number of workers gives this verdict.
 fn gives<R: Threads + Wait + Sync + AllocGlobal, G: Gate>(
     rt: &R,
     gate: &G,
@@ -36,7 +36,7 @@ fn gives<R: Threads + Wait + Sync + AllocGlobal, G: Gate>(
     Ok(same(verdict, wanted))
 }
 
-/// Whether so many workers say of a history what one does, or the fault with which they end.
+/// Whether this number of workers gives the verdict that one worker gives, or the fault with which they end.
 fn answer_on<R: Threads + Wait + Sync + AllocGlobal, G: Gate>(
     rt: &R,
     gate: &G,
@@ -49,7 +49,8 @@ fn answer_on<R: Threads + Wait + Sync + AllocGlobal, G: Gate>(
     Ok(answer)
 }
 
-/// The same of a history of three clients with these entries.
+/// Whether this number of workers gives the verdict that one gives on a history of three clients with these entries, or
+/// the fault with which they end.
 fn answer<R: Threads + Wait + Sync + AllocGlobal, G: Gate>(
     rt: &R,
     gate: &G,
@@ -82,7 +83,7 @@ fn too_few_and_too_many_workers(rt: HostRuntime) -> Result<(), Fail> {
     Ok(())
 }
 
-/// Whether the pieces meet and the verdict is that of one worker.
+/// Whether the pieces meet, and the verdict is that of one worker.
 fn meets<R: Threads + Wait + Sync + AllocGlobal>(
     rt: &R,
     workers: u8,
@@ -100,7 +101,7 @@ fn pieces_stand_side_by_side(rt: HostRuntime) -> Result<(), Fail> {
     Ok(())
 }
 
-/// Whether a call by three workers is held at the point.
+/// Whether a call with three workers is held at the point.
 fn is_held<R: Threads + Wait + Sync + AllocGlobal>(
     rt: &R,
     entries: &[(u16, Did)],

@@ -25,7 +25,7 @@ pub const STALE: [(u16, Did); 5] = [
     (1, Did::Got(b'x', 1, 1, 0)),
 ];
 
-/// The same in format 2, where the put of x at 2 is a deletion.
+/// Like `STALE`, but in format 2: the put of x at 2 is a deletion.
 pub const STALE_BELOW_A_DELETION: [(u16, Did); 5] = [
     (0, Did::Put(b'x', 1, 1, 0)),
     (0, Did::Del(b'x', 2, 0)),
@@ -34,7 +34,7 @@ pub const STALE_BELOW_A_DELETION: [(u16, Did); 5] = [
     (1, Did::Got(b'x', 1, 1, 0)),
 ];
 
-/// The text of a trace: the first client puts 1 at x under 1.0, and the second gets it.
+/// The text of a trace: the first client puts 1 at x with the version 1.0, and the second gets it.
 pub const TWO: [u8; 66] = [
     0, 0, 0, 5, 17, 0, 1, 0, 2, //
     0, 0, 0, 20, 18, 0, 0, 0, 0, 0, 0, 1, 120, 0, 1, 49, 0, 0, 0, 0, 0, 1, 0, 0, //
@@ -42,7 +42,7 @@ pub const TWO: [u8; 66] = [
     0, 0, 0, 5, 21, 0, 0, 0, 2,
 ];
 
-/// The text of a trace of format 2: the only client deletes x under 1.0, and then finds that deletion.
+/// The text of a trace of format 2: the only client deletes x with the version 1.0, and then finds that deletion.
 pub const DELETED: [u8; 60] = [
     0, 0, 0, 5, 17, 0, 2, 0, 1, //
     0, 0, 0, 17, 26, 0, 0, 0, 0, 0, 0, 1, 120, 0, 0, 0, 0, 0, 1, 0, 0, //
@@ -95,7 +95,7 @@ pub fn op(alloc: Global, did: Did) -> Result<Op, TypeFault> {
     }
 }
 
-/// Each client did what its entries say, in their order.
+/// Adds what the entries say to each client's session, in their order.
 fn push_all(alloc: Global, history: &mut History, entries: &[(u16, Did)]) -> Result<(), TypeFault> {
     for (client, did) in entries {
         let op = op(alloc, *did)?;
@@ -128,7 +128,7 @@ pub fn name(client: u16, index: u32) -> OpName {
     OpName { client, index }
 }
 
-/// Whether a verdict accepts just these puts, in this order. It is let go.
+/// Whether a verdict accepts exactly these puts, in this order. The verdict is dropped.
 pub fn accepts(verdict: Verdict, puts: &[OpName]) -> bool {
     let accepts = match &verdict {
         Verdict::Accepted(accepted) => accepted.as_slice() == puts,
@@ -138,7 +138,7 @@ pub fn accepts(verdict: Verdict, puts: &[OpName]) -> bool {
     accepts
 }
 
-/// Whether two verdicts are the same. The first of them is let go.
+/// Whether two verdicts are equal. The first of them is dropped.
 pub fn same(verdict: Verdict, other: &Verdict) -> bool {
     let same = verdict == *other;
     drop(verdict);

@@ -6,14 +6,14 @@ use cops_types::{Counted, FailingReader, FailingWriter};
 use std::alloc::Global;
 use std::test::Fail;
 
-/// The text of two records in format 2.
+/// The text of `TWO` in format 2.
 fn two_in_format_2() -> [u8; 66] {
     let mut text = TWO;
     text[6] = 2;
     text
 }
 
-/// What a conversion answers, and whether it wrote just this, where the writer takes so many bytes.
+/// What a conversion returns, and whether exactly `wanted` was written, where the writer takes this number of bytes.
 fn converted(
     alloc: Global,
     text: &[u8],
@@ -48,7 +48,7 @@ fn a_failed_write_leaves_the_first_bytes(rt: HostRuntime) -> Result<(), Fail> {
     Ok(())
 }
 
-/// Where the frame begins in which the first so many bytes of the two records end.
+/// Where the frame begins in which the first `bytes` bytes of the two records end.
 fn frame_at(bytes: usize) -> u64 {
     match bytes {
         0..9 => 0,
@@ -69,7 +69,7 @@ fn a_trace_that_is_cut_writes_nothing(rt: HostRuntime) -> Result<(), Fail> {
     Ok(())
 }
 
-/// The 66 bytes come in ten reads, and one more finds their end.
+/// The 66 bytes are read in ten reads, and one more finds their end.
 #[test]
 fn a_failed_read_writes_nothing(rt: HostRuntime) {
     for reads in 0..11 {

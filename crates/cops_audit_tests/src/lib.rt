@@ -1,6 +1,6 @@
-//! Tests of what no contract and no text of an audit says of devices, streams, the auditor, its workers and the
-//! reports, through their public calls alone. They stand in a crate above those, so that each crate is proved once and
-//! not with its tests again. What an audit says of a whole trace stands as rows beside the tests of the program.
+//! Tests of what neither a contract nor the text of an audit says about devices, streams, the auditor, its workers and
+//! the reports, through their public calls alone. They are in a crate above those, so that proving each of those does
+//! not prove its tests again. What an audit says about a whole trace is covered by the test cases of the program.
 #![tactic(auto)]
 
 #[cfg(test)]

@@ -11,14 +11,14 @@ fn feed(alloc: Global, online: &mut Online, client: u16, did: Did) -> Result<(),
     online.feed(client, op)
 }
 
-/// Whether just this is said so far, asked twice.
+/// Whether exactly this is the verdict so far, asked twice.
 fn is_said(online: &mut Online, wanted: SoFar) -> bool {
     let first = online.so_far();
     let second = online.so_far();
     first == wanted && second == wanted
 }
 
-/// Whether just this is said after each of these operations.
+/// Whether exactly these are the verdicts so far after each of these operations.
 fn says(
     alloc: Global,
     online: &mut Online,
@@ -50,7 +50,8 @@ fn ends(alloc: Global, online: Online, clients: u16, entries: &[(u16, Did)]) -> 
     }
 }
 
-/// Whether just this is said after each of these operations, and in the end what `judge` says.
+/// Whether exactly these are the verdicts so far after each of these operations, and the verdict at the end is the one
+/// of `judge`.
 fn fed(
     alloc: Global,
     clients: u16,
@@ -89,7 +90,7 @@ fn a_put_and_another_operation(rt: HostRuntime) -> Result<(), Fail> {
     Ok(())
 }
 
-/// A get that found a deletion waits for it, and one of what was deleted before is stale.
+/// A get that found a deletion waits for it, and a get of what was put before the deletion is stale.
 #[test]
 fn deletions_that_wait(rt: HostRuntime) -> Result<(), Fail> {
     let entries = [
@@ -147,7 +148,7 @@ fn feed_rounds(alloc: Global, online: &mut Online, client: u8, next: u8) -> Resu
     Ok(())
 }
 
-/// Feeds the rounds of ten clients in turn, and tells whether the gets of each wait for the puts of the next.
+/// Feeds the rounds of ten clients in turn, and returns whether the gets of each client wait for the puts of the next.
 fn all_wait(alloc: Global, online: &mut Online) -> Result<bool, FeedFault> {
     for client in 0..9u8 {
         feed_rounds(alloc, online, client, client + 1)?;
@@ -201,7 +202,7 @@ fn a_stale_get_after_many(rt: HostRuntime) -> Result<(), Fail> {
 
 const WAITS: Did = Did::Got(b'x', 1, 1, 0);
 
-/// Whether what a client that is not there did is refused, and what is said stays.
+/// Whether an operation of a client that does not exist is refused, and the verdict so far stays.
 fn refuses_others(alloc: Global, online: &mut Online) -> Result<bool, FeedFault> {
     feed(alloc, online, 0, WAITS)?;
     let refused = feed(alloc, online, 1, Did::Put(b'x', 1, 1, 0));
@@ -229,7 +230,7 @@ fn feed_client(online: &mut Online, history: &History, client: u16) -> Result<()
     Ok(())
 }
 
-/// What is said so far where all operations of a trace were fed, client by client.
+/// The verdict so far after all operations of a trace were fed, client by client.
 fn said_of_all(online: &mut Online, trace: &Trace) -> Result<SoFar, Fail> {
     for client in 0..trace.clients() {
         feed_client(online, trace.history(), client)?;
@@ -237,7 +238,7 @@ fn said_of_all(online: &mut Online, trace: &Trace) -> Result<SoFar, Fail> {
     Ok(online.so_far())
 }
 
-/// The same by an auditor of its own.
+/// The verdict so far on a trace, by a new auditor.
 fn said_of_trace(alloc: Global, trace: &Trace) -> Result<SoFar, Fail> {
     let mut online = Online::new(alloc, trace.clients())?;
     let said = said_of_all(&mut online, trace);
@@ -245,7 +246,7 @@ fn said_of_trace(alloc: Global, trace: &Trace) -> Result<SoFar, Fail> {
     said
 }
 
-/// The place where a text is cut, and what is said so far of the whole records before it.
+/// The place where a text is cut, and the verdict so far on the whole records before it.
 fn said_of(alloc: Global, text: &[u8]) -> Result<(Option<u64>, SoFar), Fail> {
     let Partial { trace, cut } = read_so_far(alloc, &mut Counted::new(text))?;
     let said = said_of_trace(alloc, &trace);
@@ -270,7 +271,7 @@ fn a_text_that_is_cut(rt: HostRuntime) -> Result<(), Fail> {
     Ok(())
 }
 
-/// Where the first so many bytes of the trace with a deletion are cut.
+/// Where the first `len` bytes of the trace with a deletion are cut.
 fn cut_of(len: usize) -> Option<u64> {
     match len {
         0..9 => Some(0),

@@ -1,4 +1,4 @@
-//! A trace's text that comes a byte at a time, and one that goes out a frame at a time.
+//! A trace's text that is read byte by byte, and one that is written frame by frame.
 use crate::building::{DELETED, Did, TWO, op};
 use cops_trace::{Item, TraceFault, TraceReader, TraceWriter, Unwritten, WriteFault};
 use cops_types::{Counted, FailingWriter, Format, Memory, Op};
@@ -6,7 +6,7 @@ use cops_wire::WireFault;
 use std::alloc::Global;
 use std::test::Fail;
 
-/// What an item says: its client, 100 for the head and 200 for the end.
+/// An item as a number: the client of an operation, 100 and the number of clients for the head, and 200 for the end.
 fn told(item: &Item) -> u16 {
     match item {
         Item::Head { clients, .. } => clients.saturating_add(100),
@@ -15,7 +15,7 @@ fn told(item: &Item) -> u16 {
     }
 }
 
-/// What the next item says, or none where there is none yet. The item is let go.
+/// The number of the next item, or `None` where there is none yet. The item is dropped.
 fn next_told(reader: &mut TraceReader) -> Option<u16> {
     let next = reader.next();
     let told = match &next {
@@ -26,7 +26,7 @@ fn next_told(reader: &mut TraceReader) -> Option<u16> {
     told
 }
 
-/// Adds what the items say of a text that comes a byte at a time.
+/// Adds the numbers of the items of a text that is read byte by byte.
 fn read_all(reader: &mut TraceReader, text: &[u8], all: &mut Vec<u16>) -> Result<(), Memory> {
     for k in 0..text.len() {
         reader.feed(&text[k..k + 1])?;
@@ -40,7 +40,7 @@ fn read_all(reader: &mut TraceReader, text: &[u8], all: &mut Vec<u16>) -> Result
     Ok(())
 }
 
-/// What the items of a text say that comes a byte at a time, and how it closes.
+/// The numbers of the items of a text that is read byte by byte, and how it closes.
 fn items(alloc: Global, text: &[u8]) -> Result<(Vec<u16>, Result<(), TraceFault>), Memory> {
     let mut reader = TraceReader::new(alloc);
     let mut all = Vec::new(alloc);
@@ -51,7 +51,7 @@ fn items(alloc: Global, text: &[u8]) -> Result<(Vec<u16>, Result<(), TraceFault>
     Ok((all, closed))
 }
 
-/// Whether just the first items of the whole text come of so many of its bytes, and how those close.
+/// Whether the first `len` bytes of a text give exactly the first `count` of its items, and how they close.
 fn front(
     alloc: Global,
     text: &[u8],
@@ -64,7 +64,7 @@ fn front(
     Ok((all.as_slice() == first, closed))
 }
 
-/// Why a text does not close: it is cut where its last whole item ends.
+/// How a text closes that is cut where its last whole item ends, or that is not cut.
 fn closing(cut: Option<u64>) -> Result<(), TraceFault> {
     match cut {
         Some(offset) => Err(TraceFault::Cut { offset }),
@@ -108,7 +108,8 @@ fn a_byte_of_a_deletion_at_a_time(rt: HostRuntime) -> Result<(), Fail> {
     Ok(())
 }
 
-/// The first fault of a text with one byte changed, which is answered again whatever comes.
+/// The first fault of `TWO` with one byte changed, or with a byte after its end. It is returned again whatever is fed
+/// after it.
 fn fault(alloc: Global, at: usize, byte: u8) -> Result<Result<(), TraceFault>, Memory> {
     let mut text = [0; 67];
     text[..66].copy_from_slice(&TWO);
@@ -117,7 +118,7 @@ fn fault(alloc: Global, at: usize, byte: u8) -> Result<Result<(), TraceFault>, M
     Ok(closed)
 }
 
-/// The same of the text with a deletion.
+/// The first fault of `DELETED` with one byte changed.
 fn fault_of_deletion(alloc: Global, at: usize, byte: u8) -> Result<Result<(), TraceFault>, Memory> {
     let mut text = DELETED;
     text[at.min(59)] = byte;
@@ -166,13 +167,13 @@ fn a_fault_stays(rt: HostRuntime) -> Result<(), Fail> {
 /// A device that fails after some bytes.
 type Device = FailingWriter<Vec<u8>>;
 
-/// What went out to a device.
+/// What was written to a device.
 fn taken(device: Counted<Device>) -> Vec<u8> {
     device.into_inner().into_inner()
 }
 
-/// Writes the text of a put and its get to a writer that fails after so many bytes: what went out, and the fault.
-/// Where one of them is not of the format nothing is written.
+/// Writes the text of a put and its get to a writer that fails after `bytes` bytes, and returns what was written, and
+/// the fault. Nothing is written where one of them is not allowed in the format.
 fn written_of(
     alloc: Global,
     format: Format,
@@ -201,7 +202,7 @@ fn written_of(
     }
 }
 
-/// The same of what two clients did.
+/// Like `written_of`, for two operations that are still to be created.
 fn written(
     alloc: Global,
     format: Format,
@@ -222,7 +223,7 @@ fn written(
     Ok(told)
 }
 
-/// Whether just the first so many of the 66 bytes went out, and the fault.
+/// Whether exactly the first `bytes` of the 66 bytes were written, and the fault.
 fn front_of(alloc: Global, bytes: usize) -> Result<(bool, Option<WriteFault>), Fail> {
     let did = [Did::Put(b'x', b'1', 1, 0), Did::Got(b'x', b'1', 1, 0)];
     let (out, fault) = written(alloc, Format::One, bytes, did)?;
@@ -239,7 +240,8 @@ fn a_writer_that_fails_after_each_byte(rt: HostRuntime) -> Result<(), Fail> {
     Ok(())
 }
 
-/// Whether just the first so many bytes of a deletion by one client went out, which the other one found, and the fault.
+/// Whether exactly the first `bytes` bytes of a deletion by one client, which the other one found, were written, and
+/// the fault.
 fn front_of_deletion(alloc: Global, bytes: usize) -> Result<(bool, Option<WriteFault>), Fail> {
     let did = [Did::Del(b'x', 1, 0), Did::Gone(b'x', 1, 0)];
     let (out, fault) = written(alloc, Format::Two, bytes, did)?;

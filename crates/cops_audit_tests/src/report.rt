@@ -13,7 +13,7 @@ fn feed_all(alloc: Global, online: &mut Online, entries: &[(u16, Did)]) -> Resul
     Ok(())
 }
 
-/// What an auditor of two clients says at its end that was fed these operations.
+/// The verdict of an auditor of two clients that was fed these operations, with their history.
 fn fed(alloc: Global, entries: &[(u16, Did)]) -> Result<Judged, Fail> {
     let mut online = Online::new(alloc, 2)?;
     match feed_all(alloc, &mut online, entries) {
@@ -33,7 +33,7 @@ fn is_told(alloc: Global, history: &History, text: &str) -> Result<bool, Memory>
     Ok(told?.as_slice() == text.as_bytes())
 }
 
-/// Whether the report of the verdict on a history is this text, also where it was fed operation by operation.
+/// Whether the report of the verdict on a history is this text, also where the history was fed operation by operation.
 fn tells(alloc: Global, entries: &[(u16, Did)], text: &str) -> Result<bool, Fail> {
     let history = history(alloc, 2, entries)?;
     let is_told = is_told(alloc, &history, text);
@@ -80,7 +80,7 @@ fn reports_of_deletions(rt: HostRuntime) -> Result<(), Fail> {
     Ok(())
 }
 
-/// Whether this is the chain from a name to another, where none is told by no name.
+/// Whether this is the chain from one name to another. An empty list stands for no chain.
 fn leads(
     alloc: Global,
     entries: &[(u16, Did)],
@@ -122,7 +122,7 @@ fn a_chain_from_a_deletion(rt: HostRuntime) -> Result<(), Fail> {
     Ok(())
 }
 
-/// There is none from a later name to an earlier one, to a name of no operation, and from one of no client.
+/// There is no chain from a later name to an earlier one, to a name of no operation, or from a name of no client.
 #[test]
 fn no_chains(rt: HostRuntime) -> Result<(), Fail> {
     for (from, to) in [

@@ -8,7 +8,7 @@ use std::sync::Wait;
 use std::test::Fail;
 use std::thread::Threads;
 
-/// A get whose put is nowhere, and what is told of it.
+/// A get without a source.
 const NO_SOURCE: [u8; 42] = [
     0, 0, 0, 5, 17, 0, 1, 0, 1, //
     0, 0, 0, 20, 19, 0, 0, 0, 0, 0, 0, 1, 120, 0, 1, 49, 0, 0, 0, 0, 0, 1, 0, 0, //
@@ -17,7 +17,7 @@ const NO_SOURCE: [u8; 42] = [
 
 const TOLD: &[u8] = b"refused: 1 operations, 0 puts, 1 faults\nno source (0,0) at 1.0\n";
 
-/// What is told of the first 65 bytes of those that have a put and its get.
+/// What is written for the first 65 bytes of `TWO`.
 const CUT: &[u8] = b"cut at 57\nso far: clean\n";
 
 #[test]
@@ -38,7 +38,7 @@ fn bad_or_held_workers_write_nothing(rt: HostRuntime) {
     }
 }
 
-/// The 66 bytes come in ten reads, and one more finds their end.
+/// The 66 bytes are read in ten reads, and one more finds their end.
 #[test]
 fn a_failed_read_writes_nothing(rt: HostRuntime) {
     for reads in 0..11 {
@@ -52,7 +52,7 @@ fn a_failed_read_writes_nothing(rt: HostRuntime) {
     }
 }
 
-/// The first 65 bytes come in ten reads, and one more finds that they are cut.
+/// The first 65 bytes are read in ten reads, and one more finds that they are cut.
 #[test]
 fn a_failed_read_writes_nothing_so_far(rt: HostRuntime) {
     let failed = Err(StreamFault::ReadFailed);
@@ -102,7 +102,7 @@ fn a_failed_device_is_told(rt: HostRuntime) -> Result<(), Fail> {
     Ok(())
 }
 
-/// Whether just this is told of a text by 1, 2 and 64 workers.
+/// Whether exactly this text is written and this answer returned for a trace's text by 1, 2 and 64 workers.
 fn tells<R: Threads + Wait + Sync + AllocGlobal>(
     rt: &R,
     bytes: &[u8],
@@ -135,7 +135,7 @@ fn a_text_with_a_deletion(rt: HostRuntime) -> Result<(), Fail> {
     Ok(())
 }
 
-/// Adds what two clients did to a trace, as far as it is of its format.
+/// Adds what two clients did to a trace, without the operations that its format does not allow.
 fn push_all(alloc: Global, trace: &mut Trace, entries: &[(u16, Did)]) -> Result<(), Fail> {
     for (client, did) in entries {
         let op = op(alloc, *did)?;
@@ -148,7 +148,7 @@ fn push_all(alloc: Global, trace: &mut Trace, entries: &[(u16, Did)]) -> Result<
     Ok(())
 }
 
-/// The text of a trace of format 2, in which two clients did this.
+/// The text of a trace of format 2 in which two clients did this.
 fn text_of(alloc: Global, entries: &[(u16, Did)]) -> Result<Vec<u8>, Fail> {
     let mut trace = Trace::new_in(Format::Two, alloc, 2)?;
     push_all(alloc, &mut trace, entries)?;
@@ -159,7 +159,8 @@ fn text_of(alloc: Global, entries: &[(u16, Did)]) -> Result<Vec<u8>, Fail> {
     }
 }
 
-/// What is told of a put, a deletion and a put of client 0, and of two gets of client 1, the second of which is last.
+/// Whether exactly this is the answer and the text for a put, a deletion and a put of client 0, and for two gets of
+/// client 1, the second of which is `last`.
 fn told_of_last<R: Threads + Wait + Sync + AllocGlobal>(
     rt: &R,
     last: Did,
@@ -198,7 +199,7 @@ fn gets_behind_a_deletion(rt: HostRuntime) -> Result<(), Fail> {
     Ok(())
 }
 
-/// What is said so far of the first bytes of the text with a deletion: it is clean, and whole at the end.
+/// The verdict so far on the first bytes of the text with a deletion is clean, and the text is whole at the end.
 #[test]
 fn a_deletion_that_is_cut_anywhere(rt: HostRuntime) -> Result<(), Fail> {
     for len in 0..61 {

@@ -1,4 +1,4 @@
--- Pieces that stand one after the other.
+-- Pieces that follow one another.
 use Rattle.std.proofs.Common.{◌≡◌, ℕ, zero, suc, ◌+◌, ◌*◌, ◌/◌, ◌%◌, ◌<◌, ◌≤◌, List, [], ◌∷◌, ◌++◌, length, sym, ◌∙◌, ap, arith, subst, inl, inr, min, All, get_or, slice_index_or}
 use Rattle.std.proofs.Math.Nat.{mul-le-mul_left}
 use Rattle.std.proofs.Math.Seq.{get_or-append_seam}
@@ -48,7 +48,7 @@ cut_number i a b [] k d cut below = absurd (omega arith)
 cut_number i a b (p ∷ ps) zero d cut below = omega (arith, cut.0)
 cut_number i a b (p ∷ ps) (suc k) d cut below = omega (arith, cut_number (i + 1) (a + p.len) b ps k d cut.2 (omega arith))
 
--- pieces that stand where these stand
+-- pieces with the same numbers, starts and lengths are cut in the same way
 pub cut_same : (i a b : ℕ) (ps qs : List Piece) → length qs ≡ length ps → SamePlaces ps qs → IsCut i a ps b → IsCut i a qs b
 cut_same i a b [] [] len same cut = cut
 cut_same i a b [] (q ∷ qs) len same cut = absurd (omega (arith, len))
@@ -62,14 +62,14 @@ cut_same i a b (p ∷ ps) (q ∷ qs) len same cut =
       subst P (sym n) (cut_same (i + 1) (a + p.len) b ps qs (omega (arith, len)) (λ k d below. same (suc k) d (omega (arith, below))) cut.2),
     )
 
--- pieces that stand where these stand lie within as many operations
+-- pieces with the same numbers, starts and lengths are within as many operations
 pub ready_same : (n : ℕ) (may_hold : Point → Type 0) (ps qs : List Piece) → length qs ≡ length ps → SamePlaces ps qs → All (LiesWithin n) ps → Each (IsHeldByGate may_hold) qs → All (IsReady n may_hold) qs
 ready_same n may_hold ps qs len same within held k d below =
     let old : k < length ps = omega (arith, below, len) in
     let place = same k d old in
     (omega (arith, within k d old, place.1, place.2), held k d below)
 
--- a piece that was held may be held by the gate
+-- where a piece was held, the gate may hold it
 pub held_at : (may_hold : Point → Type 0) (ps : List Piece) (k : ℕ) (p : Piece) (b : ℕ) → k < length ps → p ≡ get_or ps k p → p.state ≡ Held
     → IsCut 0 0 ps b → Each (IsHeldByGate may_hold) ps → (x : ℕ) × (x < length ps) × MayHoldPiece may_hold x
 held_at may_hold ps k p b below is state cut all =

@@ -92,7 +92,7 @@ module _ {A : Type 0} (name_of : A → OpName) (F : A → Type 0) (list_of : Pie
       (among_append name_of F (slice_range names a (a + p.len)) (drop (a + p.len) names) (list_of p) (flat_map list_of ps)
       (subst (AllPairs IsBefore) split (pairs_drop names a in_order)) here rest)
 
-  -- what all pieces found is what there is
+  -- what the pieces found together is all faults
   pub joined_all : (ps : List Piece) (b : ℕ) (xs : List A) → IsCut 0 0 ps b → b ≡ length names → Each (λ p. p.state ≡ Fine) ps
       → Each (λ p. p.state ≡ Fine → ListsAmong name_of F (names_of names p) (list_of p)) ps → xs ≡ flat_map list_of ps → ListsAmong name_of F names xs
   joined_all ps b xs cut end fine lists are =

@@ -7,15 +7,15 @@ use Rattle.cops_audit.specs.Sorted.{Sorted}
 use Rattle.cops_batch.specs.Pieces.{names_of}
 use Rattle.cops_batch.specs.declared.pieces.Piece.{Piece}
 
--- the piece has its puts whose versions other puts bear
+-- the piece lists its puts that have the version of another put
 abbrev pub HasDoubled : Sorted → Piece → Type 0
 HasDoubled puts p = ListsAmong (λ n. n) (IsDoubled puts.sessions) (names_of puts.names p) p.names.items
 
--- the piece has its faults of the classes before the stale gets
+-- the piece lists its faults of the classes before the stale gets
 pub record IsSearched (puts : Sorted) (p : Piece) : Type 0 where
   pub sourceless : ListsAmong (λ n. n) (HasNoSource puts.sessions) (names_of puts.names p) p.names.items
   pub not_above : ListsAmong (λ f. f.op) (λ f. IsNotAbove puts.sessions f.op f.earlier) (names_of puts.names p) p.not_above.items
 
--- the piece has its stale gets
+-- the piece lists its stale gets
 abbrev pub HasStale : Noted → Piece → Type 0
 HasStale tables p = ListsAmong (λ f. f.op) (λ f. IsStale tables.sessions f.op f.newer) (names_of tables.names p) p.stale.items

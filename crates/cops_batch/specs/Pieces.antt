@@ -18,24 +18,25 @@ IsHeldByGate may_hold p = p.state ≡ Held → MayHoldPiece may_hold p.number
 abbrev pub names_of : List OpName → Piece → List OpName
 names_of names p = slice_range names p.start (p.start + p.len)
 
--- the pieces stand one after the other from a to b, numbered from i on
+-- the pieces follow one another from a to b, numbered from i on
 abbrev pub IsCut : ℕ → ℕ → List Piece → ℕ → Type 0
 IsCut i a [] b = a ≡ b
 IsCut i a (p ∷ ps) b = (p.number ≡ i) × (p.start ≡ a) × IsCut (i + 1) (a + p.len) ps b
 
--- it lies within so many operations
+-- the piece is within n operations
 abbrev pub LiesWithin : ℕ → Piece → Type 0
 LiesWithin n p = p.start + p.len ≤ n
 
--- it lies there, and where its worker was held, the gate may hold it
+-- the piece is within n operations, and where its worker was held, the gate may hold it
 abbrev pub IsReady : ℕ → (Point → Type 0) → Piece → Type 0
 IsReady n may_hold p = LiesWithin n p × IsHeldByGate may_hold p
 
--- of so many operations a piece of so many workers has the same as each other one, or one more where it is among the first
+-- the length of a piece when `count` operations are cut for `workers` workers: the quotient, and one more for the first pieces, as many as the
+-- remainder
 abbrev pub piece_len : ℕ → ℕ → ℕ → ℕ
 piece_len count workers i = count / workers + (if nat_lt i (count % workers) then 1 else 0)
 
--- it is where it was
+-- the piece has the same number, start and length
 abbrev pub SamePlace : Piece → Piece → Type 0
 SamePlace p q = (q.number ≡ p.number) × (q.start ≡ p.start) × (q.len ≡ p.len)
 
@@ -43,6 +44,6 @@ SamePlace p q = (q.number ≡ p.number) × (q.start ≡ p.start) × (q.len ≡ p
 abbrev pub Each : (Piece → Type 0) → List Piece → Type 0
 Each P ps = (k : ℕ) (d : Piece) → k < length ps → P (slice_index_or ps k d)
 
--- each piece is where it was
+-- each piece has the same number, start and length
 abbrev pub SamePlaces : List Piece → List Piece → Type 0
 SamePlaces ps qs = (k : ℕ) (d : Piece) → k < length ps → SamePlace (slice_index_or ps k d) (slice_index_or qs k d)

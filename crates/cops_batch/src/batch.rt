@@ -17,10 +17,11 @@ use std::alloc::Global;
 use std::sync::Wait;
 use std::thread::Threads;
 
-/// The verdict on a history, by `workers` workers, 1 to 64: it is the one of `judge`. The operations in order of names
-/// are cut into so many pieces, the longer ones first, their lengths differing by at most one. Each worker passes the
-/// gate at `PieceStart` of its piece's number before its work and at `PieceDone` after it. `BadWorkers` exactly unless
-/// there are 1 to 64; `Held` where the gate held a worker; else `Memory` where memory was refused.
+/// The verdict on a history, computed by `workers` workers, 1 to 64: it is the one of `judge`. The operations in order
+/// of names are cut into `workers` pieces, the longer ones first, whose lengths differ by at most one. Each worker
+/// passes the gate at `PieceStart` of its piece's number before its work and at `PieceDone` after it. The errors:
+/// `BadWorkers` exactly where `workers` is not 1 to 64, `Held` where the gate held a worker, and otherwise `Memory`
+/// where memory runs out.
 pub fn judge_with<R: Threads + Wait + Sync, G: Gate>(
     rt: &R,
     alloc: Global,
@@ -44,7 +45,7 @@ pub fn judge_with<R: Threads + Wait + Sync, G: Gate>(
     judge_in_pieces(rt, alloc, history, workers, gate)
 }
 
-/// The verdict by so many workers.
+/// The verdict by `workers` workers.
 fn judge_in_pieces<R: Threads + Wait + Sync, G: Gate>(
     rt: &R,
     alloc: Global,
@@ -69,7 +70,7 @@ fn judge_in_pieces<R: Threads + Wait + Sync, G: Gate>(
     judge_gets(rt, alloc, puts, workers, gate, pieces.as_mut_slice())
 }
 
-/// The verdict where a version is borne by two puts.
+/// The verdict where two puts have the same version.
 fn judge_doubled<R: Threads + Wait + Sync, G: Gate>(
     rt: &R,
     alloc: Global,
@@ -93,8 +94,8 @@ fn judge_doubled<R: Threads + Wait + Sync, G: Gate>(
     Ok(puts.refused_doubled(faults))
 }
 
-/// The verdict where no version is borne by two puts. Whether the stale gets are to be looked for is known only once
-/// all pieces were searched for the classes before them, so there are two rounds.
+/// The verdict where no two puts have the same version. There are two rounds, because only after all pieces are
+/// searched for the earlier classes of faults is it known whether to look for stale gets.
 fn judge_gets<R: Threads + Wait + Sync, G: Gate>(
     rt: &R,
     alloc: Global,
@@ -126,7 +127,7 @@ fn judge_gets<R: Threads + Wait + Sync, G: Gate>(
     }
 }
 
-/// The second round where no stale gets are looked for, and whether nothing went wrong up to its end.
+/// The second round where no stale gets are looked for, and whether any worker failed up to its end.
 fn last_round<R: Threads + Wait + Sync, G: Gate>(
     rt: &R,
     gate: &G,
@@ -143,7 +144,8 @@ fn last_round<R: Threads + Wait + Sync, G: Gate>(
     finished(gate, pieces, count)
 }
 
-/// The verdict where the classes before the stale gets are empty. What stale gets are looked up in is made here.
+/// The verdict where the classes before the stale gets are empty. The tables in which stale gets are looked up are
+/// built here.
 fn judge_stale<R: Threads + Wait + Sync, G: Gate>(
     rt: &R,
     alloc: Global,
@@ -171,7 +173,7 @@ fn judge_stale<R: Threads + Wait + Sync, G: Gate>(
     judge_tables(rt, alloc, &tables, gate, pieces)
 }
 
-/// The same, by what stale gets are looked up in.
+/// The verdict where the classes before the stale gets are empty, by tables that are built.
 fn judge_tables<R: Threads + Wait + Sync, G: Gate>(
     rt: &R,
     alloc: Global,

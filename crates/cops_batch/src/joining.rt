@@ -13,7 +13,7 @@ use cops_audit::{NotAbove, Puts, Stale, Verdict};
 use cops_types::{Gate, OpName};
 use std::alloc::{AllocError, Global};
 
-/// Whether nothing went wrong in any piece. A worker that was held comes before want of memory.
+/// Whether no worker failed. `Held` is reported before `Memory`.
 pub fn finished<G: Gate>(gate: &G, pieces: &[Piece], count: usize) -> Result<(), BatchFault>
     requires cut { IsCut 0 0 pieces.now count }
     requires held { Each (IsHeldByGate (G.may_hold gate.now)) pieces.now }
@@ -47,7 +47,7 @@ pub fn joined_names(alloc: Global, pieces: &[Piece]) -> Result<Vec<OpName>, Allo
     Ok(all)
 }
 
-/// The puts not above that the workers found, in the order of their pieces.
+/// The puts that are not above their sessions' earlier operations, in the order of the pieces.
 fn joined_not_above(alloc: Global, pieces: &[Piece]) -> Result<Vec<NotAbove>, AllocError>
     ensures { IfOk result (λ v. v.items ≡ flat_map (λ p. p.not_above.items) pieces.now) }
 {
@@ -69,7 +69,7 @@ pub fn joined_stale(alloc: Global, pieces: &[Piece]) -> Result<Vec<Stale>, Alloc
     Ok(all)
 }
 
-/// The verdict of the classes before the stale gets, or `None` where they are empty in all pieces.
+/// The verdict by the classes before the stale gets, or `None` where they are empty in all pieces.
 pub fn joined_before_stale<G: Gate>(
     alloc: Global,
     puts: &Puts,

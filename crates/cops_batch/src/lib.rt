@@ -1,6 +1,6 @@
-//! The auditor with many workers: each looks for faults in a piece of the history's operations, and what they find is
-//! joined into the verdict that one worker gives. Stands on cops_types, which has the gate, and on cops_audit, which
-//! has the tables that the workers share. The layer above uses that the verdict is the auditor's.
+//! The parallel auditor: each worker looks for faults in a piece of the history's operations, and what they find is
+//! joined into the verdict that one worker gives. The gate is in cops_types, and the tables that the workers share are
+//! in cops_audit. The layer above uses that the verdict is the auditor's.
 #![tactic(auto)]
 
 mod batch;

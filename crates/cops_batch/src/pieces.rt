@@ -11,12 +11,12 @@ use cops_types::{Gate, OpName, Point};
 use std::alloc::{AllocError, Global};
 use std::sync::Wait;
 
-/// How a worker's search of its piece stands.
+/// The state of a worker's search of its piece.
 #[derive(Clone, Copy)]
 pub enum State {
-    /// Nothing went wrong so far.
+    /// It has not failed.
     Fine,
-    /// Memory was refused.
+    /// Memory ran out.
     Memory,
     /// The gate held the worker.
     Held,
@@ -29,14 +29,14 @@ pub struct Piece {
     pub start: usize,
     pub len: usize,
     pub state: State,
-    /// The puts whose versions other puts bear, or the gets without a source.
+    /// The puts that have the version of another put, or the gets without a source.
     pub names: Vec<OpName>,
     pub not_above: Vec<NotAbove>,
     pub stale: Vec<Stale>,
 }
 
 impl Piece {
-    /// A piece that nothing was looked for in.
+    /// A piece that is not searched yet.
     fn new(alloc: Global, number: u32, start: usize, len: usize) -> Self
         ensures { (result.number ≡ number) × (result.start ≡ start) × (result.len ≡ len) }
     {
@@ -52,7 +52,7 @@ impl Piece {
     }
 }
 
-/// Cuts so many operations into so many pieces, the longer ones first.
+/// Cuts `count` operations into `workers` pieces, the longer ones first.
 pub fn cut(alloc: Global, count: usize, workers: u8) -> Result<Vec<Piece>, AllocError>
     requires { 0 < workers }
     ensures cut { IfOk result (λ v. IsCut 0 0 v.items count) }
@@ -76,7 +76,7 @@ pub fn cut(alloc: Global, count: usize, workers: u8) -> Result<Vec<Piece>, Alloc
     Ok(pieces)
 }
 
-/// The end of a worker's piece, where the gate may hold it, unless it was held before.
+/// Ends a worker's piece: passes the gate, which may hold the worker, unless it held it before.
 pub fn leave<R: Wait, G: Gate>(rt: &R, gate: &G, piece: &mut Piece)
     requires { IsHeldByGate (G.may_hold gate.now) piece.old }
     ensures place { SamePlace piece.old piece.new }
@@ -91,7 +91,7 @@ pub fn leave<R: Wait, G: Gate>(rt: &R, gate: &G, piece: &mut Piece)
     }
 }
 
-/// Puts into a piece the puts of it whose versions other puts bear.
+/// Searches a piece for the puts that have the version of another put.
 fn search_for_doubled(alloc: Global, puts: &Puts, piece: &mut Piece) -> Result<(), AllocError>
     requires { LiesWithin (length puts.now.names) piece.old }
     ensures place { SamePlace piece.old piece.new }
@@ -101,7 +101,7 @@ fn search_for_doubled(alloc: Global, puts: &Puts, piece: &mut Piece) -> Result<(
     Ok(())
 }
 
-/// A worker's whole work where a version is borne by two puts.
+/// A worker's only search where two puts have the same version.
 pub fn look_for_doubled<R: Wait, G: Gate>(
     rt: &R,
     alloc: Global,
@@ -125,7 +125,7 @@ pub fn look_for_doubled<R: Wait, G: Gate>(
     leave(rt, gate, piece);
 }
 
-/// Puts into a piece what it has of the classes before the stale gets.
+/// Searches a piece for the faults of the classes before the stale gets.
 fn search_before_stale(alloc: Global, puts: &Puts, piece: &mut Piece) -> Result<(), AllocError>
     requires rising { Rises puts.now.table }
     requires within { LiesWithin (length puts.now.names) piece.old }
@@ -137,7 +137,7 @@ fn search_before_stale(alloc: Global, puts: &Puts, piece: &mut Piece) -> Result<
     Ok(())
 }
 
-/// A worker's first work: the classes before the stale gets.
+/// A worker's first search: the classes before the stale gets.
 pub fn look_before_stale<R: Wait, G: Gate>(
     rt: &R,
     alloc: Global,
@@ -161,7 +161,7 @@ pub fn look_before_stale<R: Wait, G: Gate>(
     }
 }
 
-/// Puts into a piece its stale gets.
+/// Searches a piece for its stale gets.
 fn search_for_stale(alloc: Global, tables: &Tables, piece: &mut Piece) -> Result<(), AllocError>
     requires sources { AllHaveSources tables.now.sessions }
     requires above { AllAbove tables.now.sessions }
@@ -173,7 +173,7 @@ fn search_for_stale(alloc: Global, tables: &Tables, piece: &mut Piece) -> Result
     Ok(())
 }
 
-/// A worker's last work: the stale gets.
+/// A worker's second search: the stale gets.
 pub fn look_for_stale<R: Wait, G: Gate>(
     rt: &R,
     alloc: Global,

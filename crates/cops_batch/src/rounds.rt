@@ -13,7 +13,8 @@ use std::sync::Wait;
 use std::thread;
 use std::thread::Threads;
 
-/// Each piece in a thread of its own where one can be made: the one round where a version is borne by two puts.
+/// Runs the only round where two puts have the same version, each piece in a thread of its own where one can be
+/// created.
 pub fn round_of_doubled<R: Threads + Wait + Sync, G: Gate>(
     rt: &R,
     alloc: Global,
@@ -42,7 +43,8 @@ pub fn round_of_doubled<R: Threads + Wait + Sync, G: Gate>(
     );
 }
 
-/// Each piece in a thread of its own where one can be made: the first round, for the classes before the stale gets.
+/// Runs the first round, for the classes before the stale gets, each piece in a thread of its own where one can be
+/// created.
 pub fn round_before_stale<R: Threads + Wait + Sync, G: Gate>(
     rt: &R,
     alloc: Global,
@@ -73,7 +75,7 @@ pub fn round_before_stale<R: Threads + Wait + Sync, G: Gate>(
     );
 }
 
-/// Each piece in a thread of its own where one can be made: the second round, for the stale gets.
+/// Runs the second round, for the stale gets, each piece in a thread of its own where one can be created.
 pub fn round_of_stale<R: Threads + Wait + Sync, G: Gate>(
     rt: &R,
     alloc: Global,
@@ -106,7 +108,8 @@ pub fn round_of_stale<R: Threads + Wait + Sync, G: Gate>(
     );
 }
 
-/// Each piece in a thread of its own where one can be made: the second round where no stale gets are looked for.
+/// Runs the second round where no stale gets are looked for, each piece in a thread of its own where one can be
+/// created.
 pub fn round_without_search<R: Threads + Wait + Sync, G: Gate>(
     rt: &R,
     gate: &G,

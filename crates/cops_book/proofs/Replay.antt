@@ -1,4 +1,4 @@
--- A book that gains the entry of a step still replays.
+-- Appending the entry of a step to a book that replays.
 use Rattle.std.proofs.Common.{◌≡◌, ◌⊎◌, inl, inr, ℕ, ◌+◌, Bool, true, false, if◌then◌else◌, List, [], ◌∷◌, ◌++◌, Option, None, Some, refl, sym, ap, subst, ◌∙◌}
 use Rattle.cops_types.specs.declared.refusal.Refusal.TheVariants.{Memory}
 use Rattle.cops_held.specs.Held.{Waiting, waiting}
@@ -11,12 +11,12 @@ use Rattle.cops_node.specs.Node.{Node, opened, act_step, node_step, mark_at, rai
 use Rattle.cops_book.specs.declared.entry.Entry.{Entry}
 use Rattle.cops_book.specs.Book.{Replays, entry}
 
--- refused for want of memory
+-- a refusal because memory ran out
 abbrev is_memory : Outcome → Bool
 is_memory (Refused Memory) = true
 is_memory _ = false
 
--- a step of this node: its number stays, and it is never refused for want of memory
+-- a step of this node: its number does not change, and it is not refused because memory ran out
 abbrev IsTame : Node → Outcome × Node → Type 0
 IsTame n x = (x.1.number ≡ n.number) × (is_memory x.0 ≡ false)
 
@@ -66,14 +66,14 @@ replays_more s [] t u ticket e out r is =
     (sym (ap (λ (x : Outcome × Node). x.0) moved), ap (λ (x : Outcome × Node). x.1) moved)
 replays_more s (x ∷ xs) t u ticket e out r is = (r.0, replays_more (node_step s x.event).1 xs t u ticket e out r.1 is)
 
--- a book that gains the entry of a step still replays
+-- a book still replays after the entry of a step was appended
 pub book_more : (es : List Entry) (t u : Node) (ticket : ℕ) (e : NodeEvent) (out : Outcome) → Replays (opened t.number) es t → node_step t e ≡ (out, u)
     → Replays (opened u.number) (es ++ entry ticket e out ∷ []) u
 book_more es t u ticket e out r is =
     let number : u.number ≡ t.number = sym (ap (λ (x : Outcome × Node). x.1.number) is) ∙ (step_tame t e).0 in
     subst (λ n. Replays (opened n) (es ++ entry ticket e out ∷ []) u) (sym number) (replays_more (opened t.number) es t u ticket e out r is)
 
--- where memory was refused the node is as it was
+-- where memory ran out, the node is unchanged
 pub memory_keeps : (t u : Node) (e : NodeEvent) (out : Outcome) → (node_step t e ≡ (out, u)) ⊎ ((out ≡ Refused Memory) × (u ≡ t)) → out ≡ Refused Memory → u ≡ t
 memory_keeps t u e out (inl is) m =
     let yes : is_memory (node_step t e).0 ≡ true = ap (λ (x : Outcome × Node). is_memory x.0) is ∙ ap is_memory m in

@@ -1,4 +1,4 @@
--- What an equality that answers yes says of lists, pairs and operations.
+-- What an equality that returns true says of lists, pairs and operations.
 use Rattle.std.proofs.Common.{◌≡◌, ℕ, List, [], ◌∷◌, Bool, true, false, not, ◌==◌, refl, sym, ap₂, eqb-true, eq-eqb}
 use Rattle.std.proofs.lemmas.Bool.{and_parts, and_from}
 use Rattle.std.specs.Cmp.Lexicographic.{pointwise, same_text}

@@ -1,4 +1,4 @@
--- What a book of a node keeps.
+-- What a node's book keeps.
 use Rattle.std.specs.Prelude.{◌≡◌, ℕ, List, [], ◌∷◌, Option, None, Some}
 use Rattle.cops_types.specs.declared.put_record.PutRecord.{PutRecord}
 use Rattle.cops_node.specs.declared.event.NodeEvent.{NodeEvent}
@@ -8,7 +8,7 @@ use Rattle.cops_node.specs.declared.outcome.Outcome.TheVariants.{PutDone, Delete
 use Rattle.cops_node.specs.Node.{Node, node_step}
 use Rattle.cops_book.specs.declared.entry.Entry.{Entry}
 
--- the entries' events, one after the other, lead the node from one state to the other, and each is answered with its entry's outcome
+-- the entries' events, in order, lead the node from one state to the other, and each has its entry's outcome
 abbrev pub Replays : Node → List Entry → Node → Type 0
 Replays s [] t = s ≡ t
 Replays s (e ∷ es) t = (e.outcome ≡ (node_step s e.event).0) × Replays (node_step s e.event).1 es t
@@ -21,7 +21,7 @@ pub record ABook : Type 0 where
 abbrev pub entry : ℕ → NodeEvent → Outcome → Entry
 entry ticket event outcome = record { ticket = ticket; event = event; outcome = outcome }
 
--- the put that a step issued, if it issued one: a deletion is one without content
+-- the put that a step issued, if it issued one; a deletion is a put without a content
 abbrev pub put_made : NodeEvent → Outcome → Option PutRecord
 put_made (Put client key value deps) (PutDone version) = Some (record { key = key; value = Some value; version = version; deps = deps })
 put_made (Del client key deps) (Deleted version) = Some (record { key = key; value = None; version = version; deps = deps })

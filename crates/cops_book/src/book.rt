@@ -7,14 +7,14 @@ use cops_types::{Memory, Refusal};
 use std::alloc::Global;
 use std::marker::Model;
 
-/// A node, and the entries of its steps, which lead from the opened node to it.
+/// A node together with the log of its steps. Replaying the entries from an empty node leads to the node.
 #[derive(Drop)]
 pub struct Book {
     pub(crate) node: Node,
     pub(crate) entries: Vec<Entry>,
 }
 
-/// What a node answered to an event.
+/// A node's answer to an event.
 #[derive(Drop)]
 struct Answer {
     outcome: Outcome,
@@ -41,7 +41,7 @@ impl Book {
     ghost use Rattle.cops_node.specs.Node.{opened, node_step};
     ghost use Rattle.cops_book.specs.Book.{Replays, entry};
 
-    /// The book of a node that has met no event. It takes no memory. The condition: the node's number is below 1,024.
+    /// The book of a node to which nothing has happened. It allocates no memory. The node's number must be below 1,024.
     pub fn open(alloc: Global, node: u16) -> Self
         requires { node < NODES }
         ensures { result ≡ record { node = opened node; entries = [] } }
@@ -52,8 +52,8 @@ impl Book {
         }
     }
 
-    /// The node takes one event, and its entry goes last. Where it is refused 9, for want of memory, nothing changes
-    /// and no entry is made.
+    /// Applies one event to the node, and appends its entry. When memory runs out, the event is refused with `Memory`
+    /// (code 9), nothing changes and no entry is made.
     pub fn step(&mut self, ticket: u64, event: NodeEvent) -> Outcome
         ensures memory { result ≡ Refused OutOfMemory → self.new ≡ self.old }
         ensures stepped { result ≢ Refused OutOfMemory → node_step self.old.node event ≡ (result, self.new.node) }
@@ -84,7 +84,7 @@ impl Book {
         &self.node
     }
 
-    /// The entries, which lead from the opened node to the node.
+    /// The entries. Replaying them from an empty node leads to the node.
     pub fn entries(&self) -> &[Entry]
         ensures entries { result.now ≡ self.now.entries }
         ensures replays { Replays (opened self.now.node.number) self.now.entries self.now.node }
@@ -92,7 +92,7 @@ impl Book {
         &self.entries
     }
 
-    /// The entries, for whom the node is no longer of use.
+    /// Consumes the book and returns its entries.
     pub fn into_entries(self) -> Vec<Entry>
         ensures entries { result.items ≡ self.entries }
         ensures replays { Replays (opened self.node.number) result.items self.node }
@@ -102,7 +102,7 @@ impl Book {
     }
 }
 
-/// The node takes one event, and its answer is copied. Where memory runs out nothing changes.
+/// Applies one event to the node, and copies its answer. On `Memory` nothing changes.
 fn answered(node: &mut Node, event: NodeEvent) -> Result<Answer, Memory>
     ensures memory { OnErr result (node.new ≡ node.old) }
     ensures stepped { IfOk result (λ answer. node_step node.old event ≡ (answer.outcome, node.new)) }
@@ -113,7 +113,7 @@ fn answered(node: &mut Node, event: NodeEvent) -> Result<Answer, Memory>
     Ok(Answer { outcome, copy })
 }
 
-/// The node takes one event. Where memory runs out nothing changes.
+/// Applies one event to the node. On `Memory` nothing changes.
 pub(crate) fn stepped(node: &mut Node, event: NodeEvent) -> Result<Outcome, Memory>
     ensures memory { OnErr result (node.new ≡ node.old) }
     ensures stepped { IfOk result (λ outcome. node_step node.old event ≡ (outcome, node.new)) }

@@ -1,6 +1,6 @@
 use cops_node::{NodeEvent, Outcome};
 
-/// One step of a node: the ticket that it drew, what happened, and what was answered.
+/// One step of a node: its ticket, the event, and the node's answer.
 #[derive(Debug, Drop)]
 pub struct Entry {
     pub ticket: u64,

@@ -1,4 +1,4 @@
-//! Whether two entries are the same.
+//! Whether two entries are equal.
 ghost use Rattle.std.specs.Prelude.{◌≡◌, ◌↔◌, IsTrue, option_copied};
 
 use crate::entry::Entry;
@@ -8,7 +8,7 @@ use cops_types::{Deps, Key, PutRecord, Value, Version};
 impl Entry {
     ghost use Rattle.std.specs.Prelude.{◌≡◌, ◌↔◌, IsTrue};
 
-    /// Whether the two have the same ticket, event and outcome.
+    /// Whether both have the same ticket, event and outcome.
     pub fn is(&self, other: &Entry) -> bool
         ensures { IsTrue result ↔ (self.now ≡ other.now) }
     {
@@ -22,14 +22,14 @@ impl Entry {
     }
 }
 
-/// Whether the outcomes are the same.
+/// Whether the outcomes are equal.
 fn is_same_outcome(one: &Outcome, other: &Outcome) -> bool
     ensures { IsTrue result ↔ (one.now ≡ other.now) }
 {
     one == other
 }
 
-/// Whether the events are the same.
+/// Whether the events are equal.
 fn is_same_event(one: &NodeEvent, other: &NodeEvent) -> bool
     ensures { IsTrue result ↔ (one.now ≡ other.now) }
 {
@@ -72,7 +72,7 @@ fn is_same_event(one: &NodeEvent, other: &NodeEvent) -> bool
     }
 }
 
-/// Whether the keys and the values are the same.
+/// Whether the keys and the values are equal.
 fn is_same_write(key: &Key, value: &Value, other_key: &Key, other_value: &Value) -> bool
     ensures { IsTrue result ↔ ((key.now ≡ other_key.now) × (value.now ≡ other_value.now)) }
 {
@@ -92,7 +92,7 @@ fn is_same_deps(one: &Deps, other: &Deps) -> bool
     one.as_slice() == other.as_slice()
 }
 
-/// Whether the puts are the same.
+/// Whether the puts are equal.
 pub fn is_same_put(one: &PutRecord, other: &PutRecord) -> bool
     ensures { IsTrue result ↔ (one.now ≡ other.now) }
 {
@@ -108,7 +108,7 @@ pub fn is_same_put(one: &PutRecord, other: &PutRecord) -> bool
     one.deps.as_slice() == other.deps.as_slice()
 }
 
-/// Whether the two are one value, or no value both.
+/// Whether both are the same value, or neither is a value.
 fn is_same_content(one: Option<&Value>, other: Option<&Value>) -> bool
     ensures { IsTrue result ↔ (option_copied one.entry ≡ option_copied other.entry) }
 {

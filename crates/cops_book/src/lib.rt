@@ -1,5 +1,6 @@
-//! Books: a node with the steps that led to it, so that a run on threads can be told as one interleaving afterwards.
-//! Stands on the node. The layers above use that a book's entries replay to its node, which its type keeps.
+//! Books: a node with the log of its steps, so that a run on threads can be described as one interleaving afterwards.
+//! It builds on the node. The layers above rely on the invariant of a book's type: replaying its entries leads to its
+//! node.
 #![tactic(auto)]
 
 mod book;

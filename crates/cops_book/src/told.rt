@@ -1,4 +1,4 @@
-//! What a book tells of its steps beside their answers.
+//! What a book returns of its steps besides their answers.
 ghost use Rattle.std.specs.Prelude.{◌≡◌, ◌≢◌, [], IfOk, OnErr};
 ghost use Rattle.cops_node.specs.Outcomes.{IsGot};
 ghost use Rattle.cops_book.specs.Book.{put_made, puts_in};
@@ -9,7 +9,7 @@ use cops_node::{Node, NodeEvent, Outcome};
 use cops_types::{Memory, PutRecord};
 use std::alloc::{AllocError, Global};
 
-/// What a step answered, for whoever keeps its entry and what was seen too.
+/// The result of a step, for a caller that also keeps its entry and what was seen.
 #[derive(Debug, Drop)]
 pub struct Told {
     pub outcome: Outcome,
@@ -19,23 +19,23 @@ pub struct Told {
     pub entry: Entry,
 }
 
-/// The puts that were issued at a node, from some entry on.
+/// The puts that were issued at a node, starting at some entry.
 #[derive(Debug, Drop)]
 pub struct Puts {
-    /// In order of their entries.
+    /// The puts, in order of their entries.
     pub puts: Vec<PutRecord>,
-    /// How many entries there are in all.
+    /// The number of entries in all.
     pub entries: usize,
 }
 
-/// Copies of an event.
+/// Two copies of an event.
 #[derive(Drop)]
 struct Events {
     kept: NodeEvent,
     shared: NodeEvent,
 }
 
-/// What a node answered to an event, and copies of it.
+/// A node's answer to an event, and copies of it.
 #[derive(Drop)]
 struct Answers {
     outcome: Outcome,
@@ -44,7 +44,7 @@ struct Answers {
     seen: Outcome,
 }
 
-/// Copies of an outcome.
+/// Three copies of an outcome.
 #[derive(Drop)]
 pub(crate) struct Copies {
     pub(crate) kept: Outcome,
@@ -57,8 +57,8 @@ impl Book {
     ghost use Rattle.cops_node.specs.Node.{node_step};
     ghost use Rattle.cops_book.specs.Book.{entry, puts_in};
 
-    /// The node takes one event as by `step`, for whoever keeps the entry too: with the answer comes a copy of it, and
-    /// the entry. Where memory runs out for any of these nothing changes, and no entry is made.
+    /// Applies one event to the node like `step`, and also returns a copy of the answer and the entry. On `Memory`
+    /// nothing changes, and no entry is made.
     pub fn step_told(&mut self, ticket: u64, event: NodeEvent) -> Result<Told, Memory>
         ensures memory { OnErr result (self.new ≡ self.old) }
         ensures stepped { IfOk result (λ told. node_step self.old.node event ≡ (told.outcome, self.new.node)) }
@@ -84,9 +84,9 @@ impl Book {
         })
     }
 
-    /// Copies of the puts that were issued here, from the entry at a place on, and how many entries there are: from
-    /// there on the next copies are to be made. From a place that is not there on no put was issued. It takes memory
-    /// only where one was.
+    /// Copies of the puts that were issued here, starting at the entry at `place`, and the number of entries, which is
+    /// where the next copies start. There are no puts where `place` is beyond the last entry. It allocates memory only
+    /// where there are puts, and returns `Memory` when that runs out.
     pub fn puts_from(&self, alloc: Global, place: usize) -> Result<Puts, Memory>
         ensures puts { IfOk result (λ r. r.puts.items ≡ puts_in (drop place self.now.entries)) }
         ensures entries { IfOk result (λ r. r.entries ≡ length self.now.entries) }
@@ -118,7 +118,7 @@ impl Answers {
     ghost use Rattle.std.specs.Prelude.{◌≡◌, IfOk, OnErr};
     ghost use Rattle.cops_node.specs.Node.{node_step};
 
-    /// The node takes one event, and its answer is copied. Where memory runs out nothing changes.
+    /// Applies one event to the node, and copies its answer. On `Memory` nothing changes.
     fn of(node: &mut Node, event: NodeEvent) -> Result<Answers, Memory>
         ensures memory { OnErr result (node.new ≡ node.old) }
         ensures stepped { IfOk result (λ answers. node_step node.old event ≡ (answers.outcome, node.new)) }
@@ -136,7 +136,7 @@ impl Answers {
 }
 
 impl Copies {
-    /// They take memory for the value of a get alone.
+    /// Copies an outcome. It allocates memory only for the value of a get.
     pub(crate) fn of(outcome: &Outcome) -> Result<Copies, Memory>
         ensures kept { IfOk result (λ copies. copies.kept ≡ outcome.now) }
         ensures shared { IfOk result (λ copies. copies.shared ≡ outcome.now) }
@@ -151,7 +151,7 @@ impl Copies {
     }
 }
 
-/// Copies of the puts that entries issued. It takes memory only where one was.
+/// Copies of the puts that entries issued. It allocates memory only where there are puts.
 fn puts_of(alloc: Global, entries: &[Entry]) -> Result<Vec<PutRecord>, Memory>
     ensures puts { IfOk result (λ puts. puts.items ≡ puts_in entries.now) }
     ensures err { OnErr result (puts_in entries.now ≢ []) }
@@ -165,8 +165,8 @@ fn puts_of(alloc: Global, entries: &[Entry]) -> Result<Vec<PutRecord>, Memory>
     Ok(puts)
 }
 
-/// A copy of the put that an entry issued, if it issued one: of a deletion without a value. It takes memory only where
-/// one was issued.
+/// A copy of the put that an entry issued, if it issued one. A deletion is a put without a value. It allocates memory
+/// only where there is a put.
 pub(crate) fn put_of(entry: &Entry) -> Result<Option<PutRecord>, Memory>
     ensures put { IfOk result (λ put. put ≡ put_made entry.now.event entry.now.outcome) }
     ensures err { OnErr result (put_made entry.now.event entry.now.outcome ≢ None) }

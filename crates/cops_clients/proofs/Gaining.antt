@@ -1,4 +1,4 @@
--- A text that gains records, one after the other.
+-- A text that gains records one by one.
 use Rattle.std.proofs.Common.{List, [], ◌∷◌, ◌++◌, sym, subst, append_assoc}
 use Rattle.std.proofs.lemmas.List.{append-nil}
 use Rattle.cops_trace.specs.Live.{Gains, IsBegun}

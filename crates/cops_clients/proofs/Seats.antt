@@ -1,4 +1,4 @@
--- Whose shares there are.
+-- The holders of the shares that the threads return.
 use Rattle.std.proofs.Common.{◌≡◌, ◌⊎◌, Bool, IsTrue, ℕ, suc, ◌<◌, Result, Ok, Err, inl, inr, append_assoc, slice_index_or, List, [], ◌∷◌, ◌++◌, All, length, map, ap, refl, sym, subst, ◌∙◌, arith}
 use Rattle.std.specs.Prelude.{IfOk}
 use Rattle.std.proofs.lemmas.List.{map_push}
@@ -19,7 +19,7 @@ use Rattle.cops_clients.specs.declared.fault.RunFault.{RunFault}
 use Rattle.cops_clients.specs.declared.gathering.Gathered.{Gathered}
 use Rattle.cops_clients.specs.Callers.{AreJobsOf, AreReceiversOf, IsClientOf, callers}
 
--- each client's and each receiver's share is there
+-- the share of each client and of each receiver is there
 pub all_there : (clients dcs : ℕ) (jobs : List Job) (receivers : List Receiver) (shares : List Share)
     → map (λ (j : Job). j.client.number) jobs ≡ numbers clients → map (λ (r : Receiver). r.dc) receivers ≡ numbers dcs
     → holders shares ≡ callers jobs receivers → AreAll clients dcs shares
@@ -28,7 +28,7 @@ all_there clients dcs jobs receivers shares numbered placed are =
     (are ∙ ap (λ (l : List Holder). l ++ map (λ (r : Receiver). HeldByReceiver r.dc) receivers) (map_twice (λ (j : Job). j.client.number) HeldByClient jobs ∙ ap (map HeldByClient) numbered)
     ∙ ap (λ (l : List Holder). map HeldByClient (numbers clients) ++ l) (map_twice (λ (r : Receiver). r.dc) HeldByReceiver receivers ∙ ap (map HeldByReceiver) placed))
 
--- and so where the threads left shares
+-- it is so when the threads have returned shares
 pub all_driven : (s : Setting) (jobs : List Job) (receivers : List Receiver) (c : Cluster) (r : Result Gathered RunFault) → AreJobsOf s jobs → AreReceiversOf s receivers
     → c.place ≡ s.place → c.clients ≡ length s.homes → IfOk r (λ g. holders g.shares.items ≡ callers jobs receivers) → IfOk r (λ g. AreAll c.clients c.place.dcs g.shares.items)
 all_driven s jobs receivers c (Ok g) numbered placed place clients are =
@@ -36,7 +36,7 @@ all_driven s jobs receivers c (Ok g) numbered placed place clients are =
     subst (λ (n : ℕ). AreAll n c.place.dcs g.shares.items) (sym clients) (subst (λ (p : _). AreAll (length s.homes) p.dcs g.shares.items) (sym place) all)
 all_driven s jobs receivers c (Err e) numbered placed place clients are = tt
 
--- what holds of each client holds of each job
+-- a property of each client is a property of each job
 of_jobs : (P : Client → Type 0) (jobs : List Job) → All P (map (λ (j : Job). j.client) jobs) → All (λ (j : Job). P j.client) jobs
 of_jobs P [] all = λ k d less. absurd (omega (arith, less))
 of_jobs P (j ∷ js) all = All-cons (λ (j : Job). P j.client) j js (all 0 j.client (omega arith)) (of_jobs P js (λ k d less. all (suc k) d (omega (arith, less))))
@@ -62,7 +62,7 @@ jobs_of s clients jobs setting (len, numbered, homes, contexts, held, entries) a
       of_jobs (IsClientOf s) jobs all,
     )
 
--- the receivers that were wired with its shares
+-- the receivers that were made with the cluster's shares
 pub receivers_of : (s : Setting) (shares : List Share) (receivers : List Receiver) → AreReceivers s.place.dcs shares → AreWired s.place.dcs shares receivers → AreReceiversOf s receivers
 receivers_of s shares receivers (len, held, entries) (dcs, are, fresh) =
     (dcs, placed_from receivers shares 0 s.place.dcs dcs are (λ k d less. held k d less ∙ ap HeldByReceiver (omega arith)))

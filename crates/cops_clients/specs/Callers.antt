@@ -1,4 +1,4 @@
--- Who acts in a run, and whose shares come back.
+-- The clients and receivers of a run, and the holders whose shares are returned.
 use Rattle.std.specs.Prelude.{◌≡◌, ◌<◌, List, ◌++◌, length, map}
 use Rattle.std.specs.List.{All}
 use Rattle.cops_core.specs.World.{Setting, home}

@@ -3,7 +3,7 @@ use Rattle.std.specs.Prelude.{ℕ}
 use Rattle.cops_clients.specs.declared.fault.RunFault.{RunFault}
 use Rattle.cops_clients.specs.declared.fault.RunFault.TheVariants.{Untied}
 
--- an answer Untied has such a ticket
+-- the ticket of an `Untied` satisfies the predicate
 abbrev pub WhereUntied : (ℕ → Type 0) → RunFault → Type 0
 WhereUntied P (Untied ticket) = P ticket
 WhereUntied P _ = Unit {0}

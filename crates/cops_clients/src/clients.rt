@@ -13,14 +13,15 @@ use cops_tie::ClientOutcome;
 use cops_types::{Gate, GateHeld, Refusal};
 use std::sync::Wait;
 
-/// A client, with its script.
+/// A client with its script.
 #[derive(Drop)]
 pub(crate) struct Job<'a> {
     pub(crate) client: Client,
     pub(crate) script: &'a [ScriptOp],
 }
 
-/// The client's thread: its operations one after the other, up to the first that is refused in the end.
+/// The body of a client's thread: runs the script's operations in order, and stops at the first that is finally
+/// refused.
 pub(crate) fn work<R: Wait, G: Gate>(
     rt: &R,
     stage: &Stage,
@@ -44,7 +45,7 @@ pub(crate) fn work<R: Wait, G: Gate>(
     }
 }
 
-/// The operations of a script, one after the other.
+/// Runs the operations of a script in order.
 fn follow<R: Wait, G: Gate>(
     rt: &R,
     stage: &Stage,
@@ -68,8 +69,8 @@ fn follow<R: Wait, G: Gate>(
     Ok(End::Client(ClientOutcome::Done))
 }
 
-/// One operation of a script: its tries, the last of which tells why it is refused, where it is. It is tried again
-/// while memory is refused to it, so often as the scenario says.
+/// Runs one operation of a script, and returns its tries, the last of which says whether and why it is refused. An
+/// operation that is refused because memory ran out is tried again, as often as the scenario allows.
 fn perform<R: Wait, G: Gate>(
     rt: &R,
     stage: &Stage,

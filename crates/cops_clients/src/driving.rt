@@ -1,4 +1,4 @@
-//! The threads of a run: they are started, and joined in the order of the end.
+//! Starting the threads of a run, and joining them: clients, then senders, then receivers.
 ghost use Rattle.std.specs.Prelude.{◌≡◌, ◌⊎◌, ◌+◌, ℕ, [], ◌++◌, All, Err, IfOk, IsErrOf, IsTrue, OnOk, length, map};
 ghost use Rattle.cops_cluster.specs.declared.share.Holder.TheVariants.{Client as HeldByClient, Receiver as HeldByReceiver};
 ghost use Rattle.cops_clients.specs.Gates.{MayHold, MayHoldIn, MayHoldReceiving};
@@ -28,7 +28,7 @@ struct Started<G: Gate> {
     receivers: Vec<PromisedHandle<Returned, Owed<G>>>,
 }
 
-/// Runs all on threads of their own, and joins them.
+/// Runs every client, sender and receiver on its own thread, and joins the threads.
 pub(crate) fn drive<R: Threads + Wait + Sync, G: Gate>(
     rt: &R,
     alloc: Global,
@@ -83,7 +83,7 @@ pub(crate) fn drive<R: Threads + Wait + Sync, G: Gate>(
     )
 }
 
-/// Starts all threads, up to the first that is refused.
+/// Starts all threads. Stops at the first that cannot be started.
 fn start<'s, E, R: Threads + Wait + Sync, G: Gate>(
     scope: &'s Scope<'s, E>,
     rt: &'s R,
@@ -125,7 +125,8 @@ fn start<'s, E, R: Threads + Wait + Sync, G: Gate>(
     start_clients(scope, rt, setting, stage, gate, jobs, &mut started.clients)
 }
 
-/// Joins the clients, then the senders, and then the receivers, each of which is told that those before it were joined.
+/// Joins the clients, then the senders, and then the receivers. After each of the first two steps it sets the stage's
+/// flag that those threads were joined.
 fn joined<R: Threads, G: Gate>(
     rt: &R,
     alloc: Global,

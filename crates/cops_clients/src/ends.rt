@@ -1,4 +1,4 @@
-//! What a thread of a run hands back.
+//! What a thread of a run returns.
 use cops_cluster::{Holder, Share};
 use cops_core::Setting;
 use cops_tie::ClientOutcome;
@@ -9,27 +9,27 @@ use std::thread::Promise;
 /// How a client's or a receiver's thread ended.
 #[derive(Clone, Copy, Debug, PartialEq, Eq)]
 pub(crate) enum End {
-    /// The client came to its end, or was refused.
+    /// The client finished its script, or was refused.
     Client(ClientOutcome),
-    /// The senders were joined, and the receiver keeps nothing back.
+    /// The senders were joined, and the receiver has nothing pending.
     Drained,
-    /// The receiver made all its turns before that.
+    /// The receiver made all its turns before it was drained.
     TurnLimit,
     /// The gate held a step.
     Held,
-    /// It was told to end.
+    /// The thread stopped because the run was broken off.
     Broken,
 }
 
-/// What a client's or a receiver's thread hands back.
+/// What a client's or a receiver's thread returns.
 #[derive(Drop)]
 pub(crate) struct Returned {
     pub(crate) share: Share,
     pub(crate) end: End,
 }
 
-/// The promise that a thread hands back this holder's share, and was held where this gate may hold a step in this
-/// setting.
+/// The promise that a thread returns this holder's share, and ends with `Held` only where this gate may hold a step in
+/// this setting.
 pub(crate) struct Owed<G: Gate> {
     who: Holder,
     gate: Snapshot<G>,
@@ -39,7 +39,7 @@ pub(crate) struct Owed<G: Gate> {
 impl<G: Gate> Owed<G> {
     ghost use Rattle.std.specs.Prelude.{◌≡◌};
 
-    /// What the thread of this holder owes.
+    /// The promise of this holder's thread.
     pub(crate) fn of(who: Holder, setting: &Setting, gate: &G) -> Self
         ensures who { result.who ≡ who }
         ensures gate { result.gate.value ≡ gate.now }

@@ -10,7 +10,8 @@ use cops_trace::{LiveTrace, Record, Unwritten};
 use std::io::Write;
 use std::sync::Wait;
 
-/// Writes what clients saw as it comes, until they are joined, and at most for so many turns as the stage says.
+/// Writes the records of what clients see as they arrive, until the clients are joined, for at most the stage's number
+/// of turns.
 pub(crate) fn follow<R: Wait, W: Write>(
     rt: &R,
     stage: &Stage,
@@ -35,8 +36,8 @@ pub(crate) fn follow<R: Wait, W: Write>(
     Ok(live)
 }
 
-/// Writes the records that came since, and rests where there are none. Want of memory for copies is tried again in the
-/// next turn.
+/// Writes the records that arrived since the last turn, and rests if there are none. If memory for the copies runs out,
+/// the next turn tries again.
 fn turn<R: Wait, W: Write>(
     rt: &R,
     stage: &Stage,
@@ -61,8 +62,8 @@ fn turn<R: Wait, W: Write>(
     add(live, &tail)
 }
 
-/// Writes the records that come next, each once and in their order, up to the first that cannot come next, whose client
-/// may have no more or whose operation is not in the format.
+/// Writes the next records, each once and in order. Stops before the first that may not come next, because its client
+/// already has as many as it may have, or its operation is not in the format.
 fn add<W: Write>(live: LiveTrace<W>, tail: &Tail) -> Result<LiveTrace<W>, Unwritten<W>>
     requires live { IsLive W.contents live }
     requires place { tail.now.place ≡ live.writer.counts.total }
@@ -86,7 +87,7 @@ fn add<W: Write>(live: LiveTrace<W>, tail: &Tail) -> Result<LiveTrace<W>, Unwrit
     Ok(live)
 }
 
-/// Whether a record may come next: its client may have one more, and its operation is in the format.
+/// Whether a record may come next: its client may have one more record, and its operation is in the format.
 fn may_come<W: Write>(live: &LiveTrace<W>, next: &Record) -> bool
     ensures { IsTrue result ↔ MayCome next.now live.now }
 {

@@ -1,4 +1,4 @@
-//! What the threads of a run handed back.
+//! What the threads of a run returned.
 use crate::ends::{End, Owed, Returned};
 use crate::fault::RunFault;
 use cops_cluster::Share;
@@ -8,16 +8,16 @@ use cops_types::Gate;
 use std::alloc::Global;
 use std::thread::{JoinHandle, PromisedHandle, Threads};
 
-/// What the threads handed back: all shares, and the clients' outcomes in their order.
+/// What the threads returned: all shares, and the clients' outcomes in order.
 #[derive(Drop)]
 pub(crate) struct Gathered {
     pub(crate) shares: Vec<Share>,
     pub(crate) outcomes: Vec<ClientOutcome>,
-    /// A step was held.
+    /// The gate held a step.
     held: bool,
-    /// A loop made all its turns.
+    /// A loop made all its turns without finishing.
     limit: bool,
-    /// Memory was refused for what came back.
+    /// Memory ran out for what the threads returned.
     lost: bool,
 }
 
@@ -39,7 +39,7 @@ impl Gathered {
         }
     }
 
-    /// Joins clients or receivers.
+    /// Joins clients or receivers, and adds what they return.
     pub(crate) fn join<R: Threads, G: Gate>(
         &mut self,
         rt: &R,
@@ -58,7 +58,7 @@ impl Gathered {
         }
     }
 
-    /// What one thread handed back.
+    /// Adds what one thread returned.
     fn add(&mut self, returned: Returned)
         ensures shares { IsTrue self.new.lost ⊎ (self.new.shares.items ≡ self.old.shares.items ++ returned.share ∷ []) }
         ensures lost { IsTrue self.old.lost → IsTrue self.new.lost }
@@ -80,7 +80,7 @@ impl Gathered {
         }
     }
 
-    /// Joins senders, each of which says whether it ended within its turns.
+    /// Joins senders. Each returns whether it finished within its turns.
     pub(crate) fn join_senders<R: Threads>(&mut self, rt: &R, handles: Vec<JoinHandle<bool>>)
         ensures held { self.new.held ≡ self.old.held }
         ensures lost { self.new.lost ≡ self.old.lost }
@@ -93,8 +93,10 @@ impl Gathered {
         }
     }
 
-    /// All of it: `Held` where a step was held, then `TurnLimit` where a loop did not end within its turns, and then
-    /// `Memory` where there was none for what came back.
+    /// Returns everything that was gathered.
+    ///
+    /// Errors: `Held` where the gate held a step; then `TurnLimit` where a loop did not finish within its turns; then
+    /// `Memory` where there was none for what the threads returned.
     pub(crate) fn whole(self) -> Result<Gathered, RunFault>
         ensures ok { IfOk result (λ g. g ≡ self) }
         ensures kept { OnOk result (¬ IsTrue self.lost) }

@@ -1,9 +1,10 @@
-//! A COPS cluster on threads, whole, for who uses one (COPS, sections 3 and 4): the cluster with its clients and their
-//! shares, what brings its puts into the other data centres, and how a scripted client may end, which stand in the
-//! crates below; and the tied run of scripted clients: a thread for each client, one that sends and one that receives
-//! for each data centre, and a link for each ordered pair of data centres. What the threads left is decided on plain
-//! values once all are joined. The layer above uses that a run that is handed out is one of the world, and that what
-//! its clients saw is accepted.
+//! A complete COPS cluster on threads (COPS, sections 3 and 4). It re-exports, from the crates below, the cluster with
+//! its clients and shares, replication, and the ways in which a scripted client may end.
+//!
+//! It adds the run of scripted clients: one thread for each client, one sending and one receiving thread for each data
+//! centre, and a link for each ordered pair of data centres. After all threads are joined, the logs that they left are
+//! checked to be tied, that is, to form one run of the world. The layer above relies on this: a run that is returned is
+//! a run of the world, and the verdict on what its clients saw is accepted.
 #![tactic(auto)]
 
 mod clients;

@@ -1,4 +1,4 @@
-//! The tied run whose trace is written while its clients run.
+//! A run whose trace is written while its clients run.
 ghost use Rattle.std.specs.Prelude.{◌≡◌, ℕ, List, Option, Ok, Err, IfErr, IfOk, IsErr, IsErrOf, length, map};
 ghost use Rattle.std.specs.Io.KnownBytes.{Appends};
 ghost use Rattle.cops_types.specs.Counted.{failures, inner};
@@ -31,20 +31,24 @@ use std::sync::Wait;
 use std::thread;
 use std::thread::Threads;
 
-/// How a run ended whose trace was written while its clients ran, and the writer, which comes back in any case.
+/// The result of a run whose trace was written while its clients ran, and the writer, which is returned in any case.
 #[derive(Drop)]
 pub struct Live<W: Write> {
     pub ran: Result<Run, RunFault>,
     pub writer: Counted<W>,
 }
 
-/// Runs the scenario's scripts as `run` does, and writes the trace's text: the head before, the records on one thread
-/// more, which takes copies of them until it sees that the clients were joined, or for the scenario's number of turns,
-/// and the rest with the end once the run was found tied. Where it is handed out, what was written is the text of its
-/// trace; at each refusal it is some first bytes of a trace's text, fewer than all. `WriteFailed` where a write failed,
-/// which is not tried again: where it is not that of the head, the clients run to their ends all the same. `Untied`,
-/// one above the greatest ticket, also where the records that were written are not the first of the run's trace. Where
-/// the system refuses that thread, all is written once the clients are joined.
+/// Runs the scenario's scripts like `run`, and writes the trace's text: the head first, then the records on one more
+/// thread, and the rest with the end once the run was found to be tied. The writing thread copies records until it sees
+/// that the clients were joined, or for the scenario's number of turns. Where the system refuses to create that thread,
+/// everything is written once the clients are joined.
+///
+/// If a run is returned, what was written is the text of its trace. At each error, what was written is a proper prefix
+/// of some trace's text.
+///
+/// Errors: those of `run`; `WriteFailed` where a write failed, which is not tried again: unless that was the write of
+/// the head, the clients still run to their ends. `Untied`, with one more than the greatest ticket, also where the
+/// records that were written are not the first of the run's trace.
 pub fn run_live<R: Threads + Wait + Sync, G: Gate, W: Write + Send + Drop>(
     rt: &R,
     alloc: Global,
@@ -60,7 +64,7 @@ pub fn run_live<R: Threads + Wait + Sync, G: Gate, W: Write + Send + Drop>(
     ensures written { IfOk result.ran (λ r. Appends (W.contents (inner writer)) (W.contents (inner result.writer)) (text r.trace)) }
     ensures heard { IfOk result.ran (λ _. failures result.writer ≡ failures writer) }
 
-    // It is a front of some trace's text, and not all of it.
+    // What was written is a proper prefix of some trace's text.
     ensures cut { IfErr result.ran (λ e. IsCutFor e (W.contents (inner writer)) (W.contents (inner result.writer))) }
     ensures failed { IfErr result.ran (λ e. IsHeardFor e (failures writer) (failures result.writer)) }
 {
@@ -77,7 +81,7 @@ pub fn run_live<R: Threads + Wait + Sync, G: Gate, W: Write + Send + Drop>(
     live
 }
 
-/// No run, since memory was refused before anything was written.
+/// No run, since memory ran out before anything was written.
 fn without_memory<W: Write>(writer: Counted<W>) -> Live<W>
     ensures ran { result.ran ≡ Err RunFault.Memory }
     ensures cut { IfErr result.ran (λ e. IsCutFor e (W.contents (inner writer)) (W.contents (inner result.writer))) }
@@ -87,7 +91,7 @@ fn without_memory<W: Write>(writer: Counted<W>) -> Live<W>
     Live { ran, writer }
 }
 
-/// The same of a scenario that stays with the caller, in its setting.
+/// Like `run_live`, but borrows the scenario, and takes its setting.
 fn live_in<R: Threads + Wait + Sync, G: Gate, W: Write + Send + Drop>(
     rt: &R,
     alloc: Global,
@@ -118,7 +122,7 @@ fn live_in<R: Threads + Wait + Sync, G: Gate, W: Write + Send + Drop>(
     }
 }
 
-/// The run that begins so, of whose trace the head is written.
+/// The run from this opening. The head of its trace is already written.
 fn driven<R: Threads + Wait + Sync, G: Gate, W: Write + Send + Drop>(
     rt: &R,
     alloc: Global,
@@ -171,7 +175,8 @@ fn driven<R: Threads + Wait + Sync, G: Gate, W: Write + Send + Drop>(
     }
 }
 
-/// The run, with the rest of its trace written, where it is one and what was written so far is of its trace.
+/// The run, with the rest of its trace written, if it is a run and the records written so far are the first of its
+/// trace.
 fn finished<W: Write>(alloc: Global, ran: Result<Run, RunFault>, live: LiveTrace<W>) -> Live<W>
     requires live { IsLive W.contents live }
     requires unwritten { (n : ℕ) → ran ≡ Err (RunFault.WriteFailed n) → ⊥ }
@@ -215,7 +220,8 @@ fn finished<W: Write>(alloc: Global, ran: Result<Run, RunFault>, live: LiveTrace
     }
 }
 
-/// No run, since its trace was not written: another fault of it that comes before goes before.
+/// The result where the trace was not written: the run's own fault if that takes precedence, and otherwise the
+/// writer's.
 fn broken<W: Write>(ran: Result<Run, RunFault>, unwritten: Unwritten<W>) -> Live<W>
     ensures writer { result.writer ≡ unwritten.writer }
     ensures held { IsErrOf result.ran RunFault.Held → IsErrOf ran RunFault.Held }
@@ -236,7 +242,7 @@ fn broken<W: Write>(ran: Result<Run, RunFault>, unwritten: Unwritten<W>) -> Live
     Live { ran, writer }
 }
 
-/// The ticket above the greatest: 0 where there is no entry, and the greatest `u64` where that is a ticket.
+/// One more than the greatest ticket: 0 where there is no entry, and the greatest `u64` where that is a ticket.
 fn ticket_above(books: &[Vec<Entry>]) -> u64
     ensures { result ≡ ticket_above 0 books.now }
 {
@@ -247,7 +253,7 @@ fn ticket_above(books: &[Vec<Entry>]) -> u64
     above
 }
 
-/// The greater one of a ticket and the one above the greatest of these entries.
+/// The greater of `ticket` and one more than the greatest ticket of these entries.
 fn above_entries(ticket: u64, entries: &[Entry]) -> u64
     ensures { result ≡ above_entries ticket entries.now }
 {

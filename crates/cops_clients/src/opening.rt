@@ -1,4 +1,4 @@
-//! What a run begins with.
+//! What a run starts with.
 ghost use Rattle.std.specs.Prelude.{◌≡◌, ◌-◌, ◌<◌, All, IfOk, length, map};
 ghost use Rattle.cops_scenario.specs.Scenario.{setting_of};
 ghost use Rattle.cops_replication.specs.Wiring.{AreSenders};
@@ -14,7 +14,7 @@ use cops_scenario::Scenario;
 use cops_types::Memory;
 use std::alloc::Global;
 
-/// What a run begins with: the stage, each client with its script, and what replicates.
+/// What a run starts with: the stage, each client with its script, and the senders and receivers.
 #[derive(Drop)]
 pub(crate) struct Opening<'a> {
     pub(crate) stage: Stage,
@@ -22,8 +22,9 @@ pub(crate) struct Opening<'a> {
     pub(crate) replicas: Replicas,
 }
 
-/// What a run of a scenario begins with, in its setting: the links are those of the scenario, a loop may make so many
-/// turns, an operation is tried again and a record is sent again so often, and so many turns of a receiver come late.
+/// What a run of a scenario starts with, in its setting. The links, the number of turns that a loop may make, the
+/// retries of an operation, the repetitions of a put on a link, and the number of a receiver's late turns are those of
+/// the scenario.
 pub(crate) fn opened<'a>(
     alloc: Global,
     setting: &Setting,
@@ -81,7 +82,7 @@ pub(crate) fn opened<'a>(
     })
 }
 
-/// Each client with the script at its number.
+/// Each client, with the script at its number.
 fn jobs(
     alloc: Global,
     scripted: &[ScriptedClient],

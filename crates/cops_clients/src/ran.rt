@@ -3,7 +3,7 @@ use cops_core::Event;
 use cops_tie::ClientOutcome;
 use cops_trace::Trace;
 
-/// A run: the entries of the nodes' books, a list for each node in order of node numbers; the world's events that they
+/// A run: for each node, in order of node numbers, the list of its log entries; the world's events that these entries
 /// are; what the clients saw; and how each client ended.
 #[derive(Drop)]
 pub struct Run {

@@ -1,4 +1,4 @@
-//! The threads of a data centre that send its puts to the others, and bring theirs into it.
+//! The threads of a data centre that send its puts to the others, and receive theirs.
 ghost use Rattle.std.specs.Prelude.{◌≡◌, ◌<◌, ◌-◌, IsTrue, Some};
 ghost use Rattle.cops_replication.specs.Receiving.{EachTakesUpTo, KeepsNothing, ends};
 ghost use Rattle.cops_clients.specs.Gates.{MayHoldReceiving};
@@ -9,8 +9,8 @@ use cops_replication::{Receiver, Sender, Turn, TurnFault};
 use cops_types::Gate;
 use std::sync::Wait;
 
-/// A sender's thread: it turns until the clients are joined, and then for at most so many turns as the stage says,
-/// until nothing is kept back. It says whether that was reached, or it was told to end.
+/// The body of a sender's thread: makes turns until the clients are joined, and then at most the stage's number of
+/// turns, until nothing is left to send. Returns whether it got there, or the run was broken off.
 pub(crate) fn send<R: Wait>(rt: &R, stage: &Stage, mut sender: Sender) -> bool {
     for _ in rt.forever() {
         if stage.are_clients_joined() {
@@ -25,7 +25,8 @@ pub(crate) fn send<R: Wait>(rt: &R, stage: &Stage, mut sender: Sender) -> bool {
     drained
 }
 
-/// The counted turns of a sender, until nothing is kept back. Want of memory in a turn is tried again.
+/// The counted turns of a sender, until nothing is left to send. If memory runs out in a turn, the next turn tries
+/// again.
 fn drain<R: Wait>(rt: &R, stage: &Stage, sender: &mut Sender) -> bool {
     for _ in 0..stage.turns() {
         if stage.is_broken() || sender.drain(rt, stage.cluster(), 1).is_ok() {
@@ -36,9 +37,9 @@ fn drain<R: Wait>(rt: &R, stage: &Stage, sender: &mut Sender) -> bool {
     false
 }
 
-/// A receiver's thread: it turns until the clients are joined, and then for at most so many turns as the stage says,
-/// until the senders are joined and nothing is kept back. Where turns are to come late it makes none before, and then
-/// so many that take no frame.
+/// The body of a receiver's thread: makes turns until the clients are joined, and then at most the stage's number of
+/// turns, until the senders are joined and nothing is pending. Where the stage has late turns, it makes none until the
+/// clients are joined, and then spends that number of turns without taking a frame.
 pub(crate) fn receive<R: Wait, G: Gate>(
     rt: &R,
     stage: &Stage,
@@ -62,8 +63,8 @@ pub(crate) fn receive<R: Wait, G: Gate>(
     }
 }
 
-/// Turns of a receiver until the clients are joined, where none of its turns is to come late. It says whether the gate
-/// held a step.
+/// A receiver's turns until the clients are joined; none where the stage has late turns. Returns whether the gate held
+/// a step.
 fn take_in<R: Wait, G: Gate>(rt: &R, stage: &Stage, gate: &G, receiver: &mut Receiver) -> bool
     ensures share { receiver.new.share.holder ≡ receiver.old.share.holder }
     ensures late { 0 < stage.now.hold → receiver.new ≡ receiver.old }
@@ -82,8 +83,7 @@ fn take_in<R: Wait, G: Gate>(rt: &R, stage: &Stage, gate: &G, receiver: &mut Rec
     false
 }
 
-/// The counted turns of a receiver, until the senders are joined and nothing is kept back. Those that are to come late
-/// take no frame.
+/// A receiver's counted turns, until the senders are joined and nothing is pending. The late turns take no frame.
 fn settle<R: Wait, G: Gate>(rt: &R, stage: &Stage, gate: &G, receiver: &mut Receiver) -> End
     ensures share { receiver.new.share.holder ≡ receiver.old.share.holder }
     ensures late { EachTakesUpTo (stage.now.turns - stage.now.hold) (ends receiver.old) (ends receiver.new) }
@@ -103,8 +103,8 @@ fn settle<R: Wait, G: Gate>(rt: &R, stage: &Stage, gate: &G, receiver: &mut Rece
     End::TurnLimit
 }
 
-/// A counted turn of a receiver, and how its thread ends, if it does. Once the senders are joined all that will come
-/// stands on the links, so only a turn from then on may be the last.
+/// One counted turn of a receiver. Returns how its thread ends, if it does. Once the senders are joined, everything
+/// that will arrive is on the links, so only a turn from then on can be the last.
 fn counted<R: Wait, G: Gate>(
     rt: &R,
     stage: &Stage,
@@ -132,8 +132,8 @@ fn counted<R: Wait, G: Gate>(
     }
 }
 
-/// One turn of a receiver, and a rest where it did nothing. Want of memory is tried again in the next. It says whether
-/// the gate held a step.
+/// One turn of a receiver, and a rest where it did nothing. If memory runs out, the next turn tries again. Returns
+/// whether the gate held a step.
 fn turn<R: Wait, G: Gate>(rt: &R, stage: &Stage, gate: &G, receiver: &mut Receiver) -> bool
     ensures share { receiver.new.share.holder ≡ receiver.old.share.holder }
     ensures links { EachTakesUpTo 1 (ends receiver.old) (ends receiver.new) }

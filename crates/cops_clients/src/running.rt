@@ -29,14 +29,20 @@ use std::sync::Wait;
 use std::thread;
 use std::thread::Threads;
 
-/// Runs the scripts of the scenario's clients, each on a thread of its own, in a cluster with a sender and a receiver
-/// for each data centre, each on a thread of its own too, and a link for each ordered pair of data centres. What it
-/// hands out is one run of the world in which each client ended so and each data centre has settled each put (COPS,
-/// section 3: replicas converge), and what its clients saw is accepted. A client stops at its first operation that is
-/// refused; one that memory is refused to is tried again as often as the scenario says, and leaves no record of the
-/// tries that were refused. Turns of senders and receivers before the clients are joined are not counted against the
-/// scenario's number of turns, and want of memory in a turn is tried again in the next. A scenario with events has
-/// clients without scripts, for whom nothing happens.
+/// Runs the scripts of the scenario's clients, each on its own thread, in a cluster with a sender and a receiver for
+/// each data centre, each on its own thread too, and a link for each ordered pair of data centres.
+///
+/// The run that it returns is a run of the world in which each client ended as its outcome says and each data centre
+/// has settled each put (COPS, section 3: replicas converge); the verdict on what its clients saw is accepted.
+///
+/// A client stops at its first operation that is refused. An operation that is refused because memory ran out is tried
+/// again as often as the scenario allows, and the refused tries leave no record. Turns of senders and receivers before
+/// the clients are joined do not count against the scenario's number of turns, and if memory runs out in a turn, the
+/// next turn tries again. A scenario with events has clients without scripts, so nothing happens to them.
+///
+/// Errors: `NoThread` where the system refuses to create a thread, `Held` where the gate held a step, `TurnLimit` where
+/// a sender or a receiver did not finish within its turns, `Untied` where what the threads left is not such a run, and
+/// `Memory` when memory runs out.
 pub fn run<R: Threads + Wait + Sync, G: Gate>(
     rt: &R,
     alloc: Global,
@@ -52,7 +58,7 @@ pub fn run<R: Threads + Wait + Sync, G: Gate>(
     ran
 }
 
-/// The same of a scenario that stays with the caller.
+/// Like `run`, but borrows the scenario.
 fn ran<R: Threads + Wait + Sync, G: Gate>(
     rt: &R,
     alloc: Global,
@@ -69,7 +75,7 @@ fn ran<R: Threads + Wait + Sync, G: Gate>(
     ran
 }
 
-/// The same in the scenario's setting.
+/// Like `ran`, but takes the scenario's setting.
 fn ran_in<R: Threads + Wait + Sync, G: Gate>(
     rt: &R,
     alloc: Global,
@@ -95,7 +101,7 @@ fn ran_in<R: Threads + Wait + Sync, G: Gate>(
     ended(rt, alloc, setting, scenario.clients(), stage, driven)
 }
 
-/// The run that is over on this stage, of which the threads left this.
+/// The run that has ended on this stage, from what the threads left.
 pub(crate) fn ended<R: Threads + Sync>(
     rt: &R,
     alloc: Global,
@@ -120,7 +126,8 @@ pub(crate) fn ended<R: Threads + Sync>(
     }
 }
 
-/// The run of which the threads left this. Its books are compared with the shares beside the check that they are a run.
+/// The run, from what the threads left. The logs are compared with the shares in parallel with the check that the logs
+/// are a run.
 fn tied<R: Threads + Sync>(
     rt: &R,
     alloc: Global,
@@ -163,8 +170,9 @@ fn tied<R: Threads + Sync>(
     }
 }
 
-/// The world's events of the run that these books are. That their entries are those of the shares is found beside the
-/// check that they are a run. `Untied` has the least ticket at which they differ from the shares, or that of the check.
+/// The world's events of the run that these logs record. The logs are compared with the shares in parallel with the
+/// check that the logs are a run. `Untied` has the least ticket at which the logs differ from the shares, or that of
+/// the check.
 fn examined<R: Threads + Sync>(
     rt: &R,
     alloc: Global,
@@ -214,8 +222,7 @@ fn examined<R: Threads + Sync>(
     }
 }
 
-/// `Untied` unless the entries of the books are those of the shares, each as often. The shares are of no use
-/// afterwards.
+/// Returns `Untied` unless the logs and the shares have the same entries, as multisets. Consumes the shares.
 fn compare(
     alloc: Global,
     places: u8,
@@ -236,7 +243,7 @@ fn compare(
     }
 }
 
-/// What is left of a cluster whose threads are joined.
+/// Closes a cluster whose threads are joined. Returns `Memory` when memory runs out.
 fn closed(cluster: Cluster, shares: Vec<Share>) -> Result<Uncompared, RunFault>
     requires all { AreAll cluster.clients cluster.place.dcs shares.items }
     ensures len { IfOk result (λ u. length u.closed.books.items ≡ cluster.place.dcs * (length cluster.place.splits + 1)) }

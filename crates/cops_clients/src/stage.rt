@@ -6,15 +6,15 @@ use std::time::Duration;
 /// How long an idle loop rests before its next turn, in microseconds.
 const REST: u64 = 50;
 
-/// What the threads of a run share: the cluster, how many turns a loop may make, how often an operation is tried again,
-/// how many turns of a receiver come late, and what they tell each other.
+/// The state that the threads of a run share: the cluster; how many turns a loop may make; how often an operation is
+/// tried again; how many turns of a receiver come late; and flags that stop the loops.
 #[derive(Drop)]
 pub(crate) struct Stage {
     cluster: Cluster,
     turns: u32,
     retries: u8,
     hold: u16,
-    /// What idle loops rest on. It stays 0, and nobody wakes them: they rest for their time.
+    /// What idle loops park on. It is always 0 and never notified, so a park lasts its whole time.
     resting: AtomicU64,
     broken: AtomicBool,
     clients_joined: AtomicBool,
@@ -24,7 +24,8 @@ pub(crate) struct Stage {
 impl Stage {
     ghost use Rattle.std.specs.Prelude.{◌≡◌};
 
-    /// A stage of this cluster and these numbers of turns, of further tries and of late turns, on which all is to come.
+    /// A stage with this cluster and these numbers of turns, retries and late turns. Nothing has been joined or broken
+    /// off.
     pub(crate) fn new(cluster: Cluster, turns: u32, retries: u8, hold: u16) -> Stage
         ensures cluster { result.cluster ≡ cluster }
         ensures turns { result.turns ≡ turns }
@@ -63,7 +64,7 @@ impl Stage {
         self.turns
     }
 
-    /// How often an operation is tried again which memory was refused to.
+    /// How often an operation is tried again after memory ran out.
     pub(crate) fn retries(&self) -> u8
         ensures { result ≡ self.now.retries }
     {
@@ -77,13 +78,13 @@ impl Stage {
         self.hold
     }
 
-    /// An idle loop leaves the processor and the locks to others for a while.
+    /// Rests in an idle loop, which leaves the processor and the locks to other threads for a while.
     pub(crate) fn rest<R: Wait>(&self, rt: &R) {
         self.resting
             .park_timeout(rt, 0, Duration::from_micros(REST));
     }
 
-    /// All threads are to end: there is no run.
+    /// Breaks off the run: all threads are to end.
     pub(crate) fn break_off(&self) {
         self.broken.store(true, Ordering::SeqCst);
     }
@@ -92,22 +93,22 @@ impl Stage {
         self.broken.load(Ordering::SeqCst)
     }
 
-    /// The clients' threads were joined.
+    /// Records that the clients' threads were joined.
     pub(crate) fn join_clients(&self) {
         self.clients_joined.store(true, Ordering::SeqCst);
     }
 
-    /// Whether they were, or all are to end.
+    /// Whether the clients' threads were joined, or the run was broken off.
     pub(crate) fn are_clients_joined(&self) -> bool {
         self.is_broken() || self.clients_joined.load(Ordering::SeqCst)
     }
 
-    /// The senders' threads were joined.
+    /// Records that the senders' threads were joined.
     pub(crate) fn join_senders(&self) {
         self.senders_joined.store(true, Ordering::SeqCst);
     }
 
-    /// Whether they were, or all are to end.
+    /// Whether the senders' threads were joined, or the run was broken off.
     pub(crate) fn are_senders_joined(&self) -> bool {
         self.is_broken() || self.senders_joined.load(Ordering::SeqCst)
     }

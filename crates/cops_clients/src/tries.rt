@@ -1,4 +1,4 @@
-//! The tries of one operation of a script.
+//! Trying an operation of a script.
 ghost use Rattle.std.specs.Prelude.{◌≡◌, ◌+◌, OnErr, length};
 ghost use Rattle.cops_cluster.specs.Cluster.{IsSameClient};
 ghost use Rattle.cops_clients.specs.Gates.{MayHoldIn};
@@ -11,8 +11,8 @@ use cops_node::Outcome;
 use cops_types::{Gate, GateHeld, Refusal};
 use std::sync::Wait;
 
-/// How many tries of an operation were made, to how many of them memory was refused, and why the last one was refused,
-/// where it was. A try alone adds to them.
+/// How many times an operation was tried, for how many of the tries memory ran out, and why the last one was refused,
+/// if it was. Only `attempt` adds a try.
 #[derive(Clone, Copy)]
 pub(crate) struct Tries {
     made: u16,
@@ -26,7 +26,7 @@ impl Tries {
     ghost use Rattle.cops_clients.specs.Gates.{MayHoldIn};
     ghost use Rattle.cops_clients.specs.Trying.{IsTry};
 
-    /// None was made.
+    /// No tries yet.
     pub(crate) fn none() -> Tries
         ensures { result ≡ record { made = 0; wanting = 0; last = None } }
     {
@@ -37,14 +37,14 @@ impl Tries {
         }
     }
 
-    /// Why the last one was refused, where it was.
+    /// Why the last try was refused, if it was.
     pub(crate) fn last(&self) -> Option<Refusal>
         ensures { result ≡ self.now.last }
     {
         self.last
     }
 
-    /// Tries an operation once: it tells why that is refused, where it is.
+    /// Tries an operation once. Returns why it was refused, if it was; `GateHeld` where the gate held the step.
     pub(crate) fn attempt<R: Wait, G: Gate>(
         &mut self,
         rt: &R,
@@ -70,7 +70,8 @@ impl Tries {
     }
 }
 
-/// The outcome of one operation of a script.
+/// Runs an operation of a script once, and returns its outcome. A copy for which memory runs out is a refusal with
+/// `Memory`.
 fn outcome_of<R: Wait, G: Gate>(
     rt: &R,
     stage: &Stage,
@@ -106,7 +107,7 @@ fn outcome_of<R: Wait, G: Gate>(
     }
 }
 
-/// Why it is refused, where it is.
+/// Why an operation with this outcome was refused, if it was.
 fn refusal(outcome: &Outcome) -> Option<Refusal>
     ensures { result ≡ refusal_in outcome.now }
 {

@@ -5,7 +5,7 @@ use Rattle.cops_cluster.specs.declared.client.Client.{Client}
 use Rattle.cops_cluster.specs.declared.share.Holder.TheVariants.{Client as HeldByClient}
 use Rattle.cops_cluster.specs.Opening.{AreClientsAt}
 
--- what holds of each of n clients by its place holds of one more
+-- a property that n clients have by their places also holds of one more
 each_more : (P : ℕ → Client → Type 0) (n : ℕ) (cs : List Client) (x : Client) → length cs ≡ n → ((k : ℕ) (d : Client) → k < n → P k (get_or cs k d)) → P n x
     → (k : ℕ) (d : Client) → k < n + 1 → P k (get_or (cs ++ x ∷ []) k d)
 each_more P n cs x len before here = λ k d less.
@@ -15,7 +15,7 @@ each_more P n cs x len before here = λ k d less.
     (λ d. subst (P n) (sym (get_or_push cs x d n len)) here) in
     all k less d
 
--- one more client, with its number and its data centre, whose context and share are empty
+-- appending a client with its number and its data centre, whose context and share are empty
 pub clients_more : (dcs : List ℕ) (n : ℕ) (cs after : List Client) (x : Client) → after ≡ cs ++ x ∷ [] → x.number ≡ n → x.dc ≡ slice_index_or dcs n 0
     → x.context.pairs ≡ [] → x.share.holder ≡ HeldByClient n → x.share.entries.items ≡ [] → AreClientsAt dcs n cs → AreClientsAt dcs (n + 1) after
 clients_more dcs n cs after x now number dc context holder entries (len, numbers, places, contexts, holders, shares) =

@@ -1,4 +1,4 @@
--- The least number at which the elements of two lists are not the same, each as often.
+-- The least number at which the elements of two lists differ as multisets.
 use Rattle.std.proofs.Common.{◌≡◌, ℕ, zero, suc, ◌+◌, ◌<◌, ◌≤◌, ◌==◌, Bool, false, true, cond, List, [], ◌∷◌, ◌++◌, length, get_or, take, drop, filter, refl, sym, ap, subst, ◌∙◌, arith, append-nil, eq-eqb, ne_eqb, get_or-drop, length-drop, take-append-drop, le_of_suc-le-suc, not-suc-le-zero, add-zero, ⊎_elim}
 use Rattle.std.specs.List.{All, Contains, SwappedAt}
 use Rattle.std.specs.List.Sorted.{IsPermutation, IsNonDecreasingBy}
@@ -34,14 +34,14 @@ module _ {X : Type 0} (n : X → ℕ) where
   stood_at : (t : ℕ) (xs : List X) (x : X) → Contains (at t xs) x → Contains xs x
   stood_at t xs x = All-contains (Contains xs) (at t xs) x (All-filter (λ y. n y == t) (Contains xs) xs (All-contains_itself xs))
 
-  -- an element of the one list alone
+  -- an element that only one of the lists has makes them differ at its number
   apart_by_first : (t : ℕ) (x : X) (xs ys : List X) → n x ≡ t → Contains xs x → (Contains ys x → ⊥) → IsPermutation (at t xs) (at t ys) → ⊥
   apart_by_first t x xs ys e h never same = never (stood_at t ys x (Contains-permutation (at t xs) (at t ys) x same (stands_at t x e xs h)))
 
   at_split : (t i : ℕ) (xs : List X) → at t xs ≡ at t (take i xs) ++ at t (drop i xs)
   at_split t i xs = ap (at t) (sym (take-append-drop i xs)) ∙ filter-append (λ x. n x == t) (take i xs) (drop i xs)
 
-  -- from a place on no number is below the one there
+  -- in a sorted list, no number from a place on is below the one at that place
   from_place : (xs : List X) (i t : ℕ) → IsNonDecreasingBy n xs → ((d : X) → i < length xs → t ≤ n (get_or xs i d)) → All (λ x. t ≤ n x) (drop i xs)
   from_place xs i t sorted first = λ k d below.
       let inside : i + k < length xs = omega (arith, length-drop i xs) in
@@ -63,11 +63,11 @@ module _ {X : Type 0} (n : X → ℕ) where
         never (IsPermutation-cancel_left (at t (take i xs)) (at t (drop i xs)) (at t (drop i ys))
         (subst (λ l. IsPermutation l (at t (take i xs) ++ at t (drop i ys))) (at_split t i xs) (subst (IsPermutation (at t xs)) e same)))
 
-  -- at this number the elements are not the same, each as often, and below it they are
+  -- at this number the elements differ as multisets, and at every lesser number they do not
   abbrev pub IsLeast : List X → List X → ℕ → Type 0
   IsLeast xs ys t = (IsPermutation (at t xs) (at t ys) → ⊥) × ((u : ℕ) → u < t → IsPermutation (at u xs) (at u ys))
 
-  -- behind a common front stands an element of the one list, and no other below it, nor the same
+  -- after a common prefix, an element that only one list has, with no lesser number in either, gives the least difference
   pub least_by_first : (xs ys : List X) (i : ℕ) (x : X) → IsNonDecreasingBy n xs → IsNonDecreasingBy n ys → take i xs ≡ take i ys → i < length xs → get_or xs i x ≡ x
       → ((d : X) → i < length ys → n x ≤ n (get_or ys i d)) → (Contains (drop i ys) x → ⊥) → IsLeast xs ys (n x)
   least_by_first xs ys i x xs_sorted ys_sorted front inside there least absent =
@@ -76,7 +76,7 @@ module _ {X : Type 0} (n : X → ℕ) where
       let stands : Contains (drop i xs) x = (0, omega (arith, length-drop i xs), get_or-drop i xs 0 x ∙ (ap (λ k. get_or xs k x) (add-zero i) ∙ there)) in
       (apart_behind xs ys i (n x) front first second (apart_by_first (n x) x (drop i xs) (drop i ys) refl stands absent), same_below xs ys i (n x) front first second)
 
-  -- where all numbers from a place on are above that of an element it does not stand there
+  -- where all numbers from a place on are greater than an element's, the element does not occur there
   pub absent_above : (xs : List X) (i : ℕ) (x : X) → IsNonDecreasingBy n xs → ((d : X) → i < length xs → n x < n (get_or xs i d)) → Contains (drop i xs) x → ⊥
   absent_above xs i x sorted above stands =
       let rest = from_place xs i (n x + 1) sorted (λ d lt. omega (arith, above d lt)) in
@@ -86,7 +86,7 @@ module _ {X : Type 0} (n : X → ℕ) where
   pub least_flipped : (xs ys : List X) (t : ℕ) → IsLeast xs ys t → IsLeast ys xs t
   least_flipped xs ys t h = (λ p. h.0 (IsPermutation-sym (at t ys) (at t xs) p), λ u less. IsPermutation-sym (at u xs) (at u ys) (h.1 u less))
 
-  -- the same of lists in another order
+  -- the least difference does not depend on the order of the lists
   pub least_permuted : (xs us ys vs : List X) (t : ℕ) → IsPermutation xs us → IsPermutation ys vs → IsLeast us vs t → IsLeast xs ys t
   least_permuted xs us ys vs t p q h =
       let first : (u : ℕ) → IsPermutation (at u xs) (at u us) = λ u. IsPermutation-filter (λ x. n x == u) xs us p in
@@ -95,7 +95,7 @@ module _ {X : Type 0} (n : X → ℕ) where
         λ u less. IsPermutation-trans _ _ _ (first u) (IsPermutation-trans _ _ _ (h.1 u less) (IsPermutation-sym _ _ (second u))),
       )
 
-  -- elements of one number in each other's place
+  -- swapping two elements with the same number keeps a list sorted
   pub still_sorted : (xs ys : List X) (i j : ℕ) → SwappedAt xs ys i j → length ys ≡ length xs → ((d : X) → n (get_or xs i d) ≡ n (get_or xs j d)) → IsNonDecreasingBy n xs → IsNonDecreasingBy n ys
   still_sorted xs ys i j swapped len alike sorted = λ k m d le inside. omega (arith, same k d, same m d, sorted k m d le (omega arith))
     where

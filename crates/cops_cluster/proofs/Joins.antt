@@ -1,4 +1,4 @@
--- Entries of books and of shares that were put in one order.
+-- Entries of books and of shares, sorted.
 use Rattle.std.proofs.Common.{◌≡◌, ◌<◌, ◌≤◌, ◌+◌, ◌∙◌, ℕ, List, [], ◌∷◌, Option, None, Some, get_or, length, map, take, drop, ap, sym, subst, arith, not-suc-le-zero, get_or-drop, length-drop, take_all, ⊎_elim}
 use Rattle.std.proofs.lemmas.Bool.{cases_lt}
 use Rattle.std.proofs.lemmas.List.{get_or-map, length-map, take-map, take_more_same}
@@ -18,12 +18,12 @@ ticket m = m.entry.ticket
 least : (xs ys : List Made) (t : ℕ) → IsLeast ticket xs ys t → IsLeastDifference xs ys t
 least xs ys t h = record { differs = h.0; below = h.1 }
 
--- what is found of two lists is so of the same entries in another order
+-- the result of a comparison does not depend on the order of the entries
 pub compares_sorted : (xs us ys vs : List Made) (answer : Option ℕ) → IsPermutation xs us → IsPermutation ys vs → Compares us vs answer → Compares xs ys answer
 compares_sorted xs us ys vs None p q same = IsPermutation-trans xs us ys p (IsPermutation-trans us vs ys same (IsPermutation-sym ys vs q))
 compares_sorted xs us ys vs (Some t) p q h = least xs ys t (least_permuted ticket xs us ys vs t p q (h.differs, h.below))
 
--- by their own tickets as by those of their entries
+-- sorted by the copied tickets is sorted by the tickets of the entries
 pub sorted_by_entries : (l : List Noted) → IsNonDecreasingBy (λ (n : Noted). n.ticket) l → IsNonDecreasingBy ticket_of l
 sorted_by_entries l sorted = λ i j d le inside. omega (arith, sorted i j d le inside, (get_or l i d).same, (get_or l j d).same)
 
@@ -33,7 +33,7 @@ sorted_shown (n ∷ ns) sorted = λ i j d le inside.
     let within : j < length (n ∷ ns) = omega (arith, length-map (n ∷ ns) shown) in
     omega (arith, ap ticket (get_or-map shown (n ∷ ns) i n d (omega arith)), ap ticket (get_or-map shown (n ∷ ns) j n d within), sorted i j n le within)
 
--- one more entry is the same
+-- one more equal entry extends the common prefix
 pub same_more : (news olds kept : List Noted) (i : ℕ) (d r : Noted) → i < length news → i < length kept → take i news ≡ take i olds → take i (map shown olds) ≡ take i (map shown kept)
     → get_or news i d ≡ d → shown d ≡ shown r → r ≡ get_or kept i r → take (i + 1) (map shown news) ≡ take (i + 1) (map shown kept)
 same_more news olds kept i d r in_news in_kept before same at is there =
@@ -43,7 +43,7 @@ same_more news olds kept i d r in_news in_kept before same at is there =
     (subst (λ (n : ℕ). i < n) (sym (length-map news shown)) in_news) (subst (λ (n : ℕ). i < n) (sym (length-map kept shown)) in_kept)
     (take-map shown i news ∙ (ap (λ (l : List Noted). map shown l) before ∙ (sym (take-map shown i olds) ∙ same))) (e ∙ sym f)
 
--- all is the same
+-- a common prefix that reaches the end of both lists makes the lists equal as multisets
 pub same_all : (news olds kept : List Noted) (i : ℕ) → IsPermutation olds news → take i (map shown news) ≡ take i (map shown kept) → length news ≤ i → length kept ≤ i → IsPermutation (map shown kept) (map shown olds)
 same_all news olds kept i order same new_ends kept_ends =
     let new_all : take i (map shown news) ≡ map shown news = take_all i (map shown news) (omega (arith, length-map news shown)) in
@@ -63,7 +63,7 @@ module _ (kept olds news : List Noted) (i t : ℕ) (n : Noted) (kept_sorted : Is
       subst P (sym its) (least (map shown kept) (map shown olds) (ticket_of n)
       (least_permuted ticket (map shown kept) (map shown kept) (map shown olds) (map shown news) (ticket_of n) (IsPermutation-refl (map shown kept)) (IsPermutation-map shown olds news order) h))
 
-  -- what was kept has an entry behind the same front that was not heard of
+  -- the first entry of `kept` after the common prefix, which does not occur in `news`, gives the least difference
   pub least_kept : i < length kept → n ≡ get_or kept i n → (i < length news → ticket_of n ≤ ticket_of (get_or news i n)) → (Contains (drop i (map shown news)) (shown n) → ⊥)
       → IsLeastDifference (map shown kept) (map shown olds) t
   least_kept inside there above absent =
@@ -71,7 +71,7 @@ module _ (kept olds news : List Noted) (i t : ℕ) (n : Noted) (kept_sorted : Is
       (omega (arith, length-map kept shown)) (get_or-map shown kept i n (shown n) inside ∙ ap shown (sym there))
       (λ d within. let r = lifted news d within in omega (arith, above r.0, r.1)) absent)
 
-  -- of an entry behind the same front was heard, whose ticket is below those of all that was kept there
+  -- the first entry of `news` after the common prefix, whose ticket is below those of the rest of `kept`, gives the least difference
   pub least_heard : i < length news → n ≡ get_or news i n → (i < length kept → ticket_of n < ticket_of (get_or kept i n)) → IsLeastDifference (map shown kept) (map shown olds) t
   least_heard inside there above =
       let absent = absent_above ticket (map shown kept) i (shown n) (sorted_shown kept kept_sorted) (λ d within. let r = lifted kept d within in omega (arith, above r.0, r.1)) in
@@ -80,7 +80,7 @@ module _ (kept olds news : List Noted) (i t : ℕ) (n : Noted) (kept_sorted : Is
       (omega (arith, length-map news shown)) (get_or-map shown news i n (shown n) inside ∙ ap shown (sym there))
       (λ d within. let r = lifted kept d within in omega (arith, above r.0, r.1)) absent))
 
--- an entry is not among those from a place on, the first of which were looked at, and the others are of later tickets
+-- an entry does not occur from place `i` on, where those up to place `j` are not it and those after have greater tickets
 pub missing_from : (l : List Noted) (i j : ℕ) (n : Noted) → ((k : ℕ) → i ≤ k → k < j → shown (get_or l k n) ≡ shown n → ⊥) → ((k : ℕ) → j ≤ k → k < length l → ticket_of n < ticket_of (get_or l k n))
     → Contains (drop i (map shown l)) (shown n) → ⊥
 missing_from l i j n passed later stands =
@@ -89,13 +89,13 @@ missing_from l i j n passed later stands =
     let e : shown (get_or l k n) ≡ shown n = sym (get_or-map shown l k n (shown n) inside) ∙ (sym (get_or-drop i (map shown l) stands.0 (shown n)) ∙ stands.2) in
     ⊎_elim (λ less. passed k (omega arith) less e) (λ le. omega (arith, later k le inside, ap ticket e)) (cases_lt k j)
 
--- what a comparison finds is the least ticket at which the lists differ
+-- the ticket that a comparison returns is the least at which the lists differ
 pub found : (xs ys : List Made) {E : Type 0} (r : Result (Option ℕ) E) → IfOk r (Compares xs ys) → IfOk r (λ o. IfSome o (IsLeastDifference xs ys))
 found xs ys (Err e) h = tt
 found xs ys (Ok None) h = tt
 found xs ys (Ok (Some t)) h = h
 
--- where it finds nothing they are the same, each entry as often
+-- where a comparison finds nothing, the lists are equal as multisets
 pub found_none : (A : Type 0) (xs ys : List Made) {E : Type 0} (r : Result (Option ℕ) E) → IfOk r (Compares xs ys) → IfOk r (λ o. IfNone o (A → IsPermutation xs ys))
 found_none A xs ys (Err e) h = tt
 found_none A xs ys (Ok None) h = λ _. h

@@ -1,4 +1,4 @@
--- The lists that a closed cluster gives.
+-- The lists that closing a cluster returns.
 use Rattle.std.proofs.Common.{◌≡◌, ℕ, ◌+◌, ◌<◌, List, [], ◌∷◌, ◌++◌, length, map, get_or, sym, ◌∙◌, ap, refl, subst, arith, add-zero, append_assoc, append-nil, length-append, below_more}
 use Rattle.std.proofs.lemmas.List.{get_or_append_left, get_or_push}
 use Rattle.std.specs.Global.{Vec}
@@ -21,7 +21,7 @@ made_by_more p k (c ∷ cs) b =
     ap (λ xs. map (made (number_of p k)) (entries_at p k c) ++ xs) (made_by_more p (k + 1) cs b ∙ ap (λ j. made_by p (k + 1) cs ++ map (made (number_of p j)) (entries_at p j b)) e)
     ∙ sym (append_assoc (map (made (number_of p k)) (entries_at p k c)) (made_by p (k + 1) cs) (map (made (number_of p (k + length (c ∷ cs)))) (entries_at p (k + length (c ∷ cs)) b)))
 
--- one more list, of the book at its place
+-- appending one more list, of the book at its place
 pub lists_more : (p : ℕ) (vs ws : List (Vec Entry)) (v : Vec Entry) (bs : List ABook) (b : ABook) → ws ≡ vs ++ v ∷ [] → length vs ≡ length bs
     → v.items ≡ entries_at p (length vs) b → made_in p 0 vs ≡ made_by p 0 bs → made_in p 0 ws ≡ made_by p 0 (bs ++ b ∷ [])
 lists_more p vs ws v bs b now len is before =
@@ -32,7 +32,7 @@ lists_more p vs ws v bs b now len is before =
     ∙ (ap (λ es. made_by p 0 bs ++ map (made (number_of p (0 + length vs))) es) (is ∙ ap (λ j. entries_at p j b) m)
     ∙ (ap (λ j. made_by p 0 bs ++ map (made (number_of p j)) (entries_at p (0 + length bs) b)) n ∙ sym (made_by_more p 0 bs b)))))
 
--- one more list that replays
+-- appending one more list that replays
 pub replays_more : (p : ℕ) (vs ws : List (Vec Entry)) (v : Vec Entry) → ws ≡ vs ++ v ∷ [] → IsReplay (number_of p (length vs)) v.items → AllReplay p vs → AllReplay p ws
 replays_more p vs ws v now here before =
     let Q : List (Vec Entry) → Type 0 = λ xs. AllReplay p xs in

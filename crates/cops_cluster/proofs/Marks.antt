@@ -1,4 +1,4 @@
--- What a caller is told of a mark.
+-- What a caller is answered for a mark.
 use Rattle.std.proofs.Common.{◌≡◌, ℕ, true, sym, ap, subst, ◌∙◌}
 use Rattle.std.specs.Prelude.{Result, Ok, Err, IfOk, IfErr}
 use Rattle.cops_types.specs.declared.gate.GateHeld.{GateHeld}
@@ -24,7 +24,7 @@ unasked_of answer dc version dep may_hold at client (Refused code) out unasked o
 )
 unasked_of answer dc version dep may_hold at client HeldThere out unasked other told = absurd told
 
--- what is told of a mark is a node's answer, where it was allowed, or why no node was asked
+-- the result of a mark is a node's answer, where the mark was allowed, or why no node was asked
 pub told_marked : (answer : Yes) (dc version dep : ℕ) (may_hold : Point → Type 0) (at client number : ℕ) (answered : Result Seen Stop) (reply : Result Reply Stop) (result : Result Outcome GateHeld)
     → IfOk answered (λ t. IsAllowedMark answer dc version dep t.outcome) → IfOk answered (λ t. (t.seen ≡ t.outcome) × (is_of_node t.outcome ≡ true))
     → IfErr answered (StopsWith (IsUnaskedMark answer dc version dep)) → IfErr answered (IsStop may_hold at client) → IsReplyOfSeen number answered reply → IfOk result (IsReplyOf reply)

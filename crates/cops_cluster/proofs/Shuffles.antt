@@ -1,17 +1,17 @@
--- Lists with the same elements, each as often.
+-- Permutations of lists.
 use Rattle.std.proofs.Common.{◌≡◌, ℕ, zero, suc, ◌<◌, Bool, true, false, cond, List, [], ◌∷◌, ◌++◌, length, get_or, set, filter, refl, subst, not-suc-le-zero, le_of_suc-le-suc}
 use Rattle.std.specs.List.{swap}
 use Rattle.std.specs.List.Sorted.{IsPermutation}
 use Rattle.std.proofs.lemmas.List.Sorted.{IsPermutation-refl, IsPermutation-cons, IsPermutation-middle, IsPermutation-trans, IsPermutation-keeps}
 
--- one list is the other in another order, by steps at the front
+-- one list is a permutation of the other, by steps at the front
 data Shuffles {X : Type 0} : List X → List X → Type 0 where
   none : Shuffles [] []
   behind : {x : X} {xs ys : List X} → Shuffles xs ys → Shuffles (x ∷ xs) (x ∷ ys)
   flip : {x y : X} {xs : List X} → Shuffles (x ∷ y ∷ xs) (y ∷ x ∷ xs)
   both : {xs ys zs : List X} → Shuffles xs ys → Shuffles ys zs → Shuffles xs zs
 
--- the second list is the first with an element put in somewhere
+-- the second list is the first with an element inserted somewhere
 data PutIn {X : Type 0} (x : X) : List X → List X → Type 0 where
   here : {xs : List X} → PutIn x xs (x ∷ xs)
   further : {y : X} {xs ys : List X} → PutIn x xs ys → PutIn x (y ∷ xs) (y ∷ ys)
@@ -46,7 +46,7 @@ module _ {X : Type 0} where
   to_permutation (flip {x} {y} {xs}) = IsPermutation-middle (x ∷ []) y xs
   to_permutation (both {xs} {ys} {zs} s t) = IsPermutation-trans xs ys zs (to_permutation s) (to_permutation t)
 
-  -- what passes a test
+  -- filtering both lists by one test, where their first elements are equal
   behind_tested : (b : Bool) (x : X) {us vs : List X} → Shuffles us vs → Shuffles (cond b (x ∷ us) us) (cond b (x ∷ vs) vs)
   behind_tested true x s = behind s
   behind_tested false x s = s
@@ -63,7 +63,7 @@ module _ {X : Type 0} where
   filtered p (flip {x} {y} {xs}) = flip_tested (p x) (p y) x y (filter p xs)
   filtered p (both s t) = both (filtered p s) (filtered p t)
 
-  -- without an element that both have
+  -- removing an element that both lists have
   taken_out : (a : X) {us vs : List X} → Shuffles us vs → (xs : List X) → PutIn a xs us → (ys : List X) × (PutIn a ys vs × Shuffles xs ys)
   taken_out a none xs j = elim j [ ]
   taken_out a (behind {x} {xs = us} {ys = vs} s) xs here = (vs, (here, s))
@@ -92,10 +92,10 @@ module _ {X : Type 0} where
       let r = taken_out z s (zs ++ xs) here in
       without_front zs (without_first z z refl r.1.0 r.1.1)
 
-  -- what passes a test of two lists with the same elements
+  -- filtering keeps lists permutations of each other
   pub IsPermutation-filter : (p : X → Bool) (xs ys : List X) → IsPermutation xs ys → IsPermutation (filter p xs) (filter p ys)
   IsPermutation-filter p xs ys h = to_permutation (filtered p (from_permutation xs ys h))
 
-  -- two lists behind one front
+  -- removing a common prefix keeps lists permutations of each other
   pub IsPermutation-cancel_left : (zs xs ys : List X) → IsPermutation (zs ++ xs) (zs ++ ys) → IsPermutation xs ys
   IsPermutation-cancel_left zs xs ys h = to_permutation (without_front zs (from_permutation (zs ++ xs) (zs ++ ys) h))

@@ -1,4 +1,4 @@
--- What a caller is told of a step, and what its share gained.
+-- What a caller is answered for a step, and what its share gained.
 use Rattle.std.proofs.Common.{◌≡◌, ◌⊎◌, inl, inr, ℕ, ◌+◌, nat_lt, Bool, true, false, if◌then◌else◌, List, Option, None, Some, refl, sym, ap, subst, ◌∙◌}
 use Rattle.std.specs.Prelude.{Result, Ok, Err, IfOk, IfErr, OnErr}
 use Rattle.cops_types.specs.declared.dep.Dep.{Dep}
@@ -27,7 +27,7 @@ use Rattle.cops_cluster.specs.Cluster.{IsStop, write_event}
 use Rattle.cops_cluster.specs.Replies.{IsReplyOf, IsReplyOfSeen, IsSpent}
 use Rattle.cops_cluster.specs.Outcomes.{IsGetOutcome, IsNodeAnswer, IsWant, IsWriteOutcome, StopsWith}
 
--- a step of this node, whose number stays: what was answered is a node's
+-- a step of this node, whose number does not change and whose outcome is one of a node's own
 abbrev IsStepOf : Node → Outcome × Node → Type 0
 IsStepOf n x = (x.1.number ≡ n.number) × (is_of_node x.0 ≡ true)
 
@@ -66,7 +66,7 @@ a_step n (Mark version dep) = mark_step n version dep (waiting n.held version)
 a_step n (Settle version) = settle_step n (waiting n.held version)
 a_step n e = if_step n _ _ _ (refl, refl) (refl, refl)
 
--- what a node's step answers is a node's
+-- the outcome of a node's step is one of a node's own
 pub step_of_node : (n : Node) (e : NodeEvent) → is_of_node (node_step n e).0 ≡ true
 step_of_node n e = (a_step n e).1
 
@@ -74,7 +74,7 @@ pub true_is_false : {A : Type 0} (b : Bool) → b ≡ true → b ≡ false → A
 true_is_false b e f = absurd (let h : true ≡ false = sym e ∙ f in cc)
 
 module _ (before after : List Made) (node : ℕ) (event : NodeEvent) where
-  -- a node's answer was added, or nothing where there is none
+  -- the entry of a node's answer was added, or nothing where there is none
   abbrev pub IsKept : Result Reply Stop → Type 0
   IsKept (Ok r) = AddsEntry before after node event r.outcome × (is_of_node r.outcome ≡ true)
   IsKept (Err (Refused code)) = (after ≡ before) × (is_refusal_of_node code ≡ false)
@@ -102,7 +102,7 @@ module _ (before after : List Made) (node : ℕ) (event : NodeEvent) where
   answer_kept may_hold at client number (Err s) (Ok r) told is none stop same = absurd same
   answer_kept may_hold at client number (Err s) (Err t) told is none stop same = kept_stop may_hold at client s t same none stop
 
-  -- what is told is what the share gained
+  -- the outcome that the caller gets is that of the entry which its share gained
   pub told_adds : (reply : Result Reply Stop) (result : Result Outcome GateHeld) → IsKept reply → IfOk result (IsReplyOf reply) → IfOk result (λ out. Adds before after node event out)
   told_adds reply (Err e) kept is = tt
   told_adds (Ok r) (Ok out) kept is =
@@ -110,13 +110,13 @@ module _ (before after : List Made) (node : ℕ) (event : NodeEvent) where
   told_adds (Err (Refused code)) (Ok out) kept is = (λ h. true_is_false (is_of_node out) h (ap is_of_node is ∙ kept.1), λ _. kept.0)
   told_adds (Err HeldThere) (Ok out) kept is = absurd is
 
-  -- in any case it gained one entry at most
+  -- the share gains at most one entry in any case
   pub most_adds : (reply : Result Reply Stop) → IsKept reply → AddsAtMostOne before after node event
   most_adds (Ok r) kept = inr (r.outcome, kept.0)
   most_adds (Err (Refused code)) kept = inl kept.0
   most_adds (Err HeldThere) kept = inl kept
 
--- the context is the one after what is told
+-- the client's context is the one that follows from the outcome which the caller gets
 pub told_context : (after : Outcome → List Dep) (pairs new : List Dep) (answered : Result Answer Stop) (reply : Result Reply Stop) (result : Result Outcome GateHeld)
     → ((code : Refusal) → after (RefusedWith code) ≡ pairs) → IfOk answered (λ a. new ≡ after a.outcome) → OnErr answered (new ≡ pairs) → IsSpent answered reply
     → IfOk result (IsReplyOf reply) → IfOk result (λ out. new ≡ after out)
@@ -127,13 +127,13 @@ told_context after pairs new (Err s) (Ok r) (Ok out) refused is none same told =
 told_context after pairs new (Err s) (Err (Refused code)) (Ok out) refused is none same told = none ∙ sym (refused code) ∙ ap after (sym told)
 told_context after pairs new (Err s) (Err HeldThere) (Ok out) refused is none same told = absurd told
 
--- the same by other names
+-- `AddsEntry` with equal arguments replaced
 pub adds_same : (a b c d : List Made) (m n : ℕ) (e f : NodeEvent) (out : Outcome) → a ≡ b → c ≡ d → m ≡ n → e ≡ f → AddsEntry a c m e out → AddsEntry b d n f out
 adds_same a b c d m n e f out p q r s adds =
     subst (λ (l : List Made). AddsEntry l d n f out) p (subst (λ (l : List Made). AddsEntry a l n f out) q
     (subst (λ (k : ℕ). AddsEntry a c k f out) r (subst (λ (x : NodeEvent). AddsEntry a c m x out) s adds)))
 
--- the same node and event by other names
+-- `Adds` with the node and the event replaced by equal ones
 pub adds_at : (before after : List Made) (n m : ℕ) (e f : NodeEvent) (out : Outcome) → n ≡ m → e ≡ f → Adds before after n e out → Adds before after m f out
 adds_at before after n m e f out p q h = subst (λ (k : ℕ). Adds before after k f out) p (subst (λ (x : NodeEvent). Adds before after n x out) q h)
 
@@ -144,7 +144,7 @@ want_of : (stop : Stop) (out : Outcome) → StopsWith IsWant stop → IsReplyOf 
 want_of (Refused code) out want told = told ∙ want
 want_of HeldThere out want told = absurd told
 
--- what a node answers where a client writes a content
+-- a node's answer to a client's write, in both branches
 if_written : (content : Option (List ℕ)) (b : Bool) (x y : Outcome × Node) → IsWriteOutcome content x.0 → IsWriteOutcome content y.0 → IsWriteOutcome content (if b then x else y).0
 if_written content true x y p q = p
 if_written content false x y p q = q
@@ -171,7 +171,7 @@ pub answer_written : (client : ℕ) (key : List ℕ) (content : Option (List ℕ
 answer_written client key content deps event out is (n, new, step) =
     subst (IsWriteOutcome content) (ap (λ (x : Outcome × Node). x.0) (ap (node_step n) (sym is) ∙ step)) (write_step n client key content deps)
 
--- what a node answers to a get
+-- a node's answer to a get
 found_got : (content : Option (List ℕ)) (version : ℕ) → IsGetOutcome (found content version)
 found_got None version = tt
 found_got (Some value) version = tt
@@ -191,7 +191,7 @@ want_written (Some value) = inr (inr (inr (inl refl)))
 stop_written : (content : Option (List ℕ)) (stop : Stop) (out : Outcome) → StopsWith IsWant stop → IsReplyOf (Err stop) out → IsWriteOutcome content out
 stop_written content stop out want told = subst (IsWriteOutcome content) (sym (want_of stop out want told)) (want_written content)
 
--- what is told of a write is one of its outcomes
+-- the outcome that the caller of a write gets is one of a write's outcomes
 pub told_written : (content : Option (List ℕ)) (answered : Result Answer Stop) (reply : Result Reply Stop) (result : Result Outcome GateHeld)
     → IfOk answered (λ a. IsWriteOutcome content a.outcome) → IfErr answered (StopsWith IsWant) → IsSpent answered reply → IfOk result (IsReplyOf reply)
     → IfOk result (IsWriteOutcome content)
@@ -201,7 +201,7 @@ told_written content (Ok a) (Err s) (Ok out) is want same told = absurd same
 told_written content (Err s) (Ok r) (Ok out) is want same told = absurd same
 told_written content (Err s) (Err t) (Ok out) is want same told = stop_written content s out want (subst (λ (x : Stop). IsReplyOf (Err x) out) same told)
 
--- what is told is some node's answer, or want of memory
+-- the outcome that the caller gets is some node's answer, or out of memory
 pub told_answers : (event : NodeEvent) (number : ℕ) (answered : Result Seen Stop) (reply : Result Reply Stop) (result : Result Outcome GateHeld)
     → IfOk answered (λ t. IsNodeAnswer event t.outcome) → IfErr answered (StopsWith IsWant) → IsReplyOfSeen number answered reply → IfOk result (IsReplyOf reply)
     → IfOk result (λ out. IsNodeAnswer event out ⊎ IsWant out)

@@ -1,4 +1,4 @@
--- What a closed cluster's books and shares say of each other.
+-- How the books and the shares of a closed cluster correspond.
 use Rattle.std.specs.Prelude.{◌≡◌, ℕ, ◌+◌, ◌<◌, ◌/◌, ◌%◌, ◌==◌, ◌&&◌, nat_lt, Bool, true, if◌then◌else◌, List, [], ◌∷◌, ◌++◌, length, map, slice_index_or}
 use Rattle.std.specs.List.{list_any}
 use Rattle.std.specs.Global.{Vec}
@@ -12,29 +12,29 @@ use Rattle.cops_cluster.specs.declared.share.Made.{Made}
 use Rattle.cops_cluster.specs.declared.share.Share.{Share}
 use Rattle.cops_cluster.specs.Shares.{made}
 
--- the number of the nth node, where each data centre has so many
+-- the number of the nth node, where each data centre has `places` nodes
 abbrev pub number_of : ℕ → ℕ → ℕ
 number_of places n = node_number (n / places) (n % places)
 
--- the entries lead from the opened node of this number to some node
+-- replaying the entries from the empty node of this number leads to some node
 abbrev pub IsReplay : ℕ → List Entry → Type 0
 IsReplay number entries = (end : Node) × Replays (opened number) entries end
 
--- the entries of a book that is the nth node's, and none of another
+-- the entries of a book if it belongs to the nth node, and otherwise none
 abbrev pub entries_at : ℕ → ℕ → ABook → List Entry
 entries_at places n b = if b.node.number == number_of places n then b.entries else []
 
--- all entries of the books from the nth node's on, each with its node
+-- all entries of the books, the first of which is the nth node's, each with its node
 abbrev pub made_by : ℕ → ℕ → List ABook → List Made
 made_by places n [] = []
 made_by places n (b ∷ bs) = map (made (number_of places n)) (entries_at places n b) ++ made_by places (n + 1) bs
 
--- all entries of the lists from the nth node's on, each with its node
+-- all entries of the lists, the first of which is the nth node's, each with its node
 abbrev pub made_in : ℕ → ℕ → List (Vec Entry) → List Made
 made_in places n [] = []
 made_in places n (v ∷ rest) = map (made (number_of places n)) v.items ++ made_in places (n + 1) rest
 
--- each list replays, as that of its node
+-- each list replays the steps of its node
 abbrev pub AllReplay : ℕ → List (Vec Entry) → Type 0
 AllReplay places lists = (n : ℕ) (d : Vec Entry) → n < length lists → IsReplay (number_of places n) (slice_index_or lists n d).items
 
@@ -43,17 +43,17 @@ abbrev pub told : List Share → List Made
 told [] = []
 told (s ∷ ss) = s.entries.items ++ told ss
 
--- a holder by its seat: the clients have the first, and then come the receivers
+-- whether a holder has this seat: the clients have the first seats, and the receivers follow
 abbrev pub is_seat : ℕ → ℕ → Holder → Bool
 is_seat clients seat (HeldByClient number) = (number == seat) && nat_lt number clients
 is_seat clients seat (HeldByReceiver dc) = clients + dc == seat
 
--- a share for each client and each receiver, and no other
+-- exactly one share for each client and each receiver
 abbrev pub AreAll : ℕ → ℕ → List Share → Type 0
 AreAll clients dcs shares =
     (length shares ≡ clients + dcs)
     × ((seat : ℕ) → seat < clients + dcs → list_any (λ (s : Share). is_seat clients seat s.holder) shares ≡ true)
 
--- who holds the shares
+-- the holders of the shares
 abbrev pub holders : List Share → List Holder
 holders shares = map (λ (s : Share). s.holder) shares

@@ -1,4 +1,4 @@
--- What the code holds of an entry.
+-- The representation of an entry in the code.
 use Rattle.std.specs.Prelude.{ℕ}
 use Rattle.cops_cluster.specs.declared.noted.Noted.{Noted}
 use Rattle.cops_cluster.specs.declared.share.Made.{Made}

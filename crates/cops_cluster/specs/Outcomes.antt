@@ -1,4 +1,4 @@
--- What a cluster's calls may answer.
+-- What a cluster's calls may return.
 use Rattle.std.specs.Prelude.{◌≡◌, ◌≢◌, ◌⊎◌, ◌≤◌, ℕ, false, List, Option, Some, None}
 use Rattle.cops_types.specs.declared.format.Format.{Format}
 use Rattle.cops_types.specs.Format.{most_deps}
@@ -14,32 +14,32 @@ use Rattle.cops_cluster.specs.declared.fault.Stop.{Stop}
 use Rattle.cops_cluster.specs.declared.fault.Stop.TheVariants.{Refused, GateHeld}
 use Rattle.cops_cluster.specs.Shares.{is_refusal_of_node}
 
--- some node answers this event so
+-- some node gives this outcome for this event
 abbrev pub IsNodeAnswer : NodeEvent → Outcome → Type 0
 IsNodeAnswer event outcome = (old : Node) × (new : Node) × (node_step old event ≡ (outcome, new))
 
--- how a put or a deletion may be refused
+-- the refusals that a put or a deletion may get
 abbrev pub IsWriteRefusal : Refusal → Type 0
 IsWriteRefusal refused = (refused ≡ ClockExhausted) ⊎ (refused ≡ UnknownClient) ⊎ (refused ≡ NotInFormat) ⊎ (refused ≡ Memory) ⊎ (refused ≡ SessionFull)
 
--- a put: its version, or how it may be refused
+-- the outcomes of a put: its version, or a refusal
 abbrev pub IsPutOutcome : Outcome → Type 0
 IsPutOutcome (PutDone version) = Unit {0}
 IsPutOutcome (RefusedWith refused) = IsWriteRefusal refused
 IsPutOutcome _ = ⊥
 
--- a deletion: its version, or how it may be refused
+-- the outcomes of a deletion: its version, or a refusal
 abbrev pub IsDelOutcome : Outcome → Type 0
 IsDelOutcome (Deleted version) = Unit {0}
 IsDelOutcome (RefusedWith refused) = IsWriteRefusal refused
 IsDelOutcome _ = ⊥
 
--- a write of this content: a put, or without a value a deletion
+-- the outcomes of a write of this content: a put, or a deletion where there is no value
 abbrev pub IsWriteOutcome : Option (List ℕ) → Outcome → Type 0
 IsWriteOutcome (Some value) = IsPutOutcome
 IsWriteOutcome None = IsDelOutcome
 
--- a get: what it found, or nothing, or how it may be refused
+-- the outcomes of a get: what it found, or nothing, or a refusal
 abbrev pub IsGetOutcome : Outcome → Type 0
 IsGetOutcome (Got value version) = Unit {0}
 IsGetOutcome (Gone version) = Unit {0}
@@ -47,49 +47,49 @@ IsGetOutcome Missed = Unit {0}
 IsGetOutcome (RefusedWith refused) = (refused ≡ ContextFull) ⊎ (refused ≡ UnknownClient) ⊎ (refused ≡ Memory) ⊎ (refused ≡ SessionFull)
 IsGetOutcome _ = ⊥
 
--- a question in a data centre that is there: yes, or not yet, or want of memory
+-- the outcomes of a question in a data centre that exists: yes, not yet, or out of memory
 abbrev pub IsAskOutcome : Outcome → Type 0
 IsAskOutcome Yes = Unit {0}
 IsAskOutcome Wait = Unit {0}
 IsAskOutcome (RefusedWith refused) = refused ≡ Memory
 IsAskOutcome _ = ⊥
 
--- a delivery in a data centre that is there: the put waits from now on, or was there before, or want of memory
+-- the outcomes of a delivery in a data centre that exists: the put waits from now on, it was there before, or out of memory
 abbrev pub IsDeliverOutcome : Outcome → Type 0
 IsDeliverOutcome Held = Unit {0}
 IsDeliverOutcome Repeat = Unit {0}
 IsDeliverOutcome (RefusedWith refused) = refused ≡ Memory
 IsDeliverOutcome _ = ⊥
 
--- a mark at a node that is there: done, or how it may be refused
+-- the outcomes of a mark at a node that exists: done, or a refusal
 abbrev pub IsMarkOutcome : Outcome → Type 0
 IsMarkOutcome Marked = Unit {0}
 IsMarkOutcome (RefusedWith refused) = (refused ≡ NotHeld) ⊎ (refused ≡ NoSuchDep) ⊎ (refused ≡ NoYes) ⊎ (refused ≡ Memory)
 IsMarkOutcome _ = ⊥
 
--- a settlement at a node that is there: done, or how it may be refused
+-- the outcomes of a settlement at a node that exists: done, or a refusal
 abbrev pub IsSettleOutcome : Outcome → Type 0
 IsSettleOutcome Settled = Unit {0}
 IsSettleOutcome (RefusedWith refused) = (refused ≡ NotHeld) ⊎ (refused ≡ DepsOpen) ⊎ (refused ≡ Memory)
 IsSettleOutcome _ = ⊥
 
--- the cluster has no client of this number, or no data centre of this client's, or another format than the client
+-- the cluster has no client of this number, no data centre of the client's, or another format than the client
 abbrev pub IsUnknown : Cluster → Client → Type 0
 IsUnknown c client = (c.clients ≤ client.number) ⊎ (c.place.dcs ≤ client.dc) ⊎ (client.context.format ≢ c.format)
 
--- a get that no node was asked for: the client's context, with so many pairs, is full, or memory was wanting
+-- a get that never reached a node: the client's context, which has `pairs` pairs, is full, or memory ran out
 abbrev pub IsUnaskedGet : Format → ℕ → Outcome → Type 0
 IsUnaskedGet format pairs outcome = ((outcome ≡ RefusedWith ContextFull) × (most_deps format ≤ pairs)) ⊎ (outcome ≡ RefusedWith Memory)
 
--- why a write of this content is refused before a node is asked
+-- the refusals of a write of this content before a node is asked
 abbrev pub IsUnaskedWrite : Option (List ℕ) → Refusal → Type 0
 IsUnaskedWrite content refused = (is_refusal_of_node refused ≡ false) × IsWriteOutcome content (RefusedWith refused)
 
--- want of memory
+-- out of memory
 abbrev pub IsWant : Outcome → Type 0
 IsWant outcome = outcome ≡ RefusedWith Memory
 
--- a step that was not made was held, or its refusal is one of these outcomes
+-- a step that did not happen: the gate stopped it, or its refusal is one of these outcomes
 abbrev pub StopsWith : (Outcome → Type 0) → Stop → Type 0
 StopsWith Is (Refused refused) = Is (RefusedWith refused)
 StopsWith Is GateHeld = Unit {0}

@@ -1,4 +1,4 @@
--- Questions, and what an answer Yes allows.
+-- Dependency checks, and what an answer Yes allows.
 use Rattle.std.specs.Prelude.{◌≡◌, ◌⊎◌, ℕ, true, false, List, Option, None, Some}
 use Rattle.cops_types.specs.declared.dep.Dep.{Dep}
 use Rattle.cops_types.specs.declared.refusal.Refusal.TheVariants.{NoYes}
@@ -13,31 +13,31 @@ use Rattle.cops_cluster.specs.declared.receiving.Asked.TheVariants.{Yes as Answe
 use Rattle.cops_cluster.specs.Outcomes.{IsWant}
 use Rattle.cops_cluster.specs.Shares.{is_of_node}
 
--- the answer is one for this pair, in this data centre
+-- the answer is for this pair in this data centre
 abbrev pub IsFor : Yes → ℕ → Dep → Type 0
 IsFor answer dc pair = (answer.dc ≡ dc) × (pair ≡ record { key = answer.key; version = answer.version })
 
--- the same, or there is no such dependency, which the node says
+-- the answer is for this dependency, or there is no such dependency, and the node refuses the mark itself
 abbrev pub Allows : Yes → ℕ → Option Dep → Type 0
 Allows answer dc None = Unit {0}
 Allows answer dc (Some pair) = IsFor answer dc pair
 
--- there is such a dependency, and the answer is one for another pair, or of another data centre
+-- the dependency exists, and the answer is for another pair or another data centre
 abbrev pub Forbids : Yes → ℕ → Option Dep → Type 0
 Forbids answer dc None = ⊥
 Forbids answer dc (Some pair) = IsFor answer dc pair → ⊥
 
--- some node answers a mark so, and the answer Yes allowed it there
+-- some node gives this outcome for a mark, and the answer Yes allowed it there
 abbrev pub IsAllowedMark : Yes → ℕ → ℕ → ℕ → Outcome → Type 0
 IsAllowedMark answer dc version dep outcome =
     (old : Node) × (new : Node) × (node_step old (Mark version dep) ≡ (outcome, new)) × Allows answer dc (dep_at (waiting old.held version) dep)
 
--- a mark that no node was asked for: at some node the answer Yes forbids it, or memory was wanting
+-- a mark that never reached a node: at some node the answer Yes forbids it, or memory ran out
 abbrev pub IsUnaskedMark : Yes → ℕ → ℕ → ℕ → Outcome → Type 0
 IsUnaskedMark answer dc version dep outcome =
     ((outcome ≡ RefusedWith NoYes) × ((node : Node) × Forbids answer dc (dep_at (waiting node.held version) dep))) ⊎ IsWant outcome
 
--- what a mark ends with: a node's answer where it was allowed, and else why no node was asked
+-- the outcome of a mark: a node's answer where the mark was allowed, and otherwise why no node was asked
 abbrev pub IsMarkedAs : Yes → ℕ → ℕ → ℕ → Outcome → Type 0
 IsMarkedAs answer dc version dep outcome =
     (is_of_node outcome ≡ true → IsAllowedMark answer dc version dep outcome)
@@ -48,7 +48,7 @@ abbrev pub outcome_of : Asked → Outcome
 outcome_of (AnsweredYes answer) = IsSettled
 outcome_of (Other outcome) = outcome
 
--- a yes names the data centre and the pair that were asked for
+-- a yes names the data centre and the pair that were asked about
 abbrev pub IsAskedOf : ℕ → List ℕ → ℕ → Asked → Type 0
 IsAskedOf dc key version (AnsweredYes answer) = IsFor answer dc (record { key = key; version = version })
 IsAskedOf dc key version (Other outcome) = outcome ≡ IsSettled → ⊥

@@ -1,4 +1,4 @@
--- What a caller is told of a step.
+-- What a caller is answered for a step.
 use Rattle.std.specs.Prelude.{◌≡◌, ℕ, Result, Ok, Err}
 use Rattle.cops_types.specs.declared.gate.Point.{Point}
 use Rattle.cops_types.specs.declared.gate.Point.TheVariants.{Answered}
@@ -10,25 +10,25 @@ use Rattle.cops_cluster.specs.declared.stepping.Answer.{Answer}
 use Rattle.cops_cluster.specs.declared.stepping.Reply.{Reply}
 use Rattle.cops_cluster.specs.declared.stepping.Seen.{Seen}
 
--- the caller is told what the node answered, or why it was refused before it
+-- the outcome is what the node answered, or the refusal that came before it
 abbrev pub IsReplyOf : Result Reply Stop → Outcome → Type 0
 IsReplyOf (Ok reply) outcome = outcome ≡ reply.outcome
 IsReplyOf (Err (Refused refused)) outcome = outcome ≡ RefusedWith refused
 IsReplyOf (Err GateHeld) outcome = ⊥
 
--- the gate held the step, or may hold its caller after the node's answer
+-- the gate stopped the step, or may stop its caller after the node's answer
 abbrev pub WasHeld : (Point → Type 0) → ℕ → Result Reply Stop → Type 0
 WasHeld may_hold client (Ok reply) = may_hold (Answered reply.node client)
 WasHeld may_hold client (Err (Refused refused)) = ⊥
 WasHeld may_hold client (Err GateHeld) = Unit {0}
 
--- the same answer, without what the client saw
+-- the reply is the answer without the operation that the client saw
 abbrev pub IsSpent : Result Answer Stop → Result Reply Stop → Type 0
 IsSpent (Ok a) (Ok reply) = (reply.outcome ≡ a.outcome) × (reply.node ≡ a.node)
 IsSpent (Err stop) (Err same) = same ≡ stop
 IsSpent _ _ = ⊥
 
--- the same answer, with the node's number
+-- the reply is the answer together with the node's number
 abbrev pub IsReplyOfSeen : ℕ → Result Seen Stop → Result Reply Stop → Type 0
 IsReplyOfSeen node (Ok seen) (Ok reply) = (reply.outcome ≡ seen.outcome) × (reply.node ≡ node)
 IsReplyOfSeen node (Err stop) (Err same) = same ≡ stop

@@ -1,7 +1,8 @@
 use crate::share::Share;
 use cops_context::Context;
 
-/// A client of a cluster: its number, its data centre, its context, and its share.
+/// A client of a cluster: its number, its data centre, its context (the pairs that its next write depends on), and its
+/// share.
 #[derive(Drop)]
 pub struct Client {
     pub(crate) number: u16,
@@ -29,7 +30,7 @@ impl Client {
         self.dc
     }
 
-    /// Lends the share. All else of the client stays.
+    /// Borrows the share mutably. The rest of the client does not change.
     pub fn share(&mut self) -> &mut Share
         ensures* writes_back { sem 𝓛 (LendsShare self.entry result) }
         ensures value { result.now ≡ self.old.share }
@@ -37,7 +38,7 @@ impl Client {
         &mut self.share
     }
 
-    /// The share, for whom the client is no longer of use.
+    /// Consumes the client and returns its share.
     pub fn into_share(self) -> Share
         ensures { result ≡ self.share }
     {

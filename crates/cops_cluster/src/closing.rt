@@ -1,4 +1,4 @@
-//! Ending a cluster: what the books have against what their callers were told.
+//! Closing a cluster: comparing the nodes' logs with what the callers were answered.
 ghost use Rattle.std.specs.Prelude.{◌≡◌, ◌≤◌, ◌<◌, ◌+◌, ◌↔◌, ◌||◌, ℕ, true, length, vec_len, vec_capacity, IfOk, IfNone, IfSome, IsTrue, slice_index_or};
 ghost use Rattle.std.specs.List.{list_any};
 ghost use Rattle.std.specs.List.Sorted.{IsPermutation};
@@ -17,14 +17,15 @@ use cops_types::{Memory, PLACES};
 use std::alloc::{AllocError, Global};
 use std::sync::Mutex;
 
-/// What is left of a cluster: the entries, a list for each node in order of node numbers, and what the clients saw.
+/// What is left of a closed cluster: for each node, in order of node numbers, the list of its log entries; and the
+/// trace of what the clients saw.
 #[derive(Drop)]
 pub struct Closed {
     pub books: Vec<Vec<Entry>>,
     pub trace: Trace,
 }
 
-/// What is left of a cluster whose books nobody has compared with the shares yet.
+/// What is left of a closed cluster whose logs have not been compared with the shares.
 #[derive(Drop)]
 pub struct Uncompared {
     pub closed: Closed,
@@ -34,13 +35,12 @@ pub struct Uncompared {
 /// Why a cluster was not closed.
 #[derive(Drop)]
 pub enum CloseFault {
-    /// Memory was refused. The cluster and the shares come back.
+    /// Out of memory. Returns the cluster and the shares.
     Memory(Cluster, Vec<Share>),
-    /// There is not one share of each client and of each receiver, or there are others. The cluster and the shares come
-    /// back.
+    /// There is not exactly one share of each client and of each receiver. Returns the cluster and the shares.
     SharesMissing(Cluster, Vec<Share>),
-    /// The books have other entries than the shares. The least ticket whose entries in the books, which replay, and in
-    /// the shares are not the same, each as often.
+    /// The nodes' logs, which replay, and the shares have different entries. `ticket` is the least ticket at which the
+    /// entries of the logs and of the shares differ as multisets.
     NotKept { ticket: u64 },
 }
 
@@ -50,9 +50,11 @@ impl Cluster {
     ghost use Rattle.cops_cluster.specs.Close.{AllReplay, AreAll, made_in, told};
     ghost use Rattle.cops_cluster.specs.HandedBack.{HandsBack, HasRooms};
 
-    /// Ends the cluster. The lists replay, and their entries are those of the shares, each as often. `SharesMissing`
-    /// unless the share of each client and of each receiver is there once, then `NotKept` where the entries differ,
-    /// with the least ticket at which they do.
+    /// Closes the cluster. Each returned list replays its node's steps from an empty node, and the lists together have
+    /// the entries of the shares, as a multiset.
+    ///
+    /// Errors: `SharesMissing` unless there is exactly one share of each client and of each receiver; then `NotKept`
+    /// where the entries differ, with the least ticket at which they do; `Memory` when memory runs out.
     pub fn close(self, shares: Vec<Share>) -> Result<Closed, CloseFault>
         ensures len { IfOk result (λ closed. length closed.books.items ≡ self.place.dcs * (length self.place.splits + 1)) }
         ensures replays { IfOk result (λ closed. AllReplay (length self.place.splits + 1) closed.books.items) }
@@ -69,9 +71,11 @@ impl Cluster {
         }
     }
 
-    /// Ends the cluster as `close` does, for whoever compares the books with the shares by `difference_of_lists`, and
-    /// so never answers `NotKept`. The lists replay. `SharesMissing` unless the share of each client and of each
-    /// receiver is there once.
+    /// Closes the cluster like `close`, but does not compare the logs with the shares: the caller does so with
+    /// `difference_of_lists`. Each returned list replays its node's steps.
+    ///
+    /// Errors: `SharesMissing` unless there is exactly one share of each client and of each receiver; `Memory` when
+    /// memory runs out. It never returns `NotKept`.
     pub fn close_uncompared(self, shares: Vec<Share>) -> Result<Uncompared, CloseFault>
         ensures len { IfOk result (λ u. length u.closed.books.items ≡ self.place.dcs * (length self.place.splits + 1)) }
         ensures replays { IfOk result (λ u. AllReplay (length self.place.splits + 1) u.closed.books.items) }
@@ -83,7 +87,7 @@ impl Cluster {
         self.ended(shares, false)
     }
 
-    /// Ends the cluster, with the comparison of the books with the shares or without it.
+    /// Closes the cluster, and compares the logs with the shares if `compares` is set.
     fn ended(self, shares: Vec<Share>, compares: bool) -> Result<Uncompared, CloseFault>
         ensures len { IfOk result (λ u. length u.closed.books.items ≡ self.place.dcs * (length self.place.splits + 1)) }
         ensures replays { IfOk result (λ u. AllReplay (length self.place.splits + 1) u.closed.books.items) }
@@ -101,8 +105,8 @@ impl Cluster {
         self.ended_in(rooms, shares, compares)
     }
 
-    /// Lists with room for what each node gives; `None` unless the share of each client and of each receiver is there
-    /// once.
+    /// Empty lists with room for what each node returns; `None` unless there is exactly one share of each client and of
+    /// each receiver.
     fn rooms_for(&self, shares: &[Share]) -> Result<Option<Rooms>, AllocError>
         ensures some { IfOk result (λ o. IfSome o (λ rooms. HasRooms (vec_len self.now.nodes) rooms × AreAll self.now.clients self.now.place.dcs shares.now)) }
         ensures none { IfOk result (λ o. IfNone o (AreAll self.now.clients self.now.place.dcs shares.now → ⊥)) }
@@ -121,7 +125,7 @@ impl Cluster {
     ghost use Rattle.cops_cluster.specs.Close.{AllReplay, AreAll, made_in, told};
     ghost use Rattle.cops_cluster.specs.HandedBack.{HandsBack, HasRooms};
 
-    /// The same where all shares are there and lists have room.
+    /// Like `ended`, for shares that are complete and with the lists already allocated.
     fn ended_in(
         self,
         rooms: Rooms,
@@ -178,7 +182,7 @@ impl Cluster {
     }
 }
 
-/// The fault that the entries differ at a ticket: their lists are dropped.
+/// Drops the lists and returns the fault that the entries differ at `ticket`.
 fn not_kept(lists: Vec<Vec<Entry>>, ticket: u64) -> CloseFault
     ensures { result ≡ CloseFault.NotKept ticket }
 {
@@ -186,7 +190,7 @@ fn not_kept(lists: Vec<Vec<Entry>>, ticket: u64) -> CloseFault
     CloseFault::NotKept { ticket }
 }
 
-/// The least ticket whose entries in the books and in the shares differ, where they are to be compared: else `None`.
+/// The least ticket at which the entries of the books and of the shares differ, if `compares` is set; otherwise `None`.
 fn difference_where(
     compares: bool,
     alloc: Global,
@@ -207,7 +211,7 @@ fn difference_where(
     }
 }
 
-/// Empty lists with room for what each node gives.
+/// Empty lists with room for what each node returns.
 #[derive(Drop)]
 pub(crate) struct Rooms {
     pub(crate) books: Vec<Book>,
@@ -257,7 +261,7 @@ fn are_taken(taken: &[bool]) -> bool
     true
 }
 
-/// A holder takes its seat, where it is there.
+/// Marks the holder's seat as taken, if there is such a seat.
 fn take_seat(taken: &mut [bool], clients: u16, holder: Holder)
     ensures len { length taken.new ≡ length taken.old }
     ensures seat { (seat : ℕ) → seat < length taken.old → slice_index_or taken.new seat true ≡ (is_seat clients seat holder || slice_index_or taken.old seat true) }
@@ -276,7 +280,7 @@ fn take_seat(taken: &mut [bool], clients: u16, holder: Holder)
     }
 }
 
-/// The books out of their locks.
+/// Takes the books out of their locks.
 fn taken_out(room: Vec<Book>, nodes: Vec<Mutex<Book>>) -> Vec<Book>
     requires empty { vec_len room ≡ 0 }
     requires room { vec_len nodes ≤ vec_capacity room }
@@ -289,7 +293,7 @@ fn taken_out(room: Vec<Book>, nodes: Vec<Mutex<Book>>) -> Vec<Book>
     books
 }
 
-/// Each book under a lock.
+/// Puts each book under a lock.
 fn locked(room: Vec<Mutex<Book>>, books: Vec<Book>) -> Vec<Mutex<Book>>
     requires empty { vec_len room ≡ 0 }
     requires room { vec_len books ≤ vec_capacity room }
@@ -320,7 +324,7 @@ fn listed(alloc: Global, places: usize, room: Vec<Vec<Entry>>, books: Vec<Book>)
     lists
 }
 
-/// The entries of a book that is the nth node's.
+/// The entries of `book` if it belongs to the nth node; otherwise an empty list.
 fn list_at(alloc: Global, places: usize, n: usize, book: Book) -> Vec<Entry>
     requires places { 0 < places × places ≤ PLACES }
     requires few { n < NODES }
@@ -334,7 +338,7 @@ fn list_at(alloc: Global, places: usize, n: usize, book: Book) -> Vec<Entry>
     }
 }
 
-/// The number of the nth node, where each data centre has so many.
+/// The number of the nth node, where each data centre has `places` nodes.
 pub(crate) fn number_at(places: usize, n: usize) -> usize
     requires places { 0 < places × places ≤ PLACES }
     requires few { n < NODES }

@@ -17,7 +17,7 @@ use std::alloc::{AllocError, Global};
 use std::sync::atomic::AtomicU64;
 use std::sync::{Mutex, Wait};
 
-/// The nodes of a cluster, each under a lock of its own, by data centre and place; one counter of tickets; and the
+/// A cluster: its nodes, each under its own lock, ordered by data centre and place; one ticket counter; and the
 /// recorder of what clients see. The limits are those of its format.
 #[derive(Drop)]
 pub struct Cluster {
@@ -32,8 +32,8 @@ pub struct Cluster {
     ghost counted: { recorder.clients ≡ clients },
 }
 
-/// A cluster in which nothing has happened, its clients in order of their numbers, and a share for the receiver of each
-/// data centre.
+/// A new cluster in which nothing has happened yet, its clients in order of their numbers, and one share for the
+/// receiver of each data centre.
 #[derive(Drop)]
 pub struct Opened {
     pub cluster: Cluster,
@@ -49,8 +49,11 @@ impl Cluster {
     ghost use Rattle.cops_cluster.specs.Opening.{AreClientsAt, AreOfFormat, AreReceivers};
     ghost use Rattle.cops_cluster.specs.Cluster.{IsNode, IsPutsFrom};
 
-    /// A cluster of format 1 and of these data centres and nodes, with a client at each of these data centres:
-    /// `BadClient` where one of those is not there, or there are more than 65,535 clients.
+    /// Opens a cluster of format 1 with these data centres and nodes, and one client in each data centre that
+    /// `client_dcs` lists.
+    ///
+    /// Errors: `BadClient` where one of the listed data centres does not exist, or there are more than 65,535 clients;
+    /// `Memory` when memory runs out.
     pub fn open(alloc: Global, place: Place, client_dcs: Vec<u8>) -> Result<Opened, OpenFault>
         ensures format { IfOk result (λ o. o.cluster.format ≡ Format.One) }
         ensures place { IfOk result (λ o. o.cluster.place ≡ place) }
@@ -63,7 +66,8 @@ impl Cluster {
         Cluster::open_in(Format::One, alloc, place, client_dcs)
     }
 
-    /// Such a cluster of a format. Format 2 has deletions, longer values and larger contexts.
+    /// Like `open`, but for a given format. Format 2 has deletions, longer values and larger contexts. Returns the
+    /// errors of `open`, `BadClient` and `Memory`.
     pub fn open_in(
         format: Format,
         alloc: Global,
@@ -84,7 +88,8 @@ impl Cluster {
         }
     }
 
-    /// A cluster of this setting's format, data centres and nodes, with its clients.
+    /// Opens a cluster with the format, data centres, nodes and clients of a setting. Returns `Memory` when memory runs
+    /// out.
     pub fn of(alloc: Global, setting: &Setting) -> Result<Opened, Memory>
         ensures format { IfOk result (λ o. o.cluster.format ≡ setting.now.format) }
         ensures place { IfOk result (λ o. o.cluster.place ≡ setting.now.place) }
@@ -129,7 +134,7 @@ impl Cluster {
         self.place.nodes()
     }
 
-    /// What the node at a place of a data centre tells of itself; `None` where there is no such node.
+    /// The status of the node at a place of a data centre; `None` where there is no such node.
     pub fn status<R: Wait>(&self, rt: &R, dc: u8, place: u8) -> Option<NodeStatus>
         ensures there { IsSome result ↔ IsNode self.now dc place }
         ensures clock { IfSome result (λ status. status.clock ≤ MAX_CLOCK) }
@@ -139,9 +144,9 @@ impl Cluster {
         Some(status)
     }
 
-    /// Copies of the puts and deletions that were issued at the node at a place of a data centre, from the entry at a
-    /// place of its book on, and how many entries that has: from there on the next copies are to be made. `None` where
-    /// there is no such node.
+    /// Copies of the puts and deletions that were issued at the node at a place of a data centre, starting at entry
+    /// `from` of its log, and the length of that log, which is where the next copies start. `None` where there is no
+    /// such node. Returns `Memory` when memory runs out.
     pub fn puts_from<R: Wait>(
         &self,
         rt: &R,
@@ -160,7 +165,8 @@ impl Cluster {
         Ok(Some(puts))
     }
 
-    /// Copies of the records of what clients saw so far, in order of arrival, from a place on.
+    /// Copies of the records of what clients have seen so far, in order of arrival, starting at `place`. Returns
+    /// `Memory` when memory runs out.
     pub fn records_from<R: Wait>(&self, rt: &R, place: usize) -> Result<Tail, Memory>
         ensures place { IfOk result (λ tail. tail.place ≡ place) }
     {
@@ -168,7 +174,7 @@ impl Cluster {
         Ok(Tail { place, records })
     }
 
-    /// The node at a place of a data centre, where it is there.
+    /// The node at a place of a data centre, if it exists.
     pub(crate) fn spot_at(&self, dc: u8, place: u8) -> Option<Spot>
         ensures some { IfSome result (λ spot. (spot.dc ≡ dc) × (spot.place ≡ place) × IsNode self.now dc place) }
         ensures none { IfNone result (IsNode self.now dc place → ⊥) }
@@ -182,7 +188,7 @@ impl Cluster {
         Some(Spot { dc, place })
     }
 
-    /// A key's node in a data centre, where that is there.
+    /// The node of a key in a data centre, if that data centre exists.
     pub(crate) fn spot_of(&self, dc: u8, key: &Key) -> Option<Spot>
         ensures some { IfSome result (λ spot. (spot.dc ≡ dc) × (spot.place ≡ primary self.now.place.splits key.now) × IsNode self.now spot.dc spot.place) }
         ensures none { IfNone result (self.now.place.dcs ≤ dc) }
@@ -204,7 +210,7 @@ impl Cluster {
     }
 }
 
-/// The books of opened nodes, by data centre and place.
+/// The books of new nodes, ordered by data centre and place.
 fn opened_nodes(alloc: Global, dcs: u8, places: u8) -> Result<Vec<Mutex<Book>>, AllocError>
     requires dcs { dcs ≤ MAX_DCS }
     requires places { places ≤ PLACES }
@@ -217,7 +223,7 @@ fn opened_nodes(alloc: Global, dcs: u8, places: u8) -> Result<Vec<Mutex<Book>>, 
     Ok(nodes)
 }
 
-/// Those of one data centre more.
+/// Adds the books of one more data centre.
 fn add_nodes(
     alloc: Global,
     nodes: &mut Vec<Mutex<Book>>,
@@ -235,7 +241,7 @@ fn add_nodes(
     Ok(())
 }
 
-/// A client at each of these data centres, with nothing in its context and in its share.
+/// One client in each of these data centres, each with an empty context and an empty share.
 fn opened_clients(format: Format, alloc: Global, dcs: &[u8]) -> Result<Vec<Client>, AllocError>
     requires { length dcs.now ≤ MAX_CLIENTS }
     ensures clients { IfOk result (λ clients. AreClientsAt dcs.now (length dcs.now) clients.items) }

@@ -1,4 +1,4 @@
-//! Whether the entries of books are those of shares.
+//! Comparing the entries of books with those of shares.
 ghost use Rattle.std.specs.Prelude.{◌≡◌, ◌≤◌, ◌<◌, ◌+◌, ◌++◌, ◌∷◌, [], ◌↔◌, length, map, take, drop, IfOk, OnOk, IsFalse, IsTrue, slice_index_or};
 ghost use Rattle.std.specs.List.{Contains};
 ghost use Rattle.std.specs.List.Sorted.{IsNonDecreasingBy, IsPermutation};
@@ -15,8 +15,8 @@ use crate::share::Share;
 use cops_book::{Book, Entry};
 use std::alloc::{AllocError, Global};
 
-/// The least ticket whose entries in the books are not those in the shares; `None` where the entries are the same, each
-/// as often.
+/// The least ticket at which the entries of the books and of the shares differ; `None` where both have the same
+/// entries, as multisets.
 pub(crate) fn difference(
     alloc: Global,
     places: usize,
@@ -30,7 +30,9 @@ pub(crate) fn difference(
     compared(kept_in(alloc, places, books)?, told_in(alloc, shares)?)
 }
 
-/// The same of lists of entries, one for each node in order of node numbers, where each data centre has so many nodes.
+/// The least ticket at which the entries of the lists and of the shares differ; `None` where both have the same
+/// entries, as multisets. There is one list for each node in order of node numbers, and each data centre has `places`
+/// nodes. Returns `AllocError` when memory runs out.
 pub fn difference_of_lists(
     alloc: Global,
     places: u8,
@@ -47,7 +49,7 @@ pub fn difference_of_lists(
     )
 }
 
-/// The least ticket whose entries in two lists are not the same, each as often.
+/// The least ticket at which two lists differ; `None` where they are equal as multisets.
 fn compared(kept: Vec<Noted<'_>>, heard: Vec<Noted<'_>>) -> Result<Option<u64>, AllocError>
     ensures { IfOk result (Compares (map shown kept.entry.items) (map shown heard.entry.items)) }
 {
@@ -92,7 +94,7 @@ fn kept_in<'a>(
     Ok(all)
 }
 
-/// Those of a book more, where it is the nth node's.
+/// Adds the entries of `book`, if it belongs to the nth node.
 fn add_book<'a>(
     all: &mut Vec<Noted<'a>>,
     places: usize,
@@ -135,7 +137,7 @@ fn told_in<'a>(alloc: Global, shares: &'a [Share]) -> Result<Vec<Noted<'a>>, All
     Ok(all)
 }
 
-/// Those of a share more.
+/// Adds the entries of one share.
 fn add_share<'a>(all: &mut Vec<Noted<'a>>, share: &'a Share) -> Result<(), AllocError>
     ensures { OnOk result (map shown all.new.items ≡ map shown all.old.items ++ share.now.entries.items) }
 {
@@ -146,7 +148,7 @@ fn add_share<'a>(all: &mut Vec<Noted<'a>>, share: &'a Share) -> Result<(), Alloc
     Ok(())
 }
 
-/// The least ticket at which two lists in order of tickets differ. Entries of one ticket may come in any order.
+/// The least ticket at which two lists sorted by ticket differ. Entries of one ticket may come in any order.
 fn first_difference(kept: &[Noted<'_>], heard: &mut [Noted<'_>]) -> Option<u64>
     requires kept { IsNonDecreasingBy ticket_of kept.now }
     requires heard { IsNonDecreasingBy ticket_of heard.old }
@@ -172,7 +174,8 @@ fn first_difference(kept: &[Noted<'_>], heard: &mut [Noted<'_>]) -> Option<u64>
     None
 }
 
-/// Brings the same entry to a place, from among those of its ticket that stand there and behind it, if it is there.
+/// Searches the entries with this ticket, from place `i` on, for one equal to `noted`, and swaps it to place `i`.
+/// Returns whether it was found.
 fn bring(noted: &Noted<'_>, heard: &mut [Noted<'_>], i: usize) -> bool
     requires place { i < length heard.old }
     requires sorted { IsNonDecreasingBy ticket_of heard.old }

@@ -1,6 +1,7 @@
-//! A COPS cluster on threads (COPS, sections 3 and 4): each node under a lock of its own, clients that call from
-//! threads of their own, and what each caller was told. Stands on the nodes' books, places, contexts and the recorder.
-//! The layers above use that, where a cluster is closed, what every caller was told is what the books' nodes answered.
+//! A COPS cluster on threads (COPS, sections 3 and 4): each node has its own lock, and clients call from their own
+//! threads. Each caller keeps a share, the list of the entries that its own steps added to the nodes' logs. It builds
+//! on the nodes' books, places, contexts and the recorder. The layers above rely on this: when a cluster is closed, the
+//! shares are compared with the logs, so what every caller was answered is what the nodes answered.
 #![tactic(auto)]
 
 mod client;

@@ -1,9 +1,9 @@
-//! Entries with the numbers of their nodes, to be put in order of their tickets.
+//! Log entries with their nodes' numbers, to be sorted by ticket.
 ghost use Rattle.std.specs.Prelude.{◌≡◌};
 
 use cops_book::Entry;
 
-/// An entry, with the number of its node, and its ticket, by which it is sorted without a look at it.
+/// A log entry with its node's number, and its ticket, so that sorting need not look into the entry.
 #[derive(Clone, Copy)]
 pub struct Noted<'a> {
     pub ticket: u64,
@@ -27,7 +27,7 @@ impl<'a> Noted<'a> {
         }
     }
 
-    /// Whether the two are the same entry, of the same node.
+    /// Whether both are the same entry of the same node.
     pub(crate) fn is(&self, other: &Noted<'_>) -> bool
         ensures { IsTrue result ↔ (shown self.now ≡ shown other.now) }
     {

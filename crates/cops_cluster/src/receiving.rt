@@ -1,4 +1,5 @@
-//! The steps by which puts of other data centres come into one: deliveries, questions, marks and settlements.
+//! The steps by which a data centre receives puts of other data centres: deliveries, dependency checks, marks and
+//! settlements.
 ghost use Rattle.std.specs.Prelude.{◌≡◌};
 ghost use Rattle.cops_cluster.specs.Receiving.{IsAskedOf, outcome_of};
 ghost use Rattle.cops_cluster.specs.Replies.{IsReplyOfSeen};
@@ -13,10 +14,10 @@ use cops_node::{Node, NodeEvent, Outcome};
 use cops_types::{Dep, Gate, GateHeld, Key, PutRecord, Refusal, Version};
 use std::sync::Wait;
 
-/// The client's number that a gate is told for a receiver's steps.
+/// The client number that a gate gets for a receiver's steps.
 pub const RECEIVER: u16 = 65_535;
 
-/// An answer Yes: exactly this pair is settled in this data centre.
+/// A Yes to a dependency check: exactly this pair is settled in this data centre.
 #[derive(Debug, Drop)]
 pub struct Yes {
     dc: u8,
@@ -24,12 +25,12 @@ pub struct Yes {
     version: Version,
 }
 
-/// What a node answers to the question whether a pair is settled.
+/// A node's answer to the question whether a pair is settled.
 #[derive(Debug, Drop)]
 pub enum Asked {
-    /// It is.
+    /// The pair is settled.
     Yes(Yes),
-    /// It is not, or the question was refused.
+    /// The pair is not settled, or the question was refused.
     Other(Outcome),
 }
 
@@ -39,9 +40,9 @@ impl Yes {
     ghost use Rattle.cops_node.specs.Node.{dep_at};
     ghost use Rattle.cops_cluster.specs.Receiving.{Allows, Forbids, IsFor};
 
-    /// Whether the answer allows a mark at a node of this data centre: it does unless a put waits there at this version,
-    /// has a dependency of this index, and that is not the pair that the answer is for, or it is of another data centre.
-    /// Where there is no such dependency the node itself refuses the mark.
+    /// Whether this answer allows marking dependency `dep` of the put that waits at `version` at a node of data centre
+    /// `dc`. It does if it is an answer for that dependency's pair in that data centre. It also does where there is no
+    /// such put or dependency, since the node then refuses the mark itself.
     pub fn allows(&self, dc: u8, node: &Node, version: Version, dep: u16) -> bool
         ensures yes { IsTrue result → Allows self.now dc (dep_at (waiting node.now.held version) dep) }
         ensures no { ¬ IsTrue result → Forbids self.now dc (dep_at (waiting node.now.held version) dep) }
@@ -52,7 +53,7 @@ impl Yes {
         }
     }
 
-    /// Whether the answer is one for this pair, in this data centre.
+    /// Whether this is an answer for this pair in this data centre.
     fn is_for(&self, dc: u8, pair: &Dep) -> bool
         ensures { IsTrue result ↔ IsFor self.now dc pair.now }
     {
@@ -83,8 +84,10 @@ impl Cluster {
     ghost use Rattle.cops_cluster.specs.Receiving.{Allows, Forbids, IsAllowedMark, IsAskedOf, IsMarkedAs, IsUnaskedMark, outcome_of};
     ghost use Rattle.cops_cluster.specs.declared.fault.Stop.TheVariants.{Refused};
 
-    /// A put of another data centre comes to its key's node in a data centre. Refused where there is no such data
-    /// centre, and for want of memory.
+    /// Delivers a put of another data centre to its key's node in data centre `dc`.
+    ///
+    /// Refused with `UnknownDc` where there is no such data centre, and with `Memory` when memory runs out. `GateHeld`
+    /// where the gate stops the call.
     pub fn deliver<R: Wait, G: Gate>(
         &self,
         rt: &R,
@@ -109,8 +112,10 @@ impl Cluster {
         self.received(rt, share, gate, spot, NodeEvent::Deliver(put))
     }
 
-    /// Asks a key's node in a data centre whether exactly this pair is settled. Refused where there is no such data
-    /// centre, and for want of memory.
+    /// Asks a key's node in data centre `dc` whether exactly this pair is settled.
+    ///
+    /// Refused with `UnknownDc` where there is no such data centre, and with `Memory` when memory runs out. `GateHeld`
+    /// where the gate stops the call.
     pub fn ask<R: Wait, G: Gate>(
         &self,
         rt: &R,
@@ -152,10 +157,12 @@ impl Cluster {
         }
     }
 
-    /// Marks a dependency, by its index, of a put that waits at the node of its version in a data centre, for which
-    /// this answer Yes was given. Refused where there is no such data centre, where no put waits at the version, where
-    /// it has no such dependency, where the answer is one for another pair or of another data centre (`NoYes`, and for
-    /// nothing else), and for want of memory.
+    /// Marks a dependency, given by its index, of a put that waits at the node of its version in data centre `dc`.
+    /// `yes` is the answer that the dependency is settled.
+    ///
+    /// Refused with `UnknownDc` where there is no such data centre, `NotHeld` where no put waits at the version,
+    /// `NoSuchDep` where it has no such dependency, `NoYes` exactly where the answer is for another pair or another
+    /// data centre, and `Memory` when memory runs out. `GateHeld` where the gate stops the call.
     pub fn mark<R: Wait, G: Gate>(
         &self,
         rt: &R,
@@ -185,8 +192,11 @@ impl Cluster {
         passed(rt, gate, RECEIVER, replied(spot.number(), answered))
     }
 
-    /// Settles a put that waits at the node of its version in a data centre. Refused where there is no such data
-    /// centre, where no put waits at the version, where not all its dependencies are marked, and for want of memory.
+    /// Settles a put that waits at the node of its version in data centre `dc`.
+    ///
+    /// Refused with `UnknownDc` where there is no such data centre, `NotHeld` where no put waits at the version,
+    /// `DepsOpen` where not all its dependencies are marked, and `Memory` when memory runs out. `GateHeld` where the
+    /// gate stops the call.
     pub fn settle<R: Wait, G: Gate>(
         &self,
         rt: &R,
@@ -212,7 +222,8 @@ impl Cluster {
         self.received(rt, share, gate, spot, NodeEvent::Settle { version })
     }
 
-    /// Why there is no node at some place of a data centre: there is no such data centre, or else no put waits there.
+    /// Why there is no node at a place of a data centre: `UnknownDc` where that data centre does not exist, otherwise
+    /// `NotHeld`.
     fn refusal_of_no_node(&self, dc: u8) -> Refusal
         ensures unknown { self.now.place.dcs ≤ dc → result ≡ UnknownDc }
         ensures not_held { dc < self.now.place.dcs → result ≡ NotHeld }
@@ -224,7 +235,7 @@ impl Cluster {
         }
     }
 
-    /// A step for which the gate is told of a receiver.
+    /// A receiver's step. The gate gets `RECEIVER` as the client number.
     fn received<R: Wait, G: Gate>(
         &self,
         rt: &R,
@@ -244,7 +255,7 @@ impl Cluster {
         passed(rt, gate, RECEIVER, replied(spot.number(), answered))
     }
 
-    /// A mark under the node's lock.
+    /// A mark at a node, which it locks.
     fn mark_step<R: Wait, G: Gate>(
         &self,
         rt: &R,
@@ -273,7 +284,7 @@ impl Cluster {
         Ok(gained(share, spot.number(), told))
     }
 
-    /// A mark at a node whose lock is held: refused with `NoYes` exactly where the answer is not one for the dependency
+    /// A mark at a node whose lock is held. Refused with `NoYes` exactly where the answer is not for the dependency
     /// that is there.
     fn marked<R: Wait, G: Gate>(
         &self,
@@ -303,7 +314,7 @@ impl Cluster {
     }
 }
 
-/// What was asked, with the outcome of the question.
+/// The answer to a question about this pair, from its outcome.
 fn asked_of(dc: u8, key: Key, version: Version, outcome: Outcome) -> Asked
     ensures told { outcome_of result ≡ outcome }
     ensures names { IsAskedOf dc key version result }
@@ -314,7 +325,7 @@ fn asked_of(dc: u8, key: Key, version: Version, outcome: Outcome) -> Asked
     }
 }
 
-/// A node's answer, with its number.
+/// A node's answer together with the node's number.
 fn replied(node: u16, answered: Result<Seen, Stop>) -> Result<Reply, Stop>
     ensures { IsReplyOfSeen node answered result }
 {

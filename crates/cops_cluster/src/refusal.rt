@@ -1,4 +1,4 @@
-//! How the recorder refuses.
+//! How a fault of the recorder is reported.
 ghost use Rattle.std.specs.Prelude.{◌≡◌, ◌⊎◌, false};
 ghost use Rattle.cops_types.specs.declared.refusal.Refusal.TheVariants.{Memory, SessionFull, UnknownClient};
 ghost use Rattle.cops_cluster.specs.Shares.{is_refusal_of_node};
@@ -6,7 +6,7 @@ ghost use Rattle.cops_cluster.specs.Shares.{is_refusal_of_node};
 use cops_record::RecordFault;
 use cops_types::Refusal;
 
-/// Why a call is refused where the recorder refuses it, which is none of a node's reasons.
+/// The refusal for a fault of the recorder. It is never one of a node's own refusals.
 pub(crate) fn refusal(fault: RecordFault) -> Refusal
     ensures not_of_node { is_refusal_of_node result ≡ false }
     ensures unknown { result ≡ UnknownClient → fault ≡ RecordFault.UnknownClient }

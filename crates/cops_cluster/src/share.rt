@@ -1,23 +1,23 @@
-//! What each caller of a cluster was told.
+//! What the callers of a cluster were answered.
 ghost use Rattle.std.specs.Prelude.{◌≡◌};
 
 use cops_book::Entry;
 
-/// An entry, with the number of the node whose step it is.
+/// A log entry, with the number of the node whose step it is.
 #[derive(Debug, Drop)]
 pub struct Made {
     pub entry: Entry,
     pub node: u16,
 }
 
-/// Who holds a share: a client, or the receiver of a data centre.
+/// The holder of a share: a client, or the receiver of a data centre.
 #[derive(Clone, Copy, Debug, PartialEq, Eq)]
 pub enum Holder {
     Client(u16),
     Receiver(u8),
 }
 
-/// The entries that a holder's steps made, in order. It gains an entry by a step of a node alone.
+/// A caller's share: the entries of the steps that it made, in order. Only a step of a node adds an entry.
 #[derive(Debug, Drop)]
 pub struct Share {
     pub(crate) holder: Holder,
@@ -27,14 +27,14 @@ pub struct Share {
 impl Share {
     ghost use Rattle.std.specs.Prelude.{◌≡◌};
 
-    /// Who holds it.
+    /// The share's holder.
     pub fn holder(&self) -> Holder
         ensures { result ≡ self.now.holder }
     {
         self.holder
     }
 
-    /// The entries.
+    /// The share's entries, in order.
     pub fn entries(&self) -> &[Made]
         ensures { result.now ≡ self.now.entries.items }
     {

@@ -4,7 +4,7 @@ ghost use Rattle.cops_types.specs.NodeNumber.{node_number};
 
 use cops_types::node_number;
 
-/// A node, by its data centre and its place there. Both are in range where the number below 1,024 is to be told.
+/// A node, given by its data centre and its place there. Its number is below 1,024 where both are in range.
 #[derive(Clone, Copy, Debug, PartialEq, Eq)]
 pub(crate) struct Spot {
     pub(crate) dc: u8,

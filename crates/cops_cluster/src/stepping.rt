@@ -1,4 +1,4 @@
-//! A client's put, deletion and get, and the one way in which all steps go to a node.
+//! A client's put, deletion and get, and the single path by which every step reaches a node.
 ghost use Rattle.std.specs.Prelude.{◌≡◌, ◌<◌, ◌++◌, [], ◌∷◌, IfOk, OnErr, option_copied, vec_capacity, vec_len};
 ghost use Rattle.cops_types.specs.Histories.{write};
 ghost use Rattle.cops_types.specs.Operations.{operation_of};
@@ -30,7 +30,7 @@ pub(crate) struct Seen {
     pub(crate) seen: Outcome,
 }
 
-/// What a node answered to a client, and what the client saw, where that is an operation.
+/// What a node answered to a client, and the operation that the client saw, if any.
 #[derive(Drop)]
 pub(crate) struct Answer {
     pub(crate) outcome: Outcome,
@@ -38,21 +38,23 @@ pub(crate) struct Answer {
     pub(crate) op: Option<Op>,
 }
 
-/// What a node answered.
+/// A node's answer with the node's number.
 #[derive(Drop)]
 pub(crate) struct Reply {
     pub(crate) outcome: Outcome,
     pub(crate) node: u16,
 }
 
-/// What is copied for a client's write: its dependencies, and what it notes of the write.
+/// The copies made for a client's write: its dependencies, and the key and content that are kept until the node
+/// answers.
 #[derive(Drop)]
 struct WriteCopies {
     deps: Deps,
     notes: WriteNotes,
 }
 
-/// What a client notes of a write: the key for its context, and what it saw. Without a value it is a deletion.
+/// What is kept of a write until the node answers: the key for the client's context, and the key and content for the
+/// operation that it saw. A write without a content is a deletion.
 #[derive(Drop)]
 struct WriteNotes {
     pair_key: Key,
@@ -60,21 +62,22 @@ struct WriteNotes {
     content: Option<Value>,
 }
 
-/// What a node is told of a write, and what the client notes of it.
+/// The event that a write sends to the node, and what is kept until the node answers.
 #[derive(Drop)]
 struct WriteTold {
     event: NodeEvent,
     notes: WriteNotes,
 }
 
-/// What a client notes of a get: the key for its context, and what it saw.
+/// What is kept of a get until the node answers: the key for the client's context, and the key for the operation that
+/// it saw.
 #[derive(Drop)]
 struct GetNotes {
     pair_key: Key,
     key: Key,
 }
 
-/// What a node is told of a get, and what the client notes of it.
+/// The event that a get sends to the node, and what is kept until the node answers.
 #[derive(Drop)]
 struct GetTold {
     event: NodeEvent,
@@ -121,7 +124,7 @@ fn write_told(client: &Client, key: Key, content: Option<Value>) -> Result<Write
     Ok(WriteTold { event, notes })
 }
 
-/// What a node is told where a client writes a content.
+/// The event for a client's write: a put of the content, or a deletion where there is none.
 fn event_of(client: u16, key: Key, content: Option<Value>, deps: Deps) -> NodeEvent
     ensures { result ≡ write_event client key content deps }
 {
@@ -136,7 +139,7 @@ fn event_of(client: u16, key: Key, content: Option<Value>, deps: Deps) -> NodeEv
     }
 }
 
-/// What a client saw whose write was given a version.
+/// The operation that a client saw when its write was given a version.
 fn written(key: Key, content: Option<Value>, version: Version) -> Op
     ensures { operation_of result ≡ write key content version }
 {
@@ -193,9 +196,12 @@ impl Cluster {
     ghost use Rattle.cops_cluster.specs.Outcomes.{IsDelOutcome, IsGetOutcome, IsNodeAnswer, IsPutOutcome, IsUnaskedGet, IsUnaskedWrite, IsUnknown, IsWant, IsWriteOutcome, StopsWith};
     ghost use Rattle.cops_cluster.specs.Replies.{IsSpent};
 
-    /// A client puts a value. Refused where the client is of another cluster, which has no client of its number here or
-    /// no data centre of its, or another format, then where the value is longer than the cluster's format allows, and
-    /// then where its session is full, where the clock of the key's node can rise no further, and where memory runs out.
+    /// Puts a value for a client.
+    ///
+    /// Refused with `UnknownClient` where the client belongs to another cluster (this one has no client of its number,
+    /// no data centre of its, or another format); then with `NotInFormat` where the value is longer than the cluster's
+    /// format allows; then with `SessionFull` where its session is full, `ClockExhausted` where the clock of the key's
+    /// node can rise no further, and `Memory` when memory runs out. `GateHeld` where the gate stops the call.
     pub fn put<R: Wait, G: Gate>(
         &self,
         rt: &R,
@@ -216,9 +222,12 @@ impl Cluster {
         self.write(rt, client, gate, key, Some(value))
     }
 
-    /// A client deletes a key, which only format 2 has. Refused where the client is of another cluster, as a put is,
-    /// then where the cluster's format has no deletions, and then where its session is full, where the clock of the
-    /// key's node can rise no further, and for want of memory.
+    /// Deletes a key for a client, which only format 2 allows.
+    ///
+    /// Refused with `UnknownClient` where the client belongs to another cluster, as for a put; then with `NotInFormat`
+    /// where the cluster's format has no deletions; then with `SessionFull` where its session is full, `ClockExhausted`
+    /// where the clock of the key's node can rise no further, and `Memory` when memory runs out. `GateHeld` where the
+    /// gate stops the call.
     pub fn del<R: Wait, G: Gate>(
         &self,
         rt: &R,
@@ -238,7 +247,7 @@ impl Cluster {
         self.write(rt, client, gate, key, None)
     }
 
-    /// A client writes a content: a put, or without a value a deletion.
+    /// Writes a content for a client: a put, or a deletion where there is no value.
     fn write<R: Wait, G: Gate>(
         &self,
         rt: &R,
@@ -270,7 +279,7 @@ impl Cluster {
         passed(rt, gate, number, reply)
     }
 
-    /// A slot for what a client writes, or why it is refused before a node is asked.
+    /// Reserves the recorder's slot for a client's write, or says why the write is refused before a node is asked.
     fn slot_for<R: Wait>(
         &self,
         rt: &R,
@@ -295,8 +304,11 @@ impl Cluster {
         }
     }
 
-    /// A client gets the value of a key. Refused where the client is of another cluster, as a put is, and then where its
-    /// session is full, where its context has as many pairs as the format allows, and for want of memory.
+    /// Gets the value of a key for a client.
+    ///
+    /// Refused with `UnknownClient` where the client belongs to another cluster, as for a put; then with `SessionFull`
+    /// where its session is full, `ContextFull` where its context has as many pairs as the format allows, and `Memory`
+    /// when memory runs out. `GateHeld` where the gate stops the call.
     pub fn get<R: Wait, G: Gate>(
         &self,
         rt: &R,
@@ -332,7 +344,8 @@ impl Cluster {
         passed(rt, gate, number, reply)
     }
 
-    /// Whether there is a client of this number, and the client's data centre, and its context has the same format.
+    /// Whether the cluster has a client of this number and the client's data centre, and the client's context has the
+    /// cluster's format.
     fn knows(&self, client: &Client) -> bool
         ensures yes { IsTrue result → client.now.dc < self.now.place.dcs × client.now.number < self.now.clients × (client.now.context.format ≡ self.now.format) }
         ensures no { ¬ IsTrue result → IsUnknown self.now client.now }
@@ -342,7 +355,7 @@ impl Cluster {
             && client.context.format() == self.format
     }
 
-    /// A write while a slot is reserved for it.
+    /// A write, with a slot already reserved for it.
     fn write_step<R: Wait, G: Gate>(
         &self,
         rt: &R,
@@ -382,7 +395,7 @@ impl Cluster {
         }
     }
 
-    /// A get while a slot is reserved for it.
+    /// A get, with a slot already reserved for it.
     fn get_step<R: Wait, G: Gate>(
         &self,
         rt: &R,
@@ -426,8 +439,8 @@ impl Cluster {
         }
     }
 
-    /// The key's node in the client's data centre, where the client's context has room for one more pair: else why the
-    /// get is refused.
+    /// The key's node in the client's data centre, with room for one more pair reserved in the client's context;
+    /// otherwise why the get is refused.
     fn spot_with_room(&self, client: &mut Client, key: &Key) -> Result<Spot, Refusal>
         requires dc { client.old.dc < self.now.place.dcs }
         requires format { client.old.context.format ≡ self.now.format }
@@ -450,7 +463,7 @@ impl Cluster {
         }
     }
 
-    /// Spends a slot: what the client saw fills it, and where that is no operation it is cancelled.
+    /// Uses up a slot: fills it with the operation that the client saw, or cancels it where there is none.
     fn spent<R: Wait>(
         &self,
         rt: &R,
@@ -474,7 +487,7 @@ impl Cluster {
         }
     }
 
-    /// One step of a node, under its lock: the holder's share gains its entry.
+    /// Runs one step of a node, which it locks, and adds the step's entry to the holder's share.
     pub(crate) fn step<R: Wait, G: Gate>(
         &self,
         rt: &R,
@@ -503,7 +516,7 @@ impl Cluster {
         Ok(gained(share, spot.number(), told))
     }
 
-    /// One step of a node whose lock is held: its book gains the entry.
+    /// Runs one step of a node whose lock is held, and adds the entry to its log.
     pub(crate) fn asked<R: Wait, G: Gate>(
         &self,
         rt: &R,
@@ -541,7 +554,8 @@ impl Client {
     ghost use Rattle.cops_context.specs.Context.{with_pair};
     ghost use Rattle.cops_cluster.specs.Cluster.{after_get, after_write, get_seen, write_seen};
 
-    /// The client's write was answered: what it saw, which its context then has alone.
+    /// Handles the answer to the client's write. Returns the operation that it saw; after a version was given, the
+    /// context has the write's pair alone.
     fn wrote(&mut self, notes: WriteNotes, answer: &Outcome) -> Option<Op>
         requires { notes.pair_key ≡ notes.key }
         ensures context { self.new.context.pairs ≡ after_write self.old.context.pairs notes.key answer.now }
@@ -564,7 +578,8 @@ impl Client {
         Some(written(key, content, version))
     }
 
-    /// The client's get was answered: what it saw, whose pair its context gains.
+    /// Handles the answer to the client's get. Returns the operation that it saw, and adds the pair that it returned to
+    /// the context.
     fn saw(&mut self, pair_key: Key, key: Key, answer: Outcome) -> Option<Op>
         requires key { pair_key ≡ key }
         requires room { self.old.context.room ≡ true }
@@ -591,7 +606,7 @@ impl Client {
         }
     }
 
-    /// The client's context gains a pair.
+    /// Adds a pair to the client's context.
     fn met(&mut self, key: Key, version: Version)
         requires room { self.old.context.room ≡ true }
         requires few { length self.old.context.pairs < most_deps self.old.context.format }
@@ -602,7 +617,7 @@ impl Client {
     }
 }
 
-/// The share gains the entry of a step of the node with this number.
+/// Adds to the share the entry of a step of the node with this number.
 pub(crate) fn gained(share: &mut Share, node: u16, told: Told) -> Seen
     requires { vec_len share.old.entries < vec_capacity share.old.entries }
     ensures who { share.new.holder ≡ share.old.holder }
@@ -618,7 +633,7 @@ pub(crate) fn gained(share: &mut Share, node: u16, told: Told) -> Seen
     Seen { outcome, seen }
 }
 
-/// What the caller is told, once it has passed the gate after a node's answer.
+/// The outcome that the caller gets, after the gate has let a node's answer pass.
 pub(crate) fn passed<R: Wait, G: Gate>(
     rt: &R,
     gate: &G,

@@ -1,7 +1,7 @@
 //! Copies of what clients saw.
 use cops_trace::Record;
 
-/// Copies of the records of what clients saw from a place on, in order of arrival.
+/// Copies of the records of what clients saw, in order of arrival, starting at a place.
 #[derive(Drop)]
 pub struct Tail {
     pub(crate) place: usize,
@@ -11,7 +11,7 @@ pub struct Tail {
 impl Tail {
     ghost use Rattle.std.specs.Prelude.{◌≡◌};
 
-    /// The place of the first: how many records come before.
+    /// The place of the first record: the number of records before it.
     pub fn place(&self) -> usize
         ensures { result ≡ self.now.place }
     {

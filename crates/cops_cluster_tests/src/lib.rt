@@ -1,6 +1,6 @@
-//! Tests of what no contract says of links, the world, recorders, the cluster on threads, and what replicates, through
-//! their public calls alone: allocations that fail, threads that meet, gates that hold. They stand in a crate above
-//! those, so that each crate is proved once and not with its tests again.
+//! Tests of what no contract says of links, the world, recorders, the cluster on threads, and replication, through
+//! their public calls alone: allocations that fail, threads that meet, gates that hold. They are in a crate above
+//! those, so that proving a crate does not include its tests.
 #![tactic(auto)]
 
 #[cfg(test)]

@@ -10,7 +10,7 @@ use std::test::Fail;
 use std::thread;
 use std::thread::Threads;
 
-/// The pair of the clock before, or none for the first clock.
+/// The pair of the clock before, or nothing for the first clock.
 fn deps(alloc: Global, clock: u64) -> Result<Deps, TypeFault> {
     let mut deps = Vec::new(alloc);
     if clock > 1 {
@@ -33,7 +33,7 @@ fn put(alloc: Global, clock: u64) -> Result<PutRecord, TypeFault> {
     })
 }
 
-/// A deletion, where this is so, in place of a put of the same key, version and dependencies.
+/// A put, or with `deletes` a deletion, of the same key, version and dependencies.
 fn put_or_deletion(alloc: Global, clock: u64, deletes: bool) -> Result<PutRecord, TypeFault> {
     let put = put(alloc, clock)?;
     if !deletes {
@@ -62,14 +62,14 @@ fn clock_of(message: &Message) -> u64 {
     }
 }
 
-/// The clock of a frame's version, or 0. The frame is let go.
+/// The clock of a frame's version, or 0. Drops the frame.
 fn spent_clock(message: Message) -> u64 {
     let clock = clock_of(&message);
     drop(message);
     clock
 }
 
-/// The frame of a put of that clock, or of a deletion.
+/// The frame of a put, or with `deletes` of a deletion, of that clock.
 fn frame(alloc: Global, clock: u64, deletes: bool) -> Result<Frame, Fail> {
     let put = put_or_deletion(alloc, clock, deletes)?;
     let frame = Frame::of(alloc, &put);
@@ -77,7 +77,7 @@ fn frame(alloc: Global, clock: u64, deletes: bool) -> Result<Frame, Fail> {
     Ok(frame?)
 }
 
-/// Whether a put of that clock is taken, or a deletion.
+/// Whether the link accepts a put, or with `deletes` a deletion, of that clock.
 fn offer(alloc: Global, sender: &mut LinkIn, clock: u64, deletes: bool) -> Result<bool, Fail>
     ensures { SameIn sender.old sender.new }
 {
@@ -95,7 +95,7 @@ fn next_clock(taker: &mut LinkOut) -> Result<u64, Memory>
     }
 }
 
-/// Whether a full link gives a deletion of that clock back, which it takes once there is room.
+/// Whether a full link gives a deletion of that clock back, and accepts it once there is room.
 fn is_given_back(
     alloc: Global,
     sender: &mut LinkIn,
@@ -113,7 +113,7 @@ fn is_given_back(
     Ok(first == 1 && sender.send(back).is_ok())
 }
 
-/// Whether a link of one frame takes a put, and a deletion once there is room.
+/// Whether a link of one frame accepts a put, and a deletion once there is room.
 fn takes_two(alloc: Global, sender: &mut LinkIn, taker: &mut LinkOut) -> Result<bool, Fail>
     ensures sender { SameIn sender.old sender.new }
     ensures taker { SameOut taker.old taker.new }
@@ -149,7 +149,7 @@ fn are_of_third(deps: &Deps) -> bool {
         && deps.as_slice()[0].version.clock() == 2
 }
 
-/// Whether the message replicates the put of clock 3, or the deletion.
+/// Whether the message replicates the put, or with `deletes` the deletion, of clock 3.
 fn is_third(message: &Message, deletes: bool) -> bool {
     match message {
         Message::PutAfter {
@@ -174,7 +174,7 @@ fn is_third(message: &Message, deletes: bool) -> bool {
     }
 }
 
-/// Whether the message is taken that replicates the put of clock 3, or the deletion.
+/// Whether the next message that is taken replicates the put, or with `deletes` the deletion, of clock 3.
 fn takes_third(taker: &mut LinkOut, deletes: bool) -> Result<bool, Memory> {
     match taker.take()? {
         Some(message) => {
@@ -196,7 +196,7 @@ fn puts_and_deletions_come_out_as_they_went_in(rt: HostRuntime) -> Result<(), Fa
     Ok(())
 }
 
-/// A put of a value of so many bytes with so many dependencies.
+/// A put of a value of `bytes` bytes with `pairs` dependencies.
 fn large_put(alloc: Global, bytes: usize, pairs: u64) -> Result<PutRecord, Fail> {
     let mut deps = Vec::new(alloc);
     for clock in 1..=pairs {
@@ -217,7 +217,7 @@ fn large_put(alloc: Global, bytes: usize, pairs: u64) -> Result<PutRecord, Fail>
     })
 }
 
-/// How many bytes the value has of the put that is taken next, and how many dependencies it has, or 0 of both.
+/// The number of bytes of the value, and of dependencies, of the put that is taken next, or 0 of both.
 fn next_sizes(taker: &mut LinkOut) -> Result<(usize, usize), Memory> {
     let Some(message) = taker.take()? else {
         return Ok((0, 0));
@@ -230,7 +230,7 @@ fn next_sizes(taker: &mut LinkOut) -> Result<(usize, usize), Memory> {
     Ok(sizes)
 }
 
-/// Whether such a put comes out of a link as it went in.
+/// Whether such a put comes out of a link unchanged.
 fn goes_through(alloc: Global, bytes: usize, pairs: u64) -> Result<bool, Fail> {
     let put = large_put(alloc, bytes, pairs)?;
     let frame = Frame::of(alloc, &put);
@@ -254,7 +254,7 @@ fn the_largest_puts_go_through(rt: HostRuntime) -> Result<(), Fail> {
     Ok(())
 }
 
-/// Why there is no link of this capacity, or none where there is one.
+/// Why a link of this capacity cannot be made; `None` where it can.
 fn fault_of(alloc: Global, capacity: usize) -> Option<LinkFault> {
     match link(alloc, capacity) {
         Ok(ends) => {
@@ -279,7 +279,7 @@ fn a_capacity_is_1_to_1024(rt: HostRuntime) {
     }
 }
 
-/// Sends a frame, and waits where the link is full.
+/// Sends a frame, and waits while the link is full.
 fn send_surely<R: Wait>(rt: &R, sender: &mut LinkIn, mut frame: Frame) {
     for _ in rt.forever() {
         match sender.send(frame) {
@@ -299,7 +299,7 @@ fn send_all<R: Wait>(rt: &R, alloc: Global, mut sender: LinkIn) -> Result<bool, 
     Ok(sender.finish().is_some())
 }
 
-/// The clock of the put that is taken next, once there is one.
+/// The clock of the put that is taken next. Waits until there is one.
 fn awaited_clock<R: Wait>(rt: &R, taker: &mut LinkOut) -> Result<u64, Memory> {
     for _ in rt.forever() {
         let clock = next_clock(taker)?;
@@ -311,7 +311,7 @@ fn awaited_clock<R: Wait>(rt: &R, taker: &mut LinkOut) -> Result<u64, Memory> {
     Ok(0)
 }
 
-/// Takes a thousand puts and deletions, and says whether they came in their turn.
+/// Takes a thousand puts and deletions, and returns whether they came in order.
 fn take_all<R: Wait>(rt: &R, mut taker: LinkOut) -> Result<bool, Memory> {
     let mut in_turn = true;
     for clock in 1..1001 {

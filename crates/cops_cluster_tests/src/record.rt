@@ -18,7 +18,7 @@ fn put(alloc: Global, clock: u64) -> Result<Op, TypeFault> {
     })
 }
 
-/// A slot of the client, which is filled.
+/// Reserves a slot for the client, and fills it.
 fn record<R: Wait>(rt: &R, recorder: &Recorder, client: u16, op: Op) -> Result<(), RecordFault> {
     match recorder.reserve(rt, client) {
         Ok(slot) => {
@@ -32,7 +32,7 @@ fn record<R: Wait>(rt: &R, recorder: &Recorder, client: u16, op: Op) -> Result<(
     }
 }
 
-/// A slot of the client, which is filled with a put of that clock.
+/// Reserves a slot for the client, and fills it with a put of that clock.
 fn record_put<R: Wait>(
     rt: &R,
     alloc: Global,
@@ -44,7 +44,7 @@ fn record_put<R: Wait>(
     Ok(record(rt, recorder, client, op)?)
 }
 
-/// How many records there are from a place on, and whose the first of them is.
+/// The number of records from a place on, and the client of the first of them.
 fn copies<R: Wait>(rt: &R, recorder: &Recorder, from: usize) -> Result<(usize, u16), Memory> {
     let copies = recorder.copy_from(rt, from)?;
     Ok(match copies.first() {
@@ -53,7 +53,7 @@ fn copies<R: Wait>(rt: &R, recorder: &Recorder, from: usize) -> Result<(usize, u
     })
 }
 
-/// How many operations the client has, and whether the last of them is this one.
+/// The number of the client's operations, and whether the last of them is this one.
 fn ends(trace: &Trace, client: u16, op: &Op) -> (usize, bool) {
     let history = trace.history();
     let operations = history.session_len(client);
@@ -65,7 +65,7 @@ fn ends(trace: &Trace, client: u16, op: &Op) -> (usize, bool) {
     (operations, is_last)
 }
 
-/// How many operations the client has, and whether the last of them is the put of that clock.
+/// The number of the client's operations, and whether the last of them is the put of that clock.
 fn ends_with_put(
     alloc: Global,
     trace: &Trace,
@@ -78,7 +78,7 @@ fn ends_with_put(
     Ok(ends)
 }
 
-/// Fills the slot of client 0, which is reserved first, after that of client 1.
+/// Reserves a slot of client 0 first, but fills it after that of client 1.
 fn record_backwards<R: Wait>(rt: &R, alloc: Global, recorder: &Recorder) -> Result<(), Fail> {
     let op = put(alloc, 10)?;
     match recorder.reserve(rt, 0) {
@@ -103,7 +103,7 @@ fn are_backwards<R: Wait>(rt: &R, recorder: &Recorder) -> Result<bool, Memory> {
     )
 }
 
-/// Records backwards, and tells whether that is seen.
+/// Records backwards, and returns whether the records show it.
 fn is_seen_backwards<R: Wait>(rt: &R, alloc: Global, recorder: &Recorder) -> Result<bool, Fail> {
     record_backwards(rt, alloc, recorder)?;
     Ok(are_backwards(rt, recorder)?)
@@ -127,14 +127,14 @@ fn a_record_takes_its_place_when_its_slot_is_filled(rt: HostRuntime) -> Result<(
     Ok(())
 }
 
-/// A slot of client 0 that is cancelled, and then one that is filled.
+/// Cancels one slot of client 0, and then fills another one.
 fn cancel_one<R: Wait>(rt: &R, alloc: Global, recorder: &Recorder) -> Result<(), Fail> {
     let slot = recorder.reserve(rt, 0)?;
     recorder.cancel(rt, slot);
     record_put(rt, alloc, recorder, 0, 1)
 }
 
-/// How many operations were recorded.
+/// The number of operations that were recorded.
 fn recorded(recorder: Recorder) -> Result<usize, IntoTraceFault> {
     let trace = recorder.into_trace()?;
     let len = trace.len();
@@ -179,7 +179,7 @@ fn record_deletion<R: Wait>(rt: &R, alloc: Global, recorder: &Recorder) -> Resul
     Ok(second?)
 }
 
-/// What is not of the recorder's format leaves no record.
+/// An operation that the recorder's format does not have leaves no record.
 #[test]
 fn deletions_are_recorded_in_format_2(rt: HostRuntime) -> Result<(), Fail> {
     for (format, wanted) in [(Format::One, 1), (Format::Two, 3)] {
@@ -190,7 +190,7 @@ fn deletions_are_recorded_in_format_2(rt: HostRuntime) -> Result<(), Fail> {
     Ok(())
 }
 
-/// Spends two slots of another recorder here: one is filled, one cancelled.
+/// Uses two slots of another recorder on this one: one is filled, one cancelled.
 fn spend_elsewhere<R: Wait>(
     rt: &R,
     alloc: Global,
@@ -210,8 +210,8 @@ fn spend_elsewhere<R: Wait>(
     Ok(())
 }
 
-/// Spends slots of another recorder, and tells how many records there are after one of client 0, and whose the first
-/// is.
+/// Uses slots of another recorder, and returns the number of records after one of client 0, and the client of the
+/// first.
 fn spent_and_recorded<R: Wait>(
     rt: &R,
     alloc: Global,
@@ -254,9 +254,9 @@ fn fill_session<R: Wait>(rt: &R, alloc: Global, recorder: &Recorder) -> Result<(
     Ok(())
 }
 
-/// Why a client that is not there gets no slot, client 0 while there is room, and clients 0 and 1 once the session of
-/// client 0 is full. A slot that is given here is cancelled, so that a reservation that stayed would leave no room for
-/// the last operation of the session.
+/// Why a client that does not exist gets no slot, client 0 while there is room, and clients 0 and 1 once the session of
+/// client 0 is full. A slot that is given here is cancelled, so that a reservation that was not undone would leave no
+/// room for the last operation of the session.
 fn refusals<R: Wait>(
     rt: &R,
     alloc: Global,
@@ -288,7 +288,7 @@ fn refusals_of_a_slot(rt: HostRuntime) -> Result<(), Fail> {
     Ok(())
 }
 
-/// An operation, also where one growth is refused.
+/// An operation, even if one allocation fails.
 fn surely_put(alloc: Global) -> Result<Op, TypeFault> {
     match put(alloc, 1) {
         Err(TypeFault::Memory) => put(alloc, 1),
@@ -296,7 +296,7 @@ fn surely_put(alloc: Global) -> Result<Op, TypeFault> {
     }
 }
 
-/// A slot of client 0, also where one growth is refused.
+/// A slot of client 0, even if one allocation fails.
 fn surely_reserve<R: Wait>(rt: &R, recorder: &Recorder) -> Result<Slot, RecordFault> {
     match recorder.reserve(rt, 0) {
         Err(RecordFault::Memory) => recorder.reserve(rt, 0),
@@ -304,7 +304,7 @@ fn surely_reserve<R: Wait>(rt: &R, recorder: &Recorder) -> Result<Slot, RecordFa
     }
 }
 
-/// Records a put, also where one growth is refused.
+/// Records a put, even if one allocation fails.
 fn surely_record<R: Wait>(rt: &R, alloc: Global, recorder: &Recorder) -> Result<(), Fail> {
     let op = surely_put(alloc)?;
     match surely_reserve(rt, recorder) {
@@ -319,7 +319,7 @@ fn surely_record<R: Wait>(rt: &R, alloc: Global, recorder: &Recorder) -> Result<
     }
 }
 
-/// The number of records that there are, also where one growth is refused.
+/// The number of records, even if one allocation fails.
 fn surely_count<R: Wait>(rt: &R, recorder: &Recorder) -> Result<(usize, u16), Memory> {
     match copies(rt, recorder, 0) {
         Err(Memory) => copies(rt, recorder, 0),
@@ -335,7 +335,7 @@ fn record_nine<R: Wait>(rt: &R, alloc: Global, recorder: &Recorder) -> Result<(u
     Ok(surely_count(rt, recorder)?)
 }
 
-/// How many operations were recorded, also where one growth is refused.
+/// The number of operations that were recorded, even if one allocation fails.
 fn surely_recorded(recorder: Recorder) -> Result<usize, IntoTraceFault> {
     match recorded(recorder) {
         Err(IntoTraceFault::Memory(back)) => recorded(back),
@@ -343,7 +343,7 @@ fn surely_recorded(recorder: Recorder) -> Result<usize, IntoTraceFault> {
     }
 }
 
-/// Holds for every one growth that is refused: no record is lost, and none is half there.
+/// Holds whichever single allocation fails: no record is lost, and none is incomplete.
 #[test]
 fn a_refused_growth_changes_nothing(rt: HostRuntime) -> Result<(), Fail> {
     let recorder = match Recorder::new(rt.alloc(), 1) {

@@ -1,4 +1,4 @@
-//! The cluster on threads, and what replicates.
+//! The cluster on threads, and replication.
 
 mod building;
 mod clients;

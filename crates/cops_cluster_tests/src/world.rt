@@ -22,8 +22,8 @@ fn del(alloc: Global) -> Result<Event, TypeFault> {
     })
 }
 
-/// A put and one that depends on it, in format 2 a deletion, which then come to another data centre, where a client
-/// gets the second.
+/// The ith event: a put and a second one that depends on it, in format 2 a deletion, which are then delivered to
+/// another data centre, where a client gets the second.
 fn nth(alloc: Global, format: Format, i: u32) -> Result<Event, TypeFault> {
     let (dc, first, second) = (1, Version::new(1, 0)?, Version::new(2, 0)?);
     match i {
@@ -56,7 +56,7 @@ fn nth(alloc: Global, format: Format, i: u32) -> Result<Event, TypeFault> {
     }
 }
 
-/// The event, also where one growth was refused.
+/// The event, even if one allocation fails.
 fn surely(alloc: Global, format: Format, i: u32) -> Result<Event, TypeFault> {
     match nth(alloc, format, i) {
         Err(TypeFault::Memory) => nth(alloc, format, i),
@@ -80,7 +80,7 @@ fn is_wanted(format: Format, i: u32, outcome: &Outcome) -> bool {
     }
 }
 
-/// Whether the outcome is as wanted, or none where a growth was refused. The outcome is let go.
+/// Whether the outcome is as wanted; `None` where an allocation failed. Drops the outcome.
 fn told(format: Format, i: u32, outcome: Outcome) -> Option<bool> {
     let told = match &outcome {
         Outcome::Refused(Refusal::Memory) => None,
@@ -90,14 +90,14 @@ fn told(format: Format, i: u32, outcome: Outcome) -> Option<bool> {
     told
 }
 
-/// A world of two data centres with a client each, or none where a growth was refused.
+/// A world of two data centres with a client each; `None` where an allocation fails.
 fn open(alloc: Global, format: Format) -> Option<World> {
     let homes = Vec::from_slice(alloc, &[0, 1]).ok()?;
     let place = Place::new(2, Vec::new(alloc)).ok()?;
     World::open_in(format, alloc, place, homes).ok()
 }
 
-/// The world, also where one growth was refused.
+/// The world, even if one allocation fails.
 fn surely_open(alloc: Global, format: Format) -> Option<World> {
     match open(alloc, format) {
         None => open(alloc, format),
@@ -105,8 +105,8 @@ fn surely_open(alloc: Global, format: Format) -> Option<World> {
     }
 }
 
-/// What a world shows of itself: how many operations and puts there are and how long the contexts of both clients are,
-/// and which of the two puts are settled in which of the two data centres.
+/// What can be seen of a world: the number of operations and puts, the lengths of both clients' contexts, and which of
+/// the two puts are settled in which of the two data centres.
 #[derive(Clone, Copy, PartialEq, Eq)]
 struct View {
     operations: usize,
@@ -115,7 +115,7 @@ struct View {
     settled: [bool; 4],
 }
 
-/// How many pairs the context of a client has.
+/// The number of pairs in a client's context.
 fn context_len(world: &World, client: u16) -> Option<usize> {
     let deps = world.deps(client).ok()?;
     let len = deps.as_slice().len();
@@ -137,7 +137,7 @@ fn settled(alloc: Global, world: &World) -> Option<[bool; 4]> {
     Some(settled)
 }
 
-/// What the world shows, or none where an allocation fails.
+/// The view of the world; `None` where an allocation fails.
 fn shown(alloc: Global, world: &World) -> Option<View> {
     Some(View {
         operations: world.history().len(),
@@ -147,7 +147,7 @@ fn shown(alloc: Global, world: &World) -> Option<View> {
     })
 }
 
-/// What the world shows, also where one allocation fails.
+/// The view of the world, even if one allocation fails.
 fn surely_shown(alloc: Global, world: &World) -> Option<View> {
     match shown(alloc, world) {
         None => shown(alloc, world),
@@ -155,7 +155,7 @@ fn surely_shown(alloc: Global, world: &World) -> Option<View> {
     }
 }
 
-/// Whether an event is answered as wanted; where an allocation fails nothing changes, and the event may happen again.
+/// Whether an event is answered as wanted. Where an allocation fails nothing changes, and the event is tried again.
 fn happens(alloc: Global, world: &mut World, i: u32) -> Result<bool, TypeFault> {
     let (format, before) = (world.setting().format(), surely_shown(alloc, world));
     let event = surely(alloc, format, i)?;
@@ -177,7 +177,7 @@ fn all_happen(alloc: Global, world: &mut World) -> Result<bool, TypeFault> {
     Ok(world.history().len() == 3)
 }
 
-/// Holds for every one growth that is refused, of the world, its nodes, stores, held puts, contexts and history.
+/// Holds whichever single allocation fails, of the world, its nodes, stores, held puts, contexts and history.
 #[test]
 fn a_refused_growth_changes_nothing(rt: HostRuntime) -> Result<(), Fail> {
     for format in [Format::One, Format::Two] {
@@ -189,7 +189,7 @@ fn a_refused_growth_changes_nothing(rt: HostRuntime) -> Result<(), Fail> {
     Ok(())
 }
 
-/// A put of a value of so many bytes.
+/// A put of a value of `bytes` bytes.
 fn put_long(alloc: Global, bytes: usize) -> Result<Event, Fail> {
     let letters = vec![in alloc; b'v'; bytes]?;
     let value = Value::new_in(Format::Two, alloc, &letters)?;
@@ -201,7 +201,7 @@ fn put_long(alloc: Global, bytes: usize) -> Result<Event, Fail> {
     })
 }
 
-/// Whether what a client writes is refused, since the world's format does not have it. The outcome is let go.
+/// Whether a client's write is refused because the world's format does not have it. Drops the outcome.
 fn is_not_in_format(world: &mut World, event: Event) -> bool {
     let outcome = world.apply(event);
     let is_refused = matches!(&outcome, Outcome::Refused(Refusal::NotInFormat));
@@ -209,7 +209,7 @@ fn is_not_in_format(world: &mut World, event: Event) -> bool {
     is_refused && world.puts() == 0 && world.history().len() == 0
 }
 
-/// Whether a world of this format refuses what a client writes, since the format does not have it.
+/// Whether a world of this format refuses a client's write because the format does not have it.
 fn refuses(alloc: Global, format: Format, event: Event) -> Result<bool, Fail> {
     let Some(mut world) = surely_open(alloc, format) else {
         drop(event);

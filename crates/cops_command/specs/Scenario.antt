@@ -1,8 +1,8 @@
--- Bytes that tell no scenario.
+-- Bytes that decode to no scenario.
 use Rattle.std.specs.Prelude.{◌⊎◌, ℕ, List}
 use Rattle.cops_scenario.specs.declared.fault.Field.{Field}
 use Rattle.cops_scenario.specs.File.{IsNoText, IsWrongText}
 
--- they are no JSON, or a field is wrong
+-- they are not JSON, or a field is wrong
 abbrev pub TellsNone : List ℕ → Type 0
 TellsNone bytes = IsNoText bytes ⊎ ((field : Field) × IsWrongText bytes field)

@@ -1,4 +1,4 @@
--- The numbers that the program ends with.
+-- The numbers with which the program ends.
 use Rattle.std.specs.Prelude.{ℕ}
 use Rattle.cops_command.specs.declared.status.Status.{Status}
 use Rattle.cops_command.specs.declared.status.Status.TheVariants.{Accepted, Refused, Faulty, NoMemory, Failed}

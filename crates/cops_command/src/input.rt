@@ -10,8 +10,8 @@ use std::io::Read;
 /// How many bytes are read or fed at once.
 pub const PIECE: usize = 4096;
 
-/// All that a reader has left, or `None` where a read failed, which is not tried again. Where nothing is left it
-/// takes no memory.
+/// All that a reader has left, or `None` where a read failed, which is not tried again. The only error is `Memory`,
+/// where memory runs out; where nothing is left it allocates nothing.
 pub fn read_all<R: Read>(alloc: Global, reader: &mut Counted<R>) -> Result<Option<Vec<u8>>, Memory>
     ensures all { IfOk result (λ read. IfSome read (λ bytes. IfSome (R.remaining (inner reader.old)) (λ all. bytes.items ≡ all))) }
     ensures end { IfOk result (λ read. OnSome read (IsAtEnd (R.remaining (inner reader.new)))) }

@@ -1,5 +1,5 @@
-//! What commands over readers and writers share: whole inputs, the reading of a scenario, what is told of what clients
-//! saw, and how a command ends. Stands on the writing of texts, the audit, the report and scenarios. The commands use
+//! What commands over readers and writers share: reading whole inputs and scenarios, reporting what clients saw, and
+//! how a command ends. The crate depends on the writing of texts, the audit, the report and scenarios. The commands use
 //! that what was read to its end is all that the reader had, and that the scenario is that of the bytes.
 #![tactic(auto)]
 

@@ -1,4 +1,4 @@
-//! What is told of what clients saw.
+//! The report on what clients saw.
 ghost use Rattle.std.specs.Prelude.{IfOk};
 ghost use Rattle.cops_audit.specs.declared.verdict.Verdict.{Verdict as AVerdict};
 ghost use Rattle.cops_command.specs.Told.{IsReportOf};
@@ -8,7 +8,7 @@ use cops_report::report;
 use cops_types::{History, Memory};
 use std::alloc::Global;
 
-/// The report of the verdict on what clients saw.
+/// The report of the verdict on what clients saw. The only error is `Memory`, where memory runs out.
 pub fn reported(alloc: Global, history: &History) -> Result<Vec<u8>, Memory>
     ensures { IfOk result (λ text. (verdict : AVerdict) × IsReportOf history.now.sessions verdict text.items) }
 {

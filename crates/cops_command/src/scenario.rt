@@ -14,9 +14,9 @@ use cops_types::{Counted, Memory};
 use std::alloc::Global;
 use std::io::{Read, Write};
 
-/// The scenario that the reader's bytes tell, or the status of a command that has none: `Faulty` where they tell none,
-/// of which a line on `out` tells, and `Failed` where a read failed, or a write of that line, of which a line on
-/// `errors` tells.
+/// The scenario to which the reader's bytes decode, or the status of a command that has none: `Faulty` where they
+/// decode to none, which is reported by a line on `out`, and `Failed` where a read failed, or a write of that line,
+/// which is reported by a line on `errors`. The only error is `Memory`, where memory runs out.
 pub fn read_scenario<R: Read, W: Write, E: Write>(
     alloc: Global,
     reader: &mut Counted<R>,
@@ -45,7 +45,7 @@ pub fn read_scenario<R: Read, W: Write, E: Write>(
     }
 }
 
-/// Prints the line of a faulty scenario, and gives the status.
+/// Prints the line of a faulty scenario, and returns the status.
 fn faulty<W: Write, E: Write>(
     alloc: Global,
     fault: ScenarioFault,

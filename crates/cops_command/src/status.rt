@@ -9,18 +9,18 @@ ghost use Rattle.cops_command.specs.declared.status.Status.TheVariants.{Failed};
 use cops_types::{Counted, write_text};
 use std::io::Write;
 
-/// How a command ends. The numbers are the program's statuses.
+/// The way in which a command ends. The numbers are the program's statuses.
 #[derive(Clone, Copy, Debug, PartialEq, Eq)]
 pub enum Status {
-    /// A history that is accepted, and an input that was shown whole.
+    /// A history that is accepted, or an input that was shown whole.
     Accepted = 0,
     /// A history that is refused.
     Refused = 1,
-    /// A faulty input, and words that are wrong.
+    /// A faulty input, or a wrong command line.
     Faulty = 2,
-    /// Want of memory.
+    /// Out of memory.
     NoMemory = 3,
-    /// A device's fault, and a run that failed.
+    /// A device's fault, or a run that failed.
     Failed = 4,
 }
 
@@ -28,7 +28,7 @@ impl Status {
     ghost use Rattle.std.specs.Prelude.{◌≡◌};
     ghost use Rattle.cops_command.specs.Status.{number};
 
-    /// The number that the program ends with.
+    /// The number with which the program ends.
     pub fn number(self) -> u8
         ensures { result ≡ number self }
     {
@@ -36,11 +36,11 @@ impl Status {
     }
 }
 
-/// Tells of a fault by a line on `errors`, whose own faults are not told, and gives the status.
+/// Reports a fault by a line on `errors`, whose own faults are not reported, and returns the status.
 pub fn failed<E: Write>(errors: &mut Counted<E>, text: &[u8]) -> u8
     ensures status { result ≡ number Failed }
 
-    // A front of the text was written, and all of it unless a write failed.
+    // A prefix of the text was written, and all of it unless a write failed.
     ensures told { (n : ℕ) × Appends (E.contents (inner errors.old)) (E.contents (inner errors.new)) (take n text.now)
         × ((length text.now ≤ n) ⊎ DidFail (failures errors.old) (failures errors.new)) }
 {
@@ -48,7 +48,7 @@ pub fn failed<E: Write>(errors: &mut Counted<E>, text: &[u8]) -> u8
     Status::Failed.number()
 }
 
-/// Prints a text, and gives this status, or that of a write that failed, which a line on `errors` tells.
+/// Prints a text, and returns this status, or that of a write that failed, which is reported by a line on `errors`.
 pub fn print<W: Write, E: Write>(
     text: &[u8],
     status: Status,

@@ -1,4 +1,4 @@
--- Lists of pairs, none twice, and one more.
+-- Lists of different pairs, and adding one more.
 use Rattle.std.proofs.Common.{◌≡◌, ℕ, ◌<◌, ◌≤◌, Bool, true, false, ◌||◌, List, [], ◌∷◌, ◌++◌, if◌then◌else◌, Option, None, Some, is_none, length, refl, ap, ◌∙◌, arith, rules, length-append}
 use Rattle.std.specs.Cmp.{IsEquivalence}
 use Rattle.std.specs.Cmp.Rules.{comparing}
@@ -25,7 +25,7 @@ module _ {K : Type 0} {e : K → K → Bool} (o : IsEquivalence e) where
   or_false true b h = absurd cc
   or_false false b h = (refl, h)
 
-  -- a key that is none of these goes last
+  -- adding a new key at the end keeps the keys different
   distinct_push : (xs : List K) (y : K) → IsDistinct e xs → list_any (e y) xs ≡ false → IsDistinct e (xs ++ y ∷ [])
   unfolding IsDistinct
   distinct_push [] y h k = (tt, tt)
@@ -41,16 +41,16 @@ module _ {K : Type 0} {e : K → K → Bool} (o : IsEquivalence e) where
       let here : e y x ≡ false = o.symm y x ∙ last_of (λ z. e x z ≡ false) xs y h.0 in
       ap (λ b. b || list_any (e y) xs) here ∙ absent_before xs y h.1
 
--- being the same pair is an equivalence
+-- equality of pairs is an equivalence
 same_pairs : IsEquivalence is_same_dep
 same_pairs = search (comparing, rules) depth 9
 
--- each format's contexts have a pair at least, and no more than dependencies have
+-- the limit of each format's contexts is at least 1, and at most that of dependencies
 pub deps_within : (format : Format) → (0 < most_deps format) × (most_deps format ≤ MAX_DEPS)
 deps_within One = (omega arith, omega arith)
 deps_within Two = (omega arith, omega arith)
 
--- what a context holds is dependencies of some format
+-- the pairs of a context are dependencies of some format
 pub are_deps : (format : Format) (pairs : List Dep) → IsContext (most_deps format) pairs → (length pairs ≤ MAX_DEPS) × IsDistinct is_same_dep pairs
 are_deps format pairs h = (omega (arith, h.few, (deps_within format).1), h.distinct)
 
@@ -61,11 +61,11 @@ context_push most pairs pair h new few = record {
   distinct = distinct_push same_pairs pairs pair h.distinct new;
 }
 
--- the last pair of a context is new to those before it
+-- the last pair of a context is none of those before it
 pub new_last : (most : ℕ) (pairs : List Dep) (pair : Dep) → IsContext most (pairs ++ pair ∷ []) → with_pair pairs pair ≡ pairs ++ pair ∷ []
 new_last most pairs pair h = ap (λ b. if b then pairs else pairs ++ pair ∷ []) (absent_before same_pairs pairs pair h.distinct)
 
--- a new pair beside the set, in the place that was empty
+-- storing a new pair next to the set, if there is none yet
 pub context_beside : (most : ℕ) (pairs : List Dep) (beside : Option Dep) (pair : Dep) → is_none beside ≡ true → has_pair (and_beside pairs beside) pair ≡ false
     → length (and_beside pairs beside) < most → IsContext most (and_beside pairs beside) → IsContext most (pairs ++ pair ∷ [])
 context_beside most pairs None pair empty new few h = context_push most pairs pair h new few

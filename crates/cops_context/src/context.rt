@@ -4,9 +4,9 @@ use indexmap::IndexSet;
 use std::alloc::{AllocError, Global};
 use std::marker::Model;
 
-/// A client's context (COPS section 4.2): pairs of a key and a version, none twice, in order of arrival, and at most as
-/// many as dependencies of its format hold: 256 in format 1, 1,024 in format 2. A pair for which the set has no room
-/// stands beside it, last in the list, until the set has grown.
+/// A client's context (COPS section 4.2): different pairs of a key and a version, in order of arrival. It has at most
+/// as many as dependencies of its format: 256 in format 1, 1,024 in format 2. A pair for which the set has no room is
+/// stored next to it, as the last of the list, until the set has grown.
 #[derive(Drop)]
 pub struct Context {
     format: Format,
@@ -32,14 +32,14 @@ impl Context {
     ghost use Rattle.cops_types.specs.Format.{most_deps};
     ghost use Rattle.cops_context.specs.Kept.{IsContext};
 
-    /// An empty context of format 1. It takes no memory.
+    /// An empty context of format 1. Allocates nothing.
     pub fn new(alloc: Global) -> Self
         ensures { result ≡ record { format = Format.One; pairs = []; room = true } }
     {
         Context::new_in(Format::One, alloc)
     }
 
-    /// An empty context of a format. It takes no memory.
+    /// An empty context of a format. Allocates nothing.
     pub fn new_in(format: Format, alloc: Global) -> Self
         ensures { result ≡ record { format = format; pairs = []; room = true } }
     {
@@ -50,14 +50,14 @@ impl Context {
         }
     }
 
-    /// The format whose limit it has.
+    /// The format whose limit the context has.
     pub fn format(&self) -> Format
         ensures { result ≡ self.now.format }
     {
         self.format
     }
 
-    /// How many pairs there are, at most as many as the format allows.
+    /// The number of pairs, at most as many as the format allows.
     pub fn len(&self) -> usize
         ensures count { result ≡ length self.now.pairs }
         ensures context { IsContext (most_deps self.now.format) self.now.pairs }
@@ -91,8 +91,8 @@ impl Context {
         self.pairs.contains(pair) || beside
     }
 
-    /// Copies of the pairs, in order of arrival: the nearest dependencies of the client's next put. Where there is no
-    /// pair it takes no memory.
+    /// Copies of the pairs, in order of arrival: the nearest dependencies of the client's next put. Fails if memory
+    /// runs out, but not if there are no pairs.
     #[tactic(auto, using(crate::proofs::PairLists::are_deps))]
     pub fn deps(&self) -> Result<Deps, Memory>
         ensures ok { IfOk result (λ deps. deps ≡ self.now.pairs) }
@@ -102,7 +102,7 @@ impl Context {
         Ok(Deps::of_distinct(copies))
     }
 
-    /// Copies of the pairs, in order of arrival.
+    /// Copies of the pairs, in order of arrival. Fails if memory runs out, but not if there are no pairs.
     fn copies(&self) -> Result<Vec<Dep>, AllocError>
         ensures pairs { IfOk result (λ copies. copies.items ≡ self.now.pairs) }
         ensures err { OnErr result (self.now.pairs ≢ []) }
@@ -119,7 +119,8 @@ impl Context {
         Ok(copies)
     }
 
-    /// Makes room for one more pair: the next `add` or `replace` takes no memory. A refusal changes nothing.
+    /// Makes room for one more pair, so that the next `add` or `replace` allocates nothing. Changes nothing if memory
+    /// runs out.
     pub fn reserve(&mut self) -> Result<(), Memory>
         ensures same { self.new.pairs ≡ self.old.pairs }
         ensures format { self.new.format ≡ self.old.format }
@@ -139,8 +140,8 @@ impl Context {
         }
     }
 
-    /// Adds a pair, which goes last. Nothing changes where it is there already, nor at a refusal: `ContextFull` for a
-    /// new pair where as many are there as the format allows.
+    /// Adds a pair at the end, unless it is there already. Errors: `ContextFull` for a new pair if there are as many as
+    /// the format allows, `Memory` if memory runs out. An error changes nothing.
     pub fn add(&mut self, pair: Dep) -> Result<(), ContextFault>
         ensures ok { OnOk result (self.new.pairs ≡ with_pair self.old.pairs pair) }
         ensures format { self.new.format ≡ self.old.format }
@@ -160,8 +161,8 @@ impl Context {
         Ok(())
     }
 
-    /// Leaves one pair, that of the client's new put, which depends on all that stood here. It takes no memory, so it
-    /// is never refused.
+    /// Replaces all pairs by that of the client's new put, which depends on all of them. Allocates nothing, so it never
+    /// fails.
     pub fn replace(&mut self, put: Dep)
         ensures pairs { self.new.pairs ≡ put ∷ [] }
         ensures format { self.new.format ≡ self.old.format }
@@ -171,7 +172,7 @@ impl Context {
         self.put_last(put);
     }
 
-    /// Puts a new pair last: into the set where that takes no memory, else beside it.
+    /// Puts a new pair last: into the set if the set has room, and next to it otherwise.
     fn put_last(&mut self, pair: Dep)
         requires room { self.old.room ≡ true }
         requires new { has_pair self.old.pairs pair ≡ false }

@@ -1,4 +1,4 @@
--- What every state of the machine keeps makes its sessions an accepted history.
+-- The machine's invariant makes its sessions an accepted history.
 use Rattle.std.proofs.Common.{◌≡◌, ℕ, suc, ◌<◌, ◌≤◌, inl, inr, List, [], Contains, Some, slice_get, length, refl, sym, ap, ◌∙◌, arith, subst, Option}
 use Rattle.cops_types.specs.declared.dep.Dep.{Dep}
 use Rattle.cops_types.specs.declared.put_record.PutRecord.{PutRecord}
@@ -16,23 +16,23 @@ use Rattle.cops_core.proofs.Lists.{at_version, contains_one, contains_head, gain
 use Rattle.cops_core.proofs.Reaching.{reaches_below}
 use Rattle.cops_core.proofs.Contexts.{context_before, IsOf, WasPut, IsFair, AllFair, covers_own, covers_later, fair_at, after_at}
 
--- no version is on two puts
+-- no two puts have the same version
 abbrev pub IsOnce : Sessions → Type 0
 IsOnce h = (a b : OpName) (k l : List ℕ) (x y : Option (List ℕ)) (version : ℕ) → IsPut h a k x version → IsPut h b l y version → a ≡ b
 
--- the version that an operation puts or answers is below this one
+-- the version that an operation puts or returns is below this one
 abbrev IsBelow : Operation → ℕ → Type 0
 IsBelow (write k x v) version = v < version
 IsBelow (read k x v) version = v < version
 IsBelow (missed k) version = Unit {0}
 
--- the answer is not older than a put of this version on the key
+-- the operation's result is not older than a put of this version on the key
 abbrev IsNotStale : Operation → List ℕ → ℕ → Type 0
 IsNotStale (write k x v) key version = Unit {0}
 IsNotStale (read k x v) key version = k ≡ key → version ≤ v
 IsNotStale (missed k) key version = k ≡ key → ⊥
 
--- what every state keeps; home: the data centre of each client
+-- the machine's invariant; home: the data centre of each client
 pub record Kept (home : ℕ → ℕ) (s : State) : Type 0 where
   pub consistent : IsConsistent s.issued
   pub known : (d : ℕ) (p : PutRecord) → Contains (s.settled d) p → Contains s.issued p

@@ -1,4 +1,4 @@
--- What a node answers is what the world answers, and a refused act changes nothing.
+-- The world's answer is the node's, and a refused act changes nothing.
 use Rattle.std.proofs.Common.{◌≡◌, ℕ, ◌+◌, ◌⊎◌, inl, inr, List, Bool, true, false, if◌then◌else◌, ◌||◌, Option, Some, None, is_some, length, refl, sym, ap, ◌∙◌, nat_lt}
 use Rattle.cops_types.specs.declared.limits.TheConstants.{MAX_CLOCK}
 use Rattle.cops_types.specs.declared.refusal.Refusal.{Refusal}
@@ -14,7 +14,7 @@ use Rattle.cops_core.specs.World.{Setting, home, primary, World, node_at, with_n
 use Rattle.cops_types.specs.NodeNumber.{place_of}
 use Rattle.cops_core.proofs.Nodes.{same_node}
 
--- where the answer is a refusal, the node is put back
+-- if the answer is a refusal, only the node is put back
 keeps_refused : (w : World) (dc place : ℕ) (act : Act) (code : Refusal) (n : Node) → keeps w dc place act (Refused code) n ≡ with_node w dc place n
 keeps_refused w dc place (WriteBy client key content) code n = refl
 keeps_refused w dc place act code n = refl
@@ -63,7 +63,7 @@ asks_refused w act dc place asked code new e =
     ∙ ap (with_node w dc place) back
     ∙ same_node w dc place
 
--- an act is asked of one node, or it is the delivery of a put that was never sent
+-- an act goes to one node, or it is the delivery of a put that was never sent
 pub done_asks : (P : Outcome × World → Type 0) (s : Setting) (w : World) (act : Act)
     → ((dc place : ℕ) (asked : NodeAct) → P (asks w act dc place asked)) → P (Refused NeverSent, w) → P (done s w act)
 done_asks P s w (DeliverTo dc version) one none = go (sent w.issued version)
@@ -85,7 +85,7 @@ refused_stays s w new act code (inl h) = go (refusal (checks s w act)) h
     go None e = done_asks (λ r. r ≡ (Refused code, new) → new ≡ w) s w act (λ dc place asked. asks_refused w act dc place asked code new) (λ f. sym (ap (λ (x : Outcome × World). x.1) f)) e
     go (Some c) e = sym (ap (λ (x : Outcome × World). x.1) e)
 
--- what a node answers, or refuses for want of memory, the world does
+-- the node's outcome, or `Memory`, is the world's outcome
 pub asks_happens : (w : World) (act : Act) (dc place : ℕ) (asked : NodeAct) (o : Outcome) (n : Node) (new : World)
     → ActHappens (node_at w dc place) asked o n → new ≡ keeps w dc place act o n → (asks w act dc place asked ≡ (o, new)) ⊎ ((o ≡ Refused Memory) × (new ≡ w))
 asks_happens w act dc place asked o n new (inl h) is =
@@ -93,12 +93,12 @@ asks_happens w act dc place asked o n new (inl h) is =
 asks_happens w act dc place asked o n new (inr h) is =
     inr (h.0, is ∙ ap (λ x. keeps w dc place act x n) h.0 ∙ keeps_refused w dc place act Memory n ∙ ap (with_node w dc place) h.1 ∙ same_node w dc place)
 
--- where no test of the world's own refuses
+-- the case where no check of the world refuses
 pub passed_happens : (s : Setting) (w : World) (act : Act) (o : Outcome) (new : World) → refusal (checks s w act) ≡ None
     → (done s w act ≡ (o, new)) ⊎ ((o ≡ Refused Memory) × (new ≡ w)) → Happens s w act o new
 passed_happens s w act o new p (inl h) = inl (ap (λ r. unless w r (done s w act)) p ∙ h)
 passed_happens s w act o new p (inr h) = inr h
 
--- where one refuses
+-- the case where a check of the world refuses
 pub refused_happens : (s : Setting) (w : World) (act : Act) (code : Refusal) → refusal (checks s w act) ≡ Some code → Happens s w act (Refused code) w
 refused_happens s w act code p = inl (ap (λ r. unless w r (done s w act)) p)

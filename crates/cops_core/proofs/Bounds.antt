@@ -1,4 +1,4 @@
--- Contexts and contents stay of the format, and sessions within their limits.
+-- Contexts and contents stay of the format, and sessions stay within their limits.
 use Rattle.std.proofs.Common.{◌≡◌, ℕ, ◌<◌, ◌⊎◌, inl, inr, List, [], ◌∷◌, ◌++◌, Bool, true, false, cond, Contains, length, slice_index_or, slice_set, refl, sym, ap, ◌∙◌, arith, subst, get_or-set_same, get_or-set_other, nat_lt}
 use Rattle.std.specs.List.{IsDistinct}
 use Rattle.std.proofs.lemmas.Bool.{cases_eq, and_parts, ltb-true}
@@ -16,7 +16,7 @@ use Rattle.cops_context.specs.Kept.{IsContext}
 use Rattle.cops_context.proofs.PairLists.{context_push, deps_within}
 use Rattle.cops_core.specs.World.{Setting, World, context_in, has_room}
 
--- contexts and contents of the format, and sessions within their limits
+-- contexts and contents are of the format, and sessions are within their limits
 pub record IsBounded (s : Setting) (w : World) : Type 0 where
   pub contexts : (client : ℕ) → IsContext (most_deps s.format) (context_in w client)
   pub limits : IsWithinLimits w.sessions
@@ -36,7 +36,7 @@ context_gains most pairs pair h few = go (has_pair pairs pair) refl
     go true e = h
     go false e = context_push most pairs pair h e few
 
--- a client's answer
+-- recording a client's operation
 pub bounded_answered : (s : Setting) (old new : World) (client : ℕ) (op : Operation) (context : List Dep) → IsBounded s old → client < length old.sessions → client < length old.contexts → has_room old client ≡ true
     → new.contexts ≡ slice_set old.contexts client context → new.sessions ≡ with_op old.sessions client op → IsContext (most_deps s.format) context → ((p : PutRecord) → Contains new.issued p → Fits s.format p.value) → IsBounded s new
 bounded_answered s old new client op context b known there room contexts sessions is fits = record {

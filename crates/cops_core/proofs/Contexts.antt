@@ -1,4 +1,4 @@
--- A session with the context that it leads to: each operation is fair to the context before it.
+-- A session and its context after each operation: each operation is fair to the context before it.
 use Rattle.std.proofs.Common.{◌≡◌, ◌≢◌, ℕ, zero, suc, ◌≤◌, ◌⊎◌, inl, inr, List, [], ◌∷◌, ◌++◌, Contains, Some, slice_get, length, refl, sym, ap, ◌∙◌, arith, subst, Option}
 use Rattle.std.proofs.lemmas.List.Elements.{Contains-append_left}
 use Rattle.cops_types.specs.Histories.{Operation, write, read, missed}
@@ -17,7 +17,7 @@ context_after context (write k x v) = at_version k v ∷ []
 context_after context (read k x v) = with_pair context (at_version k v)
 context_after context (missed k) = context
 
--- the context before the operation at a place
+-- the context before the operation at an index
 abbrev pub context_before : List Dep → List Operation → ℕ → List Dep
 context_before context ops zero = context
 context_before context [] (suc i) = context
@@ -34,7 +34,7 @@ pub record WasPut (puts : List PutRecord) (context : List Dep) (k : List ℕ) (x
   pub is : IsOf puts k x v put
   pub deps : put.deps ≡ context
 
--- nothing that the context reaches is newer
+-- nothing on the key that the context reaches is newer
 pub record WasGot (puts : List PutRecord) (context : List Dep) (k : List ℕ) (x : Option (List ℕ)) (v : ℕ) : Type 0 where
   pub put : PutRecord
   pub is : IsOf puts k x v put
@@ -73,7 +73,7 @@ after_at context [] i op e = cc
 after_at context (o ∷ ops) zero op e = let same : o ≡ op = cc in ap (context_after context) same
 after_at context (o ∷ ops) (suc i) op e = after_at (context_after context o) ops i op e
 
--- what the context reaches before an operation it reaches after it
+-- a pair that the context reaches before an operation it also reaches after it
 pub covers_after : (puts : List PutRecord) (context : List Dep) (op : Operation) (p : Dep) → IsFair puts context op → Covers puts context p → Covers puts (context_after context op) p
 covers_after puts context (write k x v) p f c =
     let needed : Contains f.put.deps c.from = subst (λ d. Contains d c.from) (sym f.deps) c.among in
@@ -91,7 +91,7 @@ covers_later puts context (o ∷ ops) zero (suc j) p h l c =
     covers_later puts (context_after context o) ops zero j p h.1 (omega arith) (covers_after puts context o p h.0 c)
 covers_later puts context (o ∷ ops) (suc i) (suc j) p h l c = covers_later puts (context_after context o) ops i j p h.1 (omega (arith, l)) c
 
--- the pairs of contexts are borne
+-- the pairs of contexts are pairs of puts
 pub borne_after : (puts : List PutRecord) (context : List Dep) (op : Operation) → IsFair puts context op → ((p : Dep) → Contains context p → Bears puts p) → (p : Dep) → Contains (context_after context op) p → Bears puts p
 borne_after puts context (write k x v) f b p h =
     let same = contains_one (at_version k v) p h in
@@ -107,7 +107,7 @@ module _ (puts : List PutRecord) (new : PutRecord) (c : IsConsistent puts) (fres
   is_of_more : (k : List ℕ) (x : Option (List ℕ)) (v : ℕ) (put : PutRecord) → IsOf puts k x v put → IsOf (puts ++ new ∷ []) k x v put
   is_of_more k x v put i = record { among = Contains-append_left puts (new ∷ []) put i.among; bears = i.bears; value = i.value }
 
-  -- a new put leaves each operation as fair as it was
+  -- each operation stays fair with a new put
   fair_more : (context : List Dep) (op : Operation) → ((p : Dep) → Contains context p → Bears puts p) → IsFair puts context op → IsFair (puts ++ new ∷ []) context op
   fair_more context (write k x v) b f = record { put = f.put; is = is_of_more k x v f.put f.is; deps = f.deps }
   fair_more context (read k x v) b f = record {

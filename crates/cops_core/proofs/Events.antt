@@ -1,4 +1,4 @@
--- What the code of an act does at one node is what the world does.
+-- The code of an act, which works at one node, does what the world's definition says.
 use Rattle.std.proofs.Common.{◌≡◌, ℕ, ◌+◌, ◌*◌, ◌<◌, ◌≤◌, ◌⊎◌, inl, inr, List, ◌∷◌, [], Bool, true, false, cond, Option, Some, None, is_some, slice_get, slice_index_or, flat_map, length, refl, sym, ap, ◌∙◌, arith, subst, nat_lt, lt-ltb}
 use Rattle.cops_types.specs.declared.limits.TheConstants.{MAX_CLOCK}
 use Rattle.cops_types.specs.declared.refusal.Refusal.{Refusal}
@@ -32,7 +32,7 @@ use Rattle.cops_core.proofs.Worlds.{Sound, reached_sound}
 use Rattle.cops_core.proofs.Asking.{asks_happens, passed_happens, refused_happens}
 use Rattle.cops_core.proofs.Versions.{not_sent}
 
--- the client's next operation is not refused
+-- the client may record its next operation
 pub record Admitted (w : World) (client : ℕ) : Type 0 where
   pub known : client < length w.sessions
   pub few : length (slice_index_or w.sessions client []) < MAX_CLIENT_OPS
@@ -45,31 +45,31 @@ admitted {h} {w} {client} same may = record {
   all = subst (λ (x : Sessions). count_of x < MAX_OPS) same may.all;
 }
 
--- the history has room for it
+-- the history has room for the client's next operation
 pub admitted_room : {w : World} {client : ℕ} → Admitted w client → has_room w client ≡ true
 admitted_room {w} {client} a =
     and_from (nat_lt (length (slice_index_or w.sessions client [])) MAX_CLIENT_OPS) (nat_lt (count_of w.sessions) MAX_OPS)
     (lt-ltb (length (slice_index_or w.sessions client [])) MAX_CLIENT_OPS a.few) (lt-ltb (count_of w.sessions) MAX_OPS a.all)
 
--- and neither test of the client refuses it
+-- neither check of the client refuses the operation
 pub client_passes : {w : World} {client : ℕ} (tests : List (Bool × Refusal)) → Admitted w client → refusal ((knows w client, UnknownClient) ∷ (has_room w client, SessionFull) ∷ tests) ≡ refusal tests
 client_passes {w} {client} tests a =
     ap (λ b. refusal ((b, UnknownClient) ∷ (has_room w client, SessionFull) ∷ tests)) (lt-ltb client (length w.sessions) a.known)
     ∙ ap (λ b. refusal ((b, SessionFull) ∷ tests)) (admitted_room a)
 
--- nor does any test of a write that fits
+-- no check of a write that fits the format refuses it
 pub write_passes : (s : Setting) (w : World) (client : ℕ) (key : List ℕ) (content : Option (List ℕ)) → Admitted w client → fits s.format content ≡ true → refusal (checks s w (WriteBy client key content)) ≡ None
 write_passes s w client key content a fit =
     ap (λ b. refusal ((b, UnknownClient) ∷ (fits s.format content, NotInFormat) ∷ (has_room w client, SessionFull) ∷ [])) (lt-ltb client (length w.sessions) a.known)
     ∙ ap (λ b. refusal ((b, NotInFormat) ∷ (has_room w client, SessionFull) ∷ [])) fit
     ∙ ap (λ b. refusal ((b, SessionFull) ∷ [])) (admitted_room a)
 
--- an answer that is not Yes is not kept
+-- an answer other than Yes is not stored
 pub keeps_wait : (w : World) (dc place d : ℕ) (key : List ℕ) (version : ℕ) (o : Outcome) (n : Node) → (o ≡ Yes → ⊥) → keeps w dc place (AskAt d key version) o n ≡ with_node w dc place n
 keeps_wait w dc place d key version Yes n h = absurd (h refl)
 keeps_wait w dc place d key version o n h = refl
 
--- nor is what a get did not do
+-- an outcome that a get does not have is not stored
 pub keeps_no_get : (w : World) (dc place client : ℕ) (key : List ℕ) (o : Outcome) (n : Node) → ((value : List ℕ) (version : ℕ) → o ≡ Answered value version → ⊥) → ((version : ℕ) → o ≡ Gone version → ⊥) → (o ≡ Nothing → ⊥)
     → keeps w dc place (GetBy client key) o n ≡ with_node w dc place n
 keeps_no_get w dc place client key (Answered value version) n h g k = absurd (h value version refl)
@@ -77,7 +77,7 @@ keeps_no_get w dc place client key (Gone version) n h g k = absurd (g version re
 keeps_no_get w dc place client key Nothing n h g k = absurd (k refl)
 keeps_no_get w dc place client key o n h g k = refl
 
--- a get leaves the node
+-- a get does not change the node
 pub got_stays : (was : Node) (client : ℕ) (key : List ℕ) (o : Outcome) (n : Node) → ActHappens was (NodeGet client key) o n → n ≡ was
 got_stays was client key o n (inl h) = sym (ap (λ (x : Outcome × Node). x.1) h)
 got_stays was client key o n (inr h) = h.1
@@ -99,7 +99,7 @@ with_parts w dc place n issued contexts sessions = record {
   sessions = sessions;
 }
 
--- a world with a node put back, and with these answers Yes
+-- a world with a node put back, and with these Yes answers
 abbrev pub with_answers : World → ℕ → ℕ → Node → List Said → World
 with_answers w dc place n said = record {
   nodes = (with_node w dc place n).nodes;
@@ -109,7 +109,7 @@ with_answers w dc place n said = record {
   sessions = w.sessions;
 }
 
--- where the node, the puts, the contexts and the sessions stayed, the world did
+-- if the node, the puts, the contexts and the sessions stay, so does the world
 pub put_back : {issued : List PutRecord} {contexts : List (List Dep)} {sessions : Sessions} (w : World) (dc place : ℕ) (was n : Node) → IsAt w dc place was → n ≡ was
     → issued ≡ w.issued → contexts ≡ w.contexts → sessions ≡ w.sessions → with_parts w dc place n issued contexts sessions ≡ w
 put_back w dc place was n at stays issued contexts sessions =
@@ -120,7 +120,7 @@ put_back w dc place was n at stays issued contexts sessions =
 sound : {s : Setting} {w old : World} → IsSetting s → w ≡ old → IsReached s old → Sound s w
 sound {s} {w} ok view reached = reached_sound s ok w (subst (IsReached s) (sym view) reached)
 
--- what the node at a place answers the world does
+-- the world's outcome is that of the node at a place
 node_happens : {w : World} {dc d place q : ℕ} {was : Node} (act : Act) (asked : NodeAct) (o : Outcome) (n : Node) (new : World) → dc ≡ d → place ≡ q → node_at w dc place ≡ was
     → ActHappens was asked o n → new ≡ keeps w dc place act o n → (asks w act d q asked ≡ (o, new)) ⊎ ((o ≡ Refused Memory) × (new ≡ w))
 node_happens {w} {dc} {d} {place} {q} act asked o n new same_dc same_place is h kept =
@@ -128,7 +128,7 @@ node_happens {w} {dc} {d} {place} {q} act asked o n new same_dc same_place is h 
     (subst (λ x. (asks w act dc x asked ≡ (o, new)) ⊎ ((o ≡ Refused Memory) × (new ≡ w))) same_place
     (asks_happens w act dc place asked o n new (subst (λ m. ActHappens m asked o n) (sym is) h) kept))
 
--- where the tests of a world pass, what its node does happens in each world that is the same
+-- if the checks of a world pass, its node's outcome is the outcome in each equal world
 passed : {w old : World} (s : Setting) (act : Act) (o : Outcome) (new : World) → w ≡ old → refusal (checks s w act) ≡ None
     → (done s w act ≡ (o, new)) ⊎ ((o ≡ Refused Memory) × (new ≡ w)) → Happens s old act o new
 passed {w} s act o new view none h = subst (λ x. Happens s x act o new) view (passed_happens s w act o new none h)
@@ -137,13 +137,13 @@ passed {w} s act o new view none h = subst (λ x. Happens s x act o new) view (p
 pub same_clients : {s : Setting} {w old : World} → IsSetting s → w ≡ old → IsReached s old → length w.contexts ≡ length w.sessions
 same_clients {s} {w} {old} ok view reached = let p = (sound {s = s} {w = w} {old = old} ok view reached).placed in p.contexts ∙ sym p.sessions
 
--- a data centre that is not there has nothing settled
+-- a data centre that does not exist has nothing settled
 pub settled_nowhere : {s : Setting} (w : World) (dc : ℕ) (pair : Dep) → IsSetting s → IsReached s w → s.place.dcs ≤ dc → has_pair (settled_in w dc) pair ≡ false
 settled_nowhere {s} w dc pair ok reached le =
     let e = (reached_sound s ok w reached).placed.dcs in
     ap (λ (ns : List Node). has_pair (flat_map (λ (n : Node). n.settled) ns) pair) (get_or_past w.nodes dc [] (omega arith))
 
--- a state is seen as the world `w`, which is `old`, a reached one, and one of its data centres is asked
+-- the state's model is the world `w`, which equals the reached world `old`, and one of its data centres is asked
 pub record Asked (s : Setting) (w old : World) (dc : ℕ) : Type 0 where
   pub setting : IsSetting s
   pub view : w ≡ old
@@ -163,7 +163,7 @@ module _ {s : Setting} {w old : World} {dc : ℕ} (a : Asked s w old dc) where
   pub place_there : {place : ℕ} → place ≤ length s.place.splits → place < length (slice_index_or w.nodes dc [])
   place_there le = let e = placed.places dc a.there in omega arith
 
-  -- what a key's node has settled its data centre has
+  -- a key's node and its data centre have settled the same pairs of the key
   pub settled_there : (place : ℕ) (was : Node) (pair : Dep) → place ≡ primary s pair.key → IsAt w dc place was → has_pair was.settled pair ≡ has_pair (settled_in old dc) pair
   settled_there place was pair e at =
       ap (λ (n : Node). has_pair n.settled pair) (sym (is_node w dc place was at))
@@ -234,7 +234,7 @@ module _ {s : Setting} {w old : World} {dc : ℕ} (a : Asked s w old dc) where
   answers key version place o was n new e at h kept =
       passed s (AskAt dc key version) o new a.view (known_dc []) (node_happens (AskAt dc key version) (NodeAsk key version) o n new refl e (is_node w dc place was at) h kept)
 
--- the same state, and the next operation of one of its clients is not refused
+-- the state's model is the world `w`, which equals the reached world `old`, and one of its clients may record its next operation
 pub record Entered (s : Setting) (w old : World) (client : ℕ) : Type 0 where
   pub setting : IsSetting s
   pub view : w ≡ old

@@ -1,4 +1,4 @@
--- A client's get is a step of the machine, and what changes one node's held puts is none.
+-- A client's get is a step of the machine, and an event that only changes a node's held puts changes nothing there.
 use Rattle.std.proofs.Common.{◌≡◌, ◌≢◌, ℕ, ◌<◌, inl, inr, List, true, Contains, Option, Some, None, length, refl, sym, ap, ◌∙◌, arith, subst, length-set}
 use Rattle.cops_types.specs.Histories.{Operation, read, missed}
 use Rattle.cops_types.specs.declared.dep.Dep.{Dep}
@@ -15,7 +15,7 @@ use Rattle.cops_core.proofs.Bounds.{IsBounded, bounded_answered, context_gains}
 use Rattle.cops_core.proofs.Placed.{settled_at, IsStored, Placed, is_held_more}
 use Rattle.cops_core.proofs.Simulation.{view_to, view_from, Goes}
 
--- an answer to a client changes no node
+-- recording a client's operation changes no node
 pub placed_answered : (s : Setting) (w : World) (client : ℕ) (op : Operation) (context : List Dep) → Placed s w → Placed s (with_answer w client op context)
 placed_answered s w client op context p = record {
   dcs = p.dcs;
@@ -30,7 +30,7 @@ placed_answered s w client op context p = record {
   contexts = length-set w.contexts client _ ∙ p.contexts;
 }
 
--- what a get found is kept
+-- the result of a get is recorded
 keeps_found : (w : World) (dc place client : ℕ) (key : List ℕ) (content : Option (List ℕ)) (version : ℕ) (n : Node)
     → keeps w dc place (GetBy client key) (found content version) n ≡ met (with_node w dc place n) client key content version
 keeps_found w dc place client key (Some value) version n = refl
@@ -49,7 +49,7 @@ module _ (s : Setting) (w : World) (placed : Placed s w) (client : ℕ) (key : L
   has_context : client < length w.contexts
   has_context = let a = placed.sessions in let b = placed.contexts in omega arith
 
-  -- what the view has settled on the key, the node has
+  -- the node has what the view has settled on the key
   on_node : (p : PutRecord) → Contains ((view w).settled dc) p → p.key ≡ key → IsAmong node.settled (put_pair p)
   on_node p h e =
       let v = view_to s w placed dc p h in

@@ -1,4 +1,4 @@
--- Elements of lists, pairs that are the same, and one more element at the end.
+-- Elements of lists, equality of pairs, and adding an element at the end.
 use Rattle.std.proofs.Common.{◌≡◌, ℕ, zero, suc, ◌<◌, ◌⊎◌, inl, inr, List, [], ◌∷◌, ◌++◌, Bool, true, false, cond, Some, length, set, Contains, slice_get, refl, sym, ap, ap₂, ◌∙◌, arith, ◌==◌, eqb-true, eq-eqb, replicate}
 use Rattle.std.specs.List.{list_any, list_all}
 use Rattle.std.proofs.lemmas.Option.{slice_get-get_or}
@@ -40,7 +40,7 @@ pub get_last : {X : Type 0} (xs : List X) (y : X) → slice_get (xs ++ y ∷ [])
 get_last [] y = refl
 get_last (x ∷ xs) y = get_last xs y
 
--- a pair of this key and this version
+-- the pair of this key and this version
 abbrev pub at_version : List ℕ → ℕ → Dep
 at_version k v = record { key = k; version = v }
 
@@ -98,6 +98,6 @@ all_true_at [] i h l = absurd (omega (arith, l))
 all_true_at (m ∷ marks) zero h l = ap Some (and_parts m _ h).0
 all_true_at (m ∷ marks) (suc i) h l = all_true_at marks i (and_parts m _ h).1 (omega (arith, l))
 
--- the place of an element
+-- the index of an element
 pub place_in : {X : Type 0} (xs : List X) (x : X) → Contains xs x → (i : ℕ) × (i < length xs) × (slice_get xs i ≡ Some x)
 place_in xs x h = (h.0, h.1, slice_get-get_or xs h.0 x h.1 ∙ ap Some h.2)

@@ -1,4 +1,4 @@
--- Which answers take memory.
+-- The answers whose acts allocate.
 use Rattle.std.proofs.Common.{◌≡◌, ℕ, ◌+◌, ◌<◌, Bool, true, false, cond, ◌&&◌, List, [], ◌∷◌, Option, Some, None, length, slice_index_or, refl, sym, ap, ◌∙◌, subst, nat_lt}
 use Rattle.cops_types.specs.declared.limits.TheConstants.{MAX_CLOCK}
 use Rattle.cops_types.specs.declared.refusal.Refusal.TheVariants.{ClockExhausted, ContextFull, UnknownClient, SessionFull}
@@ -17,11 +17,11 @@ use Rattle.cops_core.specs.Memory.{TakesMemory}
 use Rattle.cops_core.proofs.Events.{Admitted, client_passes, write_passes}
 use Rattle.cops_core.proofs.Writes.{takes_written}
 
--- an act takes memory where its answer in a world does
+-- an act allocates in a world
 abbrev Takes : Setting → World → Act → Type 0
 Takes s w act = TakesMemory act (happens s w act).0
 
--- an act that no test refuses
+-- an act that no check refuses
 passes : (s : Setting) (w : World) (act : Act) → refusal (checks s w act) ≡ None → TakesMemory act (done s w act).0 → Takes s w act
 passes s w act none takes = subst (λ r. TakesMemory act (unless w r (done s w act)).0) (sym none) takes
 
@@ -30,7 +30,7 @@ tests_met true true h = (refl, refl)
 tests_met true false h = absurd cc
 tests_met false b h = absurd cc
 
--- a client whom neither test refuses is there
+-- a client that neither check refuses exists
 pub known_client : (h : Sessions) (client : ℕ)
     → refusal ((nat_lt client (length h), UnknownClient) ∷ (nat_lt (length (slice_index_or h client [])) MAX_CLIENT_OPS && nat_lt (count_of h) MAX_OPS, SessionFull) ∷ []) ≡ None → client < length h
 known_client h client none =
@@ -60,7 +60,7 @@ get_takes s w client key a few =
     go None = tt
     go (Some t) = some t.value t.version
 
--- what a client's act answers for want of memory, in a world that is seen by its parts
+-- a client's act that may run out of memory, in a world given by its parts
 pub write_may_fail : (s : Setting) (w old : World) (client : ℕ) (key : List ℕ) (content : Option (List ℕ)) → w ≡ old → Admitted w client → fits s.format content ≡ true → Takes s old (WriteBy client key content)
 write_may_fail s w old client key content is may fit =
     subst (λ x. Takes s x (WriteBy client key content)) is (write_takes s w client key content (write_passes s w client key content may fit))

@@ -1,4 +1,4 @@
--- What a node has settled and holds, after its steps; a node in its place among the others.
+-- The settled and held puts of a node after its steps, and a node in its place among the others.
 use Rattle.std.proofs.Common.{◌≡◌, ◌≢◌, ℕ, zero, suc, ◌+◌, ◌*◌, ◌<◌, ◌≤◌, max, ◌⊎◌, inl, inr, List, [], ◌∷◌, ◌++◌, Bool, true, false, cond, ◌||◌, Contains, Option, Some, None, slice_set, slice_index_or, get_or, length, filter, find, flat_map, refl, sym, ap, ◌∙◌, arith, subst, get_or-set_same, get_or-set_other, nat_lt, bytes_eq}
 use Rattle.std.specs.List.{list_any}
 use Rattle.std.proofs.lemmas.Bool.{cases_eq, or_cases, both_ways, ltb-true, ltb-false}
@@ -70,7 +70,7 @@ find_to test (y ∷ xs) x h = cases (test y) refl h (λ r. find_to test xs x r)
     cases true t e rest = let same : y ≡ x = cc in (subst (λ z. Contains (y ∷ xs) z) same (contains_head y xs), ap test (sym same) ∙ t)
     cases false t e rest = let p = rest e in (contains_tail y xs x p.0, p.1)
 
--- what is held after a mark, or after one was taken out
+-- the held puts after a mark, or after one was taken out
 pub record IsMarked (held : List Waiting) (version dep : ℕ) (y : Waiting) : Type 0 where
   pub from : Waiting
   pub among : Contains held from
@@ -120,7 +120,7 @@ without_to (w ∷ held) version y h = go (is_at version w) h (λ r. without_to h
           | inr r ↦ contains_tail w held y (rest r)
         ]
 
--- one of the lists passes
+-- one of the lists has an element that passes
 pub any_flat_to : {X Y : Type 0} (test : Y → Bool) (f : X → List Y) (xs : List X) → list_any test (flat_map f xs) ≡ true → (i : ℕ) × (i < length xs) × ((d : X) → list_any test (f (get_or xs i d)) ≡ true)
 any_flat_to test f [] h = cc
 any_flat_to {X = X} test f (x ∷ xs) h =
@@ -139,7 +139,7 @@ any_flat_from test f d (x ∷ xs) (suc i) e h =
     let p = any_to test (flat_map f xs) r in
     any_from test (flat_map f (x ∷ xs)) p.item (Contains-append_right (f x) (flat_map f xs) p.item p.among) p.passes
 
--- a settled pair, and the element that is it
+-- a settled pair, and its element
 pub record IsAmong (settled : List Stored) (pair : Dep) : Type 0 where
   pub item : Stored
   pub among : Contains settled item
@@ -174,7 +174,7 @@ with_settled_cases settled s t = go (has_pair settled (stored_pair s))
     go true h = inl h
     go false h = Contains-push_cases settled s t h
 
--- what is shown is on the key, and nothing settled on the key is newer
+-- the shown put is on the key, and no settled put on the key is newer
 pub record IsShown (settled : List Stored) (key : List ℕ) (s : Stored) : Type 0 where
   pub among : Contains settled s
   pub on_key : s.key ≡ key
@@ -220,7 +220,7 @@ shows (s ∷ settled) key = step (bytes_eq key s.key) refl (shown settled key) (
     step true e best w = first best (sym ((bytes_eq-Decides key s.key).0 e)) w
     step false e best w = later best e w
 
--- a clock that was raised is not below
+-- a raised clock is not below the old one
 pub raised_own : (clock : ℕ) (deps : List Dep) → clock ≤ raised clock deps
 raised_own clock [] = omega arith
 raised_own clock (d ∷ deps) = let rest = raised_own (max clock (clock_of d.version)) deps in omega arith
@@ -256,13 +256,13 @@ node_elsewhere w dc place n d q hd (inr ne) = cases (cases_eq d dc)
         (ap (λ r. slice_index_or r q (opened (dc * 64 + q))) (get_or-set_same w.nodes dc (slice_set (slice_index_or w.nodes dc []) place n) [] hd)
         ∙ get_or-set_other (slice_index_or w.nodes dc []) place q n (opened (dc * 64 + q)) ne)
 
--- a node put back in its place
+-- putting a node back in its place
 pub same_node : (w : World) (dc place : ℕ) → with_node w dc place (node_at w dc place) ≡ w
 same_node w dc place =
     ap (λ nodes. let x : World = record { nodes = nodes; issued = w.issued; said = w.said; contexts = w.contexts; sessions = w.sessions } in x)
     (ap (slice_set w.nodes dc) (set-get_or (slice_index_or w.nodes dc []) place (opened (dc * 64 + place))) ∙ set-get_or w.nodes dc [])
 
--- what a data centre has settled, one of its nodes has
+-- a pair that a data centre has settled is settled at one of its nodes
 pub settled_in_to : (w : World) (dc : ℕ) (pair : Dep) → has_pair (settled_in w dc) pair ≡ true → (place : ℕ) × (has_pair (node_at w dc place).settled pair ≡ true)
 settled_in_to w dc pair h =
     let p = any_flat_to (λ s. is_same_dep pair (stored_pair s)) (λ n. n.settled) (slice_index_or w.nodes dc []) h in

@@ -1,4 +1,4 @@
--- The pairs of clients' contexts that are kept as a vector.
+-- The pairs of clients' contexts, which are stored in a vector.
 use Rattle.std.proofs.Common.{◌≡◌, ℕ, ◌<◌, Bool, true, false, List, [], map, length, get_or, set, sym, ap, ◌∙◌, arith, get_or-set_same}
 use Rattle.std.specs.Prelude.{Result, Ok, Err, OnOk}
 use Rattle.std.proofs.Math.Seq.{map-set_same}
@@ -12,11 +12,11 @@ pairs c = c.pairs
 abbrev pub room : AContext → Bool
 room c = c.room
 
--- a context in whose place another with the same pairs stands
+-- replacing a context by one with the same pairs
 pub same_pairs : (xs : List AContext) (i : ℕ) (old new : AContext) → old ≡ get_or xs i old → new.pairs ≡ old.pairs → map pairs (set xs i new) ≡ map pairs xs
 same_pairs xs i old new at same = map-set_same pairs xs i new old (same ∙ ap pairs at)
 
--- a context in whose place another with other pairs stands
+-- replacing a context by one with other pairs
 pub other_pairs : (xs : List AContext) (i : ℕ) (new : AContext) (is : List Dep) → new.pairs ≡ is → map pairs (set xs i new) ≡ set (map pairs xs) i is
 other_pairs xs i new is e = map-set pairs xs i new ∙ ap (set (map pairs xs) i) e
 

@@ -1,4 +1,5 @@
--- What the nodes keep: each pair stands at its key's primary, held puts are issued, marks and answers Yes name settled pairs, and clocks are not behind.
+-- The invariant of the nodes: each pair is at its key's primary, held puts are issued, marks and Yes answers are for settled pairs, and clocks are
+-- not behind.
 use Rattle.std.proofs.Common.{◌≡◌, ◌≢◌, ℕ, ◌+◌, ◌*◌, ◌<◌, ◌≤◌, ◌⊎◌, inl, inr, List, [], Bool, true, Contains, Some, slice_get, slice_set, slice_index_or, length, sym, ap, ◌∙◌, arith, subst, get_or-set_same, get_or-set_other, length-set}
 use Rattle.std.proofs.lemmas.Bool.{cases_eq}
 use Rattle.cops_types.specs.declared.dep.Dep.{Dep}
@@ -73,7 +74,7 @@ module _ (s : Setting) (fits : length s.place.splits ≤ 63) (old new : World) (
       let hd : dc < length old.nodes = (let i = c.inside_dc in let l = p.dcs in omega arith) in
       ap (λ ns. slice_index_or (slice_index_or ns d []) q (opened (d * 64 + q))) c.nodes ∙ node_elsewhere old dc place n d q hd ne
 
-  -- what holds of the node that changed and of the others holds of each
+  -- a property of the changed node and of the others holds for each node
   pub each_node : (P : ℕ → ℕ → Node → Type 0) → P dc place n → ((d q : ℕ) → (d ≢ dc) ⊎ (q ≢ place) → P d q (node_at old d q)) → (d q : ℕ) → P d q (node_at new d q)
   each_node P here other d q = cases (cases_eq d dc) (cases_eq q place)
     where

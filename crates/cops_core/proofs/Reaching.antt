@@ -1,4 +1,4 @@
--- What is reached through dependencies: it is not above, it is settled where the start is, and a new put changes none of it.
+-- Pairs reached through dependencies: they are not above the start, they are settled where the start is, and a new put changes none of them.
 use Rattle.std.proofs.Common.{◌≡◌, ◌≢◌, ◌<◌, ◌≤◌, ◌⊎◌, inl, inr, List, [], ◌∷◌, ◌++◌, Contains, refl, sym, ap, ◌∙◌, arith, subst}
 use Rattle.std.proofs.lemmas.List.Elements.{Contains-push_cases}
 use Rattle.cops_types.specs.declared.dep.Dep.{Dep}
@@ -12,7 +12,7 @@ reaches_itself puts p = ([], refl)
 pub reaches_dep : (puts : List PutRecord) (p d q : Dep) → Needs puts p d → Reaches puts d q → Reaches puts p q
 reaches_dep puts p d q n r = (d ∷ r.0, (n, r.1))
 
--- a dependency is below
+-- a dependency has a smaller version
 pub needs_below : (puts : List PutRecord) → IsConsistent puts → (p d : Dep) → Needs puts p d → d.version < p.version
 needs_below puts c p d n =
     let below = c.above n.put d n.among n.needs in
@@ -29,11 +29,11 @@ reaches_below puts c p q r = go r.0 p r.1
         let first = needs_below puts c p d l.0 in
         omega arith
 
--- what bears a pair is one put
+-- only one put has a given pair
 pub one_bears : (puts : List PutRecord) → IsConsistent puts → (a b : PutRecord) (p : Dep) → Contains puts a → Contains puts b → put_pair a ≡ p → put_pair b ≡ p → a ≡ b
 one_bears puts c a b p ha hb ea eb = c.unique a b ha hb (ap (λ (x : Dep). x.version) (ea ∙ sym eb))
 
--- where a pair is settled, all that it reaches is
+-- if a pair is settled, so is every pair that it reaches
 pub reaches_settled : (puts settled : List PutRecord) → IsConsistent puts → IsClosed settled → ((p : PutRecord) → Contains settled p → Contains puts p) → (p q : Dep) → Bears settled p → Reaches puts p q → Bears settled q
 reaches_settled puts settled c closed known p q b r = go r.0 p b r.1
   where
@@ -45,7 +45,7 @@ reaches_settled puts settled c closed known p q b r = go r.0 p b r.1
         let needs : Contains b.put.deps d = subst (λ (x : PutRecord). Contains x.deps d) same n.needs in
         go via d (closed b.put d b.among needs) l.1
 
--- a new put with a version of its own is reached from no pair that was borne before
+-- a new put with a new version is reached from no earlier pair
 pub reaches_old : (puts : List PutRecord) (new : PutRecord) → IsConsistent puts → ((p : PutRecord) → Contains puts p → p.version ≢ new.version) → (p q : Dep) → Bears puts p → Reaches (puts ++ new ∷ []) p q → Reaches puts p q
 reaches_old puts new c fresh p q b r = go r.0 p b r.1
   where

@@ -153,7 +153,7 @@ module _ (h : Sessions) where
   same_version : (n : OpName) (v w : ℕ) → PutsVersion h n v → PutsVersion h n w → v ≡ w
   same_version n v w p q = let e : Some (write p.0 p.1 v) ≡ Some (write q.0 q.1 w) = sym p.2 ∙ q.2 in cc
 
-  -- where each put is one of these, and no version is on two
+  -- the puts are in the order of versions if each put is one of these and no two have the same version
   version_order : (ts : List (Tagged h)) → IsRising ts → IsOnce h → ((n : OpName) (v : ℕ) → PutsVersion h n v → Has ts v) → IsVersionOrder h (names_of ts)
   version_order ts rising once all = record {
     members = λ p. (

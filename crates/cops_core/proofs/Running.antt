@@ -1,4 +1,4 @@
--- Runs that go on: one more event after the last.
+-- Extending a run by one event at its end.
 use Rattle.std.proofs.Common.{◌≡◌, List, [], ◌∷◌, ◌++◌, refl, subst}
 use Rattle.cops_node.specs.declared.outcome.Outcome.{Outcome}
 use Rattle.cops_core.specs.Memory.{Answers, AnswersEach}
@@ -22,7 +22,7 @@ answers_more s [] (p ∷ outcomes) old mid new e o r h = absurd r
 answers_more s (f ∷ events) [] old mid new e o r h = absurd r
 answers_more s (f ∷ events) (p ∷ outcomes) old mid new e o r h = (r.0, (r.1.0, answers_more s events outcomes r.0 mid new e o r.1.1 h))
 
--- what is answered so is a run
+-- events with such answers are a run
 pub run_answered : (s : Setting) (events : List Event) (outcomes : List Outcome) (old new : World) → AnswersEach s old events outcomes new → Run s old events outcomes new
 run_answered s [] [] old new r = r
 run_answered s [] (p ∷ outcomes) old new r = absurd r

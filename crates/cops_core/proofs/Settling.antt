@@ -1,4 +1,4 @@
--- What data centres do among themselves: deliver, ask, mark and settle.
+-- The steps between data centres: deliver, ask, mark and settle.
 use Rattle.std.proofs.Common.{◌≡◌, ℕ, ◌<◌, ◌≤◌, ◌⊎◌, inl, inr, List, [], ◌∷◌, ◌++◌, Bool, true, false, cond, ◌||◌, Contains, Option, Some, None, is_some, slice_get, length, refl, sym, ap, ◌∙◌, arith, subst, length-set, nat_lt, eqb-true, ◌==◌}
 use Rattle.cops_types.specs.declared.refusal.Refusal.TheVariants.{NoSuchDep, DepsOpen}
 use Rattle.std.proofs.lemmas.Bool.{and_parts}
@@ -24,7 +24,7 @@ use Rattle.cops_core.proofs.Lists.{not_marked, get_set_cases, all_true_at, place
 use Rattle.std.proofs.lemmas.List.{length-replicate}
 use Rattle.cops_core.proofs.Simulation.{view_from, settled_bears, SettlesOne, view_settles, view_stays, Goes, stays_goes, back_goes, primary_within, settles_there, settles_only, stored_from}
 
--- a node whose held puts alone change
+-- a node of which only the held puts change
 pub record Holds (s : Setting) (w : World) (dc place : ℕ) (n : Node) : Type 0 where
   pub number : n.number ≡ (node_at w dc place).number
   pub clock : n.clock ≡ (node_at w dc place).clock
@@ -67,7 +67,7 @@ holds_goes s fits w placed bounded dc place n hd hp h = record {
         (λ e q m. has_pair m.settled pair ≡ true → has_pair (node_at w e q).settled pair ≡ true)
         (λ i. subst (λ x. has_pair x pair ≡ true) h.settled i) (λ e q ne i. i) d (primary s pair.key)
 
--- a put comes
+-- a put arrives
 pub deliver_goes : (s : Setting) → length s.place.splits ≤ 63 → (w : World) → Placed s w → IsBounded s w → (dc version : ℕ) → dc < s.place.dcs → Goes s w (delivers s w dc version (sent w.issued version)).1
 deliver_goes s fits w placed bounded dc version hd = go (sent w.issued version) refl
   where
@@ -89,7 +89,7 @@ deliver_goes s fits w placed bounded dc version hd = go (sent w.issued version) 
     go None e = stays_goes s w placed bounded
     go (Some put) e = taken put (find_to (λ p. version == p.version) w.issued put e).0 (is_some (waiting (node_at w dc (primary s put.key)).held put.version) || has_pair (node_at w dc (primary s put.key)).settled (put_pair put))
 
--- an answer Yes that is there, or the new one
+-- a Yes answer was there, or is the new one
 pub gained_cases : (said : List Said) (y x : Said) → Contains (gained said y) x → Contains said x ⊎ (y ≡ x)
 gained_cases said y x = go (was_said said y)
   where
@@ -97,7 +97,7 @@ gained_cases said y x = go (was_said said y)
     go true h = inl h
     go false h = Contains-push_cases said y x h
 
--- an answer Yes names what is settled
+-- a Yes answer is for a settled pair
 pub ask_goes : (s : Setting) (w : World) → Placed s w → IsBounded s w → (dc : ℕ) (key : List ℕ) (version : ℕ) → (let pair : Dep = record { key = key; version = version } in Goes s w (keeps w dc (primary s key) (AskAt dc key version) (cond (settled_at s w dc pair) Yes Wait) (node_at w dc (primary s key))))
 ask_goes s w placed bounded dc key version = go (settled_at s w dc pair) refl
   where
@@ -133,11 +133,11 @@ ask_goes s w placed bounded dc key version = go (settled_at s w dc pair) refl
           contexts = placed.contexts;
         }
 
--- a put is told by its version
+-- a put is identified by its version
 same_version : (s : Setting) (w : World) → Kept (home s) (view w) → (p q : PutRecord) → Contains w.issued p → Contains w.issued q → p.version ≡ q.version → p ≡ q
 same_version s w kept p q hp hq e = kept.consistent.unique p q hp hq e
 
--- a mark stands only for what was said to be settled
+-- a mark is only for a pair with a Yes answer
 pub mark_goes : (s : Setting) → length s.place.splits ≤ 63 → (w : World) → Placed s w → IsBounded s w → Kept (home s) (view w) → (dc version dep : ℕ) → dc < s.place.dcs
     → is_answered w.said dc (dep_at (waiting (node_at w dc (place_of version)).held version) dep) ≡ true
     → (let r = mark_at (node_at w dc (place_of version)) version dep (waiting (node_at w dc (place_of version)).held version) in Goes s w (keeps w dc (place_of version) (MarkAt dc version dep) r.0 r.1))

@@ -18,7 +18,7 @@ use Rattle.cops_core.proofs.Bounds.{IsBounded}
 use Rattle.cops_core.proofs.Nodes.{same_node, filter_to, filter_from, IsAmong, has_to, has_from, with_settled_new, with_settled_cases, settled_in_to, settled_in_from}
 use Rattle.cops_core.proofs.Placed.{settled_at, IsStored, Placed, Change, each_node, node_new}
 
--- what the view has settled, a primary has
+-- a put settled in the view is settled at a primary
 pub view_to : (s : Setting) (w : World) → Placed s w → (d : ℕ) (p : PutRecord) → Contains ((view w).settled d) p → Contains w.issued p × (settled_at s w d (put_pair p) ≡ true)
 view_to s w placed d p h =
     let f = filter_to (λ x. has_pair (settled_in w d) (put_pair x)) w.issued p h in
@@ -31,7 +31,7 @@ view_to s w placed d p h =
 pub view_from : (s : Setting) (w : World) (d : ℕ) (p : PutRecord) → Contains w.issued p → settled_at s w d (put_pair p) ≡ true → Contains ((view w).settled d) p
 view_from s w d p i h = filter_from (λ x. has_pair (settled_in w d) (put_pair x)) w.issued p i (settled_in_from w d (primary s p.key) (put_pair p) h)
 
--- a data centre has settled a pair exactly where its key's primary there has
+-- a data centre has settled a pair exactly if its key's primary there has
 pub settled_here : (s : Setting) (w : World) → Placed s w → (d : ℕ) (pair : Dep) → settled_at s w d pair ≡ has_pair (settled_in w d) pair
 settled_here s w placed d pair = cases_true _ _ (settled_in_from w d (primary s pair.key) pair) back
   where
@@ -54,7 +54,7 @@ settled_bears s w placed d pair h =
     let stored = placed.stored d (primary s pair.key) item.item item.among in
     record { put = stored.put; among = stored.is.among; bears = stored.is.bears ∙ item.is }
 
--- what it takes for a data centre to settle one put
+-- the conditions under which a data centre settles one put
 pub record SettlesOne (s : Setting) (old new : World) (dc : ℕ) (put : PutRecord) : Type 0 where
   pub offered : Contains new.issued put
   pub there : settled_at s new dc (put_pair put) ≡ true
@@ -91,7 +91,7 @@ view_settles s old new dc put po pn o = record {
         let same = o.one was.put (o.issued was.put was.among) version in
         view_from s old d p (subst (λ x. Contains old.issued x) (sym same ∙ e) was.among) b
 
--- an event that leaves what is settled, issued and answered leaves the view
+-- an event that changes no settled pairs, issued puts, contexts and sessions does not change the view
 pub view_stays : (s : Setting) (old new : World) → Placed s old → Placed s new → new.issued ≡ old.issued → new.contexts ≡ old.contexts → new.sessions ≡ old.sessions → ((d : ℕ) (pair : Dep) → settled_at s old d pair ≡ true → settled_at s new d pair ≡ true) → ((d : ℕ) (pair : Dep) → settled_at s new d pair ≡ true → settled_at s old d pair ≡ true) → Stays (view old) (view new)
 view_stays s old new po pn i c h more less = record {
   issued = i;
@@ -103,7 +103,7 @@ view_stays s old new po pn i c h more less = record {
   sessions = h;
 }
 
--- what an event leads to
+-- the result of an event
 pub record Goes (s : Setting) (old new : World) : Type 0 where
   pub placed : Placed s new
   pub bounded : IsBounded s new
@@ -116,11 +116,11 @@ stays_goes s w p b = record {
   step = inr (inr (inr (inr (record { issued = refl; settled = λ d p. (λ h. h, λ h. h); contexts = refl; sessions = refl }))));
 }
 
--- a node that is put back changes nothing
+-- putting a node back changes nothing
 pub back_goes : (s : Setting) (w : World) → Placed s w → IsBounded s w → (dc place : ℕ) → Goes s w (with_node w dc place (node_at w dc place))
 back_goes s w p b dc place = subst (Goes s w) (sym (same_node w dc place)) (stays_goes s w p b)
 
--- where no test refuses, each passed
+-- if no check refuses, each passed
 pub unless_goes : (s : Setting) (w : World) → Placed s w → IsBounded s w → (tests : List (Bool × Refusal)) (next : Outcome × World) → (refusal tests ≡ None → Goes s w next.1) → Goes s w (unless w (refusal tests) next).1
 unless_goes s w p b tests next goes = go (refusal tests) refl
   where
@@ -168,6 +168,6 @@ module _ (s : Setting) (fits : length s.place.splits ≤ 63) (old new : World) (
       here : place ≡ primary s pair.key → IsAmong n.settled pair → (settled_at s old dc pair ≡ true) ⊎ ((dc ≡ dc) × (put_pair put ≡ pair))
       here e a = cases e a (with_settled_cases (node_at old dc place).settled (stored_of put) a.item (subst (λ x. Contains x a.item) settled a.among))
 
--- the put behind a stored one
+-- the issued put of a stored one
 pub stored_from : (s : Setting) (issued : List PutRecord) (place : ℕ) (put : PutRecord) (t : Stored) → Contains issued put → place ≡ primary s put.key → stored_of put ≡ t → IsStored s issued place t
 stored_from s issued place put t h e same = subst (IsStored s issued place) same (record { put = put; is = record { among = h; bears = refl; value = refl }; placed = e })

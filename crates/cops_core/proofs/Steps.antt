@@ -1,4 +1,4 @@
--- Each step of the machine keeps what every state keeps.
+-- Each step of the machine keeps the invariant.
 use Rattle.std.proofs.Common.{◌≡◌, ◌≢◌, ℕ, ◌<◌, ◌≤◌, ◌⊎◌, inl, inr, List, [], ◌∷◌, ◌++◌, Contains, Some, slice_get, slice_index_or, length, refl, sym, ap, ap₂, ◌∙◌, arith, subst, get_or-set_same, get_or-set_other, Option}
 use Rattle.std.proofs.lemmas.Bool.{cases_eq}
 use Rattle.std.proofs.lemmas.List.Elements.{Contains-append_left, Contains-push, Contains-push_cases}
@@ -15,11 +15,11 @@ use Rattle.cops_core.proofs.Reaching.{reaches_settled}
 use Rattle.cops_core.proofs.Contexts.{context_after, context_before, WasPut, IsFair, AllFair, fair_pushed, context_pushed, all_fair_more, fair_at}
 use Rattle.cops_core.proofs.Accepted.{IsOnce, Kept}
 
--- more puts bear no less
+-- adding puts keeps the pairs of puts
 pub bears_more : (puts more : List PutRecord) (p : Dep) → ((q : PutRecord) → Contains puts q → Contains more q) → Bears puts p → Bears more p
 bears_more puts more p m b = record { put = b.put; among = m b.put b.among; bears = b.bears }
 
--- what a data centre had settled stays settled
+-- a put that a data centre had settled stays settled
 settled_stays : (old new : State) (dc : ℕ) (put : PutRecord) → SettlesAt old new dc put → (d : ℕ) (p : PutRecord) → Contains (old.settled d) p → Contains (new.settled d) p
 settled_stays old new dc put s d p h = cases (cases_eq d dc)
   where
@@ -27,7 +27,7 @@ settled_stays old new dc put s d p h = cases (cases_eq d dc)
     cases (inl e) = subst (λ n. Contains (new.settled n) p) (sym e) ((s.here p).1 (inl (subst (λ n. Contains (old.settled n) p) e h)))
     cases (inr ne) = (s.others d ne p).1 h
 
--- what is settled was, or is the one that settles
+-- a settled put was settled before, or is the one that settles
 settled_cases : (old new : State) (dc : ℕ) (put : PutRecord) → SettlesAt old new dc put → (d : ℕ) (p : PutRecord) → Contains (new.settled d) p → Contains (old.settled d) p ⊎ ((d ≡ dc) × (put ≡ p))
 settled_cases old new dc put s d p h = cases (cases_eq d dc)
   where
@@ -53,11 +53,11 @@ settled_closed old new dc put s closed deps d p dep hp hd = bears_more _ _ dep (
     cases (inl o) = closed d p dep o hd
     cases (inr e) = subst (λ n. Bears (old.settled n) dep) (sym e.0) (deps dep (subst (λ (x : PutRecord). Contains x.deps dep) (sym e.1) hd))
 
--- the context that a session leads to
+-- the context after a session
 abbrev AtEnd : List Dep → List Operation → Type 0
 AtEnd x s = x ≡ context_before [] s (length s)
 
--- what a client's answer changes
+-- the changes of recording a client's operation
 module _ (old new : State) (client : ℕ) (op : Operation) (context : List Dep) (a : Answers old new client op context) where
   session_here : session new.sessions client ≡ session old.sessions client ++ op ∷ []
   session_here = ap (λ h. session h client) a.sessions ∙ get_or-set_same old.sessions client _ [] a.has_session
@@ -138,7 +138,7 @@ module _ (old new : State) (client : ℕ) (op : Operation) (context : List Dep) 
       cases (inr a) (inl b) = absurd (fresh n k l x y v (sym a.1) b)
       cases (inr a) (inr b) = a.0 ∙ sym b.0
 
--- the issued put that bears the pair of a consistent list of puts, with one more
+-- a consistent list of puts stays consistent with one more
 consistent_more : (puts : List PutRecord) (new : PutRecord) → IsConsistent puts → ((p : PutRecord) → Contains puts p → p.version ≢ new.version) → ((d : Dep) → Contains new.deps d → d.version < new.version) → ((d : Dep) → Contains new.deps d → Bears puts d) → IsConsistent (puts ++ new ∷ [])
 consistent_more puts new c fresh above borne = record {
   unique = λ p q hp hq e. unique p q (Contains-push_cases puts new p hp) (Contains-push_cases puts new q hq) e;
@@ -167,7 +167,7 @@ module _ (home : ℕ → ℕ) (old new : State) (k : Kept home old) where
   settled_issued : (d : ℕ) (p : Dep) → Bears (old.settled d) p → Bears old.issued p
   settled_issued d p b = bears_more _ _ p (k.known d) b
 
-  -- all that a client's context reaches is settled in its data centre
+  -- every pair that a client's context reaches is settled in its data centre
   context_settled : (client : ℕ) (p q : Dep) → Contains (context_of old client) p → Reaches old.issued p q → Bears (old.settled (home client)) q
   context_settled client p q h r =
       reaches_settled old.issued (old.settled (home client)) k.consistent (k.closed (home client)) (k.known (home client)) p q (k.held client p h) r

@@ -1,4 +1,4 @@
--- Puts that stand under their versions.
+-- Puts stored under their versions.
 use Rattle.std.proofs.Common.{◌≡◌, ℕ, List, [], ◌∷◌, ◌++◌, Bool, true, false, cond, ◌==◌, None, Some, Contains, refl, sym, ap, ◌∙◌, eqb-true}
 use Rattle.std.specs.Map.{lookup, values_of}
 use Rattle.cops_types.specs.declared.put_record.PutRecord.{PutRecord}
@@ -20,7 +20,7 @@ pub values_more : (es : List (ℕ × PutRecord)) (put : PutRecord) → values_of
 values_more [] put = refl
 values_more (e ∷ es) put = ap (λ r. e.1 ∷ r) (values_more es put)
 
--- a version that no put bears was not sent
+-- a version that no put has was not sent
 pub not_sent : (puts : List PutRecord) (version : ℕ) → ((p : PutRecord) → Contains puts p → p.version ≡ version → ⊥) → sent puts version ≡ None
 not_sent [] version h = refl
 not_sent (p ∷ puts) version h = go (version == p.version) refl (not_sent puts version (λ q c. h q (contains_tail p puts q c)))

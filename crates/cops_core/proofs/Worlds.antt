@@ -1,4 +1,4 @@
--- Whole runs: what the opening world has, what each event keeps, and that what is recorded is accepted.
+-- Whole runs: the invariant of the new world, what each event keeps, and that the recorded history is accepted.
 use Rattle.std.proofs.Common.{◌≡◌, ◌≢◌, ℕ, zero, suc, ◌+◌, ◌*◌, ◌<◌, ◌≤◌, ◌⊎◌, inl, inr, List, [], ◌∷◌, ◌++◌, Bool, true, false, cond, Contains, Some, None, is_some, slice_get, slice_index_or, length, refl, sym, ap, ◌∙◌, arith, subst, nat_lt, replicate, Option}
 use Rattle.cops_types.specs.declared.limits.TheConstants.{MAX_CLOCK}
 use Rattle.cops_types.specs.declared.refusal.Refusal.{Refusal}
@@ -44,7 +44,7 @@ use Rattle.cops_core.proofs.Putting.{put_goes}
 use Rattle.cops_core.proofs.Getting.{get_goes}
 use Rattle.cops_core.proofs.Settling.{deliver_goes, ask_goes, mark_goes, settle_goes}
 
--- what every world that is reached has
+-- the invariant of every reached world
 pub record Sound (s : Setting) (w : World) : Type 0 where
   pub placed : Placed s w
   pub bounded : IsBounded s w
@@ -97,7 +97,7 @@ run_sound s ok [] (o ∷ outcomes) old new sound r = absurd r
 run_sound s ok (e ∷ events) [] old new sound r = absurd r
 run_sound s ok (e ∷ events) (o ∷ outcomes) old new sound r = run_sound s ok events outcomes r.0 new (event_sound s ok old sound (act_of e) o r.0 r.1.0) r.1.1
 
--- the opening world
+-- the new world
 length_row : (dc n : ℕ) → length (row dc n) ≡ n
 length_row dc zero = refl
 length_row dc (suc n) = let h = length_row dc n in let l = length-append (row dc n) (opened (dc * 64 + n) ∷ []) in omega (arith, l)
@@ -106,7 +106,7 @@ length_rows : (places n : ℕ) → length (rows places n) ≡ n
 length_rows places zero = refl
 length_rows places (suc n) = let h = length_rows places n in let l = length-append (rows places n) (row n places ∷ []) in omega (arith, l)
 
--- the last of one more row, or one before
+-- the item at an index of a list with one more: one from before, or the new last one
 past_or_in : {X : Type 0} (xs : List X) (y : X) (i : ℕ) (d : X) → ((i ≢ length xs) × (slice_index_or (xs ++ y ∷ []) i d ≡ slice_index_or xs i d)) ⊎ ((i ≡ length xs) × (slice_index_or (xs ++ y ∷ []) i d ≡ y))
 past_or_in [] y zero d = inr (refl, refl)
 past_or_in [] y (suc i) d = inl (λ e. omega (arith, e), refl)
@@ -200,7 +200,7 @@ reached_accepted s ok w r = kept_accepted (home s) (view w) (reached_sound s ok 
 pub reached_steps : (s : Setting) → IsSetting s → (w : World) → IsReached s w → (e : Act) (o : Outcome) (new : World) → Happens s w e o new → Step (home s) (view w) (view new)
 reached_steps s ok w r e o new h = (event_goes s ok w (reached_sound s ok w r) e o new h).step
 
--- what is settled at a primary is settled in the view
+-- a pair settled at a primary is settled in the view
 view_bears : (s : Setting) (w : World) → Placed s w → (d : ℕ) (pair : Dep) → settled_at s w d pair ≡ true → Bears ((view w).settled d) pair
 view_bears s w placed d pair h =
     let b = settled_bears s w placed d pair h in
@@ -262,7 +262,7 @@ sound_invariants s w sound = record {
 pub reached_invariants : (s : Setting) → IsSetting s → (w : World) → IsReached s w → Invariants s w
 reached_invariants s ok w r = sound_invariants s w (reached_sound s ok w r)
 
--- what clients saw is in the format
+-- the clients' operations are in the format
 pub reached_in_format : (s : Setting) → IsSetting s → (w : World) → IsReached s w → AreInFormat s.format w.sessions
 reached_in_format s ok w r name op at = go op at
   where

@@ -1,4 +1,4 @@
--- Contents that are written: that they fit the format, and what a node answers for them.
+-- Written contents: that they fit the format, and the outcome of a node for them.
 use Rattle.std.proofs.Common.{◌≡◌, ℕ, List, length, Option, Some, None, true, refl, leb-true}
 use Rattle.cops_types.specs.declared.format.Format.{Format}
 use Rattle.cops_types.specs.declared.format.Format.TheVariants.{One, Two}
@@ -12,7 +12,7 @@ fits_in format (Some value) fit = leb-true (length value) (most_value format) fi
 fits_in One None fit = absurd cc
 fits_in Two None fit = tt
 
--- a write that is done has its version
+-- the outcome of a write has its version
 pub given_written : (content : Option (List ℕ)) (version : ℕ) → version_given (written content version) ≡ Some version
 given_written (Some value) version = refl
 given_written None version = refl

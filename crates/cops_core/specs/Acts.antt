@@ -1,9 +1,9 @@
--- What may happen next in a world, where a put and a deletion are one write.
+-- The acts of a world: its events, with puts and deletions as one kind of write.
 use Rattle.std.specs.Prelude.{ℕ, List, Option, Some, None}
 use Rattle.cops_core.specs.declared.event.Event.{Event}
 use Rattle.cops_core.specs.declared.event.Event.TheVariants.{Put, Del, Get, Deliver, Ask, Mark, Settle}
 
--- a client writes a content at a key: where there is no value, that deletes the key
+-- an act; a client's write without a value deletes the key
 pub data Act : Type 0 where
   WriteBy : ℕ → List ℕ → Option (List ℕ) → Act
   GetBy : ℕ → List ℕ → Act

@@ -1,4 +1,4 @@
--- A node that is lent out of its place.
+-- Lending a node mutably out of its data centre.
 use Rattle.std.specs.Prelude.{ℕ, List, [], slice_set, slice_index_or}
 use Rattle.std.specs.Borrow.{Lends, MutBor, Fml}
 use Rattle.cops_node.specs.Node.{Node}

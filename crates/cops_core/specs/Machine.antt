@@ -1,5 +1,4 @@
--- The store as its clients may know it (COPS, section 3): one set of puts in each data centre, and no nodes, no clocks
--- and no messages.
+-- The store as its clients see it (COPS, section 3): one set of puts in each data centre, and no nodes, no clocks and no messages.
 use Rattle.std.specs.Prelude.{◌≡◌, ◌≢◌, ℕ, ◌<◌, ◌≤◌, ◌↔◌, ◌⊎◌, List, [], ◌∷◌, ◌++◌, length, filter, Contains, slice_index_or, slice_set}
 use Rattle.cops_types.specs.declared.dep.Dep.{Dep}
 use Rattle.cops_types.specs.declared.put_record.PutRecord.{PutRecord}
@@ -21,7 +20,7 @@ session h client = slice_index_or h client []
 abbrev pub context_of : State → ℕ → List Dep
 context_of s client = slice_index_or s.contexts client []
 
--- as sets
+-- lists of puts compared as sets: equal, or with one more put
 abbrev pub Same : List PutRecord → List PutRecord → Type 0
 Same old new = (p : PutRecord) → Contains new p ↔ Contains old p
 
@@ -40,7 +39,8 @@ pub record Answers (old new : State) (client : ℕ) (op : Operation) (context : 
   pub sessions : new.sessions ≡ with_op old.sessions client op
   pub contexts : new.contexts ≡ slice_set old.contexts client context
 
--- a client of data centre dc puts, without content a deletion: the put depends on the client's context, and its version is new and above all of that
+-- a client of data centre dc puts; without content that is a deletion. The put depends on the client's context, and its version is new and greater
+-- than those of all its dependencies
 pub record Puts (old new : State) (dc client : ℕ) (put : PutRecord) : Type 0 where
   pub deps : put.deps ≡ context_of old client
   pub above : (d : Dep) → Contains put.deps d → d.version < put.version
@@ -49,7 +49,7 @@ pub record Puts (old new : State) (dc client : ℕ) (put : PutRecord) : Type 0 w
   pub settled : SettlesAt old new dc put
   pub answers : Answers old new client (write put.key put.value put.version) (put_pair put ∷ [])
 
--- a client of data centre dc gets what has the greatest version there
+-- a client of data centre dc gets the put with the greatest version there
 pub record Gets (old new : State) (dc client : ℕ) (put : PutRecord) : Type 0 where
   pub shown : Contains (old.settled dc) put
   pub greatest : (p : PutRecord) → Contains (old.settled dc) p → p.key ≡ put.key → p.version ≤ put.version
@@ -80,7 +80,7 @@ pub record Stays (old new : State) : Type 0 where
   pub contexts : new.contexts ≡ old.contexts
   pub sessions : new.sessions ≡ old.sessions
 
--- what may happen next; home: the data centre of each client
+-- a step of the machine; home: the data centre of each client
 abbrev pub Step : (ℕ → ℕ) → State → State → Type 0
 Step home old new =
     ((client : ℕ) × (put : PutRecord) × Puts old new (home client) client put)

@@ -1,4 +1,4 @@
--- The world: its nodes, what was issued and answered, and what each client saw.
+-- The world: its nodes, the issued puts, the Yes answers, and each client's context and session.
 use Rattle.std.specs.Prelude.{◌≡◌, ℕ, zero, suc, ◌+◌, ◌⊎◌, List, [], ◌∷◌, ◌++◌, Bool, true, false, if◌then◌else◌, ◌==◌, ◌&&◌, nat_lt, length, sum_by, find, replicate, flat_map, slice_set, slice_index_or, Option, Some, None, is_some}
 use Rattle.std.specs.List.{list_any}
 use Rattle.cops_types.specs.declared.limits.TheConstants.{MAX_CLIENT_OPS, MAX_OPS}
@@ -31,12 +31,12 @@ pub record World : Type 0 where
   pub contexts : List (List Dep)  -- of each client
   pub sessions : Sessions
 
--- the first nodes of a data centre, opened
+-- the first nodes of a data centre, newly opened
 abbrev pub row : ℕ → ℕ → List Node
 row dc zero = []
 row dc (suc n) = row dc n ++ opened (node_number dc n) ∷ []
 
--- those of the first data centres
+-- the nodes of the first data centres
 abbrev pub rows : ℕ → ℕ → List (List Node)
 rows places zero = []
 rows places (suc n) = rows places n ++ row n places ∷ []
@@ -50,7 +50,7 @@ opening s = record {
   sessions = replicate (length s.homes) [];
 }
 
--- the node at a place of a data centre; where there is none, one that holds nothing
+-- the node at a place of a data centre, or an empty one if there is none
 abbrev pub node_at : World → ℕ → ℕ → Node
 node_at w dc place = slice_index_or (slice_index_or w.nodes dc []) place (opened (node_number dc place))
 
@@ -67,7 +67,7 @@ with_answer w client op context = record w { contexts = slice_set w.contexts cli
 abbrev pub with_issued : World → PutRecord → World
 with_issued w put = record w { issued = w.issued ++ put ∷ [] }
 
--- the put that bears a version
+-- the put of a version
 abbrev pub sent : List PutRecord → ℕ → Option PutRecord
 sent issued version = find (λ p. version == p.version) issued
 
@@ -77,14 +77,14 @@ same_said a b = (a.dc == b.dc) && is_same_dep a.pair b.pair
 abbrev pub was_said : List Said → Said → Bool
 was_said said y = list_any (same_said y) said
 
--- the answers Yes with one more, unless it is there
+-- the Yes answers with one more, unless it is there
 abbrev pub gained : List Said → Said → List Said
 gained said y = if was_said said y then said else said ++ y ∷ []
 
 abbrev pub with_said : World → Said → World
 with_said w y = record w { said = gained w.said y }
 
--- no dependency, or one that the data centre has answered Yes for
+-- no dependency, or one for which the data centre has answered Yes
 abbrev pub is_answered : List Said → ℕ → Option Dep → Bool
 is_answered said dc None = true
 is_answered said dc (Some pair) = was_said said (record { dc = dc; pair = pair })
@@ -102,7 +102,7 @@ has_context_room s w client = nat_lt (length (context_in w client)) (most_deps s
 abbrev pub is_dc : Setting → ℕ → Bool
 is_dc s dc = nat_lt dc s.place.dcs
 
--- What an act wants of the world, in the order of the refusals. Where all is there a node is asked, which may refuse too.
+-- The checks that an act makes of the world, in the order of the refusals. If all pass, a node is asked, which may refuse too.
 abbrev pub checks : Setting → World → Act → List (Bool × Refusal)
 checks s w (WriteBy client key content) = (knows w client, UnknownClient) ∷ (fits s.format content, NotInFormat) ∷ (has_room w client, SessionFull) ∷ []
 checks s w (GetBy client key) = (knows w client, UnknownClient) ∷ (has_room w client, SessionFull) ∷ (has_context_room s w client, ContextFull) ∷ []
@@ -111,23 +111,23 @@ checks s w (AskAt dc key version) = (is_dc s dc, UnknownDc) ∷ []
 checks s w (MarkAt dc version dep) = (is_dc s dc, UnknownDc) ∷ (is_answered w.said dc (dep_at (waiting (node_at w dc (place_of version)).held version) dep), NoYes) ∷ []
 checks s w (SettleAt dc version) = (is_dc s dc, UnknownDc) ∷ []
 
--- the first whose test fails
+-- the refusal of the first check that fails
 abbrev pub refusal : List (Bool × Refusal) → Option Refusal
 refusal [] = None
 refusal (t ∷ tests) = if t.0 then refusal tests else Some t.1
 
--- a client's write is issued with its context, which then is the new pair alone
+-- a client's write is issued with the client's context as its dependencies, and the context becomes the new pair alone
 abbrev pub wrote : World → ℕ → List ℕ → Option (List ℕ) → Option ℕ → World
 wrote w client key content None = w
 wrote w client key content (Some version) =
     with_answer (with_issued w (record { key = key; value = content; version = version; deps = context_in w client }))
     client (write key content version) (record { key = key; version = version } ∷ [])
 
--- a client's context gains the pair that a get of the client met
+-- a client's context gains the pair that a get of the client found
 abbrev pub met : World → ℕ → List ℕ → Option (List ℕ) → ℕ → World
 met w client key content version = with_answer w client (read key content version) (with_pair (context_in w client) (record { key = key; version = version }))
 
--- the world after a node has answered, and became this one
+-- the world after a node's answer, with the node's new state
 abbrev pub keeps : World → ℕ → ℕ → Act → Outcome → Node → World
 keeps w dc place (WriteBy client key content) outcome n = wrote (with_node w dc place n) client key content (version_given outcome)
 keeps w dc place (GetBy client key) (Answered value version) n = met (with_node w dc place n) client key (Some value) version
@@ -136,7 +136,7 @@ keeps w dc place (GetBy client key) Nothing n = with_answer (with_node w dc plac
 keeps w dc place (AskAt d key version) Yes n = with_said (with_node w dc place n) (record { dc = d; pair = record { key = key; version = version } })
 keeps w dc place act outcome n = with_node w dc place n
 
--- the node at a place is asked, and the world keeps what it answers
+-- the node at a place answers, and the world stores what the answer requires
 abbrev pub asks : World → Act → ℕ → ℕ → NodeAct → Outcome × World
 asks w act dc place asked = let r = act_step (node_at w dc place) asked in (r.0, keeps w dc place act r.0 r.1)
 
@@ -144,7 +144,7 @@ abbrev pub delivers : Setting → World → ℕ → ℕ → Option PutRecord →
 delivers s w dc version None = (Refused NeverSent, w)
 delivers s w dc version (Some put) = asks w (DeliverTo dc version) dc (primary s put.key) (NodeDeliver put)
 
--- the node that an act goes to, and what it is asked
+-- the node to which an act goes, and the node's act
 abbrev pub done : Setting → World → Act → Outcome × World
 done s w (WriteBy client key content) = asks w (WriteBy client key content) (home s client) (primary s key) (NodeWrite client key content (context_in w client))
 done s w (GetBy client key) = asks w (GetBy client key) (home s client) (primary s key) (NodeGet client key)
@@ -157,25 +157,25 @@ abbrev pub unless : World → Option Refusal → Outcome × World → Outcome ×
 unless w (Some refused) next = (Refused refused, w)
 unless w None next = next
 
--- what is answered where memory is there, and the world afterwards
+-- the outcome if memory does not run out, and the world afterwards
 abbrev pub happens : Setting → World → Act → Outcome × World
 happens s w act = unless w (refusal (checks s w act)) (done s w act)
 
--- an act is answered so, or refused for want of memory
+-- an act has this outcome, or is refused because memory ran out
 abbrev pub Happens : Setting → World → Act → Outcome → World → Type 0
 Happens s old act outcome new = (happens s old act ≡ (outcome, new)) ⊎ ((outcome ≡ Refused Memory) × (new ≡ old))
 
--- a whole run
+-- a run: events with their outcomes
 abbrev pub Run : Setting → World → List Event → List Outcome → World → Type 0
 Run s old [] [] new = new ≡ old
 Run s old (event ∷ events) (outcome ∷ outcomes) new = (mid : World) × (Happens s old (act_of event) outcome mid × Run s mid events outcomes new)
 Run s old [] (outcome ∷ outcomes) new = ⊥
 Run s old (event ∷ events) [] new = ⊥
 
--- the world is reached from the opening one by some events and answers
+-- the world is reached from the new one by some events with their outcomes
 abbrev pub IsReached : Setting → World → Type 0
 IsReached s w = (events : List Event) × (outcomes : List Outcome) × Run s (opening s) events outcomes w
 
--- all that the nodes of a data centre settled
+-- everything that the nodes of a data centre have settled
 abbrev pub settled_in : World → ℕ → List Stored
 settled_in w dc = flat_map (λ n. n.settled) (slice_index_or w.nodes dc [])

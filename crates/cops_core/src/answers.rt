@@ -6,7 +6,7 @@ use indexmap::IndexSet;
 use std::alloc::Global;
 use std::marker::Model;
 
-/// The answers Yes that were given, each once.
+/// The Yes answers that were given, each once.
 #[derive(Drop)]
 pub struct Answers {
     said: IndexSet<Said>,
@@ -26,7 +26,7 @@ impl Answers {
     ghost use Rattle.std.specs.Prelude.{◌≡◌, [], true, OnOk};
     ghost use Rattle.cops_core.specs.World.{was_said, gained};
 
-    /// No answers. It takes no memory.
+    /// No answers. Allocates nothing.
     pub fn new(alloc: Global) -> Self
         ensures { result.said ≡ [] }
     {
@@ -35,14 +35,14 @@ impl Answers {
         }
     }
 
-    /// Whether this was answered.
+    /// Whether this Yes was given.
     pub fn contains(&self, said: &Said) -> bool
         ensures { result ≡ was_said self.now.said said.now }
     {
         self.said.contains(said)
     }
 
-    /// Makes room for one more: the next `add` takes no memory.
+    /// Makes room for one more answer, so that the next `add` allocates nothing. Changes no answer if memory runs out.
     pub fn reserve(&mut self) -> Result<(), Memory>
         ensures same { self.new.said ≡ self.old.said }
         ensures room { OnOk result (self.new.room ≡ true) }
@@ -51,7 +51,7 @@ impl Answers {
         Ok(())
     }
 
-    /// Adds an answer, unless it is there.
+    /// Adds an answer, unless it is there. Room has to be reserved.
     pub fn add(&mut self, said: Said)
         requires room { self.old.room ≡ true }
         ensures { self.new.said ≡ gained self.old.said said }

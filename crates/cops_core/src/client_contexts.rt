@@ -5,8 +5,8 @@ use cops_types::{Dep, Deps, Format, Memory};
 use std::alloc::Global;
 use std::marker::Model;
 
-/// The context of each client. Each could hold as many pairs as any format allows: how many a client may have, the
-/// world's format says at each call.
+/// The context of each client. Each can hold as many pairs as any format allows; the calls that add pairs take the
+/// world's format, which limits them.
 #[derive(Drop)]
 pub struct ClientContexts {
     contexts: Vec<Context>,
@@ -29,7 +29,7 @@ impl ClientContexts {
     ghost use Rattle.cops_context.specs.Context.{with_pair};
     ghost use Rattle.cops_core.specs.Parts.{HasPlace};
 
-    /// An empty context for each client.
+    /// An empty context for each of `clients` clients. Fails if memory runs out.
     pub fn new(alloc: Global, clients: u16) -> Result<Self, Memory>
         ensures { IfOk result (λ c. c.pairs ≡ replicate clients []) }
     {
@@ -47,7 +47,7 @@ impl ClientContexts {
         self.contexts.len()
     }
 
-    /// Copies of a client's pairs. Where there are none it takes no memory.
+    /// Copies of a client's pairs. Fails if memory runs out, but not if there are no pairs.
     pub fn deps(&self, client: u16) -> Result<Deps, Memory>
         requires { client < length self.now.pairs }
         ensures ok { IfOk result (λ deps. deps ≡ slice_index_or self.now.pairs client []) }
@@ -57,7 +57,7 @@ impl ClientContexts {
         context.deps()
     }
 
-    /// Whether a client has fewer pairs than the format's most.
+    /// Whether a client has fewer pairs than the format's limit.
     pub fn has_room(&self, format: Format, client: u16) -> bool
         requires { client < length self.now.pairs }
         ensures { result ≡ nat_lt (length (slice_index_or self.now.pairs client [])) (most_deps format) }
@@ -66,7 +66,7 @@ impl ClientContexts {
         context.len() < format.most_deps()
     }
 
-    /// Makes room for a client's next pair.
+    /// Makes room for a client's next pair. Changes no context if memory runs out.
     pub fn reserve(&mut self, client: u16) -> Result<(), Memory>
         requires { client < length self.old.pairs }
         ensures same { self.new.pairs ≡ self.old.pairs }
@@ -76,7 +76,7 @@ impl ClientContexts {
         context.reserve()
     }
 
-    /// A client meets a pair, with fewer than the format's most.
+    /// Adds a pair to a client's context, which has fewer than the format's limit. Room has to be reserved.
     pub fn add(&mut self, format: Format, client: u16, pair: Dep)
         requires known { client < length self.old.pairs }
         requires few { length (slice_index_or self.old.pairs client []) < most_deps format }
@@ -88,7 +88,7 @@ impl ClientContexts {
         context.add(pair).unwrap()
     }
 
-    /// Leaves a client the one pair of its new put.
+    /// Replaces a client's context by the pair of its new put.
     pub fn replace(&mut self, client: u16, put: Dep)
         requires { client < length self.old.pairs }
         ensures { self.new.pairs ≡ slice_set self.old.pairs client (put ∷ []) }

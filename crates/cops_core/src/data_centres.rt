@@ -7,7 +7,7 @@ use cops_types::{Memory, node_number};
 use std::alloc::Global;
 use std::marker::Model;
 
-/// The nodes of a data centre, by their places.
+/// The nodes of a data centre, in the order of their places.
 #[derive(Drop)]
 pub struct DataCentre {
     nodes: Vec<Node>,
@@ -29,7 +29,7 @@ impl DataCentre {
     ghost use Rattle.std.specs.Borrow.{sem};
     ghost use Rattle.cops_core.specs.Lending.{LendsNode};
 
-    /// The first nodes of a data centre, so many, with nothing in them.
+    /// The first `nodes` nodes of a data centre, empty. Fails if memory runs out.
     pub fn open(alloc: Global, dc: u8, nodes: u8) -> Result<Self, Memory>
         requires dc { dc < MAX_DCS }
         requires nodes { nodes ≤ PLACES }
@@ -42,7 +42,7 @@ impl DataCentre {
         Ok(DataCentre { nodes: opened })
     }
 
-    /// The node at a place.
+    /// Borrows the node at a place mutably.
     pub fn node(&mut self, place: u8) -> &mut Node
         requires { place < length self.old }
         ensures* writes_back { sem 𝓛 (LendsNode self.entry place result) }
@@ -75,7 +75,7 @@ impl DataCentres {
     ghost use Rattle.std.specs.Borrow.{sem};
     ghost use Rattle.cops_core.specs.Lending.{LendsNodeAt};
 
-    /// So many data centres, each of so many nodes.
+    /// The first `dcs` data centres, each with `nodes` empty nodes. Fails if memory runs out.
     pub fn open(alloc: Global, dcs: u8, nodes: u8) -> Result<Self, Memory>
         requires dcs { dcs ≤ MAX_DCS }
         requires nodes { nodes ≤ PLACES }
@@ -88,7 +88,7 @@ impl DataCentres {
         Ok(DataCentres { rows: opened })
     }
 
-    /// The node at a place of a data centre, to be read.
+    /// Borrows the node at a place of a data centre.
     pub fn at(&self, dc: u8, place: u8) -> &Node
         requires dc { dc < length self.now }
         requires place { place < length (slice_index_or self.now dc []) }
@@ -97,7 +97,7 @@ impl DataCentres {
         &self.rows[dc as usize].nodes[place as usize]
     }
 
-    /// The node at a place of a data centre.
+    /// Borrows the node at a place of a data centre mutably.
     pub fn node(&mut self, dc: u8, place: u8) -> &mut Node
         requires dc { dc < length self.old }
         requires place { place < length (slice_index_or self.old dc []) }

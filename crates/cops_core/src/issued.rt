@@ -5,7 +5,7 @@ use indexmap::IndexMap;
 use std::alloc::Global;
 use std::marker::Model;
 
-/// The puts that were issued, in their order; each is found by its version in one look-up.
+/// The issued puts, in the order of issue. A put is found by its version in one look-up.
 #[derive(Drop)]
 pub struct Issued {
     puts: IndexMap<Version, PutRecord>,
@@ -27,7 +27,7 @@ impl Issued {
     ghost use Rattle.std.specs.Prelude.{◌≡◌, ◌++◌, ◌∷◌, [], true, None, OnOk, length, option_copied, slice_get};
     ghost use Rattle.cops_core.specs.World.{sent};
 
-    /// No puts. It takes no memory.
+    /// No puts. Allocates nothing.
     pub fn new(alloc: Global) -> Self
         ensures { result.puts ≡ [] }
     {
@@ -36,7 +36,7 @@ impl Issued {
         }
     }
 
-    /// The put that bears the version.
+    /// The put of this version, if there is one.
     pub fn find(&self, version: Version) -> Option<&PutRecord>
         ensures { option_copied result ≡ sent self.now.puts version }
     {
@@ -50,7 +50,7 @@ impl Issued {
         self.puts.len()
     }
 
-    /// The put at a place in their order.
+    /// The put at an index in the order of issue, if there is one.
     pub fn at(&self, place: usize) -> Option<&PutRecord>
         ensures { option_copied result ≡ slice_get self.now.puts place }
     {
@@ -60,7 +60,7 @@ impl Issued {
         }
     }
 
-    /// Makes room for one more: the next `push` takes no memory.
+    /// Makes room for one more put, so that the next `push` allocates nothing. Changes no put if memory runs out.
     pub fn reserve(&mut self) -> Result<(), Memory>
         ensures same { self.new.puts ≡ self.old.puts }
         ensures room { OnOk result (self.new.room ≡ true) }
@@ -69,7 +69,7 @@ impl Issued {
         Ok(())
     }
 
-    /// Adds a put, whose version no other bears.
+    /// Adds a put, whose version no other put may have. Room has to be reserved.
     pub fn push(&mut self, put: PutRecord)
         requires room { self.old.room ≡ true }
         requires new { sent self.old.puts put.version ≡ None }

@@ -7,9 +7,10 @@ ghost use Rattle.cops_core.specs.World.{IsReached, Act, Happens, IsSetting, Sett
 ghost use Rattle.cops_types.specs.Verdicts.{HasAcceptedVerdict};
 ghost use Rattle.cops_core.specs.Machine.{Step, view};
 
-/// A law of the definitions. Whatever events come to an opened world, in whatever order, and wherever memory runs out:
-/// the verdict of the history that was recorded is Accepted. Each act is a step of the machine that knows one set of
-/// puts in each data centre, or changes nothing there; the invariants hold; and a refused act changes nothing.
+/// A theorem about the definitions, stated as the contract of a function with an empty body. Whatever events happen in
+/// a new world, in whatever order, and wherever memory runs out: the verdict of the recorded history is Accepted. Each
+/// act is a step of the machine that has one set of puts in each data centre, or changes nothing there; the invariants
+/// hold; and a refused act changes nothing.
 pub fn every_interleaving_is_accepted()
     ensures accepted { (s : Setting) (w : World) → IsSetting s → IsReached s w → HasAcceptedVerdict w.sessions }
     ensures steps { (s : Setting) (w new : World) (act : Act) (outcome : Outcome) → IsSetting s → IsReached s w

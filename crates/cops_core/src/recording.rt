@@ -1,4 +1,4 @@
-//! What the world keeps of its clients' operations: copies, and a place in the history.
+//! Recording the clients' operations: the copies that the world stores, and the room in the history.
 ghost use Rattle.cops_types.specs.declared.limits.TheConstants.{MAX_CLIENT_OPS, MAX_OPS};
 ghost use Rattle.std.specs.Prelude.{◌≡◌, ◌<◌, ◌⊎◌, ◌∷◌, ◌++◌, [], true, None, Some, nat_lt, ◌&&◌, length, option_copied, slice_index_or, slice_set, IfOk, IfErr, OnOk};
 ghost use Rattle.cops_types.specs.declared.refusal.Refusal.TheVariants.{Memory as OutOfMemory, SessionFull, UnknownClient};
@@ -20,8 +20,10 @@ use cops_types::{
     content_copy,
 };
 
-/// Whether a client may have one more operation, else why not. What was recorded stays. Want of memory is
-/// answered only where nothing else refuses.
+/// Makes room for a client's next operation. The recorded operations stay.
+///
+/// Errors: `UnknownClient` if there is no such client, then `SessionFull` if the client has 1,000,000 operations or
+/// there are 16,000,000, then `Memory` if memory runs out.
 pub fn admit(history: &mut History, client: u16) -> Result<(), Refusal>
     ensures same { history.new.sessions ≡ history.old.sessions }
     ensures ok { OnOk result (MayRecord history.new client) }
@@ -36,8 +38,10 @@ pub fn admit(history: &mut History, client: u16) -> Result<(), Refusal>
     }
 }
 
-/// Whether a client may write this, without a value a deletion, else why not: as `admit` answers it for any operation,
-/// and `NotInFormat` where that does not fit the format.
+/// Makes room for a client's write, which is a deletion if `content` is none.
+///
+/// Errors: those of `admit`, and `NotInFormat` if the format does not have the write, after `UnknownClient` and before
+/// the others.
 pub fn admit_write(
     history: &mut History,
     format: Format,
@@ -56,8 +60,10 @@ pub fn admit_write(
     admit(history, client)
 }
 
-/// Whether a client may get a key, else why not: as `admit` answers it for any operation, and `ContextFull` where the
-/// client's context has no room for one more pair.
+/// Makes room for a client's get.
+///
+/// Errors: those of `admit`, and `ContextFull` if the client's context has no room for one more pair, before `Memory`
+/// and after the others.
 pub fn admit_get(
     history: &mut History,
     contexts: &ClientContexts,
@@ -83,7 +89,7 @@ pub fn admit_get(
     Ok(())
 }
 
-/// Records a client's next operation.
+/// Records a client's next operation, for which room has to be reserved.
 pub fn record(history: &mut History, client: u16, op: Op)
     requires { MayRecord history.old client }
     ensures { history.new.sessions ≡ with_op history.old.sessions client (operation_of op) }
@@ -91,7 +97,8 @@ pub fn record(history: &mut History, client: u16, op: Op)
     history.push(client, op).unwrap()
 }
 
-/// A put before it has its version: its key and value, and the client's context. Without a value it is a deletion.
+/// A put without its version: its key and value, and its dependencies, the client's context. Without a value it is a
+/// deletion.
 #[derive(Drop)]
 pub struct Draft {
     pub key: Key,
@@ -99,7 +106,7 @@ pub struct Draft {
     pub deps: Deps,
 }
 
-/// Copies of what a client writes, with its context.
+/// A draft with copies of a client's write and of its context. Fails if memory runs out.
 pub fn drafted(
     contexts: &ClientContexts,
     client: u16,
@@ -116,8 +123,8 @@ pub fn drafted(
     })
 }
 
-/// What a put leaves once it has its version: the issued put, its key in the client's context, and what the session
-/// tells.
+/// The copies that a put needs once it has its version: for the issued put, for its key in the client's context, and
+/// for the operation in the session.
 #[derive(Drop)]
 pub struct Copies {
     pub issued: Draft,
@@ -126,7 +133,7 @@ pub struct Copies {
     pub op_value: Option<Value>,
 }
 
-/// Copies of what a client writes for each place where it is kept.
+/// Copies a client's write for each place where it is stored. Fails if memory runs out.
 pub fn copies_of(
     contexts: &ClientContexts,
     client: u16,
@@ -144,7 +151,7 @@ pub fn copies_of(
     })
 }
 
-/// The node of a client's data centre writes a draft.
+/// Writes a draft at a node of the client's data centre.
 pub fn write_at(node: &mut Node, client: u16, own: Draft) -> Outcome
     ensures { ActHappens node.old (NodeWrite client own.key own.value own.deps) result node.new }
 {
@@ -155,7 +162,7 @@ pub fn write_at(node: &mut Node, client: u16, own: Draft) -> Outcome
     }
 }
 
-/// What the session tells of a write.
+/// The operation of a write, for the session.
 fn written(key: Key, content: Option<Value>, version: Version) -> Op
     ensures { operation_of result ≡ write key content version }
 {
@@ -169,7 +176,7 @@ fn written(key: Key, content: Option<Value>, version: Version) -> Op
     }
 }
 
-/// Keeps a put under its version: among the issued ones, as its client's context and in its client's session.
+/// Stores a put with its version: among the issued puts, as its client's context and in its client's session.
 pub fn keep_put(
     issued: &mut Issued,
     contexts: &mut ClientContexts,

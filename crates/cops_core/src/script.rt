@@ -1,7 +1,7 @@
-//! What scripted clients do.
+//! The scripts of clients.
 use cops_types::{Key, Value};
 
-/// What a client does next.
+/// An operation of a script.
 #[derive(Debug, Drop, PartialEq, Eq)]
 pub enum ScriptOp {
     Put { key: Key, value: Value },
@@ -9,7 +9,7 @@ pub enum ScriptOp {
     Get { key: Key },
 }
 
-/// A client: its data centre, and its operations, one after the other.
+/// A client with its data centre, and its operations, one after the other.
 #[derive(Debug, Drop)]
 pub struct ScriptedClient {
     pub at: u8,

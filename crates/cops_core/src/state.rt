@@ -15,7 +15,8 @@ use cops_types::{Dep, Deps, History, Key, Memory, Op, PutRecord, Refusal, Value,
 use std::alloc::Global;
 use std::marker::Model;
 
-/// What changes in a world: its nodes, the issued puts, the answers Yes, and each client's context and session.
+/// The part of a world that changes: its nodes, the issued puts, the Yes answers, and each client's context and
+/// session.
 #[derive(Drop)]
 pub struct State {
     alloc: Global,
@@ -48,7 +49,7 @@ impl State {
     ghost use Rattle.cops_core.specs.World.{Happens, context_in, act_of, happens, opening, sent, settled_in, WriteBy, GetBy, DeliverTo, AskAt, MarkAt, SettleAt, IsReached};
     ghost use Rattle.cops_core.specs.Memory.{TakesMemory};
 
-    /// The state in which nothing has happened yet.
+    /// The state of a world before the first event. Fails if memory runs out.
     pub fn open(alloc: Global, setting: &Setting) -> Result<Self, Memory>
         ensures { IfOk result (λ state. state ≡ opening setting.now) }
     {
@@ -63,7 +64,7 @@ impl State {
         })
     }
 
-    /// Answers an event. Want of memory stands only in place of an answer that takes memory.
+    /// Applies an event. `Memory` is the outcome only in place of one before which the event allocates.
     pub fn step(&mut self, setting: &Setting, event: &Event) -> Outcome
         requires { IsReached setting.now self.old }
         ensures happens { Happens setting.now self.old (act_of event.now) result self.new }
@@ -72,14 +73,15 @@ impl State {
         events!(answer self, setting, event)
     }
 
-    /// What the clients saw.
+    /// The operations of the clients.
     pub fn history(&self) -> &History
         ensures { result.now.sessions ≡ self.now.sessions }
     {
         &self.history
     }
 
-    /// Copies of a client's context: none for a client that is not there. Where there are none it takes no memory.
+    /// Copies of a client's context, which is empty if there is no such client. Fails if memory runs out, but not if
+    /// the context is empty.
     pub fn deps(&self, client: u16) -> Result<Deps, Memory>
         ensures ok { IfOk result (λ deps. deps ≡ context_in self.now client) }
         ensures err { OnErr result (context_in self.now client ≢ []) }
@@ -91,28 +93,29 @@ impl State {
         }
     }
 
-    /// The issued put that bears the version.
+    /// The issued put of this version, if there is one.
     pub fn sent(&self, version: Version) -> Option<&PutRecord>
         ensures { option_copied result ≡ sent self.now.issued version }
     {
         self.issued.find(version)
     }
 
-    /// How many puts were issued.
+    /// The number of issued puts.
     pub fn puts(&self) -> usize
         ensures { result ≡ length self.now.issued }
     {
         self.issued.len()
     }
 
-    /// The put at a place in the order of issue.
+    /// The put at an index in the order of issue, if there is one.
     pub fn put_at(&self, place: usize) -> Option<&PutRecord>
         ensures { option_copied result ≡ slice_get self.now.issued place }
     {
         self.issued.at(place)
     }
 
-    /// Whether exactly this pair is settled in a data centre, as the key's node there says.
+    /// Whether exactly this pair is settled in a data centre, at the key's node there. False if there is no such data
+    /// centre.
     pub fn has_settled(&self, setting: &Setting, dc: u8, key: &Key, version: Version) -> bool
         requires { IsReached setting.now self.now }
         ensures { result ≡ has_pair (settled_in self.now dc) (record { key = key.now; version = version }) }
@@ -141,8 +144,8 @@ impl State {
         self.write(setting, client, key, None)
     }
 
-    /// A client writes a content at a key, in its own data centre. The put depends on the client's context, which then
-    /// holds the new pair alone.
+    /// A client writes a content at a key, in its own data centre: without a value it deletes the key. The put depends
+    /// on the client's context, which then has only the new pair.
     fn write(
         &mut self,
         setting: &Setting,
@@ -160,7 +163,8 @@ impl State {
         }
     }
 
-    /// The same. All growths come before the first change, so want of memory changes nothing.
+    /// Like `write`, but fails if memory runs out. All allocations come before the first change, so a failed one
+    /// changes nothing.
     fn try_write(
         &mut self,
         setting: &Setting,
@@ -196,7 +200,7 @@ impl State {
         }
     }
 
-    /// A client gets a key, from its own data centre. The pair that it met joins the client's context.
+    /// A client gets a key, from its own data centre. The pair that it found is added to the client's context.
     fn get(&mut self, setting: &Setting, client: u16, key: &Key) -> Outcome
         requires { IsReached setting.now self.old }
         ensures happens { Happens setting.now self.old (GetBy client key.now) result self.new }
@@ -208,7 +212,8 @@ impl State {
         }
     }
 
-    /// The same. All growths come before the first change, so want of memory changes nothing.
+    /// Like `get`, but fails if memory runs out. All allocations come before the first change, so a failed one
+    /// changes nothing.
     fn try_get(&mut self, setting: &Setting, client: u16, key: &Key) -> Result<Outcome, Memory>
         requires { IsReached setting.now self.old }
         ensures ok { IfOk result (λ outcome. Happens setting.now self.old (GetBy client key.now) outcome self.new) }
@@ -258,7 +263,7 @@ impl State {
         }
     }
 
-    /// The put of that version comes to a data centre.
+    /// The put of that version arrives at a data centre.
     fn deliver(&mut self, setting: &Setting, dc: u8, version: Version) -> Outcome
         requires { IsReached setting.now self.old }
         ensures happens { Happens setting.now self.old (DeliverTo dc version) result self.new }
@@ -278,7 +283,7 @@ impl State {
         node.deliver(copy)
     }
 
-    /// A data centre's node is asked whether exactly this pair is settled there. An answer Yes is kept.
+    /// A data centre's node is asked whether exactly this pair is settled there. A Yes answer is stored.
     fn ask(&mut self, setting: &Setting, dc: u8, key: &Key, version: Version) -> Outcome
         requires { IsReached setting.now self.old }
         ensures happens { Happens setting.now self.old (AskAt dc key.now version) result self.new }
@@ -307,7 +312,7 @@ impl State {
         }
     }
 
-    /// The held put of that version gets a mark for a dependency that was answered Yes.
+    /// The held put of that version gets a mark for a dependency for which Yes was answered.
     fn mark(&mut self, setting: &Setting, dc: u8, version: Version, dep: u16) -> Outcome
         requires { IsReached setting.now self.old }
         ensures happens { Happens setting.now self.old (MarkAt dc version dep) result self.new }
@@ -331,7 +336,7 @@ impl State {
         node.mark(version, dep)
     }
 
-    /// The held put of that version is settled, where all its dependencies are marked.
+    /// The held put of that version is settled, if all its dependencies are marked.
     fn settle(&mut self, setting: &Setting, dc: u8, version: Version) -> Outcome
         requires { IsReached setting.now self.old }
         ensures happens { Happens setting.now self.old (SettleAt dc version) result self.new }
@@ -349,7 +354,8 @@ impl State {
     }
 }
 
-/// Whether there is no dependency, or the data centre has answered Yes for it. It takes memory for a dependency alone.
+/// Whether there is no dependency, or the data centre has answered Yes for it. Allocates only if there is a dependency,
+/// and fails if memory runs out.
 fn is_answered(said: &Answers, dc: u8, pair: Option<&Dep>) -> Result<bool, Memory>
     ensures ok { IfOk result (λ answered. answered ≡ is_answered said.now.said dc (option_copied pair.entry)) }
     ensures err { OnErr result (is_some (option_copied pair.entry) ≡ true) }

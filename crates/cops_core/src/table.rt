@@ -1,7 +1,7 @@
-//! The table of a world's events, which the cases of its step are made from.
+//! The table of a world's events, from which macros generate the cases of its step.
 
-/// Calls a macro with what it is given and the events of a world. Each row has an event and the call of the state that
-/// answers it; the outcomes are the node's, and the refusals stand with the calls, in their order.
+/// Calls a macro with the given tokens and the events of a world. Each row has an event and the call of the state that
+/// applies it. The outcomes are those of the node, and the refusals are in the calls, in their order.
 macro_rules! events {
     ($make:ident $($given:tt)*) => {
         $make! {
@@ -17,7 +17,7 @@ macro_rules! events {
     };
 }
 
-/// Makes the match of an event to its answer by a state, from the rows.
+/// Generates the match of an event to the state's call, from the rows.
 macro_rules! answer {
     ($state:expr, $setting:expr, $event:expr; $($name:ident { $($field:ident),* } => $call:ident($($argument:expr),*))*) => {
         match $event {

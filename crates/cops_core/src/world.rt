@@ -9,8 +9,8 @@ use cops_types::{Deps, Format, History, Key, Memory, PutRecord, Version};
 use std::alloc::Global;
 use std::marker::Model;
 
-/// A COPS cluster on one thread: the nodes of each data centre, the puts that were issued, the answers Yes, and each
-/// client's context and session. It changes by events alone, in whatever order they come.
+/// A COPS cluster on one thread: the nodes of each data centre, the issued puts, the Yes answers, and each client's
+/// context and session. Only events change it, in whatever order they come.
 #[derive(Drop)]
 pub struct World {
     alloc: Global,
@@ -42,8 +42,9 @@ impl World {
     ghost use Rattle.cops_place.specs.Clients.{AreClients};
     ghost use Rattle.cops_core.specs.Invariants.{AreInFormat, Invariants};
 
-    /// A world of format 1 in which nothing has happened, of these data centres and nodes, and with a client at each of
-    /// these data centres: `BadClient` where one of those is not there, or there are more than 65,535 clients.
+    /// A new world of format 1 with these data centres and nodes, and a client at each data centre of `client_dcs`.
+    /// Errors: `BadClient` if one of those does not exist, or there are more than 65,535 clients; `Memory` if memory
+    /// runs out.
     pub fn open(alloc: Global, place: Place, client_dcs: Vec<u8>) -> Result<Self, WorldFault>
         ensures ok { IfOk result (λ world. world ≡ opened_world (record { format = One; place = place; homes = client_dcs.items })) }
         ensures bad { IsErrOf result WorldFault.BadClient ↔ (AreClients place client_dcs.items → ⊥) }
@@ -51,7 +52,7 @@ impl World {
         World::open_in(Format::One, alloc, place, client_dcs)
     }
 
-    /// Such a world of a format. Format 2 has deletions.
+    /// Like `open`, for any format. Format 2 has deletions.
     pub fn open_in(
         format: Format,
         alloc: Global,
@@ -67,7 +68,7 @@ impl World {
         }
     }
 
-    /// A world of this setting in which nothing has happened.
+    /// A new world of this setting. Fails if memory runs out.
     pub fn of(alloc: Global, setting: Setting) -> Result<Self, Memory>
         ensures { IfOk result (λ world. world ≡ opened_world setting) }
     {
@@ -79,28 +80,28 @@ impl World {
         })
     }
 
-    /// Its data centres and its clients, which never change.
+    /// The world's data centres and its clients, which never change.
     pub fn setting(&self) -> &Setting
         ensures { result.now ≡ self.now.setting }
     {
         &self.setting
     }
 
-    /// Answers an event, by the table of refusals in their order:
+    /// Applies an event and returns its outcome. The checks of the refusals are made in the order of this table:
     ///
     /// | Event | Outcome | Refused |
     /// |---|---|---|
     /// | Put | PutDone | 3 unknown client, 11 session full, 1 clock exhausted |
     /// | Del | Deleted | 3 unknown client, 12 not in the format, 11 session full, 1 clock exhausted |
-    /// | Get | Got, Missed, or Gone where the key shows a deletion | 3 unknown client, 11 session full, 2 context full |
-    /// | Deliver | Held; Repeat where it is held or settled there | 10 unknown data centre, 4 never sent |
-    /// | Ask | Yes where the pair is settled there, else Wait | 10 unknown data centre |
-    /// | Mark | Marked | 10 unknown data centre, 5 not held, 6 no such dependency, 7 no answer Yes |
+    /// | Get | Got, Missed, or Gone if the key shows a deletion | 3 unknown client, 11 session full, 2 context full |
+    /// | Deliver | Held; Repeat if it is held or settled there | 10 unknown data centre, 4 never sent |
+    /// | Ask | Yes if the pair is settled there, else Wait | 10 unknown data centre |
+    /// | Mark | Marked | 10 unknown data centre, 5 not held, 6 no such dependency, 7 no Yes answer |
     /// | Settle | Settled | 10 unknown data centre, 5 not held, 8 open dependencies |
     ///
-    /// Each is refused 9 where memory was refused: only in place of an outcome that is no refusal, or of the refusal 1
-    /// of a put or a deletion or a mark's refusal 7, since the other refusals take no memory. A refused event changes
-    /// nothing.
+    /// An event is refused with 9 if memory runs out: only in place of an outcome that is no refusal, of the refusal 1
+    /// of a put or a deletion, or of the refusal 7 of a mark, since the other refusals allocate nothing. A refused
+    /// event changes nothing.
     pub fn apply(&mut self, event: Event) -> Outcome
         ensures setting { self.new.setting ≡ self.old.setting }
         ensures event { Happens self.old.setting self.old.world (act_of event) result self.new.world }
@@ -110,7 +111,7 @@ impl World {
         self.answer(&event)
     }
 
-    /// The same for an event that stays with the caller.
+    /// Like `apply`, for a borrowed event.
     pub fn answer(&mut self, event: &Event) -> Outcome
         ensures setting { self.new.setting ≡ self.old.setting }
         ensures event { Happens self.old.setting self.old.world (act_of event.now) result self.new.world }
@@ -120,8 +121,8 @@ impl World {
         self.state.step(&self.setting, event)
     }
 
-    /// Answers events one after the other, each as `apply` does. `Memory` where there is none for the answers: then no
-    /// event has happened.
+    /// Applies events one after the other, each as `apply` does. Fails with `Memory` if there is no memory for the list
+    /// of outcomes, and then no event has happened.
     pub fn run(&mut self, events: &[Event]) -> Result<Vec<Outcome>, Memory>
         ensures setting { self.new.setting ≡ self.old.setting }
         ensures ok { IfOk result (λ outcomes. Run self.old.setting self.old.world events.now outcomes.items self.new.world) }
@@ -135,8 +136,8 @@ impl World {
         Ok(outcomes)
     }
 
-    /// Copies of the pairs that a client's next put will depend on, in the order in which it met them: none for a
-    /// client that is not there. Where there are none it takes no memory.
+    /// Copies of the pairs on which a client's next put will depend, in the order in which the client found them. They
+    /// are none if there is no such client. Fails if memory runs out, but not if there are none.
     pub fn deps(&self, client: u16) -> Result<Deps, Memory>
         ensures ok { IfOk result (λ deps. deps ≡ context_in self.now.world client) }
         ensures err { OnErr result (context_in self.now.world client ≢ []) }
@@ -144,36 +145,36 @@ impl World {
         self.state.deps(client)
     }
 
-    /// The put that bears the version, if a client has put it.
+    /// The put of this version, if a client has issued one.
     pub fn sent(&self, version: Version) -> Option<&PutRecord>
         ensures { option_copied result ≡ sent self.now.world.issued version }
     {
         self.state.sent(version)
     }
 
-    /// How many puts clients have put.
+    /// The number of puts that clients have issued.
     pub fn puts(&self) -> usize
         ensures { result ≡ length self.now.world.issued }
     {
         self.state.puts()
     }
 
-    /// The put at a place in the order in which clients put them.
+    /// The put at an index in the order of issue, if there is one.
     pub fn put_at(&self, place: usize) -> Option<&PutRecord>
         ensures { option_copied result ≡ slice_get self.now.world.issued place }
     {
         self.state.put_at(place)
     }
 
-    /// Whether exactly this pair is settled in a data centre: in none that is not there.
+    /// Whether exactly this pair is settled in a data centre. False if there is no such data centre.
     pub fn has_settled(&self, dc: u8, key: &Key, version: Version) -> bool
         ensures { result ≡ has_pair (settled_in self.now.world dc) (record { key = key.now; version = version }) }
     {
         self.state.has_settled(&self.setting, dc, key, version)
     }
 
-    /// What the clients saw. Whatever events came, the verdict on it is Accepted, and each operation is in the format
-    /// of the setting.
+    /// The operations of the clients. Whatever events came, the verdict on them is Accepted, and each operation is in
+    /// the format of the setting.
     pub fn history(&self) -> &History
         ensures sessions { result.now.sessions ≡ self.now.world.sessions }
         ensures accepted { HasAcceptedVerdict result.now.sessions }

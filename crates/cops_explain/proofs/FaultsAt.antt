@@ -1,4 +1,4 @@
--- The fault of a number is one of the history's.
+-- The fault with a number is one of the history's.
 use Rattle.std.proofs.Common.{◌≡◌, ℕ, Some}
 use Rattle.cops_types.specs.Histories.{Sessions}
 use Rattle.cops_audit.specs.Faults.{IsFault}

@@ -1,4 +1,4 @@
--- The other puts of a version.
+-- The other puts with a version.
 use Rattle.std.proofs.Common.{eq-eqb, not, Bool, true, false, AllPairs, eqb, cond, ltb, ◌≡◌, ◌≢◌, ◌∙◌, ◌+◌, ◌<◌, ◌≤◌, ◌↔◌, ℕ, List, [], ◌∷◌, ◌++◌, length, get_or, Some, refl, sym, ap, subst, arith, inl, inr}
 use Rattle.std.specs.Prelude.{Contains, ◌&&◌}
 use Rattle.std.specs.List.{dedup}
@@ -28,12 +28,12 @@ use Rattle.cops_explain.specs.Others.{AreOthers, IsOther}
 pub one_version : (h : Sessions) (n : OpName) (v w : ℕ) → PutsVersion h n v → PutsVersion h n w → v ≡ w
 one_version h n v w p q = (let e : Some (write p.0 p.1 v) ≡ Some (write q.0 q.1 w) = sym p.2 ∙ q.2 in cc)
 
--- of the puts that stand first those that are others are among the names, and all names are others
+-- those of the first i puts that are others are among the names, and all names are others
 pub record AreFound (h : Sessions) (name : OpName) (puts : List VersionedPut) (i : ℕ) (names : List OpName) : Type 0 where
   pub all : (k : ℕ) (d : VersionedPut) → k < i → IsOther h name (get_or puts k d).name → Contains names (get_or puts k d).name
   pub sound : (n : OpName) → Contains names n → IsOther h name n
 
--- names that are more, and that have the put at this place where it is another
+-- longer lists of names, which have the put at this place where it is another
 grown : (h : Sessions) (name : OpName) (puts : List VersionedPut) (i : ℕ) (p : VersionedPut) (names more : List OpName) → i < length puts → p ≡ get_or puts i p → AreFound h name puts i names
     → ((n : OpName) → Contains names n → Contains more n) → ((n : OpName) → Contains more n → IsOther h name n) → (IsOther h name p.name → Contains more p.name) → AreFound h name puts (i + 1) more
 grown h name puts i p names more inside at found kept sound here = record {
@@ -58,7 +58,7 @@ pub found_passed : (h : Sessions) (name : OpName) (puts : List VersionedPut) (i 
     → ¬ IsOther h name p.name → AreFound h name puts (i + 1) names
 found_passed h name puts i p names inside at found none = grown h name puts i p names names inside at found (λ m there. there) found.sound (λ other. absurd (none other))
 
--- behind a put of another version no further one has this version
+-- after a put of another version no further one has this version
 pub further : (puts : List VersionedPut) (v i : ℕ) (p : VersionedPut) → IsNonDecreasingBy (λ q. q.version) puts → ((k : ℕ) (d : VersionedPut) → k < length puts → v ≤ (get_or puts k d).version)
     → i < length puts → p ≡ get_or puts i p → not (eqb p.version v) ≡ true → (k : ℕ) (d : VersionedPut) → i ≤ k → k < length puts → (get_or puts k d).version ≢ v
 further puts v i p rises low inside at other k d above lt = λ e.
@@ -67,7 +67,7 @@ further puts v i p rises low inside at other k d above lt = λ e.
     let yes : eqb p.version v ≡ true = eq-eqb _ _ is in
     cc
 
--- all others are found where those that stand first are looked at, and no further put has the version
+-- all others are found where the first i puts are visited, and no further put has the version
 pub all_found : (h : Sessions) (name : OpName) (v : ℕ) (puts : List VersionedPut) (i : ℕ) (names : List OpName) → v ≡ version_at h name → AreFound h name puts i names
     → ((n : OpName) → PutsVersion h n v → HasPut puts n v) → ((k : ℕ) (d : VersionedPut) → i ≤ k → k < length puts → (get_or puts k d).version ≢ v)
     → (n : OpName) → Contains names n ↔ IsOther h name n
@@ -82,7 +82,7 @@ all_found h name v puts i names is found has none n = (found.sound n, λ other. 
       | inr above ↦ absurd (none there.0 (record { version = v; name = n }) above there.1 (ap (λ (p : VersionedPut). p.version) there.2))
     ]
 
--- ---- names that were sorted, and stand once
+-- ---- sorted names without duplicates
 
 abbrev pub is_same : OpName → OpName → Bool
 is_same a b = eqb a.client b.client && eqb a.index b.index

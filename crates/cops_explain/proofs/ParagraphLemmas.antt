@@ -1,4 +1,4 @@
--- Paragraphs, one after another.
+-- Paragraphs, one by one.
 use Rattle.std.proofs.Common.{◌≡◌, ◌∙◌, ◌+◌, ◌<◌, ℕ, List, [], ◌∷◌, ◌++◌, length, take, get_or, Some, None, refl, sym, ap, subst, append_assoc, arith, inl, inr, slice_get}
 use Rattle.std.proofs.lemmas.List.{append-nil, length-take-le, take_all, take_more}
 use Rattle.std.proofs.lemmas.Option.{get_or_from_slice_get, slice_get_cases, slice_get_within}
@@ -24,7 +24,7 @@ more_paragraphs h f told number (g ∷ faults) text one all =
 pub none_added : (h : Sessions) (old : List ℕ) → AddsParagraphs h 1 [] old old
 none_added h old = ([], refl, sym (append-nil old))
 
--- one fault more
+-- one more fault
 pub paragraph_more : (h : Sessions) (faults : List Fault) (place : ℕ) (f : Fault) (start old new : List ℕ) → slice_get faults place ≡ Some f → AddsParagraphs h 1 (take place faults) start old
     → AddsParagraph h (place + 1) f old new → AddsParagraphs h 1 (take (place + 1) faults) start new
 paragraph_more h faults place f start old new at all one =
@@ -39,7 +39,7 @@ paragraph_more h faults place f start old new at all one =
       one.2 ∙ ap (λ (t : List ℕ). t ++ one.0) all.2 ∙ append_assoc start all.0 one.0,
     )
 
--- none more, past the last
+-- no more, past the last
 pub paragraphs_past : (h : Sessions) (faults : List Fault) (place : ℕ) (start old : List ℕ) → slice_get faults place ≡ None → AddsParagraphs h 1 (take place faults) start old
     → AddsParagraphs h 1 (take (place + 1) faults) start old
 paragraphs_past h faults place start old none all = elim (slice_get_cases faults place).1 [

@@ -1,4 +1,4 @@
--- Steps, one after another.
+-- Steps, one by one.
 use Rattle.std.proofs.Common.{◌≡◌, ◌∙◌, ◌+◌, ◌<◌, ◌≤◌, ℕ, Bool, true, false, List, [], ◌∷◌, ◌++◌, length, drop, get_or, refl, sym, ap, append_assoc, add-one, drop-cons, eqb}
 use Rattle.std.specs.Prelude.{◌==◌, if◌then◌else◌}
 use Rattle.std.proofs.lemmas.Bool.{eqb-true}
@@ -11,7 +11,7 @@ use Rattle.cops_explain.specs.Steps.{known_by, step_line, step_lines}
 next : (names : List OpName) (i : ℕ) (d : OpName) → i < length names → drop i names ≡ get_or names i d ∷ drop (i + 1) names
 next names i d inside = rw add-one (drop-cons names i d inside)
 
--- the line of one step more
+-- the line of one more step
 pub step_more : (h : Sessions) (names : List OpName) (i : ℕ) (d from : OpName) (whole old new : List ℕ) → i < length names → new ≡ old ++ step_line h from (get_or names i d)
     → whole ≡ old ++ step_lines h from (drop i names) → whole ≡ new ++ step_lines h (get_or names i d) (drop (i + 1) names)
 step_more h names i d from whole old new inside line all =
@@ -22,7 +22,7 @@ step_more h names i d from whole old new inside line all =
     ∙ sym (append_assoc old (step_line h from to) rest)
     ∙ ap (λ (t : List ℕ). t ++ rest) (sym line)
 
--- no step more
+-- no more steps
 pub steps_end : (h : Sessions) (names : List OpName) (i : ℕ) (from : OpName) (whole old : List ℕ) → length names ≤ i → whole ≡ old ++ step_lines h from (drop i names) → old ≡ whole
 steps_end h names i from whole old past all = sym (all ∙ ap (λ (ns : List OpName). old ++ step_lines h from ns) (drop_all i names past) ∙ append-nil old)
 
@@ -33,7 +33,7 @@ entry_client a b = go (eqb a.client b.client) refl
     go true e = rw e (eqb-true _ _ e)
     go false e = rw e refl
 
--- names that follow one of this client lead to an operation of the client of the last of them
+-- where names lead from an operation of the client of `at` to `to`, `known_by` gives an operation of the client of `to`
 led : (h : Sessions) (to at from : OpName) (names : List OpName) → at.client ≡ from.client → LeadsTo h to from names → (known_by at names).client ≡ to.client
 led h to at from [] same leads = same ∙ ap (λ (n : OpName). n.client) leads
 led h to at from (next ∷ names) same leads = led h to (if at.client == next.client then at else next) next names (entry_client at next) leads.1

@@ -1,4 +1,4 @@
--- Texts that are put together.
+-- Texts that are appended to one another.
 use Rattle.std.proofs.Common.{◌≡◌, ◌∙◌, ◌≤◌, ◌-◌, ℕ, List, [], ◌∷◌, ◌++◌, Result, Ok, Err, refl, ap, append-nil, append_assoc, arith, false, is_ok, length, take_all}
 use Rattle.std.specs.Prelude.{OnOk, codes, if◌then◌else◌, ◌==◌}
 use Rattle.cops_types.specs.declared.op.OpName.{OpName}
@@ -20,7 +20,7 @@ pub two : {T E : Type 0} (r : Result T E) (old one new x y : List ℕ) → one �
 two (Err e) old one new x y a b = tt
 two (Ok v) old one new x y a b = b ∙ ap (λ (t : List ℕ). t ++ y) a ∙ append_assoc old x y
 
--- puts of a version, where there are some
+-- puts with a version, where there are some
 pub some_bearers : {T E : Type 0} (h : Sessions) (puts : List OpName) (r : Result T E) (old one new : List ℕ) → (length puts == 0) ≡ false → one ≡ old ++ codes "of that version there is:\n"
     → OnOk r (new ≡ one ++ others_text h puts) → OnOk r (new ≡ old ++ bearers_text h puts)
 some_bearers h [] r old one new some a b = absurd cc
@@ -29,7 +29,7 @@ some_bearers h (put ∷ puts) r old one new some a b = two r old one new (codes 
 none_more : (n : ℕ) → n ≡ 0 → more_others n ≡ []
 none_more n none = rw none refl
 
--- of few puts of a version all are told
+-- few puts with a version are all listed
 pub few_others : (h : Sessions) (others : List OpName) → length others ≤ MOST_OTHERS → others_text h others ≡ told_lines h others
 few_others h others few =
     ap (λ (t : List ℕ). t ++ more_others (length others - MOST_OTHERS)) (ap (told_lines h) (take_all MOST_OTHERS others few))

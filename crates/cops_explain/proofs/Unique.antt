@@ -1,4 +1,4 @@
--- A history has one text for what is asked.
+-- A history has one explanation for each selection of faults.
 use Rattle.std.proofs.Common.{◌≡◌, ◌∙◌, ◌+◌, ◌-◌, ℕ, List, [], ◌∷◌, ◌++◌, length, map, take, Option, Some, None, refl, sym, ap, ap₂, subst}
 use Rattle.cops_types.specs.declared.op.OpName.{OpName}
 use Rattle.cops_types.specs.Histories.{Sessions}
@@ -81,7 +81,7 @@ same_later (class.Stale a) (class.NoSource b) s = absurd s
 same_later (class.Stale a) (class.NotAbove b) s = absurd s
 same_later (class.Stale a) (class.Stale b) s = refl
 
--- verdicts that say the same are explained by one text
+-- equal verdicts have one explanation
 same_explanation : (h : Sessions) (v w : Verdict) (asked : Selection) (x y : List ℕ) → SameVerdict v w → IsExplained h v asked x → IsExplained h w asked y → x ≡ y
 same_explanation h (Accepted a) (Accepted b) asked x y s e f = e ∙ sym f
 same_explanation h (Refused a) (Refused b) asked x y s (t, p, e) (u, q, f) =

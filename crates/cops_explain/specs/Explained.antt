@@ -1,4 +1,4 @@
--- What is explained of a verdict.
+-- The explanation of a verdict.
 use Rattle.std.specs.Prelude.{◌≡◌, ◌==◌, ◌+◌, ◌-◌, if◌then◌else◌, ℕ, zero, suc, List, [], ◌∷◌, ◌++◌, length, take, codes, decimal, Option, Some, None}
 use Rattle.cops_types.specs.Counts.{count_of, put_count}
 use Rattle.cops_types.specs.Histories.{Sessions}
@@ -21,11 +21,11 @@ AreParagraphs h number [] text = text ≡ []
 AreParagraphs h number (fault ∷ faults) text = (told : List ℕ) × (rest : List ℕ)
     × IsParagraph h number fault told × (text ≡ told ++ rest) × AreParagraphs h (number + 1) faults rest
 
--- a text with the paragraphs of faults more
+-- the text gains the paragraphs of faults
 abbrev pub AddsParagraphs : Sessions → ℕ → List Fault → List ℕ → List ℕ → Type 0
 AddsParagraphs h number faults old new = (told : List ℕ) × AreParagraphs h number faults told × (new ≡ old ++ told)
 
--- how many there are of what a word names, behind other words: the word has an s where there is not one
+-- a count with its noun, after other words: the noun has an s unless the count is one
 abbrev pub counted : List ℕ → ℕ → List ℕ → List ℕ
 counted before count word =
     if count == 1 then before ⧺ codes "1 " ⧺ word else before ⧺ decimal count ⧺ codes " " ⧺ word ⧺ codes "s"
@@ -44,7 +44,7 @@ later_text (class.NoSource names) = codes "\nnot looked for while reads without 
 later_text (class.NotAbove faults) = codes "\nnot looked for while puts out of order remain: stale reads\n"
 later_text (class.Stale faults) = []
 
--- how many faults are left out, where some are
+-- how many faults are left out, if any are
 abbrev pub more_text : ℕ → List ℕ
 more_text zero = []
 more_text (suc more) = codes "\nand " ⧺ decimal (suc more) ⧺ codes " more: --all explains every fault, --fault N the fault of that number\n"
@@ -52,24 +52,24 @@ more_text (suc more) = codes "\nand " ⧺ decimal (suc more) ⧺ codes " more: -
 abbrev pub none_text : ℕ → List ℕ
 none_text number = codes "\nthere is no fault " ⧺ decimal number ⧺ codes "\n"
 
--- the paragraph of the fault of a number, or that there is none
+-- the paragraph of the fault with a number, or that there is none
 abbrev pub TellsOne : Sessions → ℕ → Option Fault → List ℕ → Type 0
 TellsOne h number (Some fault) text = IsParagraph h number fault text
 TellsOne h number None text = text ≡ none_text number
 
--- what is told of the faults that are asked for
+-- the explanation of the faults that are asked for
 abbrev pub TellsAsked : Sessions → List Fault → Selection → List ℕ → Type 0
 TellsAsked h faults First text = (told : List ℕ)
     × AreParagraphs h 1 (take FIRST_FAULTS faults) told × (text ≡ told ++ more_text (length faults - FIRST_FAULTS))
 TellsAsked h faults All text = AreParagraphs h 1 faults text
 TellsAsked h faults (One number) text = TellsOne h number (fault_of_number faults number) text
 
--- a text with what is told of the faults that are asked for
+-- the text gains the explanation of the faults that are asked for
 abbrev pub AddsAsked : Sessions → List Fault → Selection → List ℕ → List ℕ → Type 0
 AddsAsked h faults asked old new = (told : List ℕ) × TellsAsked h faults asked told × (new ≡ old ++ told)
 
--- of a history that is accepted the line of the report; else how many operations, puts and faults there are, what is told of the faults that are
--- asked for, and the classes that were not looked for
+-- for an accepted history the line of the report; otherwise the numbers of operations, puts and faults, the explanation of the faults that are asked
+-- for, and the classes that were not looked for
 abbrev pub IsExplained : Sessions → Verdict → Selection → List ℕ → Type 0
 IsExplained h (Accepted puts) asked text = text ≡ accepted_line (count_of h) (put_count h)
 IsExplained h (Refused faults) asked text = (told : List ℕ)

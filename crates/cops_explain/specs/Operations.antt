@@ -31,7 +31,7 @@ act_text h name = codes "client " ⧺ decimal name.client ⧺ codes " " ⧺ did_
 abbrev pub told_text : Sessions → OpName → List ℕ
 told_text h name = name_text name ⧺ codes " " ⧺ act_text h name
 
--- that, in a line of its own
+-- the text of an operation, in a line of its own
 abbrev pub told_line : Sessions → OpName → List ℕ
 told_line h name = told_text h name ⧺ codes "\n"
 

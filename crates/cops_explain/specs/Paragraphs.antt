@@ -14,34 +14,34 @@ use Rattle.cops_explain.specs.Operations.{act_text, told_line, told_lines, told_
 use Rattle.cops_explain.specs.Others.{AreOthers}
 use Rattle.cops_explain.specs.Steps.{chain_text, known_by}
 
--- behind an empty line: fault 1: stale (1,1)
+-- after an empty line: fault 1: stale (1,1)
 abbrev pub title : ℕ → List ℕ → OpName → List ℕ
 title number class name = codes "\nfault " ⧺ decimal number ⧺ codes ": " ⧺ class ⧺ codes " " ⧺ name_text name ⧺ codes "\n"
 
--- the title, the operation, and what is said of it
+-- the title, the operation, and what is said about it
 abbrev pub fault_head : Sessions → ℕ → List ℕ → OpName → List ℕ → List ℕ
 fault_head h number class name words = title number class name ⧺ told_line h name ⧺ words
 
--- how many more puts of a version there are, where some are
+-- how many more puts have a version, if any do
 abbrev pub more_others : ℕ → List ℕ
 more_others zero = []
 more_others (suc more) = codes "and " ⧺ decimal (suc more) ⧺ codes " more of that version\n"
 
--- a line for each of the first puts of a version, and how many more there are
+-- a line for each of the first puts with a version, and how many more there are
 abbrev pub others_text : Sessions → List OpName → List ℕ
 others_text h others = told_lines h (take MOST_OTHERS others) ⧺ more_others (length others - MOST_OTHERS)
 
--- a put, and the others of its version
+-- a put, and the others with its version
 abbrev pub doubled_text : Sessions → ℕ → OpName → List OpName → List ℕ
 doubled_text h number name others =
     fault_head h number (codes "doubled") name (codes "no other put may have that version, and these do:\n") ⧺ others_text h others ⧺ DOUBLED.now
 
--- the puts of a version that a get without a source returned
+-- the puts with the version that a get without a source returned
 abbrev pub bearers_text : Sessions → List OpName → List ℕ
 bearers_text h [] = codes "no put has that version\n"
 bearers_text h (put ∷ puts) = codes "of that version there is:\n" ⧺ others_text h (put ∷ puts)
 
--- a get, and the puts of the version that it returned, whose keys or values are others
+-- a get, and the puts with the version that it returned, whose keys or values differ
 abbrev pub no_source_text : Sessions → ℕ → OpName → List OpName → List ℕ
 no_source_text h number name bearers =
     fault_head h number (codes "no source") name (codes "no put of the trace has that key, value and version\n") ⧺ bearers_text h bearers ⧺ NO_SOURCE.now
@@ -82,11 +82,11 @@ place_text h fault by = returned_text h fault.op ⧺ known_text fault by
 abbrev pub right_text : Sessions → OpName → List ℕ
 right_text h newer = codes "should have returned: " ⧺ told_text h newer ⧺ codes ", or a newer put\n"
 
--- that, where to look, and what usually causes it
+-- what it should have returned, where to look, and what usually causes the fault
 abbrev pub stale_end : Sessions → AStale → List OpName → List ℕ
 stale_end h fault chain = right_text h fault.newer ⧺ place_text h fault (known_by fault.newer chain) ⧺ STALE.now
 
--- all of it, with the chain by which the put came to be known
+-- the whole paragraph of a stale get, with the chain by which the put came to be known
 abbrev pub stale_text : Sessions → ℕ → AStale → List OpName → List ℕ
 stale_text h number fault chain = stale_head h number fault ⧺ chain_text h chain ⧺ stale_end h fault chain
 
@@ -97,6 +97,6 @@ IsParagraph h number (NoSource name) text = (bearers : List OpName) × AreOthers
 IsParagraph h number (NotAbove fault) text = text ≡ not_above_text h number fault
 IsParagraph h number (Stale fault) text = (chain : List OpName) × IsFirstChain h fault.newer fault.op chain × (text ≡ stale_text h number fault chain)
 
--- a text with the paragraph of one fault more
+-- the text gains the paragraph of one fault
 abbrev pub AddsParagraph : Sessions → ℕ → Fault → List ℕ → List ℕ → Type 0
 AddsParagraph h number fault old new = (told : List ℕ) × IsParagraph h number fault told × (new ≡ old ++ told)

@@ -6,16 +6,16 @@ use Rattle.cops_audit.specs.declared.verdict.Verdict.TheVariants.{Accepted, Refu
 use Rattle.cops_audit.specs.declared.fault.Fault.{Fault}
 use Rattle.cops_audit.specs.Faults.{fault_of_number, fault_text, faults_of}
 
--- the fault of that number, in the order of the report: none of an accepted history, and none above the number of faults
+-- the fault with this number, in the order of the report: none for an accepted history, and none above the number of faults
 abbrev pub fault_at : Verdict → ℕ → Option Fault
 fault_at (Accepted puts) number = None
 fault_at (Refused faults) number = fault_of_number (faults_of faults) number
 
--- a text with more behind it
+-- the text gains more at its end
 abbrev pub Extends : List ℕ → List ℕ → Type 0
 Extends old new = (more : List ℕ) × (new ≡ old ++ more)
 
--- it ends as a picture does
+-- the text ends as a picture does
 abbrev pub IsEnded : List ℕ → Type 0
 IsEnded text = (body : List ℕ) × (text ≡ body ++ codes "</svg>\n")
 
@@ -24,6 +24,6 @@ abbrev pub IsPictureOf : Fault → List ℕ → Type 0
 IsPictureOf fault text = (rest : List ℕ) × IsEnded rest
     × (text ≡ codes "<svg xmlns=\"http://www.w3.org/2000/svg\" role=\"img\" aria-label=\"" ⧺ fault_text fault ⧺ codes "\"" ⧺ rest)
 
--- a picture of the fault of that number
+-- a picture of the fault with this number
 abbrev pub IsPicture : Verdict → ℕ → List ℕ → Type 0
 IsPicture verdict number text = (fault : Fault) × (fault_at verdict number ≡ Some fault) × IsPictureOf fault text

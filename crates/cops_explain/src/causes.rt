@@ -1,4 +1,4 @@
-//! What usually causes the faults of each class, two lines each. `docs/REPORTS.md` says it at more length.
+//! What usually causes the faults of each class, two lines each. `docs/REPORTS.md` has more about it.
 
 pub const DOUBLED: &str = "\
 usual causes: two nodes with one number; a clock that was read from a snapshot after a crash and gives versions again;

@@ -1,4 +1,4 @@
-//! Which operations are shown, one a column, from left to right.
+//! Which operations are shown, one in each column, from left to right.
 ghost use Rattle.std.specs.Prelude.{◌≡◌, ◌+◌, ◌<◌, ◌≤◌, IfOk, IfSome, OnOk, length, vec_len};
 ghost use Rattle.cops_types.specs.Faults.{IsStale};
 ghost use Rattle.cops_types.specs.Histories.{SourceStep};
@@ -12,7 +12,7 @@ use cops_report::chain;
 use cops_types::{History, Memory, OpName, Version};
 use std::alloc::{AllocError, Global};
 
-/// What an operation is in the picture.
+/// The role of an operation in the picture.
 #[derive(Clone, Copy, Debug, PartialEq, Eq)]
 pub enum Role {
     Plain,
@@ -27,11 +27,11 @@ pub enum Role {
 #[derive(Clone, Copy, Debug, PartialEq, Eq)]
 pub enum Column {
     Operation { name: OpName, role: Role },
-    /// So many operations are left out here.
+    /// This many operations are left out here.
     LeftOut(usize),
 }
 
-/// What an operation of the fault's picture is in it, if it is not the returned put.
+/// The role of an operation in the fault's picture, if it is not the returned put.
 fn role_of(fault: Fault, name: OpName) -> Role {
     if name == fault.name() {
         return Role::AtFault;
@@ -42,7 +42,7 @@ fn role_of(fault: Fault, name: OpName) -> Role {
     }
 }
 
-/// Adds the puts of a client that bear the version.
+/// Adds the puts of a client that have the version.
 fn push_puts(
     names: &mut Vec<OpName>,
     history: &History,
@@ -59,7 +59,7 @@ fn push_puts(
     Ok(())
 }
 
-/// The puts that bear the version, in order of names.
+/// The puts that have the version, in order of names.
 fn puts_of(
     alloc: Global,
     history: &History,
@@ -91,7 +91,7 @@ fn source_of(history: &History, got: OpName) -> Option<OpName>
     None
 }
 
-/// The chain from the newer put of a stale get to it.
+/// The chain from the newer put of a stale get to that get.
 fn chain_of(
     alloc: Global,
     history: &History,
@@ -115,7 +115,7 @@ fn around(alloc: Global, history: &History, got: OpName) -> Result<Vec<OpName>, 
     Ok(names)
 }
 
-/// The operations concerned, so that those of one client stand in its order.
+/// The operations that a fault concerns. Those of one client are in its order.
 fn concerned(alloc: Global, history: &History, fault: Fault) -> Result<Vec<OpName>, Memory>
     requires { IsFault history.now.sessions fault }
 {
@@ -139,7 +139,7 @@ fn push_all(columns: &mut Vec<Column>, fault: Fault, names: &[OpName]) -> Result
     Ok(())
 }
 
-/// Adds a column that stands for so many operations, where there are some.
+/// Adds a column for `count` operations that are left out, if there are any.
 fn push_left_out(columns: &mut Vec<Column>, count: usize) -> Result<(), AllocError>
     ensures { OnOk result (vec_len columns.new ≤ vec_len columns.old + 1) }
 {
@@ -149,7 +149,7 @@ fn push_left_out(columns: &mut Vec<Column>, count: usize) -> Result<(), AllocErr
     Ok(())
 }
 
-/// Adds the operation at fault, where it is among the names, and what stands for the others.
+/// Adds the operation at fault, if it is among the names, and columns for those left out before and after it.
 fn push_middle(columns: &mut Vec<Column>, fault: Fault, names: &[OpName]) -> Result<(), AllocError>
     ensures { OnOk result (vec_len columns.new ≤ vec_len columns.old + 3) }
 {
@@ -164,7 +164,7 @@ fn push_middle(columns: &mut Vec<Column>, fault: Fault, names: &[OpName]) -> Res
     }
 }
 
-/// Adds columns for the names: for all of them where they are few, and else for the first, the last, and the one at
+/// Adds columns for the names: for all of them where they are few, otherwise for the first, the last, and the one at
 /// fault.
 fn push_folded(columns: &mut Vec<Column>, fault: Fault, names: &[OpName]) -> Result<(), AllocError>
     ensures { OnOk result (vec_len columns.new + 1 ≤ vec_len columns.old + MAX_COLUMNS) }
@@ -178,7 +178,7 @@ fn push_folded(columns: &mut Vec<Column>, fault: Fault, names: &[OpName]) -> Res
     push_all(columns, fault, &names[end..])
 }
 
-/// Adds the put that a stale get returned.
+/// Adds the put that a stale get returned, if there is one.
 fn push_returned(
     columns: &mut Vec<Column>,
     history: &History,

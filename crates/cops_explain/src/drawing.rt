@@ -1,4 +1,4 @@
-//! The parts of a picture as text.
+//! The parts of a picture, as text.
 ghost use Rattle.std.specs.Prelude.{◌≤◌, OnOk, length, string_bytes};
 ghost use Rattle.cops_explain.specs.Pictures.{Extends};
 ghost use Rattle.cops_explain.specs.declared.sizes.TheConstants.{MAX_COLUMNS};
@@ -17,7 +17,7 @@ use cops_audit::Fault;
 use cops_types::{History, OpName, OpRef};
 use std::alloc::{AllocError, Global};
 
-/// The class of a card, by which the style draws it.
+/// The CSS class of a card, which decides its style.
 fn class_of(role: Role) -> &'static str {
     match role {
         Role::Plain => "card",
@@ -27,7 +27,7 @@ fn class_of(role: Role) -> &'static str {
     }
 }
 
-/// The end of the first tag, which says how large the picture is in pixels, and what each picture has.
+/// Writes the end of the first tag, with the size of the picture in pixels, and the parts that every picture has.
 pub fn push_page(out: &mut String, width: u32, height: u32) -> Result<(), AllocError>
     ensures { OnOk result (Extends (string_bytes out.old) (string_bytes out.new)) }
 {
@@ -44,7 +44,7 @@ pub fn push_page(out: &mut String, width: u32, height: u32) -> Result<(), AllocE
     )
 }
 
-/// The fault, and what it means.
+/// Writes the fault, and what it means.
 pub fn push_head(out: &mut String, history: &History, fault: Fault) -> Result<(), AllocError>
     ensures { OnOk result (Extends (string_bytes out.old) (string_bytes out.new)) }
 {
@@ -59,7 +59,7 @@ pub fn push_head(out: &mut String, history: &History, fault: Fault) -> Result<()
     )
 }
 
-/// Draws a lane for each client, from the left to the right end of the picture.
+/// Draws a lane for each client, up to the right end of the picture.
 pub fn push_lanes(out: &mut String, clients: &[u16], right: u32) -> Result<(), AllocError>
     requires { length clients.now ≤ MAX_COLUMNS }
     ensures { OnOk result (Extends (string_bytes out.old) (string_bytes out.new)) }
@@ -79,7 +79,7 @@ pub fn push_lanes(out: &mut String, clients: &[u16], right: u32) -> Result<(), A
     Ok(())
 }
 
-/// Draws the lines of an operation's card, which is so wide.
+/// Draws the lines of an operation's card, which has this width.
 fn push_lines(
     alloc: Global,
     out: &mut String,
@@ -101,7 +101,7 @@ fn push_lines(
     )
 }
 
-/// The begin of a card, from whose upper left corner all in it is measured.
+/// Begins a card, inside which positions are relative to its upper left corner.
 fn push_start(out: &mut String, class: &str, card: Card) -> Result<(), AllocError>
     ensures { OnOk result (Extends (string_bytes out.old) (string_bytes out.new)) }
 {
@@ -124,7 +124,7 @@ fn push_border(out: &mut String, card: Card) -> Result<(), AllocError>
     )
 }
 
-/// Draws the card of an operation, with the whole of it as its title.
+/// Draws the card of an operation, with the full text of the operation as its title.
 fn push_card(
     alloc: Global,
     out: &mut String,
@@ -163,7 +163,7 @@ fn push_line(
     )
 }
 
-/// Tells in place of a card how many operations are left out.
+/// Writes, in place of a card, how many operations are left out.
 fn push_left_out(
     alloc: Global,
     out: &mut String,

@@ -13,7 +13,7 @@ use cops_types::{History, Memory, Selection, VersionedPut};
 use std::alloc::{AllocError, Global};
 use std::fmt::Write;
 
-/// Adds the paragraphs of the first faults, so many or as many as there are.
+/// Adds the paragraphs of the first `count` faults, or of all where there are fewer.
 fn push_paragraphs(
     alloc: Global,
     out: &mut Vec<u8>,
@@ -34,7 +34,7 @@ fn push_paragraphs(
     Ok(())
 }
 
-/// Adds how many faults are left out, where some are.
+/// Adds how many faults are left out, if any are.
 fn push_more(alloc: Global, out: &mut Vec<u8>, more: usize) -> Result<(), AllocError>
     ensures { OnOk result (out.new.items ≡ out.old.items ++ more_text more) }
 {
@@ -47,7 +47,7 @@ fn push_more(alloc: Global, out: &mut Vec<u8>, more: usize) -> Result<(), AllocE
     Ok(())
 }
 
-/// Adds that there is no fault of a number.
+/// Adds that there is no fault with this number.
 fn push_none(alloc: Global, out: &mut Vec<u8>, number: u32) -> Result<(), AllocError>
     ensures { OnOk result (out.new.items ≡ out.old.items ++ none_text number) }
 {
@@ -55,7 +55,7 @@ fn push_none(alloc: Global, out: &mut Vec<u8>, number: u32) -> Result<(), AllocE
     out.extend_from_slice(line.as_bytes())
 }
 
-/// Adds the paragraph of the fault of a number, or that there is none.
+/// Adds the paragraph of the fault with this number, or that there is none.
 fn push_one(
     alloc: Global,
     out: &mut Vec<u8>,
@@ -75,7 +75,7 @@ fn push_one(
     Ok(())
 }
 
-/// Adds what is told of the faults that are asked for.
+/// Adds the explanation of the faults that are asked for.
 fn push_asked(
     alloc: Global,
     out: &mut Vec<u8>,
@@ -100,7 +100,7 @@ fn push_asked(
     }
 }
 
-/// Adds how many there are of what a word names, behind other words: the word has an `s` where there is not one.
+/// Adds a count with its noun, after other words: the noun has an `s` unless the count is one.
 fn push_counted(out: &mut String, before: &str, count: usize, word: &str) -> Result<(), AllocError>
     ensures { OnOk result (string_bytes out.new ≡ string_bytes out.old ++ counted before.now count word.now) }
 {
@@ -128,7 +128,7 @@ fn first_line(
     Ok(line)
 }
 
-/// The classes that were not looked for, in a line behind an empty one.
+/// The classes that were not looked for, in a line after an empty one.
 fn later(faults: &Faults) -> &'static str
     ensures { result.now ≡ later_text faults.now }
 {
@@ -142,7 +142,8 @@ fn later(faults: &Faults) -> &'static str
     }
 }
 
-/// The first line of a refusal, what is told of the faults that are asked for, and which classes were not looked for.
+/// The first line of a refusal, the explanation of the faults that are asked for, and which classes were not looked
+/// for.
 fn refusal(
     alloc: Global,
     history: &History,
@@ -161,16 +162,19 @@ fn refusal(
     Ok(text)
 }
 
-/// The text that explains a verdict on a history, each line ended by a line feed. Of a history that is accepted it is
-/// the report's line, whatever is asked for. Else it is a line with how many operations, puts and faults there are,
-/// and behind an empty line each a paragraph for each fault that is asked for, in order of names: its number, counted
-/// from 1, its class and its name; what happened, with keys, values and versions; the operations that show it, of a
-/// stale get the chain of `chain` from the newer put, and by which operation its client knew of that put; and in two
-/// lines what usually causes it. A deletion is told as `deleted KEY at VERSION`, and a get that found one as `found a
-/// deletion of KEY at VERSION`. Keys and values are escaped as `show` does. Where the first 20 are asked for and there
-/// are more, it says how many are left out, and where there is no fault of the number that is asked for, it says so.
-/// The last line names the classes of faults that were not looked for, where there are any. `Memory` where an
-/// allocation failed.
+/// The text that explains a verdict on a history. Each line ends with a line feed. For an accepted history it is the
+/// report's line, whatever is asked for. For a refused one it is a line with the numbers of operations, puts and
+/// faults, and then, each after an empty line, a paragraph for each fault that is asked for, in order of names.
+///
+/// A paragraph has the fault's number, counted from 1, its class and its name; what happened, with keys, values and
+/// versions; the operations that show it, which for a stale get are the chain of `chain` from the newer put, and the
+/// operation by which its client knew of that put; and in two lines what usually causes it. A deletion is written as
+/// `deleted KEY at VERSION`, and a get that found one as `found a deletion of KEY at VERSION`. Keys and values are
+/// escaped as `show` does.
+///
+/// Where the first 20 faults are asked for and there are more, the text says how many are left out, and where there is
+/// no fault with the number that is asked for, it says so. The last line names the classes of faults that were not
+/// looked for, if there are any. The only error is `Memory`, where memory runs out.
 pub fn explain(
     alloc: Global,
     history: &History,

@@ -8,7 +8,7 @@ ghost use Rattle.cops_report.specs.Chains.{IsChain};
 ghost use Rattle.cops_explain.specs.Explained.{IsExplained};
 ghost use Rattle.cops_explain.specs.Steps.{known_by};
 
-/// A law of the definitions: a history has one text for what is asked.
+/// A law of the definitions: a history has one explanation for each selection of faults.
 pub fn one_explanation()
     ensures { (h : Sessions) (verdict other : AVerdict) (asked : ASelection) (text told : List ℕ) →
         IsVerdict h verdict → IsVerdict h other → IsExplained h verdict asked text → IsExplained h other asked told → text ≡ told }

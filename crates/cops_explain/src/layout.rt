@@ -6,7 +6,7 @@ use crate::columns::Column;
 use crate::sizes::{CARD_HEIGHT, FIRST_LEFT, FIRST_TOP, GAP, LANE_STEP, MAX_COLUMNS, MAX_WIDTH};
 use std::alloc::{AllocError, Global};
 
-/// A card, in which an operation is told: its left and its upper end, and its width, in pixels.
+/// A card, in which an operation is described: its left and upper ends and its width, in pixels.
 #[derive(Clone, Copy, Debug, PartialEq, Eq)]
 pub struct Card {
     pub left: u32,
@@ -71,7 +71,7 @@ impl Card {
     }
 }
 
-/// A column, and the card in which it is told.
+/// A column, and its card.
 #[derive(Clone, Copy, Debug, PartialEq, Eq)]
 pub struct Place {
     pub column: Column,
@@ -112,7 +112,8 @@ fn lane_of(clients: &[u16], client: u16) -> usize
         .unwrap_or(0)
 }
 
-/// The columns with their cards, of this width. What is left out stands in the lane of what is before it.
+/// The columns with their cards, of this width. Operations that are left out are in the lane of the operation before
+/// them.
 pub fn places_of(
     alloc: Global,
     columns: &[Column],

@@ -1,8 +1,8 @@
-//! Explanations: for each fault of a refusal a paragraph, which tells what happened, why it is a fault, where to look
-//! and what usually causes it, and of one fault a picture in SVG, with the operations concerned in lanes by their
-//! clients. Stands on the report, whose line of an accepted history, chains and puts by versions it uses. The layer
-//! above uses that the text is exactly that of the faults that were asked for, that the picture is of the fault that
-//! was asked for, and that there is none exactly where there is no such fault.
+//! Explanations: for each fault of a refusal a paragraph, which says what happened, why it is a fault, where to look
+//! and what usually causes it; and for one fault a picture in SVG, with the operations concerned in lanes by their
+//! clients. The crate depends on the report, and uses its line for an accepted history, its chains and its puts by
+//! versions. The layer above uses that the text is exactly that of the faults that are asked for, that the picture is
+//! of the fault that is asked for, and that there is no picture exactly where there is no such fault.
 #![tactic(auto)]
 
 mod causes;

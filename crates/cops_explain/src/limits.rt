@@ -1,5 +1,5 @@
-/// How many faults are told where the first are asked for.
+/// How many faults are explained where the first are asked for.
 pub const FIRST_FAULTS: usize = 20;
 
-/// How many other puts of one version a paragraph tells.
+/// How many other puts with one version a paragraph lists.
 pub const MOST_OTHERS: usize = 20;

@@ -1,4 +1,4 @@
-//! What is told of an operation, in a card and where it is pointed at.
+//! The lines that describe an operation in its card.
 ghost use Rattle.std.specs.Prelude.{◌≤◌, IfOk};
 ghost use Rattle.cops_explain.specs.declared.sizes.TheConstants.{MAX_WIDTH};
 
@@ -8,7 +8,7 @@ use cops_types::{History, OpName, OpRef};
 use cops_wire::show_bytes;
 use std::alloc::{AllocError, Global};
 
-/// What was done, in a word.
+/// What the operation did, in a word.
 fn act_word(op: OpRef<'_>) -> &'static str {
     match op {
         OpRef::Put { value: Some(_), .. } => "put ",
@@ -19,7 +19,7 @@ fn act_word(op: OpRef<'_>) -> &'static str {
     }
 }
 
-/// The first line of a card: what was done, and the key.
+/// The first line of a card: what the operation did, and the key.
 pub fn act_line(alloc: Global, op: OpRef<'_>) -> Result<String, AllocError> {
     let word = act_word(op);
     match op {
@@ -55,7 +55,7 @@ pub fn name_line(alloc: Global, name: OpName, op: OpRef<'_>) -> Result<String, A
     }
 }
 
-/// The word, and the first bytes of a key or a value.
+/// A word, and the first bytes of a key or a value.
 fn shown(alloc: Global, word: &str, bytes: &[u8]) -> Result<String, AllocError> {
     let mut text = String::from_str(alloc, word)?;
     if bytes.len() <= SHOWN_BYTES {
@@ -67,7 +67,7 @@ fn shown(alloc: Global, word: &str, bytes: &[u8]) -> Result<String, AllocError> 
     Ok(text)
 }
 
-/// What stands in place of a card: how many operations are left out.
+/// The text in place of a card: how many operations are left out.
 pub fn left_out_line(alloc: Global, count: usize) -> Result<String, AllocError> {
     format!(in alloc; ".. {count} more")
 }
@@ -91,7 +91,7 @@ fn longest_line(alloc: Global, history: &History, column: Column) -> Result<usiz
     }
 }
 
-/// The width of cards in which each line of the columns' operations has room, in pixels.
+/// The width of cards in which each line of the columns' operations fits, in pixels.
 pub fn card_width(alloc: Global, history: &History, columns: &[Column]) -> Result<u32, AllocError>
     ensures { IfOk result (λ width. width ≤ MAX_WIDTH) }
 {

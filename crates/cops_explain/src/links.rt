@@ -7,8 +7,7 @@ use crate::layout::{Card, Place};
 use crate::sizes::{FOOT, RETURN_AT, TURN};
 use std::alloc::AllocError;
 
-/// Draws an arrow from a card to one that stands to its right: straight in one lane, and else in a bow from lane to
-/// lane.
+/// Draws an arrow from a card to one on its right: straight within a lane, otherwise curved from lane to lane.
 fn push_link(out: &mut String, from: Card, to: Card) -> Result<(), AllocError>
     ensures { OnOk result (Extends (string_bytes out.old) (string_bytes out.new)) }
 {
@@ -41,7 +40,7 @@ fn leads_on(column: Column) -> bool {
     }
 }
 
-/// Draws an arrow from each place to the next one, but from the returned put.
+/// Draws an arrow from each place to the next one, except from the returned put.
 pub fn push_links(out: &mut String, places: &[Place]) -> Result<(), AllocError>
     ensures { OnOk result (Extends (string_bytes out.old) (string_bytes out.new)) }
 {
@@ -59,7 +58,8 @@ pub fn push_links(out: &mut String, places: &[Place]) -> Result<(), AllocError>
     Ok(())
 }
 
-/// Draws the way from a returned put to the get that returned it, below the lowest lane, which ends there.
+/// Draws a line from a returned put to the get that returned it. It runs below the lowest lane, whose cards end at
+/// `lowest`.
 fn push_way(out: &mut String, from: Card, to: Card, lowest: u32) -> Result<(), AllocError>
     requires { lowest < 2 ^ 17 }
     ensures { OnOk result (Extends (string_bytes out.old) (string_bytes out.new)) }
@@ -80,7 +80,7 @@ fn push_way(out: &mut String, from: Card, to: Card, lowest: u32) -> Result<(), A
     write!(out, "H{before}Q{end} {below} {end} {above}V{arrive}\"/>\n")
 }
 
-/// The same where the first place is a returned put.
+/// Draws that line if the first place is a returned put; the get is at the last place.
 pub fn push_return(out: &mut String, places: &[Place], lowest: u32) -> Result<(), AllocError>
     requires { lowest < 2 ^ 17 }
     ensures { OnOk result (Extends (string_bytes out.old) (string_bytes out.new)) }

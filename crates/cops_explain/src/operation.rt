@@ -39,8 +39,8 @@ fn push_deletion(
     write!(out, " at {version}")
 }
 
-/// What an operation did: a put or a deletion with its version, a get with what it returned, or that it found a
-/// deletion or nothing.
+/// Writes what an operation did: a put or a deletion with its version, or a get with what it returned, or that it found
+/// a deletion or nothing.
 fn push_did(out: &mut String, history: &History, name: OpName) -> Result<(), AllocError>
     ensures { OnOk result (string_bytes out.new ≡ string_bytes out.old ++ did_text (op_at history.now.sessions name)) }
 {
@@ -81,7 +81,7 @@ fn push_did(out: &mut String, history: &History, name: OpName) -> Result<(), All
     }
 }
 
-/// What a client did by an operation.
+/// Writes a client and what it did with an operation.
 pub fn push_act(out: &mut String, history: &History, name: OpName) -> Result<(), AllocError>
     ensures { OnOk result (string_bytes out.new ≡ string_bytes out.old ++ act_text history.now.sessions name) }
 {
@@ -90,7 +90,7 @@ pub fn push_act(out: &mut String, history: &History, name: OpName) -> Result<(),
     push_did(out, history, name)
 }
 
-/// An operation's name, and what its client did by it.
+/// Writes an operation's name, its client, and what it did.
 pub fn push_told(out: &mut String, history: &History, name: OpName) -> Result<(), AllocError>
     ensures { OnOk result (string_bytes out.new ≡ string_bytes out.old ++ told_text history.now.sessions name) }
 {
@@ -98,7 +98,7 @@ pub fn push_told(out: &mut String, history: &History, name: OpName) -> Result<()
     push_act(out, history, name)
 }
 
-/// The same in a line of its own.
+/// Writes the text of `push_told` in a line of its own.
 pub fn push_line(out: &mut String, history: &History, name: OpName) -> Result<(), AllocError>
     ensures { OnOk result (string_bytes out.new ≡ string_bytes out.old ++ told_line history.now.sessions name) }
 {
@@ -106,7 +106,7 @@ pub fn push_line(out: &mut String, history: &History, name: OpName) -> Result<()
     out.push_str("\n")
 }
 
-/// A line for each operation.
+/// Writes a line for each operation.
 pub fn push_lines(out: &mut String, history: &History, names: &[OpName]) -> Result<(), AllocError>
     ensures { OnOk result (string_bytes out.new ≡ string_bytes out.old ++ told_lines history.now.sessions names.now) }
 {

@@ -1,4 +1,4 @@
-//! The other puts of an operation's version.
+//! The other puts with an operation's version.
 ghost use Rattle.std.specs.Prelude.{◌≡◌, ◌↔◌, Contains, IfOk, IsTrue};
 ghost use Rattle.cops_types.specs.declared.op.OpName.{OpName};
 ghost use Rattle.cops_report.specs.Puts.{HasAllPuts};
@@ -9,7 +9,7 @@ use cops_report::{from_version, version_at};
 use cops_types::{History, OpName, Version, VersionedPut};
 use std::alloc::{AllocError, Global};
 
-/// Whether it is another put of an operation's version.
+/// Whether `other` is another put with an operation's version.
 fn is_other(history: &History, name: OpName, version: Version, other: OpName) -> bool
     requires { version ≡ version_at history.now.sessions name }
     ensures { IsTrue result ↔ IsOther history.now.sessions name other }
@@ -20,7 +20,7 @@ fn is_other(history: &History, name: OpName, version: Version, other: OpName) ->
     }
 }
 
-/// The other puts of an operation's version, as they stand among the puts.
+/// The other puts with an operation's version, in the order of `puts`.
 fn bearers(
     alloc: Global,
     history: &History,
@@ -44,7 +44,7 @@ fn bearers(
     Ok(names)
 }
 
-/// The other puts of an operation's version, in order of names. `puts` are all puts, in order of versions.
+/// The other puts with an operation's version, in order of names. `puts` are all puts, in order of versions.
 pub fn others(
     alloc: Global,
     history: &History,

@@ -17,17 +17,17 @@ use cops_types::{History, Memory, OpName, OpRef, VersionedPut};
 use std::alloc::{AllocError, Global};
 use std::fmt::Write;
 
-/// How many bytes a paragraph has room for at first.
+/// The initial capacity for a paragraph, in bytes.
 const USUAL_LEN: usize = 1024;
 
-/// Behind an empty line the number, the class and the name of a fault.
+/// Writes an empty line, and then the number, the class and the name of a fault.
 fn push_title(out: &mut String, number: usize, class: &str, name: OpName) -> Result<(), AllocError>
     ensures { OnOk result (string_bytes out.new ≡ string_bytes out.old ++ title number class.now name) }
 {
     write!(out, "\nfault {number}: {class} {name}\n")
 }
 
-/// The title of a fault, its operation, and what is said of it.
+/// Writes the title of a fault, its operation, and what is said about it.
 fn push_head(
     out: &mut String,
     history: &History,
@@ -44,7 +44,7 @@ fn push_head(
     out.push_str(words)
 }
 
-/// How many more puts of a version there are, where some are.
+/// Writes how many more puts have a version, if any do.
 fn push_more_others(out: &mut String, more: usize) -> Result<(), AllocError>
     ensures { OnOk result (string_bytes out.new ≡ string_bytes out.old ++ more_others more) }
 {
@@ -54,7 +54,7 @@ fn push_more_others(out: &mut String, more: usize) -> Result<(), AllocError>
     write!(out, "and {more} more of that version\n")
 }
 
-/// The first puts of a version, and how many more there are.
+/// Writes the first puts with a version, and how many more there are.
 fn push_others(out: &mut String, history: &History, others: &[OpName]) -> Result<(), AllocError>
     ensures { OnOk result (string_bytes out.new ≡ string_bytes out.old ++ others_text history.now.sessions others.now) }
 {
@@ -65,7 +65,7 @@ fn push_others(out: &mut String, history: &History, others: &[OpName]) -> Result
     push_more_others(out, others.len() - MOST_OTHERS)
 }
 
-/// A put, and the others of its version.
+/// Writes a put, and the others with its version.
 fn push_doubled(
     out: &mut String,
     history: &History,
@@ -82,7 +82,7 @@ fn push_doubled(
     out.push_str(causes::DOUBLED)
 }
 
-/// The puts of a version that a get without a source returned.
+/// Writes the puts with the version that a get without a source returned.
 fn push_bearers(out: &mut String, history: &History, bearers: &[OpName]) -> Result<(), AllocError>
     ensures { OnOk result (string_bytes out.new ≡ string_bytes out.old ++ bearers_text history.now.sessions bearers.now) }
 {
@@ -93,7 +93,7 @@ fn push_bearers(out: &mut String, history: &History, bearers: &[OpName]) -> Resu
     push_others(out, history, bearers)
 }
 
-/// A get, and the puts of the version that it returned.
+/// Writes a get, and the puts with the version that it returned.
 fn push_no_source(
     out: &mut String,
     history: &History,
@@ -110,7 +110,7 @@ fn push_no_source(
     out.push_str(causes::NO_SOURCE)
 }
 
-/// A put, and the first operation before it whose version it is not above.
+/// Writes a put, and the first operation before it whose version it is not above.
 fn push_not_above(
     out: &mut String,
     history: &History,
@@ -126,7 +126,7 @@ fn push_not_above(
     out.push_str(causes::NOT_ABOVE)
 }
 
-/// A stale get, and the newer put that it had to know of.
+/// Writes a stale get, and the newer put that it had to know of.
 fn push_stale_head(
     out: &mut String,
     history: &History,
@@ -155,7 +155,7 @@ fn stale_return(history: &History, name: OpName) -> &'static str
     }
 }
 
-/// How the client of a stale get knew of the newer put.
+/// Writes how the client of a stale get knew of the newer put.
 fn push_known(out: &mut String, fault: Stale, by: OpName) -> Result<(), AllocError>
     ensures { OnOk result (string_bytes out.new ≡ string_bytes out.old ++ known_text fault by) }
 {
@@ -167,7 +167,7 @@ fn push_known(out: &mut String, fault: Stale, by: OpName) -> Result<(), AllocErr
     }
 }
 
-/// The operation to look at, and what it returned.
+/// Writes the operation to look at, and what it returned.
 fn push_returned(out: &mut String, history: &History, name: OpName) -> Result<(), AllocError>
     ensures { OnOk result (string_bytes out.new ≡ string_bytes out.old ++ returned_text history.now.sessions name) }
 {
@@ -175,7 +175,7 @@ fn push_returned(out: &mut String, history: &History, name: OpName) -> Result<()
     write!(out, "look at: {name}, which returned {returned}; ")
 }
 
-/// Where to look: the stale get, what it returned, and how its client knew of the newer put.
+/// Writes where to look: the stale get, what it returned, and how its client knew of the newer put.
 fn push_place(
     out: &mut String,
     history: &History,
@@ -188,7 +188,7 @@ fn push_place(
     push_known(out, fault, by)
 }
 
-/// What a stale get should have returned.
+/// Writes what a stale get should have returned.
 fn push_right(out: &mut String, history: &History, newer: OpName) -> Result<(), AllocError>
     ensures { OnOk result (string_bytes out.new ≡ string_bytes out.old ++ right_text history.now.sessions newer) }
 {
@@ -197,7 +197,7 @@ fn push_right(out: &mut String, history: &History, newer: OpName) -> Result<(), 
     out.push_str(", or a newer put\n")
 }
 
-/// That, where to look, and what usually causes it.
+/// Writes what a stale get should have returned, where to look, and what usually causes it.
 fn push_stale_end(
     out: &mut String,
     history: &History,
@@ -212,7 +212,7 @@ fn push_stale_end(
     out.push_str(causes::STALE)
 }
 
-/// A stale get with its chain.
+/// Writes a stale get with its chain.
 fn push_stale(
     out: &mut String,
     history: &History,

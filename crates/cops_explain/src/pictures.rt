@@ -24,7 +24,7 @@ fn right_of(places: &[Place]) -> u32
     }
 }
 
-/// Draws the arrows that the class has.
+/// Draws the arrows for the class of the fault.
 fn push_arrows(
     out: &mut String,
     fault: Fault,
@@ -44,7 +44,7 @@ fn push_arrows(
     }
 }
 
-/// What comes behind the beginning of a picture with these columns.
+/// The rest of a picture with these columns, after its beginning.
 fn rest_of(
     alloc: Global,
     history: &History,
@@ -83,7 +83,7 @@ fn picture_of(alloc: Global, history: &History, fault: Fault) -> Result<Vec<u8>,
     Ok(text.into_bytes())
 }
 
-/// The fault of that number, counted from 1, in the order of the report.
+/// The fault with this number, counted from 1, in the order of the report.
 fn fault_at(verdict: &Verdict, number: u32) -> Option<Fault>
     ensures { result ≡ fault_at verdict.now number }
 {
@@ -93,13 +93,13 @@ fn fault_at(verdict: &Verdict, number: u32) -> Option<Fault>
     }
 }
 
-/// A picture of one fault of the verdict, in SVG: the fault of that number, counted from 1, in the order of the report.
-/// None where there is none, and `Memory` where an allocation failed.
+/// A picture in SVG of the verdict's fault with this number, counted from 1, in the order of the report. It is `None`
+/// where there is no such fault. The only error is `Memory`, where memory runs out.
 ///
-/// Each client concerned has a lane, and each operation a card, which stand from left to right so that those of one
-/// client are in its order. A stale get's picture has its chain, as that of the report, with an arrow from each
-/// operation to the next one, before them the put that it returned, if any, and of a chain that is longer than 13 the
-/// first 6 and the last 6 operations.
+/// Each client concerned has a lane, and each operation a card. The cards are arranged from left to right, so that
+/// those of one client are in its order. A stale get's picture shows its chain, as in the report, with an arrow from
+/// each operation to the next one, and before them the put that it returned, if any. Of a chain that is longer than 13
+/// it shows the first 6 and the last 6 operations.
 pub fn picture(
     alloc: Global,
     history: &History,

@@ -1,69 +1,84 @@
 //! How much is shown, and how large it is drawn, in pixels.
 
-/// How many operations are shown at either end, where some between them are left out.
+/// How many operations are shown at the start, where some in the middle are left out.
 pub const SHOWN_START: usize = 6;
 
+/// How many operations are shown at the end, where some in the middle are left out.
 pub const SHOWN_END: usize = 6;
 
-/// The most columns: a returned put, those of either end, and between them one operation and what is left out beside
-/// it.
+/// The greatest number of columns: a returned put, the columns at either end, and between them one operation with what
+/// is left out on either side of it.
 pub const MAX_COLUMNS: usize = 16;
 
 /// How many bytes of a key or a value are shown.
 pub const SHOWN_BYTES: usize = 16;
 
-/// The most characters in a line of a card: a word, bytes of three characters each, and what tells that there are more.
+/// The greatest number of characters in a line of a card: a word, bytes of three characters each, and the sign that
+/// there are more.
 pub const MAX_LINE: usize = 8 + 3 * SHOWN_BYTES + 2;
 
-/// The fewest characters for which a card has room.
+/// The least number of characters for which a card has room.
 pub const MIN_LINE: usize = 11;
 
-/// A character's width, and what is left free at either side of a line.
+/// The width of a character.
 pub const CHARACTER: u32 = 8;
 
+/// The free space on either side of a line.
 pub const PADDING: u32 = 10;
 
-/// A card's height, and the greatest width.
+/// The height of a card.
 pub const CARD_HEIGHT: u32 = 62;
 
+/// The greatest width of a card.
 pub const MAX_WIDTH: u32 = 2 * PADDING + CHARACTER * MAX_LINE as u32;
 
-/// What is free round the picture, and the least right end of its cards, so that there is room for its sentence.
+/// The free space around the picture.
 pub const MARGIN: u32 = 16;
 
+/// The least right end of the cards, so that there is room for the picture's sentence.
 pub const MIN_RIGHT: u32 = 600;
 
-/// Where the first card begins, from the left and from above, and how far from card to card and from lane to lane.
+/// Where the first card begins, from the left.
 pub const FIRST_LEFT: u32 = 136;
 
+/// Where the first card begins, from above.
 pub const FIRST_TOP: u32 = 76;
 
+/// The space from card to card.
 pub const GAP: u32 = 44;
 
+/// The distance from lane to lane.
 pub const LANE_STEP: u32 = 112;
 
-/// Where the texts stand: from above those of the head, of a card that of what was done, of the value and of the name;
-/// and how far below the middle of a lane its client.
+/// The base line of the fault's text in the head, from above.
 pub const HEAD_BASE: u32 = 28;
 
+/// The base line of the sentence in the head, from above.
 pub const SENTENCE_BASE: u32 = 48;
 
+/// The base line in a card of what the operation did.
 pub const ACT_BASE: u32 = 19;
 
+/// The base line in a card of the value.
 pub const VALUE_BASE: u32 = 36;
 
+/// The base line in a card of the name.
 pub const NAME_BASE: u32 = 53;
 
+/// How far below the middle of a lane the base line of its client is.
 pub const LANE_BASE: u32 = 4;
 
-/// A card's corners, and where a lane's line begins.
+/// The radius of a card's corners.
 pub const CORNER: u32 = 7;
 
+/// Where a lane's line begins, from the left.
 pub const LANE_LEFT: u32 = 120;
 
-/// How far below the lowest lane the way from a returned put to its get goes, its turns, and where it comes to the get.
+/// How far below the lowest lane the line from a returned put to its get begins to turn.
 pub const FOOT: u32 = 16;
 
+/// The size of the turns of that line.
 pub const TURN: u32 = 12;
 
+/// Where that line ends at the get's card, from the card's left end.
 pub const RETURN_AT: u32 = 24;

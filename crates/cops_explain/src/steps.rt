@@ -6,7 +6,7 @@ use crate::operation::{push_line, push_told};
 use cops_types::{History, OpName};
 use std::alloc::AllocError;
 
-/// The line of an operation to which a step leads, with what the step is.
+/// Writes the line of an operation to which a step leads, with the kind of the step.
 fn push_step(
     out: &mut String,
     history: &History,
@@ -23,7 +23,7 @@ fn push_step(
     }
 }
 
-/// The lines of the operations to which the steps lead, one from another.
+/// Writes the lines of the operations to which the steps lead, one after the other.
 fn push_steps(
     out: &mut String,
     history: &History,
@@ -41,7 +41,7 @@ fn push_steps(
     Ok(())
 }
 
-/// The lines of a chain.
+/// Writes the lines of a chain.
 pub fn push_chain(out: &mut String, history: &History, chain: &[OpName]) -> Result<(), AllocError>
     ensures { OnOk result (string_bytes out.new ≡ string_bytes out.old ++ chain_text history.now.sessions chain.now) }
 {
@@ -54,7 +54,7 @@ pub fn push_chain(out: &mut String, history: &History, chain: &[OpName]) -> Resu
     }
 }
 
-/// The operation by which the last client of a chain came to know of its first operation.
+/// The operation by which the client of a chain's last operation came to know of its first one.
 pub fn known_by(first: OpName, chain: &[OpName]) -> OpName
     ensures { result ≡ known_by first chain.now }
 {
@@ -65,7 +65,7 @@ pub fn known_by(first: OpName, chain: &[OpName]) -> OpName
     at
 }
 
-/// Of two operations the first one, where both are of one client, and else the second.
+/// The first of two operations if both are of one client, otherwise the second.
 fn entry(at: OpName, next: OpName) -> OpName
     ensures { result ≡ (if at.client == next.client then at else next) }
 {

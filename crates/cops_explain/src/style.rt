@@ -1,4 +1,4 @@
-//! The texts that each picture has.
+//! The texts that every picture has.
 
 /// The colours, for light and for dark.
 pub const STYLE: &str = "<style>\

@@ -15,7 +15,7 @@ no_dot n small = let own = numerals_by_value (AllDigits 10) tells_digits in not_
 pub clock_fits : (v : ℕ) → IsVersion v → clock_of v < 2 ^ 48
 clock_fits v is = omega (arith, is.2)
 
--- a version's text is cut at its dot
+-- a version's text is split at its dot
 pub version_parts : (v : ℕ) (text : List ℕ) (r : Option (Bor (List ℕ) × Bor (List ℕ))) → IsVersion v → text ≡ version_text v → IsSplitOnceResult 46 text r
     → MatchOption r ⊥ (λ x. (x.0.now ≡ decimal (clock_of v)) × (x.1.now ≡ decimal (node_of v)))
 version_parts v text r is e cut =

@@ -1,4 +1,4 @@
-//! Texts as keys, values and versions.
+//! Reading texts as keys, values and versions.
 ghost use Rattle.std.specs.Prelude.{◌≡◌, ◌≢◌, ◌<◌, ◌^◌, ℕ, List, decimal, Err, Some, IfOk, OnErr};
 ghost use Rattle.serde_json.specs.View.{view};
 ghost use Rattle.cops_types.specs.KeyValue.{IsKey};
@@ -12,7 +12,7 @@ use cops_types::{Format, Key, Value, Version};
 use serde_json::Value as Json;
 use std::alloc::Global;
 
-/// A text as a key: `Form` where it is no text of 1 to 64 bytes, and `Memory` where memory runs out.
+/// Reads a text as a key. Errors: `Form` if the value is no text of 1 to 64 bytes, `Memory` if memory runs out.
 pub fn key(alloc: Global, json: &Json) -> Result<Key, Unread>
     ensures json { IfOk result (λ bytes. view json.now ≡ text_json bytes) }
     ensures legal { IfOk result IsKey }
@@ -22,8 +22,8 @@ pub fn key(alloc: Global, json: &Json) -> Result<Key, Unread>
     Ok(Key::new(alloc, text.as_bytes())?)
 }
 
-/// A text as a value of a format: `Form` where it is no text of at most as many bytes as the format allows (4,096 in
-/// format 1, 16,384 in format 2), and `Memory` where memory runs out.
+/// Reads a text as a value of a format. Errors: `Form` if the JSON value is no text of at most as many bytes as the
+/// format allows (4,096 in format 1, 16,384 in format 2), `Memory` if memory runs out.
 pub fn value(alloc: Global, format: Format, json: &Json) -> Result<Value, Unread>
     ensures json { IfOk result (λ bytes. view json.now ≡ text_json bytes) }
     ensures legal { IfOk result (λ bytes. Fits format (Some bytes)) }
@@ -33,8 +33,8 @@ pub fn value(alloc: Global, format: Format, json: &Json) -> Result<Value, Unread
     Ok(Value::new_in(format, alloc, text.as_bytes())?)
 }
 
-/// A text as a version, a clock, a dot and a node, each decimal without leading zeros: `Form` where it is no such text,
-/// or its numbers are no version's. It takes no memory.
+/// Reads a text as a version: a clock, a dot and a node, each decimal without leading zeros. Allocates nothing. Fails
+/// with `Form` if the value is no such text, or the numbers are not those of a version.
 pub fn version(json: &Json) -> Result<Version, Unread>
     ensures json { IfOk result (λ version. view json.now ≡ text_json (version_text version)) }
     ensures legal { IfOk result IsVersion }
@@ -46,7 +46,7 @@ pub fn version(json: &Json) -> Result<Version, Unread>
     Ok(Version::new(decimal(clock)?, node)?)
 }
 
-/// A number of digits alone, without leading zeros.
+/// Reads a decimal number, which has only digits and no leading zeros.
 fn decimal(text: &str) -> Result<u64, Unread>
     ensures text { IfOk result (λ n. text.now ≡ decimal n) }
     ensures none { OnErr result ((n : ℕ) → n < 2 ^ 64 → text.now ≢ decimal n) }

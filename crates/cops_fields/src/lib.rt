@@ -1,6 +1,6 @@
-//! What stands in fields of JSON values: keys, values and versions, each a text. Stands on the values of the store and
-//! on `serde_json`. The layers above use which text it is, and that where a field is refused for its form, no text of
-//! its form stands there.
+//! Reading fields of JSON values: keys, values and versions, each a text. Stands on the values of the store and on
+//! `serde_json`. The layers above use which text a field has, and that a field refused with `Form` has no text of the
+//! right form.
 #![tactic(auto)]
 
 mod field;

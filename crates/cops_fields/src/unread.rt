@@ -6,13 +6,13 @@ use cops_types::TypeFault;
 use std::alloc::{AllocError, AllocFailed};
 use thiserror::Error;
 
-/// Why something was not read.
+/// Why a field was not read.
 #[derive(Clone, Copy, Debug, PartialEq, Eq, Error)]
 pub enum Unread {
     /// Memory ran out.
     #[error("out of memory")]
     Memory,
-    /// It is not of its form.
+    /// The field does not have the right form.
     #[error("not of its form")]
     Form,
 }

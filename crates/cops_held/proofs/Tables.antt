@@ -1,4 +1,4 @@
--- A map from versions as the list of its puts.
+-- A map from versions, as the list of its puts.
 use Rattle.std.proofs.Common.{◌≡◌, ℕ, Bool, true, false, cond, nat_lt, List, [], ◌∷◌, Option, None, Some, find, IfSome, Result, Ok, Err, OnOk, OnErr, refl, sym, ap, ◌∙◌, arith, subst, eqb-true}
 use borrow.Author.Tests.{ltb-true}
 use Rattle.std.specs.BTreeMap.{insert_entry}
@@ -14,7 +14,7 @@ use Rattle.cops_held.specs.Table.{IsTable}
 abbrev pub Entries : Type 0
 Entries = List (ℕ × Waiting)
 
--- the test that a look-up makes of each key
+-- the test that a look-up applies to each key
 abbrev pub at_key : ℕ → ℕ → Bool
 at_key v k = is_eq (nat_cmp v k)
 
@@ -27,7 +27,7 @@ same_test v k = go (nat_lt v k) refl (nat_eq v k) refl
     go false e true f = sym f ∙ nat_eq_equiv.symm v k
     go false e false f = sym f ∙ nat_eq_equiv.symm v k
 
--- the test of a key is that of its put
+-- the test of a key is equal to that of its put
 test_at : (v : ℕ) (e : ℕ × Waiting) → e.1.put.version ≡ e.0 → at_key v e.0 ≡ is_at v e.1
 test_at v e h = same_test v e.0 ∙ ap (λ k. nat_eq k v) (sym h)
 
@@ -52,7 +52,7 @@ removed_table (e ∷ es) v h = go (at_key v e.0) (removed_table es v h.1)
     go true rest = h.1
     go false rest = (h.0, rest)
 
--- a put that waits at a version has it
+-- a put that is found at a version has it
 pub at_version : (ws : List Waiting) (v : ℕ) → IfSome (waiting ws v) (λ w. w.put.version ≡ v)
 at_version [] v = tt
 at_version (w ∷ ws) v = go (is_at v w) refl (at_version ws v)
@@ -121,7 +121,7 @@ inserted_table (x ∷ es) w h = go (nat_cmp w.put.version x.0) refl (inserted_ta
     go Equal e rest = (sym (eqb-true x.0 w.put.version (sym (same_test w.put.version x.0) ∙ ap is_eq e)), h.1)
     go Greater e rest = (h.0, rest)
 
--- a put keeps its version, whether it is marked or not
+-- a put keeps its version, whether marking it succeeds or not
 pub same_version : {X E : Type 0} (r : Result X E) (dep : ℕ) (w n : Waiting) → OnOk r (n ≡ marked dep w) → OnErr r (n ≡ w) → n.put.version ≡ w.put.version
 same_version (Ok x) dep w n ok err = ap (λ (y : Waiting). y.put.version) ok
 same_version (Err e) dep w n ok err = ap (λ (y : Waiting). y.put.version) err

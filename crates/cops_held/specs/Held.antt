@@ -1,9 +1,9 @@
--- What a held table holds: puts that wait, in order of versions, each with its marked dependencies.
+-- What a held table contains: puts that wait, in order of versions, each with the marks of its dependencies.
 use Rattle.std.specs.Prelude.{ℕ, ◌==◌, Bool, true, false, if◌then◌else◌, List, [], ◌∷◌, length, replicate, slice_set, find, nat_lt, Option}
 use Rattle.std.specs.List.{list_all}
 use Rattle.cops_types.specs.declared.put_record.PutRecord.{PutRecord}
 
--- a put that waits, and of each of its dependencies whether it is marked
+-- a put that waits, with a mark for each of its dependencies
 pub record Waiting : Type 0 where
   pub put : PutRecord
   pub marks : List Bool
@@ -19,7 +19,7 @@ is_at version w = w.put.version == version
 abbrev pub waiting : List Waiting → ℕ → Option Waiting
 waiting held version = find (is_at version) held
 
--- one more put, in its place in the order of versions
+-- the table with one more put, in its place in the order of versions
 abbrev pub with_waiting : List Waiting → Waiting → List Waiting
 with_waiting [] w = w ∷ []
 with_waiting (x ∷ held) w = if nat_lt w.put.version x.put.version then w ∷ x ∷ held else x ∷ with_waiting held w
@@ -30,7 +30,7 @@ all_marked w = list_all (λ m. m) w.marks
 abbrev pub marked : ℕ → Waiting → Waiting
 marked dep w = record { put = w.put; marks = slice_set w.marks dep true }
 
--- the put at the version is marked, or taken out
+-- the table with a dependency of the put at the version marked, or with that put removed
 abbrev pub with_mark : List Waiting → ℕ → ℕ → List Waiting
 with_mark [] version dep = []
 with_mark (w ∷ held) version dep = if is_at version w then marked dep w ∷ held else w ∷ with_mark held version dep

@@ -1,7 +1,7 @@
-//! Why a held table refused.
+//! Why a held table refuses a call.
 use thiserror::Error;
 
-/// Why a put was not marked or not given. The numbers are the faults' codes.
+/// Why a dependency was not marked or a put not returned. The numbers are the faults' codes.
 #[derive(Clone, Copy, Debug, PartialEq, Eq, Error)]
 pub enum HeldFault {
     /// 1: no put with this version waits.

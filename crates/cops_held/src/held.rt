@@ -6,8 +6,8 @@ use std::alloc::{AllocError, Global};
 use std::collections::BTreeMap;
 use std::marker::Model;
 
-/// The puts that wait, one for each version, in order of versions. Each call costs a look-up in a map, whatever the
-/// number of puts.
+/// The puts that wait, one for each version, in order of versions. Each call makes at most two look-ups in an ordered
+/// map. `hold` and `open_deps` also take time in proportion to the put's dependencies.
 #[derive(Drop)]
 pub struct Held {
     puts: BTreeMap<Version, HeldPut>,
@@ -33,7 +33,7 @@ impl Held {
     ghost use Rattle.cops_held.specs.Held.{waiting, with_waiting, with_mark, without};
     ghost use Rattle.cops_held.specs.Taking.{holding, with_put, open_deps, marking, readiness, taking};
 
-    /// A table with no put. It takes no memory.
+    /// An empty table. It allocates no memory.
     pub fn new(alloc: Global) -> Self
         ensures { result ≡ [] }
     {
@@ -43,15 +43,15 @@ impl Held {
         }
     }
 
-    /// How many puts wait.
+    /// The number of puts that wait.
     pub fn len(&self) -> usize
         ensures { result ≡ length self.now }
     {
         self.puts.len()
     }
 
-    /// Holds a put, with no dependency marked. Where a put with its version waits already nothing changes, and that
-    /// takes no memory. A refusal changes nothing.
+    /// Holds a put, with no dependency marked. Where a put with its version waits already, nothing changes and no
+    /// memory is allocated. An error, which is `Memory`, leaves the table unchanged.
     pub fn hold(&mut self, put: PutRecord) -> Result<Taken, Memory>
         ensures ok { IfOk result (λ taken. taken ≡ holding self.old put) }
         ensures after { OnOk result (self.new ≡ with_put self.old put) }
@@ -74,8 +74,8 @@ impl Held {
         Some(held.put())
     }
 
-    /// The dependencies of the put at a version that are not marked yet, by their indexes, ascending. None where no
-    /// such put waits, and that takes no memory.
+    /// The dependencies of the put at a version that are not marked yet, by their indexes, ascending. Where no such put
+    /// waits, the list is empty, and no memory is allocated. Returns `Memory` when memory runs out.
     pub fn open_deps(&self, version: Version) -> Result<Vec<u16>, Memory>
         ensures ok { IfOk result (λ deps. deps.items ≡ open_deps (waiting self.now version)) }
         ensures err { OnErr result (is_some (waiting self.now version) ≡ true) }
@@ -86,9 +86,11 @@ impl Held {
         }
     }
 
-    /// Marks a dependency of the put at a version, by its index: `NotHeld` where no such put waits, else `NoSuchDep`
-    /// where it has no such dependency. Marking twice is as marking once. It takes no memory, and a refusal changes
-    /// nothing.
+    /// Marks a dependency of the put at a version, given by its index. Marking it twice is the same as marking it once.
+    /// It allocates no memory.
+    ///
+    /// Errors, which change nothing: `NotHeld` where no such put waits; otherwise `NoSuchDep` where it has no such
+    /// dependency.
     pub fn mark(&mut self, version: Version, dep: u16) -> Result<(), HeldFault>
         ensures answer { result ≡ marking (waiting self.old version) dep }
         ensures ok { OnOk result (self.new ≡ with_mark self.old version dep) }
@@ -100,8 +102,9 @@ impl Held {
         held.mark(dep)
     }
 
-    /// Whether `take_ready` gives the put at a version: `NotHeld` where no such put waits, else `DepsOpen` where not
-    /// all its dependencies are marked.
+    /// Whether `take_ready` would return the put at a version.
+    ///
+    /// Errors: `NotHeld` where no such put waits; otherwise `DepsOpen` where not all its dependencies are marked.
     pub fn ready(&self, version: Version) -> Result<(), HeldFault>
         ensures { result ≡ readiness (waiting self.now version) }
     {
@@ -112,8 +115,10 @@ impl Held {
         }
     }
 
-    /// Gives the put at a version, which waits no longer: `NotHeld` where no such put waits, else `DepsOpen` where not
-    /// all its dependencies are marked. It takes no memory, and a refusal changes nothing.
+    /// Removes and returns the put at a version, all of whose dependencies are marked. It allocates no memory.
+    ///
+    /// Errors, which change nothing: `NotHeld` where no such put waits; otherwise `DepsOpen` where not all its
+    /// dependencies are marked.
     pub fn take_ready(&mut self, version: Version) -> Result<PutRecord, HeldFault>
         ensures answer { result ≡ taking (waiting self.old version) }
         ensures ok { OnOk result (self.new ≡ without self.old version) }
@@ -140,7 +145,7 @@ impl Held {
         self.puts.get(&version)
     }
 
-    /// Takes out the put that waits at a version, with its marks.
+    /// Removes and returns the put that waits at a version, with its marks.
     fn take(&mut self, version: Version) -> Option<HeldPut>
         ensures taken { result ≡ waiting self.old version }
         ensures rest { self.new ≡ without self.old version }
@@ -149,7 +154,7 @@ impl Held {
         self.puts.remove(&version)
     }
 
-    /// Puts in one with a version that none has.
+    /// Adds a put, at whose version none waits.
     fn add(&mut self, held: HeldPut) -> Result<(), AllocError>
         requires { waiting self.old held.put.version ≡ None }
         ensures ok { OnOk result (self.new ≡ with_waiting self.old held) }

@@ -4,12 +4,12 @@ use cops_types::PutRecord;
 use std::alloc::{AllocError, Global};
 use std::marker::Model;
 
-/// A put that waits, and of each of its dependencies whether it is marked.
+/// A put that waits, with a mark for each of its dependencies.
 #[derive(Debug, Drop)]
 pub(crate) struct HeldPut {
     put: PutRecord,
     marks: Vec<bool>,
-    /// How many dependencies are not marked.
+    /// The number of dependencies that are not marked.
     open_marks: usize,
 }
 
@@ -66,7 +66,8 @@ impl HeldPut {
         self.open_marks == 0
     }
 
-    /// Marks a dependency by its index, or refuses `NoSuchDep`. It takes no memory.
+    /// Marks a dependency, given by its index. It allocates no memory. Returns `NoSuchDep` where there is no such
+    /// dependency.
     pub(crate) fn mark(&mut self, dep: u16) -> Result<(), HeldFault>
         ensures answer { result ≡ marking (Some self.old) dep }
         ensures ok { OnOk result (self.new ≡ marked dep self.old) }

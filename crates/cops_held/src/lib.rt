@@ -1,6 +1,8 @@
 //! Puts of other data centres that wait until their dependencies are settled here (COPS, section 4.3: `put_after` and
-//! `dep_check`). Stands on the types and on std's ordered map. The layers above use the list of waiting puts in order
-//! of versions, one for each version, with the marks of their dependencies.
+//! `dep_check`).
+//!
+//! It builds on the types and on the standard library's ordered map. The layers above use the list of waiting puts in
+//! order of versions, one for each version, with the marks of their dependencies.
 #![tactic(auto)]
 
 mod fault;

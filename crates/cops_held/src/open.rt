@@ -3,7 +3,7 @@ ghost use Rattle.cops_held.specs.Taking.{open_from};
 
 use std::alloc::{AllocError, Global};
 
-/// The places of what is not marked, ascending. There are at most 65,536 marks.
+/// The indexes of the elements that are not marked, ascending. There are at most 65,536 marks.
 pub(crate) fn open_places(alloc: Global, marks: &[bool]) -> Result<Vec<u16>, AllocError>
     requires { length marks.now ≤ 65536 }
     ensures { IfOk result (λ places. places.items ≡ open_from 0 marks.now) }

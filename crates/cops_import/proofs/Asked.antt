@@ -1,4 +1,4 @@
--- An object tells what its one operation does.
+-- An object's operation is that of its one key member, and so are its faults.
 use Rattle.std.proofs.Common.{◌≡◌, ℕ, List, [], ◌∷◌, length, Some, refl, subst}
 use Rattle.serde_json.specs.Data.{Data, item, no_items}
 use Rattle.serde_json.specs.View.{items_view}
@@ -38,7 +38,7 @@ wrong_of d kind at BadVersion name asked wrong = (name, (kind, wrong.0, asks d k
 wrong_of d kind at TooManyClients name asked wrong = absurd wrong
 wrong_of d kind at TooManyOperations name asked wrong = absurd wrong
 
--- what is wrong where something is not read is what was named
+-- if a member is not read because of its form, the fault is the named one
 pub wrong_unread : (P : LineFault → Type 0) (named fault : LineFault) (unread : Unread) (r : Untold) → (unread ≡ Memory → r ≡ OutOfMemory) → (unread ≡ Form → r ≡ Fault named) → (unread ≡ Form → P named) → r ≡ Fault fault → P fault
 wrong_unread P named fault Memory r memory form wrong e = let m = memory refl in absurd cc
 wrong_unread P named fault Form r memory form wrong e = let f = form refl in let same : named ≡ fault = cc in subst P same (wrong refl)

@@ -1,4 +1,4 @@
--- What was read of a reader whose bytes are known.
+-- What was read from a reader whose bytes are known.
 use Rattle.std.proofs.Common.{◌≡◌, ◌≤◌, ℕ, List, [], ◌++◌, arith, length, length-append, sym, ap, subst, ◌∙◌, append_assoc, append-nil}
 use Rattle.std.specs.Prelude.{Option, Some, None, IfSome}
 use Rattle.std.specs.Io.KnownBytes.{Consumes, IsAtEnd}
@@ -11,14 +11,14 @@ use Rattle.cops_import.specs.Underway.{Finishes}
 use Rattle.cops_import.specs.declared.fault.ImportFault.{ImportFault}
 use Rattle.cops_import.specs.declared.imported.Imported.{Imported}
 
--- what was read before the end is all there was
+-- what was read before the end is all that the reader had
 pub all_read : (a b c : Option (List ℕ)) (xs : List ℕ) → Consumes a b xs → Consumes b c [] → IsAtEnd c → IfSome a (λ bytes. bytes ≡ xs)
 all_read None b c xs p q r = tt
 all_read (Some u) None c xs p q r = absurd p
 all_read (Some u) (Some v) None xs p q r = absurd q
 all_read (Some u) (Some v) (Some w) xs p q r = p ∙ ap (λ (t : List ℕ). xs ++ t) (q ∙ r) ∙ append-nil xs
 
--- a fault that stands whatever follows is that of all bytes
+-- a fault that holds whatever follows holds for all bytes
 pub fault_read : (a b c : Option (List ℕ)) (xs ys : List ℕ) (clients : ℕ) (e : ImportFault) → Consumes a b xs → Consumes b c ys → ((more : List ℕ) → IsFaultOf clients ((xs ++ ys) ++ more) e)
     → IfSome a (λ bytes. IsFaultOf clients bytes e)
 fault_read None b c xs ys clients e p q says = tt
@@ -27,7 +27,7 @@ fault_read (Some u) (Some v) None xs ys clients e p q says = absurd q
 fault_read (Some u) (Some v) (Some w) xs ys clients e p q says =
     subst (λ (bytes : List ℕ). IsFaultOf clients bytes e) (sym (p ∙ ap (λ (t : List ℕ). xs ++ t) q ∙ sym (append_assoc xs ys w))) (says w)
 
--- there were at least as many as were taken
+-- the reader had at least as many bytes as were read
 pub long_read : (a b : Option (List ℕ)) (xs : List ℕ) (n : ℕ) → Consumes a b xs → n ≤ length xs → IfSome a (λ bytes. n ≤ length bytes)
 long_read None b xs n p h = tt
 long_read (Some u) None xs n p h = absurd p

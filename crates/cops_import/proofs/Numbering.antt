@@ -1,4 +1,4 @@
--- A name keeps its number, whatever names come after it.
+-- A name keeps its number when others are added.
 use Rattle.std.proofs.Common.{◌≡◌, ◌+◌, ℕ, Bool, true, false, cond, ◌||◌, List, [], ◌∷◌, ◌++◌, map, refl, sym, ap, ◌∙◌, inl, inr}
 use Rattle.std.specs.Prelude.{not, fold}
 use Rattle.std.specs.List.{list_any}
@@ -14,7 +14,7 @@ use Rattle.cops_import.specs.declared.line.Told.{Told}
 same_self : (name : List ℕ) → same name name ≡ true
 same_self name = (bytes_eq-Decides name name).1 refl
 
--- the name stands among these
+-- the name is among these
 abbrev pub is_among : List (List ℕ) → List ℕ → Bool
 is_among names name = list_any (same name) names
 
@@ -35,14 +35,14 @@ among_last (n ∷ names) name = elim (cases_Bool (same name n)) [
   | inr p ↦ ap (λ (b : Bool). b || is_among (names ++ name ∷ []) name) p ∙ among_last names name
 ]
 
--- a name that came is there
+-- a name that was added is among the names
 pub among_own : (names : List (List ℕ)) (name : List ℕ) → is_among (with_name names name) name ≡ true
 among_own names name = elim (cases_Bool (is_among names name)) [
   | inl p ↦ ap (λ (b : Bool). is_among (cond b names (names ++ name ∷ [])) name) p ∙ p
   | inr p ↦ ap (λ (b : Bool). is_among (cond b names (names ++ name ∷ [])) name) p ∙ among_last names name
 ]
 
--- names in their order after these
+-- the names after those of these operations were added
 abbrev pub names_after : List (List ℕ) → List Told → List (List ℕ)
 names_after names tolds = fold (λ ns told. with_name ns told.name) names tolds
 
@@ -67,7 +67,7 @@ number_with names name other h = go (is_among names other)
     go true = refl
     go false = number_before names name other h
 
--- so records keep their clients
+-- records keep their clients
 pub records_kept : (names : List (List ℕ)) (tolds : List Told) (other : List ℕ)
     → map (record_of (with_name (names_after names tolds) other)) tolds ≡ map (record_of (names_after names tolds)) tolds
 records_kept names [] other = refl
@@ -78,7 +78,7 @@ records_kept names (t ∷ tolds) other =
     let rest = records_kept (with_name names t.name) tolds other in
     ap (λ (k : ℕ). record { client = k; op = operation_of t.op } ∷ map (record_of (with_name all other)) tolds) client ∙ ap (λ (rs : List _). record_of all t ∷ rs) rest
 
--- a new name's number is the place where it goes
+-- a new name's number is its index at the end
 number_last : (names : List (List ℕ)) (name : List ℕ) → is_among names name ≡ false → number_of (names ++ name ∷ []) name ≡ number_of names name
 number_last [] name h = ap (λ (b : Bool). cond (not b) (1 + 0) 0) (same_self name)
 number_last (n ∷ names) name h = elim (cases_Bool (same name n)) [

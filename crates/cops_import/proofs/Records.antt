@@ -39,7 +39,7 @@ use Rattle.cops_import.specs.declared.importer.Importer.{Importer}
 use Rattle.cops_import.specs.declared.line.Told.{Told}
 use Rattle.cops_import.proofs.Numbering.{names_more, number_own, records_kept}
 
--- ---- the trace of one operation more
+-- ---- the trace with one more operation
 
 abbrev entry : List Told → Told → ARecord
 entry tolds told = record { client = number_of (names_of tolds) told.name; op = operation_of told.op }
@@ -61,7 +61,7 @@ module _ {W : Type 0} (contents : W → Option (List ℕ)) (from : Counted W) wh
   begun_of : (t : ATrace) (w : TraceWriter W) → HasWritten contents from t w → HasBegun (contents (inner from)) (contents (inner w.writer)) (beginning t) w.counts w.written
   begun_of t w h = record { trace = t; is_trace = h.is_trace; counts = h.counts; bytes_are = refl; in_all = h.in_all; appends = h.appends }
 
-  -- the record of an operation more
+  -- one more record was written
   pub written_more : (t : ATrace) (old new : TraceWriter W) (client : ℕ) (op : Operation) → HasWritten contents from t old → HasTurn old.counts client → IsOp t.format op
       → Appends (contents (inner old.writer)) (contents (inner new.writer)) (record_frame old.counts client op) → new.counts ≡ counted old.counts client
       → new.written ≡ more_written old.written (length (record_frame old.counts client op)) → failures new.writer ≡ failures old.writer
@@ -96,7 +96,7 @@ module _ {W : Type 0} (contents : W → Option (List ℕ)) (from : Counted W) wh
       (add_cut (contents (inner from)) (contents (inner old.writer)) (contents (inner new.writer)) (beginning t) old.counts old.written client op e (begun_of t old h) room (subst (λ (f : Format). IsOp f op) (sym h.counts.format) is) unwritten)
       (λ q. subst (λ (n : ℕ). Failed n (failures new.writer)) h.heard (failed q))
 
-  -- an operation more was taken
+  -- one more operation was taken
   pub taken_more : (tolds : List Told) (told : Told) (old new : Importer W) (client : ℕ) → HasTaken contents from tolds old → new.clients ≡ old.clients
       → new.names ≡ with_name old.names told.name → new.operations ≡ min (old.operations + 1) 18446744073709551615 → client ≡ number_of old.names told.name
       → HasTurn old.writer.counts client → HasWritten contents from (grown (trace_to old.clients tolds) (record { client = client; op = operation_of told.op })) new.writer
@@ -152,7 +152,7 @@ module _ {W : Type 0} (contents : W → Option (List ℕ)) (from : Counted W) wh
       appends_more (contents (inner from)) (contents (inner i.writer.writer)) (contents (inner w)) (beginning t) (end_frame i.writer.counts) (text (trace_of tolds)) h.wrote.appends more
       (sym (end_is t i.writer.counts h.wrote.counts) ∙ all)
 
-  -- so many bytes more are no more than a number of 64 bits tells
+  -- adding `count` bytes to a cut text does not overflow 64 bits
   told : (old new : Option (List ℕ)) (before count : ℕ) → IsCutShort old new (before + count) → before + count ≡ more_written before count
   told old new before count cut = let long = text_len cut.trace cut.is_trace in omega (arith, cut.fewer, long)
 
@@ -164,12 +164,12 @@ module _ {W : Type 0} (contents : W → Option (List ℕ)) (from : Counted W) wh
       subst (IsCutShort (contents (inner from)) (contents (inner w)))
       (told (contents (inner from)) (contents (inner w)) (length (beginning t)) u.0 cut ∙ ap (λ (n : ℕ). more_written n u.0) (sym h.in_all) ∙ sym u.2) cut
 
-  -- the end was not written
+  -- the end record was not written
   pub left_ended : (t : ATrace) (old : TraceWriter W) (w : Counted W) (e : WriteFault) → HasWritten contents from t old
       → IsUnwritten (end_frame old.counts) old.written (contents (inner old.writer)) (contents (inner w)) e → (e ≢ write.Memory → Failed (failures old.writer) (failures w)) → HasLeft contents from (fault_of e) w
   left_ended t old w e h unwritten failed = left_of e w (end_cut t old w e h unwritten) (λ q. subst (λ (n : ℕ). Failed n (failures w)) h.heard (failed q))
 
--- a client that has no turn has no room
+-- a client without a turn has no room for a record
 pub too_many : (clients : ℕ) (tolds : List Told) (told : Told) (counts : ACounts) (client : ℕ) → AreCountsOf (trace_to clients tolds) counts → client ≡ number_of (names_of tolds) told.name → client < clients
     → (HasTurn counts client → ⊥) → length (names_of (tolds ++ told ∷ [])) ≤ MAX_CLIENTS → IsTooMany tolds told TooManyOperations
 too_many clients tolds told counts client h number there full few =
@@ -182,7 +182,7 @@ too_many clients tolds told counts client h number there full few =
           full (omega (arith, h.clients, there), omega (arith, h.next client, own), omega (arith, h.total, many, room.1)),
     )
 
--- a write that failed says nothing of the lines
+-- a failed write says nothing about the lines
 pub write_says : (clients : ℕ) (bytes : List ℕ) (e : WriteFault) → IsFaultOf clients bytes (fault_of e)
 write_says clients bytes write.Memory = tt
 write_says clients bytes (write.WriteFailed written) = tt
@@ -191,7 +191,7 @@ pub write_stops : (clients : ℕ) (tolds : List Told) (e : WriteFault) → IsSto
 write_stops clients tolds write.Memory = tt
 write_stops clients tolds (write.WriteFailed written) = tt
 
--- and is no failed read
+-- a failed write is not a failed read
 pub write_device : (e : WriteFault) → fault_of e ≢ ReadFailed
 write_device write.Memory q = let no : ⊥ = cc in no
 write_device (write.WriteFailed written) q = let no : ⊥ = cc in no

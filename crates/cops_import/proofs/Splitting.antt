@@ -1,4 +1,4 @@
--- Lines that end, and what they tell.
+-- Splitting a text into lines, and the operations of the lines.
 use Rattle.std.proofs.Common.{◌≡◌, ◌==◌, ℕ, List, [], ◌∷◌, ◌++◌, refl, sym, ap, ◌∙◌, append_assoc}
 use Rattle.std.specs.Prelude.{Option}
 use Rattle.std.proofs.lemmas.List.{append-nil}
@@ -7,14 +7,14 @@ use Rattle.cops_import.specs.Line.{LineTells}
 use Rattle.cops_import.specs.Lines.{IsWithin, TellAfter, lines, with_told}
 use Rattle.cops_import.specs.declared.line.Told.{Told}
 
--- what was kept of a text whose lines ended
+-- the lines of `fed` are `ended`, and then `line`, which may go on
 abbrev pub Splits : List ℕ → List (List ℕ) → List ℕ → Type 0
 Splits fed ended line = (more : List ℕ) → lines (fed ++ more) ≡ ended ++ lines (line ++ more)
 
 pub split_none : Splits [] [] []
 split_none more = refl
 
--- a part more of the last line
+-- a further part of the last line
 pub split_part : (fed : List ℕ) (ended : List (List ℕ)) (line part : List ℕ) → Splits fed ended line → Splits (fed ++ part) ended (line ++ part)
 split_part fed ended line part h more = ap lines (append_assoc fed part more) ∙ h (part ++ more) ∙ ap (λ (l : List ℕ). ended ++ lines l) (sym (append_assoc line part more))
 
@@ -32,7 +32,7 @@ split_last fed ended line h within =
     ap lines (sym (append-nil fed)) ∙ h [] ∙ ap (λ (l : List ℕ). ended ++ lines l) (append-nil line)
     ∙ ap (λ (ls : List (List ℕ)). ended ++ ls) (slice_split_none (λ (b : ℕ). b == 10) line within)
 
--- what one line more tells comes last
+-- the operation of one more line comes last
 pub tell_more : (earlier : List Told) (ls : List (List ℕ)) (tolds : List Told) (line : List ℕ) (told : Option Told) → TellAfter earlier ls tolds → LineTells line told → TellAfter earlier (ls ++ line ∷ []) (with_told tolds told)
 tell_more earlier [] tolds line told h is = (told, is, ap (λ (ts : List Told). with_told ts told) h)
 tell_more earlier (l ∷ ls) tolds line told h is = (h.0, h.1, tell_more (with_told earlier h.0) ls tolds line told h.2 is)

@@ -1,4 +1,4 @@
--- An import that goes on, part by part and line by line.
+-- An import proceeds part by part and line by line.
 use Rattle.std.proofs.Common.{◌≡◌, ◌==◌, ◌+◌, ◌^◌, ◌≤◌, ℕ, false, List, [], ◌∷◌, ◌++◌, length, refl, sym, ap, subst, ◌∙◌, append_assoc, arith}
 use Rattle.std.specs.Prelude.{Option}
 use Rattle.std.proofs.lemmas.List.{length-append}
@@ -43,7 +43,7 @@ module _ {W : Type 0} (contents : W → Option (List ℕ)) (from : Counted W) wh
     taken = taken;
   }
 
-  -- it stops at a line that a line feed ends
+  -- the import stops at a line that a line feed ends
   pub stopped_here : (fed : List ℕ) (old : Importer W) (number : ℕ) (e : ImportFault) (w : Counted W) → (u : IsUnderway contents from fed old) → number ≡ old.ended + 1
       → IsStopAt old.clients number u.tolds old.line.items e → HasLeft contents from e w → HasStopped contents from (fed ++ 10 ∷ []) e old.clients w
   stopped_here fed old number e w u next stop left = record {
@@ -51,14 +51,14 @@ module _ {W : Type 0} (contents : W → Option (List ℕ)) (from : Counted W) wh
     left = left;
   }
 
-  -- memory was refused
+  -- memory ran out
   pub stopped_short : (fed all : List ℕ) (old : Importer W) → IsUnderway contents from fed old → HasStopped contents from all Memory old.clients old.writer.writer
   stopped_short fed all old u = record {
     says = λ more. tt;
     left = record { cut = cut_so_far contents from _ old.writer u.taken.wrote; heard = tt };
   }
 
-  -- no number is left for a line
+  -- no 64-bit number is left for a line
   pub stopped_endless : (fed all : List ℕ) (old : Importer W) → IsUnderway contents from fed old → 18446744073709551615 ≤ old.ended → all ≡ fed ++ 10 ∷ [] → HasStopped contents from all Endless old.clients old.writer.writer
   stopped_endless fed all old u many is = record {
     says = λ more. no_number (all ++ more) u.ended (lines (old.line.items ++ 10 ∷ more)) (ap (λ (l : List ℕ). lines (l ++ more)) is ∙ ap lines (append_assoc fed (10 ∷ []) more) ∙ u.split (10 ∷ more)) (omega (arith, many, u.counted));
@@ -69,7 +69,7 @@ module _ {W : Type 0} (contents : W → Option (List ℕ)) (from : Counted W) wh
   endless_says fed old u many =
       no_number fed u.ended (old.line.items ∷ []) (split_last fed u.ended old.line.items u.split u.within) (omega (arith, many, u.counted))
 
-  -- what stopped it stops it whatever follows
+  -- a fault that stopped the import still stops it with more bytes
   pub stopped_more : (fed rest all : List ℕ) (e : ImportFault) (clients : ℕ) (w : Counted W) → fed ++ rest ≡ all → HasStopped contents from fed e clients w → HasStopped contents from all e clients w
   stopped_more fed rest all e clients w is h = record {
     says = λ more. subst (λ (bytes : List ℕ). IsFaultOf clients bytes e) (sym (append_assoc fed rest more) ∙ ap (λ (l : List ℕ). l ++ more) is) (h.says (rest ++ more));
@@ -95,7 +95,7 @@ module _ {W : Type 0} (contents : W → Option (List ℕ)) (from : Counted W) wh
     taken = taken;
   }
 
--- a line that was cut off the rest of a piece
+-- cutting a line off the rest of a piece
 pub cut_off : (piece before rest part behind : List ℕ) → piece ≡ before ++ rest → rest ≡ part ++ 10 ∷ behind → piece ≡ (before ++ part ++ 10 ∷ []) ++ behind
 cut_off piece before rest part behind is cut =
     is ∙ ap (λ (l : List ℕ). before ++ l) cut ∙ sym (append_assoc (before ++ part) (10 ∷ []) behind ∙ append_assoc before part (10 ∷ behind))

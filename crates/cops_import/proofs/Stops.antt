@@ -1,4 +1,4 @@
--- What stops an import is what a fault says of the whole text.
+-- A fault that stops an import says of the whole text what `IsFaultOf` requires.
 use Rattle.std.proofs.Common.{◌≡◌, ◌==◌, ◌+◌, ◌^◌, ◌≤◌, ℕ, Bool, List, [], ◌∷◌, ◌++◌, length, sym, ap, ◌∙◌, append_assoc, inl, inr, arith}
 use Rattle.std.specs.Prelude.{Some, Result, Ok, Err, IfErr, IfOk, OnOk}
 use Rattle.std.proofs.lemmas.List.{length-append}
@@ -25,7 +25,7 @@ pub on_ok : {T E : Type 0} (r : Result T E) (P Q : Type 0) → (P → Q) → OnO
 on_ok (Ok x) P Q f h = f h
 on_ok (Err e) P Q f h = tt
 
--- what stops at an operation stops at its line
+-- a fault that stops at an operation stops at its line
 pub stop_of : (clients number : ℕ) (tolds : List Told) (line : List ℕ) (told : Told) (e : ImportFault) → LineTells line (Some told) → IsStopOf clients number tolds told e → IsStopAt clients number tolds line e
 stop_of clients number tolds line told Memory tells stop = tt
 stop_of clients number tolds line told ReadFailed tells stop = tt
@@ -34,7 +34,7 @@ stop_of clients number tolds line told (Line n fault) tells stop = (stop.0, inr 
 stop_of clients number tolds line told Changed tells stop = (told, tells, stop)
 stop_of clients number tolds line told Endless tells stop = absurd stop
 
--- what stops at a line is a fault of the text in which it stands
+-- a fault that stops at a line is a fault of the text with that line
 stop_says : (clients : ℕ) (bytes : List ℕ) (ended : List (List ℕ)) (line : List ℕ) (after : List (List ℕ)) (tolds : List Told) (number : ℕ) (e : ImportFault)
     → lines bytes ≡ ended ++ line ∷ after → LinesTell ended tolds → number ≡ length ended + 1 → IsStopAt clients number tolds line e → IsFaultOf clients bytes e
 stop_says clients bytes ended line after tolds number Memory split tell counted stop = tt
@@ -53,19 +53,19 @@ stop_says clients bytes ended line after tolds number Changed split tell counted
     })
 stop_says clients bytes ended line after tolds number Endless split tell counted stop = absurd stop
 
--- at a line that a line feed ends, whatever follows
+-- the case of a line that a line feed ends, whatever follows
 pub stops_here : (clients : ℕ) (fed : List ℕ) (ended : List (List ℕ)) (line : List ℕ) (tolds : List Told) (number : ℕ) (e : ImportFault) → Splits fed ended line → IsWithin line
     → LinesTell ended tolds → number ≡ length ended + 1 → IsStopAt clients number tolds line e → (more : List ℕ) → IsFaultOf clients ((fed ++ 10 ∷ []) ++ more) e
 stops_here clients fed ended line tolds number e split within tell counted stop more =
     stop_says clients ((fed ++ 10 ∷ []) ++ more) ended line (lines more) tolds number e (split_here fed ended line more split within) tell counted stop
 
--- at the last line
+-- the case of the last line
 pub stops_last : (clients : ℕ) (fed : List ℕ) (ended : List (List ℕ)) (line : List ℕ) (tolds : List Told) (number : ℕ) (e : ImportFault) → Splits fed ended line → IsWithin line
     → LinesTell ended tolds → number ≡ length ended + 1 → IsStopAt clients number tolds line e → IsFaultOf clients fed e
 stops_last clients fed ended line tolds number e split within tell counted stop =
     stop_says clients fed ended line [] tolds number e (split_last fed ended line split within) tell counted stop
 
--- after the last line
+-- the case of the end, after the last line
 pub stops_ended : (clients : ℕ) (bytes : List ℕ) (tolds : List Told) (e : ImportFault) → LinesTell (lines bytes) tolds → IsStopAtEnd clients tolds e → IsFaultOf clients bytes e
 stops_ended clients bytes tolds Memory tell stop = tt
 stops_ended clients bytes tolds ReadFailed tell stop = tt
@@ -74,7 +74,7 @@ stops_ended clients bytes tolds (Line n fault) tell stop = absurd stop
 stops_ended clients bytes tolds Changed tell stop = inr (tolds, tell, stop)
 stops_ended clients bytes tolds Endless tell stop = absurd stop
 
--- where no number of 64 bits is left for a line
+-- the case where no 64-bit number is left for a line
 pub no_number : (bytes : List ℕ) (ended rest : List (List ℕ)) → lines bytes ≡ ended ++ rest → 18446744073709551615 ≤ length ended → 2 ^ 40 ≤ length bytes
 no_number bytes ended rest split many =
     let p : ℕ → Bool = λ b. b == 10 in

@@ -1,4 +1,4 @@
--- A line tells one thing, and is not wrong where it does.
+-- A line has at most one operation, and a line that has one is not faulty.
 use Rattle.std.proofs.Common.{◌≡◌, ◌≢◌, ◌==◌, ◌^◌, ◌<◌, ℕ, Bool, false, List, [], ◌∷◌, ◌++◌, All, get_or, refl, sym, ap, subst, ◌∙◌, inl, inr, arith}
 use Rattle.std.specs.Prelude.{Option, Some, None, codes, decimal}
 use Rattle.std.proofs.lemmas.Bool.{ne_eqb}
@@ -23,7 +23,7 @@ use Rattle.cops_import.specs.declared.line.Kind.TheVariants.{Put, Get}
 use Rattle.cops_import.specs.declared.line.Told.{Told}
 use Rattle.cops_fields.proofs.Versions.{clock_fits, no_dot}
 
--- ---- one name, one version
+-- ---- at most one name and one version
 
 name_in : (a b : List ℕ) (x : Data) → IsNameJson a x → IsNameJson b x → a ≡ b
 name_in a b x (inl p) (inl q) = cc
@@ -82,7 +82,7 @@ value_one d a b p q = let e = p.0 in let f = q.0 in cc
 something : (d : Data) (value : List ℕ) → TellsValue d value → FoundNothing d → ⊥
 something d value told found = let e = told.0 in let f = found.0 in cc
 
--- ---- one operation
+-- ---- at most one operation
 
 asked_one : (d : Data) (k l : Kind) (x y : Data) → IsAsked d k x → IsAsked d l y → (k ≡ l) × (x ≡ y)
 asked_one d Put Put x y p q = (refl, let e = p.0 in let f = q.0 in cc)
@@ -125,7 +125,7 @@ told_one d a b p q =
 json_one : (line : List ℕ) (d e : Data) → IsJson line d → IsJson line e → d ≡ e
 json_one line d e p q = let f = p.1 in let g = q.1 in cc
 
--- what a line tells is one
+-- two operations of one line are equal
 line_one : (line : List ℕ) (a b : Option Told) → LineTells line a → LineTells line b → a ≡ b
 line_one line None None p q = refl
 line_one line None (Some b) p q = absurd (q.0 p)
@@ -140,7 +140,7 @@ lines_one earlier (line ∷ ls) a b p q =
     let same = line_one line p.0 q.0 p.1 q.1 in
     lines_one (with_told earlier q.0) ls a b (subst (λ (t : Option Told). TellAfter (with_told earlier t) ls a) same p.2) q.2
 
--- ---- nothing is wrong with it
+-- ---- a line with an operation is not faulty
 
 op_kind : (d : Data) (o : Op) → TellsOp d o → (kind : Kind) × (key : List ℕ) × AsksKey d kind key
 op_kind d (op.Put key value version) told = (Put, key, told.0)

@@ -1,4 +1,4 @@
--- The operation of a kind, with what stands in its object as its key.
+-- The operation of an object, given its kind and the value that holds its key.
 use Rattle.std.specs.Prelude.{◌≡◌, ◌≢◌, ℕ, List}
 use Rattle.serde_json.specs.Data.{Data}
 use Rattle.cops_types.specs.KeyValue.{IsKey}
@@ -14,14 +14,14 @@ use Rattle.cops_import.specs.Line.{FoundNothing, LacksValue, LacksVersion, Tells
 abbrev pub IsKeyJson : Data → List ℕ → Type 0
 IsKeyJson at key = (at ≡ text_json key) × IsKey key
 
--- what the object tells, of which this is its one operation
+-- the operation of an object whose operation has this kind, and its key in `at`
 abbrev pub TellsKind : Data → Kind → Data → Op → Type 0
 TellsKind d Put at (op.Put key value version) = IsKeyJson at key × TellsValue d value × TellsVersion d version
 TellsKind d Get at (op.Got key value version) = IsKeyJson at key × TellsValue d value × TellsVersion d version
 TellsKind d Get at (op.Missed key) = IsKeyJson at key × FoundNothing d
 TellsKind d _ at _ = ⊥
 
--- what is wrong with it
+-- what is wrong with such an object
 abbrev pub IsWrongOf : Data → Kind → Data → LineFault → Type 0
 IsWrongOf d kind at BadKey = (key : List ℕ) → IsKey key → at ≢ text_json key
 IsWrongOf d kind at BadValue = (key : List ℕ) × IsKeyJson at key × LacksValue d kind

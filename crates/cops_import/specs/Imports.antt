@@ -1,12 +1,12 @@
--- What was imported of a text of lines.
+-- The result of an import.
 use Rattle.std.specs.Prelude.{◌≡◌, ℕ, List, length, Option}
 use Rattle.std.specs.Io.KnownBytes.{Appends}
 use Rattle.cops_trace.specs.Text.{IsTrace, text}
 use Rattle.cops_import.specs.Lines.{LinesTell, lines, names_of, trace_of}
 use Rattle.cops_import.specs.declared.line.Told.{Told}
 
--- all that its lines tell went out, as the text of the one trace of it, which is within the limits; and these are the names of its
--- clients, and so many operations
+-- the text of the one trace that all lines describe was written; it is within the limits, `names` are the names of its clients, and `operations` is
+-- the number of its operations
 pub record IsImport (bytes : List ℕ) (old new : Option (List ℕ)) (names : List (List ℕ)) (operations : ℕ) : Type 0 where
   pub tolds : List Told
   pub tell : LinesTell (lines bytes) tolds

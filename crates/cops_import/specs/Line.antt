@@ -1,4 +1,4 @@
--- What a line tells.
+-- The operation of a line.
 use Rattle.std.specs.Prelude.{◌≡◌, ◌≢◌, ◌⊎◌, ◌==◌, ◌||◌, ℕ, Bool, List, codes, decimal, Option, None, Some, IsUtf8}
 use Rattle.std.specs.List.{AllPass}
 use Rattle.serde_json.specs.Data.{Data, null, array, item, no_items}
@@ -18,17 +18,17 @@ use Rattle.cops_import.specs.declared.line.Kind.{Kind}
 use Rattle.cops_import.specs.declared.line.Kind.TheVariants.{Put, Get}
 use Rattle.cops_import.specs.declared.line.Told.{Told}
 
--- ---- its bytes
+-- ---- a line's bytes
 
 -- a space, a tab or a carriage return
 abbrev pub is_blank_byte : ℕ → Bool
 is_blank_byte b = b == 32 || b == 9 || b == 13
 
--- nothing else stands in the line
+-- the line has nothing but blank bytes
 abbrev pub IsBlank : List ℕ → Type 0
 IsBlank line = AllPass is_blank_byte line
 
--- the line is the text of this JSON value
+-- the line is a JSON text of this value
 abbrev pub IsJson : List ℕ → Data → Type 0
 IsJson line d = IsUtf8 line × (read line ≡ Some d)
 
@@ -44,12 +44,12 @@ IsNameJson name d = (d ≡ text_json name) ⊎ ((n : ℕ) × (d ≡ number_json 
 abbrev pub TellsName : Data → List ℕ → Type 0
 TellsName d name = (at : Data) × (get (codes "client") d ≡ Some at) × IsNameJson name at
 
--- the one operation that the object has, and what stands there as its key
+-- the object has one operation, of this kind, and this is the value that holds its key
 abbrev pub IsAsked : Data → Kind → Data → Type 0
 IsAsked d Put at = (get (codes "put") d ≡ Some at) × (get (codes "get") d ≡ None)
 IsAsked d Get at = (get (codes "put") d ≡ None) × (get (codes "get") d ≡ Some at)
 
--- with a key
+-- `IsAsked` with a legal key
 abbrev pub AsksKey : Data → Kind → List ℕ → Type 0
 AsksKey d kind key = IsAsked d kind (text_json key) × IsKey key
 
@@ -68,11 +68,11 @@ TellsVersion d v = (at : Data) × (get (codes "version") d ≡ Some at) × IsVer
 abbrev pub IsNothing : Option Data → Type 0
 IsNothing at = (at ≡ None) ⊎ (at ≡ Some null)
 
--- the value is said to be none, and there is no version
+-- the value is null, and there is no version
 abbrev pub FoundNothing : Data → Type 0
 FoundNothing d = (get (codes "value") d ≡ Some null) × IsNothing (get (codes "version") d)
 
--- ---- what it tells
+-- ---- the operation
 
 abbrev pub TellsOp : Data → Op → Type 0
 TellsOp d (op.Put key value version) = AsksKey d Put key × TellsValue d value × TellsVersion d version
@@ -80,20 +80,20 @@ TellsOp d (op.Got key value version) = AsksKey d Get key × TellsValue d value �
 TellsOp d (op.Missed key) = AsksKey d Get key × FoundNothing d
 TellsOp d _ = ⊥
 
--- the object tells what its client did
+-- the object has this client's name and this operation
 abbrev pub Tells : Data → Told → Type 0
 Tells d told = TellsName d told.name × TellsOp d told.op
 
--- the text of an object does
+-- the line is the JSON text of such an object
 abbrev pub TextTells : List ℕ → Told → Type 0
 TextTells line told = (d : Data) × IsJson line d × Tells d told
 
--- a line tells nothing where it is blank, and else what its object does
+-- a blank line has no operation, and any other line has that of its object
 abbrev pub LineTells : List ℕ → Option Told → Type 0
 LineTells line None = IsBlank line
 LineTells line (Some told) = (IsBlank line → ⊥) × TextTells line told
 
--- ---- what is wrong with it
+-- ---- what is wrong with a line
 
 abbrev pub HasName : Data → Type 0
 HasName d = (name : List ℕ) × TellsName d name
@@ -104,16 +104,16 @@ HasNoValue d = (value : List ℕ) → TellsValue d value → ⊥
 abbrev pub HasNoVersion : Data → Type 0
 HasNoVersion d = (v : ℕ) → TellsVersion d v → ⊥
 
--- a put needs a value, and so does a get that did not find nothing
+-- the value is missing: a put needs one, and so does a get, unless it found nothing
 abbrev pub LacksValue : Data → Kind → Type 0
 LacksValue d Put = HasNoValue d
 LacksValue d Get = HasNoValue d × (FoundNothing d → ⊥)
 
--- a value needs a version
+-- the version is missing, which a value needs
 abbrev pub LacksVersion : Data → Type 0
 LacksVersion d = (value : List ℕ) × TellsValue d value × HasNoVersion d
 
--- what is wrong with an object, where all that is looked at before it is right
+-- what is wrong with an object whose members checked before are right
 abbrev pub IsWrong : Data → LineFault → Type 0
 IsWrong d NoClient = (name : List ℕ) → TellsName d name → ⊥
 IsWrong d NoOperation = HasName d × (get (codes "put") d ≡ None) × (get (codes "get") d ≡ None)

@@ -1,4 +1,4 @@
--- An import that is underway.
+-- An import in progress.
 use Rattle.std.specs.Prelude.{◌≡◌, ◌≢◌, ℕ, ◌<◌, List, [], ◌∷◌, ◌++◌, length, Option, Some, IfSome}
 use Rattle.std.specs.Io.KnownBytes.{Appends}
 use Rattle.cops_types.specs.Counted.{failures, inner}
@@ -15,11 +15,11 @@ use Rattle.cops_import.specs.declared.imported.Imported.{Imported}
 use Rattle.cops_import.specs.declared.importer.Importer.{Importer}
 use Rattle.cops_import.specs.declared.line.Told.{Told}
 
--- the trace of what was told so far, of which the number of clients was said before
+-- the trace of the operations so far, with the number of clients that the caller said
 abbrev pub trace_to : ℕ → List Told → ATrace
 trace_to clients tolds = record (trace_of tolds) { clients = clients }
 
--- head and records of a trace went out, and the writer did not fail
+-- the head and the records of a trace were written, and the writer did not fail
 pub record HasWritten {W : Type 0} (contents : W → Option (List ℕ)) (from : Counted W) (t : ATrace) (w : TraceWriter W) : Type 0 where
   pub is_trace : IsTrace t
   pub counts : AreCountsOf t w.counts
@@ -27,17 +27,17 @@ pub record HasWritten {W : Type 0} (contents : W → Option (List ℕ)) (from : 
   pub appends : Appends (contents (inner from)) (contents (inner w.writer)) (beginning t)
   pub heard : failures w.writer ≡ failures from
 
--- these were told, their names are kept, and their records went out
+-- the importer took these operations: it has their names, and wrote their records
 pub record HasTaken {W : Type 0} (contents : W → Option (List ℕ)) (from : Counted W) (tolds : List Told) (i : Importer W) : Type 0 where
   pub names : i.names ≡ names_of tolds
   pub operations : i.operations ≡ length tolds
   pub wrote : HasWritten contents from (trace_to i.clients tolds) i.writer
 
--- what a line told was taken, which may be nothing
+-- the importer took the line's operation, if it has one
 abbrev pub TakesLine : {W : Type 0} → (W → Option (List ℕ)) → Counted W → List Told → List ℕ → Importer W → Type 0
 TakesLine contents from tolds line i = (told : Option Told) × LineTells line told × HasTaken contents from (with_told tolds told) i
 
--- of these bytes, the lines that ended were taken, and the last line is kept, as far as it came
+-- the importer took `fed`: all lines that ended, and the last line as far as it came, which it keeps
 pub record IsUnderway {W : Type 0} (contents : W → Option (List ℕ)) (from : Counted W) (fed : List ℕ) (i : Importer W) : Type 0 where
   pub ended : List (List ℕ)
   pub tolds : List Told
@@ -47,7 +47,7 @@ pub record IsUnderway {W : Type 0} (contents : W → Option (List ℕ)) (from : 
   pub within : IsWithin i.line.items
   pub taken : HasTaken contents from tolds i
 
--- the end went out after the records of what was told
+-- the end record was written after the records of these operations
 pub record HasEnded {W : Type 0} (contents : W → Option (List ℕ)) (from : Counted W) (tolds : List Told) (done : Imported W) : Type 0 where
   pub names : done.names ≡ names_of tolds
   pub operations : done.operations ≡ length tolds
@@ -55,43 +55,43 @@ pub record HasEnded {W : Type 0} (contents : W → Option (List ℕ)) (from : Co
   pub written : Appends (contents (inner from)) (contents (inner done.writer)) (text (trace_of tolds))
   pub heard : failures done.writer ≡ failures from
 
--- all bytes came that a reader had, where those are known
+-- the importer took all bytes that the reader had, if those are known
 abbrev pub HasReadAll : {W : Type 0} → (W → Option (List ℕ)) → Counted W → Option (List ℕ) → Importer W → Type 0
 HasReadAll contents from known i = (fed : List ℕ) × IsUnderway contents from fed i × IfSome known (λ bytes. bytes ≡ fed)
 
--- it ended after all that the lines of these bytes told
+-- the import ended with all operations of these bytes' lines
 abbrev pub Finishes : {W : Type 0} → (W → Option (List ℕ)) → Counted W → List ℕ → Imported W → Type 0
 Finishes contents from fed done = (tolds : List Told) × LinesTell (lines fed) tolds × HasEnded contents from tolds done
 
--- ---- it stops
+-- ---- stopping
 
--- a trace's text is cut, of a writer that was this one
+-- the writer, `from` before the import, has a cut text of a trace after the fault
 pub record HasLeft {W : Type 0} (contents : W → Option (List ℕ)) (from : Counted W) (fault : ImportFault) (w : Counted W) : Type 0 where
   pub cut : IsCutBy fault (contents (inner from)) (contents (inner w))
   pub heard : IsHeardBy fault (failures from) (failures w)
 
--- what stops at an operation that was told after others, by the line of this number
+-- the fault that stops the import at this operation, of the line of this number, after the others
 abbrev pub IsStopOf : ℕ → ℕ → List Told → Told → ImportFault → Type 0
 IsStopOf clients number tolds told (Line n fault) = (n ≡ number) × IsTooMany tolds told fault
 IsStopOf clients number tolds told Changed = clients < length (names_of (tolds ++ told ∷ []))
 IsStopOf clients number tolds told Endless = ⊥
 IsStopOf clients number tolds told _ = Unit {0}
 
--- what stops at a line of this number, after others that told these
+-- the fault that stops the import at this line, of this number, after lines with these operations
 abbrev pub IsStopAt : ℕ → ℕ → List Told → List ℕ → ImportFault → Type 0
 IsStopAt clients number tolds line (Line n fault) = (n ≡ number) × IsFaultyAfter tolds line fault
 IsStopAt clients number tolds line Changed = (told : Told) × LineTells line (Some told) × (clients < length (names_of (tolds ++ told ∷ [])))
 IsStopAt clients number tolds line Endless = ⊥
 IsStopAt clients number tolds line _ = Unit {0}
 
--- what stops at the end, after all told these
+-- the fault that stops the import at the end, after all lines with these operations
 abbrev pub IsStopAtEnd : ℕ → List Told → ImportFault → Type 0
 IsStopAtEnd clients tolds (Line n fault) = ⊥
 IsStopAtEnd clients tolds Changed = length (names_of tolds) ≢ clients
 IsStopAtEnd clients tolds Endless = ⊥
 IsStopAtEnd clients tolds _ = Unit {0}
 
--- it stopped: whatever bytes follow, the fault is that of all
+-- the import stopped: whatever bytes follow, the fault is that of the whole text
 pub record HasStopped {W : Type 0} (contents : W → Option (List ℕ)) (from : Counted W) (fed : List ℕ) (fault : ImportFault) (clients : ℕ) (w : Counted W) : Type 0 where
   pub says : (more : List ℕ) → IsFaultOf clients (fed ++ more) fault
   pub left : HasLeft contents from fault w

@@ -1,4 +1,4 @@
--- The line that tells of a wrong line, and what is told of an import.
+-- The line that reports a wrong line, and the text that an import prints.
 use Rattle.std.specs.Prelude.{ℕ, ◌+◌, List, [], ◌∷◌, ◌++◌, codes, decimal, length}
 use Rattle.cops_types.specs.Texts.{◌⧺◌}
 use Rattle.cops_wire.specs.Shown.{bytes_text}
@@ -24,15 +24,15 @@ faulty_line number fault = codes "faulty: line " ⧺ decimal number ⧺ codes ":
 abbrev pub client_line : ℕ → List ℕ → List ℕ
 client_line number name = codes "client " ⧺ decimal number ⧺ codes " " ⧺ bytes_text name ⧺ codes "\n"
 
--- a line for each client, whose numbers go on from this one
+-- a line for each client, numbered from `number`
 abbrev pub client_lines : ℕ → List (List ℕ) → List ℕ
 client_lines number [] = []
 client_lines number (name ∷ names) = client_line number name ++ client_lines (number + 1) names
 
--- how many operations and clients there are
+-- the numbers of operations and clients
 abbrev pub count_line : ℕ → ℕ → List ℕ
 count_line operations clients = codes "imported: " ⧺ decimal operations ⧺ codes " operations, " ⧺ decimal clients ⧺ codes " clients\n"
 
--- what is told of an import: the clients, and then how much it was
+-- the text that an import prints: the clients, and then the counts
 abbrev pub told_text : List (List ℕ) → ℕ → List ℕ
 told_text names operations = client_lines 0 names ++ count_line operations (length names)

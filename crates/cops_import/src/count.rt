@@ -1,4 +1,4 @@
-//! How many clients lines name.
+//! Counting the clients that lines name.
 use crate::fault::ImportFault;
 use crate::line::is_blank;
 use crate::name::Name;
@@ -15,12 +15,15 @@ use std::str;
 /// The member that names a client.
 const CLIENT: &[u8] = b"\"client\"";
 
-/// Each number of so many digits is below 2^64.
+/// Each number with this many digits is below 2^64.
 const MOST_DIGITS: usize = 19;
 
-/// How many clients the lines name, which is what `import_stream` wants to be told: all of them where each line is
-/// right, and else at least as many as those before the first that is wrong; at most 65,535. The same reader gives no
-/// lines again.
+/// The number of clients that the lines name, which `import_stream` takes as `clients`: all of them if each line is
+/// right, and else at least as many as the lines before the first wrong one name. At most 65,535. It consumes the
+/// reader's bytes.
+///
+/// Errors: `Memory` if memory runs out, `ReadFailed` if a read fails, `Endless` if the lines do not end within 2^40
+/// reads.
 pub fn count_clients<R: Read>(alloc: Global, lines: &mut Counted<R>) -> Result<u16, ImportFault> {
     let mut names = Names::new(alloc);
     let mut line = Vec::new(alloc);
@@ -35,7 +38,7 @@ pub fn count_clients<R: Read>(alloc: Global, lines: &mut Counted<R>) -> Result<u
             return Ok(number_of(&names));
         }
         for (at, part) in piece[..count].split(|byte| *byte == b'\n').enumerate() {
-            // (what stands before the first line feed is the rest of a line that was begun)
+            // The part before the first line feed is the rest of a line that began earlier.
             if at > 0 {
                 if !name_client(alloc, &line, &mut scratch, &mut names)? {
                     return Ok(number_of(&names));
@@ -48,8 +51,8 @@ pub fn count_clients<R: Read>(alloc: Global, lines: &mut Counted<R>) -> Result<u
     Err(ImportFault::Endless)
 }
 
-/// Takes the name that a line tells, and says whether the names after it matter: not where the line has none, and not
-/// where there are more than there may be.
+/// Adds the name in a line, and returns whether later names matter: not if the line has no name, and not if there are
+/// already more clients than allowed.
 fn name_client(
     alloc: Global,
     line: &[u8],
@@ -67,8 +70,8 @@ fn name_client(
     Ok(names.len() <= usize::from(MAX_CLIENTS))
 }
 
-/// The name that can be seen in a line without reading it as JSON, where the line is right: nothing is escaped, and the
-/// member stands there once, with a text or a few digits.
+/// The name in a line, found without parsing JSON, provided that the line is right: nothing is escaped, and the member
+/// `client` occurs once, with a text or a few digits. Nothing if the line has to be parsed.
 fn seen_name(line: &[u8]) -> Option<&[u8]> {
     if memchr(b'\\', line).is_some() {
         return None;
@@ -88,7 +91,7 @@ fn seen_name(line: &[u8]) -> Option<&[u8]> {
     }
 }
 
-/// The digits at the front of a value, where they are all of it and no more than a whole number may have.
+/// The digits at the front of a value, if they are all of it and no more than a whole number may have.
 fn seen_number(value: &[u8]) -> Option<&[u8]> {
     let count = value.iter().position(|byte| !byte.is_ascii_digit())?;
     let is_whole = matches!(value.get(count)?, b',' | b'}' | b' ');
@@ -99,7 +102,7 @@ fn seen_number(value: &[u8]) -> Option<&[u8]> {
     }
 }
 
-/// The name that a line's JSON tells.
+/// The name in a line, found by parsing its JSON. Nothing if there is none.
 fn read_name(
     alloc: Global,
     line: &[u8],
@@ -119,7 +122,7 @@ fn read_name(
     }
 }
 
-/// The name of an object's client: of members that bear one name the last counts.
+/// The name of an object's client. Of several members with this name the last counts.
 fn name_of<'v>(object: &'v Value<'_>) -> Option<&'v str> {
     let Value::Object(members) = object else {
         return None;
@@ -137,7 +140,7 @@ fn name_of<'v>(object: &'v Value<'_>) -> Option<&'v str> {
     }
 }
 
-/// How many names there are, at most 65,535.
+/// The number of names, at most 65,535.
 fn number_of(names: &Names) -> u16 {
     names.len().min(usize::from(MAX_CLIENTS)) as u16
 }

@@ -1,4 +1,4 @@
-//! Why lines are no trace.
+//! Why lines do not make a trace.
 ghost use Rattle.std.specs.Prelude.{◌≡◌, IfOk, string_bytes};
 ghost use Rattle.cops_import.specs.Words.{faulty_line};
 
@@ -6,34 +6,34 @@ use cops_trace::WriteFault;
 use std::alloc::{AllocError, AllocFailed, Global};
 use thiserror::Error;
 
-/// What is wrong with a line, in the order in which it is looked for.
+/// What is wrong with a line, in the order of the checks.
 #[derive(Clone, Copy, Debug, PartialEq, Eq, Error)]
 pub enum LineFault {
-    /// 0: the line is no JSON text: by its grammar, for its encoding, or nested deeper than 127.
+    /// 0: the line is no JSON text: it breaks the grammar or the encoding, or is nested deeper than 127.
     #[error("no JSON")]
     NoJson,
-    /// 1: it is no object, or its client is neither a text nor a whole number.
+    /// 1: the line is no object, or its client is neither a text nor a whole number.
     #[error("no client")]
     NoClient,
-    /// 2: it has neither a put nor a get.
+    /// 2: the line has neither a put nor a get.
     #[error("no operation")]
     NoOperation,
-    /// 3: it has both.
+    /// 3: the line has both a put and a get.
     #[error("both operations")]
     BothOperations,
     /// 4: the key is no text of 1 to 64 bytes.
     #[error("bad key")]
     BadKey,
-    /// 5: the value is no text of at most 4,096 bytes, and it is no get that found nothing.
+    /// 5: the value is no text of at most 4,096 bytes, and the operation is not a get that found nothing.
     #[error("bad value")]
     BadValue,
-    /// 6: the version is none.
+    /// 6: the version is not a version.
     #[error("bad version")]
     BadVersion,
-    /// 7: its client is the 65,536th.
+    /// 7: the line's client is the 65,536th.
     #[error("too many clients")]
     TooManyClients,
-    /// 8: it is its client's 1,000,001st operation, or the 16,000,001st of all.
+    /// 8: the operation is its client's 1,000,001st, or the 16,000,001st of all.
     #[error("too many operations")]
     TooManyOperations,
 }
@@ -42,7 +42,7 @@ impl LineFault {
     ghost use Rattle.std.specs.Prelude.{◌≡◌};
     ghost use Rattle.cops_import.specs.Words.{words_of};
 
-    /// Its words.
+    /// The words of the fault, as they are printed.
     fn words(self) -> &'static str
         ensures { result.now ≡ words_of self }
     {
@@ -60,7 +60,7 @@ impl LineFault {
     }
 }
 
-/// The line that tells what is wrong with the line of a number.
+/// The printed line that says what is wrong with the line of this number. Fails if memory runs out.
 pub fn faulty_line(alloc: Global, number: u64, fault: LineFault) -> Result<String, AllocError>
     ensures { IfOk result (λ line. string_bytes line ≡ faulty_line number fault) }
 {
@@ -68,7 +68,7 @@ pub fn faulty_line(alloc: Global, number: u64, fault: LineFault) -> Result<Strin
     format!(in alloc; "faulty: line {number}: {words}\n")
 }
 
-/// Why no trace was made of lines.
+/// Why an import made no trace.
 #[derive(Clone, Copy, Debug, PartialEq, Eq, Error)]
 pub enum ImportFault {
     /// 0: out of memory.
@@ -77,13 +77,13 @@ pub enum ImportFault {
     /// 1: the reader failed.
     #[error("the reader failed")]
     ReadFailed,
-    /// 2: the writer failed, after exactly so many of the text's first bytes.
+    /// 2: the writer failed, after exactly `written` of the text's first bytes.
     #[error("the writer failed after {written} bytes")]
     WriteFailed { written: usize },
     /// 3: this line, counted from 1, is the first that is wrong.
     #[error("line {number}: {fault}")]
     Line { number: u64, fault: LineFault },
-    /// 4: the lines name more or fewer clients than was said.
+    /// 4: the lines name more or fewer clients than the caller said.
     #[error("another number of clients")]
     Changed,
     /// 5: the lines did not end within 2^40 reads, or there are 2^64.

@@ -1,4 +1,4 @@
-//! What stands in a line's members: names, values and versions.
+//! The members of a line: names, values and versions.
 ghost use Rattle.std.specs.Prelude.{◌≡◌, ◌≢◌, ℕ, List, Err, IfOk, OnErr};
 ghost use Rattle.serde_json.specs.View.{view};
 ghost use Rattle.cops_fields.specs.Json.{number_json};

@@ -1,4 +1,4 @@
-//! What came of an import.
+//! The result of an import.
 ghost use Rattle.std.specs.Prelude.{◌≡◌, ◌++◌, IfOk, OnOk, string_bytes};
 ghost use Rattle.cops_import.specs.Words.{client_line, client_lines, count_line, told_text};
 
@@ -11,8 +11,8 @@ use cops_wire::show_bytes;
 use std::alloc::{AllocError, Global};
 use std::io::Write;
 
-/// What was imported: the names of the clients, each at its client's number, and how many operations there are. The
-/// writer comes back.
+/// What was imported: the names of the clients, each at its client's number, and the number of operations. Returns the
+/// writer.
 #[derive(Drop)]
 pub struct Imported<W: Write> {
     pub names: Names,
@@ -21,9 +21,10 @@ pub struct Imported<W: Write> {
 }
 
 impl<W: Write> Imported<W> {
-    /// What is told of the import: a line `client N NAME` for each client in the order of their numbers, of whose names
-    /// the bytes of ASCII letters, digits, `-`, `.` and `_` stand as they are, and any other as `%` and two lower case
-    /// hexadecimal digits; and then `imported: N operations, M clients` (`told_text` in `specs/Words.antt`).
+    /// The text that an import prints: a line `client N NAME` for each client in the order of their numbers, and then
+    /// `imported: N operations, M clients` (`told_text` in `specs/Words.antt`). In the names, ASCII letters, digits,
+    /// `-`, `.` and `_` stand as they are, and any other byte as `%` and two lower case hexadecimal digits. Fails if
+    /// memory runs out.
     pub fn told(&self, alloc: Global) -> Result<String, AllocError>
         ensures ok { IfOk result (λ text. string_bytes text ≡ told_text self.now.names self.now.operations) }
     {
@@ -31,7 +32,7 @@ impl<W: Write> Imported<W> {
     }
 }
 
-/// What is told of these clients, and of so many operations.
+/// The printed text for these clients and this number of operations.
 fn told(alloc: Global, names: &Names, operations: usize) -> Result<String, AllocError>
     ensures { IfOk result (λ text. string_bytes text ≡ told_text names.now operations) }
 {
@@ -41,7 +42,7 @@ fn told(alloc: Global, names: &Names, operations: usize) -> Result<String, Alloc
     Ok(text)
 }
 
-/// How many operations and clients there are.
+/// The line with the numbers of operations and clients.
 fn count_line(alloc: Global, operations: usize, clients: usize) -> Result<String, AllocError>
     ensures { IfOk result (λ line. string_bytes line ≡ count_line operations clients) }
 {
@@ -68,14 +69,14 @@ fn push_client(text: &mut String, number: usize, name: &Name) -> Result<(), Allo
     text.push('\n')
 }
 
-/// A writer that comes back, with why no trace was made.
+/// The writer of a failed import, and why it failed.
 #[derive(Drop)]
 pub struct Unimported<W: Write> {
     pub writer: Counted<W>,
     pub fault: ImportFault,
 }
 
-/// A trace's writer that comes back, for the same reason.
+/// Converts a failed write of a trace: the writer and the reason stay the same.
 impl<W: Write> From<Unwritten<W>> for Unimported<W> {
     ghost use Rattle.std.specs.Prelude.{◌≡◌};
     ghost use Rattle.cops_import.specs.Writing.{fault_of};

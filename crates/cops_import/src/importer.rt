@@ -1,4 +1,4 @@
-//! An import that is underway: it takes lines as their bytes come, and writes a record for each operation.
+//! An import in progress: it takes lines as their bytes come, and writes a record for each operation.
 ghost use Rattle.std.specs.Prelude.{◌≡◌, ◌≢◌, [], ◌∷◌, ◌++◌, List, ℕ, length, IfErr, IfNone, IfOk, IfSome, OnOk};
 ghost use Rattle.cops_import.specs.Lines.{IsWithin};
 ghost use Rattle.cops_types.specs.declared.counted.Counted.{Counted as ACounted};
@@ -20,7 +20,8 @@ use memchr::memchr;
 use std::alloc::Global;
 use std::io::Write;
 
-/// The names so far, the writer of the trace, the last line as far as it came, and how many lines ended.
+/// The state of an import: the names so far, the writer of the trace, the part of the last line that came, and the
+/// number of lines that ended.
 #[derive(Drop)]
 pub(crate) struct Importer<W: Write> {
     alloc: Global,
@@ -32,7 +33,7 @@ pub(crate) struct Importer<W: Write> {
     ended: u64,
 }
 
-/// The bytes before the first line feed, and those behind it.
+/// The bytes before the first line feed, and those after it. Nothing if there is no line feed.
 fn cut_line(bytes: &[u8]) -> Option<(&[u8], &[u8])>
     ensures some { IfSome result (λ parts. IsWithin parts.0.now × (bytes.now ≡ parts.0.now ++ 10 ∷ parts.1.now)) }
     ensures none { IfNone result (IsWithin bytes.now) }
@@ -43,7 +44,8 @@ fn cut_line(bytes: &[u8]) -> Option<(&[u8], &[u8])>
 }
 
 impl<W: Write> Importer<W> {
-    /// Writes the head of so many clients. Where it is not written, the writer comes back.
+    /// Begins an import, and writes the head of a trace with this number of clients. Returns the writer if the head is
+    /// not written.
     pub(crate) fn new(alloc: Global, trace: Counted<W>, clients: u16) -> Result<Self, Unimported<W>>
         ensures ok { IfOk result (λ i. IsUnderway W.contents trace [] i) }
         ensures err { IfErr result (λ u. HasLeft W.contents trace u.fault u.writer) }
@@ -65,7 +67,7 @@ impl<W: Write> Importer<W> {
         }
     }
 
-    /// Takes what the client of a name did, which the line of this number told.
+    /// Writes the record of an operation: that of the named client, from the line of this number.
     fn take(&mut self, name: Name, op: &Op, number: u64) -> Result<(), ImportFault>
         requires { IsOp One (operation_of op.now) }
         ensures ok { OnOk result ((from : ACounted W) (tolds : List ATold) → HasTaken W.contents from tolds self.old → HasTaken W.contents from (tolds ++ record { name = name; op = op.now } ∷ []) self.new) }
@@ -103,7 +105,7 @@ impl<W: Write> Importer<W> {
         }
     }
 
-    /// Takes the last line, of this number, as it came.
+    /// Takes the line that has come, which has this number.
     fn take_line(&mut self, number: u64) -> Result<(), ImportFault>
         ensures ok { OnOk result ((from : ACounted W) (tolds : List ATold) → HasTaken W.contents from tolds self.old → TakesLine W.contents from tolds self.old.line.items self.new) }
         ensures err { IfErr result (λ e. (from : ACounted W) (tolds : List ATold) → HasTaken W.contents from tolds self.old → HasLeft W.contents from e self.new.writer.writer) }
@@ -195,7 +197,7 @@ impl<W: Write> Importer<W> {
         }
     }
 
-    /// Takes the last line, and writes the end.
+    /// Takes the last line, and writes the end record.
     pub(crate) fn finish(mut self) -> Result<Imported<W>, Unimported<W>>
         ensures ok { IfOk result (λ done. (from : ACounted W) (fed : List ℕ) → IsUnderway W.contents from fed self → Finishes W.contents from fed done) }
         ensures err { IfErr result (λ u. (from : ACounted W) (fed : List ℕ) → IsUnderway W.contents from fed self → HasLeft W.contents from u.fault u.writer) }
@@ -212,7 +214,7 @@ impl<W: Write> Importer<W> {
         }
     }
 
-    /// Writes the end, where as many clients were named as was said.
+    /// Writes the end record, if the lines named as many clients as the caller said.
     fn end(self) -> Result<Imported<W>, Unimported<W>>
         ensures ok { IfOk result (λ done. (from : ACounted W) (tolds : List ATold) → HasTaken W.contents from tolds self → HasEnded W.contents from tolds done) }
         ensures err { IfErr result (λ u. (from : ACounted W) (tolds : List ATold) → HasTaken W.contents from tolds self → HasLeft W.contents from u.fault u.writer) }
@@ -239,7 +241,7 @@ impl<W: Write> Importer<W> {
         }
     }
 
-    /// The writer comes back for this fault.
+    /// Returns the writer, with this fault.
     pub(crate) fn give_up(self, fault: ImportFault) -> Unimported<W>
         ensures { result ≡ record { writer = self.writer.writer; fault = fault } }
     {

@@ -1,6 +1,6 @@
-//! JSON Lines as a trace: one operation of a client a line, in the order of each client. Stands on traces, on the
-//! writer of their texts and on `serde_json`. The layers above use that what was written is the text of the one trace
-//! that all of the lines tell, and that a line which is told as faulty is the first that tells nothing.
+//! Imports JSON Lines as a trace: each line is one operation of a client, in the order of each client. Stands on
+//! traces, on the writer of their texts and on `serde_json`. The layers above use that what was written is the text of
+//! the one trace that all lines together describe, and that a line reported as faulty is the first wrong one.
 #![tactic(auto)]
 
 mod count;

@@ -1,4 +1,4 @@
-//! What one line tells.
+//! Parsing one line.
 ghost use Rattle.std.specs.Prelude.{◌≡◌, ◌↔◌, Err, IfOk, IsTrue, Some, option_map};
 ghost use Rattle.serde_json.specs.Data.{null};
 ghost use Rattle.serde_json.specs.View.{view};
@@ -14,21 +14,21 @@ use cops_types::Op;
 use serde_json::Value as Json;
 use std::alloc::Global;
 
-/// What a client did, and the client's name.
+/// The operation of a line, and the client's name.
 #[derive(Debug, Drop)]
 pub(crate) struct Told {
     pub(crate) name: Name,
     pub(crate) op: Op,
 }
 
-/// What an operation is.
+/// The kind of an operation.
 #[derive(Clone, Copy, Debug, PartialEq, Eq)]
 pub(crate) enum Kind {
     Put,
     Get,
 }
 
-/// Why a line tells nothing.
+/// Why a line gives no operation.
 #[derive(Clone, Copy, Debug, PartialEq, Eq)]
 pub(crate) enum Untold {
     Memory,
@@ -38,7 +38,8 @@ pub(crate) enum Untold {
 impl Untold {
     ghost use Rattle.std.specs.Prelude.{◌≡◌};
 
-    /// Why a line tells nothing in which something was not read, that has this fault where it is not of its form.
+    /// Why a line gives no operation if one of its members was not read. `fault` is the line's fault if the member does
+    /// not have the right form.
     fn of(unread: Unread, fault: LineFault) -> Untold
         ensures memory { unread ≡ Unread.Memory → result ≡ Untold.Memory }
         ensures form { unread ≡ Unread.Form → result ≡ Untold.Fault fault }
@@ -50,7 +51,7 @@ impl Untold {
     }
 }
 
-/// What a line tells, nothing where it is blank, or what is wrong with it.
+/// The operation of a line, nothing if it is blank, or what is wrong with it.
 pub(crate) fn of_line(alloc: Global, line: &[u8]) -> Result<Option<Told>, Untold>
     ensures told { IfOk result (LineTells line.now) }
     ensures wrong { (fault : AFault) → result ≡ Err (Untold.Fault fault) → IsFaulty line.now fault }
@@ -64,7 +65,7 @@ pub(crate) fn of_line(alloc: Global, line: &[u8]) -> Result<Option<Told>, Untold
     }
 }
 
-/// What the JSON text of a line tells.
+/// The operation of a line's JSON text.
 fn of_text(alloc: Global, line: &[u8]) -> Result<Told, Untold>
     ensures told { IfOk result (TextTells line.now) }
     ensures wrong { (fault : AFault) → result ≡ Err (Untold.Fault fault) → IsWrongIn line.now fault }
@@ -76,7 +77,7 @@ fn of_text(alloc: Global, line: &[u8]) -> Result<Told, Untold>
     }
 }
 
-/// Whether nothing but spaces, tabs and carriage returns stands in a line.
+/// Whether a line has nothing but spaces, tabs and carriage returns.
 pub(crate) fn is_blank(line: &[u8]) -> bool
     ensures { IsTrue result ↔ IsBlank line.now }
 {
@@ -84,7 +85,7 @@ pub(crate) fn is_blank(line: &[u8]) -> bool
         .all(|b| *b == b' ' || *b == b'\t' || *b == b'\r')
 }
 
-/// What an object tells.
+/// The operation of an object.
 fn of_object(alloc: Global, object: &Json) -> Result<Told, Untold>
     ensures told { IfOk result (Tells (view object.now)) }
     ensures wrong { (fault : AFault) → result ≡ Err (Untold.Fault fault) → IsWrong (view object.now) fault }
@@ -101,7 +102,7 @@ fn of_object(alloc: Global, object: &Json) -> Result<Told, Untold>
     }
 }
 
-/// What an object tells of a client, of which an operation of this kind is its only one.
+/// The operation of this client's object, given its kind and the value of its key's member.
 fn of_kind(alloc: Global, name: Name, kind: Kind, at: &Json, object: &Json) -> Result<Told, Untold>
     requires name { TellsName (view object.now) name }
     requires asked { IsAsked (view object.now) kind (view at.now) }
@@ -114,7 +115,7 @@ fn of_kind(alloc: Global, name: Name, kind: Kind, at: &Json, object: &Json) -> R
     }
 }
 
-/// The operation of this kind with what stands there as its key.
+/// The operation of this kind, whose key is in `at`.
 fn op(alloc: Global, kind: Kind, at: &Json, object: &Json) -> Result<Op, Untold>
     ensures told { IfOk result (TellsKind (view object.now) kind (view at.now)) }
     ensures wrong { (fault : AFault) → result ≡ Err (Untold.Fault fault) → IsWrongOf (view object.now) kind (view at.now) fault }
@@ -139,14 +140,14 @@ fn op(alloc: Global, kind: Kind, at: &Json, object: &Json) -> Result<Op, Untold>
     })
 }
 
-/// Whether an object says that there is no value, by a null, and has no version.
+/// Whether an object has a null as its value, and no version.
 fn found_nothing(object: &Json) -> bool
     ensures { IsTrue result ↔ FoundNothing (view object.now) }
 {
     is_null(object.get("value")) && is_nothing(object.get("version"))
 }
 
-/// Whether there is a member, and it is null.
+/// Whether the member is present and null.
 fn is_null(at: Option<&Json>) -> bool
     ensures { IsTrue result ↔ (option_map (λ v. view v.now) at.entry ≡ Some null) }
 {
@@ -156,7 +157,7 @@ fn is_null(at: Option<&Json>) -> bool
     }
 }
 
-/// Whether there is no member, or null.
+/// Whether the member is absent or null.
 fn is_nothing(at: Option<&Json>) -> bool
     ensures { IsTrue result ↔ IsNothing (option_map (λ v. view v.now) at.entry) }
 {

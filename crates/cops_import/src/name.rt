@@ -3,7 +3,7 @@ use std::alloc::{AllocError, Global};
 use std::hash::{Hash, Hasher};
 use std::marker::Model;
 
-/// A name of so many bytes lies in itself.
+/// Names of up to this many bytes are stored inline.
 const INLINE: usize = 16;
 
 /// The name of a client: the bytes of any text.

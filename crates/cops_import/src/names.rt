@@ -3,7 +3,8 @@ use indexmap::IndexSet;
 use std::alloc::{AllocFailed, Global};
 use std::marker::Model;
 
-/// The names of clients, each once, in the order in which they first appear: a client's number is its name's place.
+/// The names of clients, each once, in the order in which they first appear. A client's number is the index of its
+/// name.
 #[derive(Debug, Drop)]
 pub struct Names {
     names: IndexSet<Name>,
@@ -21,7 +22,7 @@ impl Names {
     ghost use Rattle.std.specs.Prelude.{◌≡◌, ◌<◌, ◌↔◌, [], length, slice_index_or, IsTrue, IfOk, OnOk};
     ghost use Rattle.cops_import.specs.Names.{number_of, with_name};
 
-    /// No name. It takes no memory.
+    /// No names. Allocates nothing.
     pub(crate) fn new(alloc: Global) -> Self
         ensures { result ≡ [] }
     {
@@ -52,7 +53,7 @@ impl Names {
         &self.names.as_slice()[client]
     }
 
-    /// The number of a name, which comes last where it is new.
+    /// The number of a name, which is added at the end if it is new. Returns the name if memory runs out.
     pub(crate) fn number(&mut self, name: Name) -> Result<usize, AllocFailed<Name>>
         ensures names { OnOk result (self.new ≡ with_name self.old name) }
         ensures number { IfOk result (λ n. n ≡ number_of self.old name) }

@@ -1,4 +1,4 @@
-//! The import of a text of lines.
+//! Importing a text of lines.
 ghost use Rattle.std.specs.Prelude.{◌≡◌, ◌≢◌, [], length, IfErr, IfOk, IfSome, OnOk};
 ghost use Rattle.cops_types.specs.declared.counted.Counted.{Counted as ACounted};
 ghost use Rattle.cops_types.specs.Counted.{failures, inner};
@@ -13,16 +13,19 @@ use cops_types::Counted;
 use std::alloc::Global;
 use std::io::{Read, Write};
 
-/// How many bytes are asked for in one read.
+/// The number of bytes asked for in one read.
 pub(crate) const PIECE: usize = 65_536;
 
 /// The most reads.
 pub(crate) const READS: u64 = 1 << 40;
 
-/// Writes the trace that JSON Lines tell, an operation a line in the order of each client, as README.md has their
-/// members. So many clients are to be named, else the answer is `Changed`. Of the lines it keeps the names, how many
-/// operations each client has, and one line. A failed read or write is not tried again. On `Ok` the text is whole; on
-/// `Err` it is cut, and `Line` has the number, from 1, of the first line that is wrong.
+/// Writes the trace that JSON Lines describe: one operation a line, in the order of each client, with the members that
+/// README.md lists. It keeps the names, the number of operations of each client, and one line in memory. On `Ok` the
+/// text is whole; on `Err` it is cut. A failed read or write is not tried again.
+///
+/// Errors: `Memory` if memory runs out, `ReadFailed` and `WriteFailed` if a read or a write fails, `Line` with the
+/// number, from 1, of the first wrong line, `Changed` if the lines do not name exactly `clients` clients, `Endless` if
+/// they do not end within 2^40 reads or there are 2^64 of them.
 pub fn import_stream<R: Read, W: Write>(
     alloc: Global,
     clients: u16,
@@ -47,7 +50,7 @@ pub fn import_stream<R: Read, W: Write>(
     }
 }
 
-/// Reads the bytes of all lines. The last line is not taken.
+/// Reads the bytes of all lines. The last line is not yet taken.
 fn read_lines<R: Read, W: Write>(
     importer: &mut Importer<W>,
     lines: &mut Counted<R>,

@@ -1,4 +1,4 @@
--- From what a parse answers to what the words tell.
+-- From what a parse returns to what the words ask for.
 use Rattle.std.proofs.Common.{◌≡◌, ◌≢◌, ◌<◌, ◌⊎◌, List, [], ◌∷◌, length, map, sym, subst, refl, arith, ⊎_elim, true, false, true≢false, Option}
 use Rattle.std.specs.Prelude.{Bool, ◌==◌, ◌&&◌}
 use Rattle.std.specs.Borrow.{Bor}
@@ -13,7 +13,7 @@ use Rattle.cops_line.specs.declared.fault.LineFault.TheVariants.{Memory, Usage, 
 use Rattle.cops_line.specs.Commands.{cops_app}
 use Rattle.cops_line.specs.Line.{IsJobIn, HasNoJobIn, IsRead, AsksFor, OnlyAsksFor, Tells, TellsNone, Explains, Reports}
 
--- the command is one of which clap says the matches and the faults
+-- `clap`'s contracts state the matches and the faults of this command
 pub simple_command : is_simple_and_free cops_app ≡ true
 unfolding cops_app clap_on_literals
 simple_command = refl
@@ -25,7 +25,7 @@ first_true false b both = both
 pub simple_matches : is_simple cops_app ≡ true
 simple_matches = first_true (is_simple cops_app) (is_free_app (built cops_app)) simple_command
 
--- words that are not none tell what they read as
+-- words that are not empty ask for what they read as
 pub told : (words : List Text) (job : Job) → 0 < length words → IsRead words job → Tells words job
 told [] job some read = absurd (omega arith)
 told (w ∷ ws) job some read = read
@@ -34,7 +34,7 @@ pub untold : (words : List Text) → 0 < length words → ((job : Job) → ¬ Is
 untold [] some none = absurd (omega arith)
 untold (w ∷ ws) some none = none
 
--- a command that took the words read them as the job of the subcommand that it met
+-- a command that took the words read them as the job of the subcommand that it found
 pub read_as_met : (words : List Text) (app : App) (met : Option (Text × List Row)) (job : Job) → app ≡ cops_app → (is_simple_and_free app ≡ true → fault_of app words ≡ [])
     → (is_simple app ≡ true → met ≡ subcommand_of app words) → IsJobIn met job → IsRead words job
 read_as_met words app met job same kinds matches is =
@@ -43,7 +43,7 @@ read_as_met words app met job same kinds matches is =
     let Is : Option (Text × List Row) → Type 0 = λ m. IsJobIn m job in
     (reads.0 simple_command, subst Is (reads.1 simple_matches) is)
 
--- where it met none, the words read as no job
+-- where it found none, the words read as no job
 pub not_read : (words : List Text) (app : App) (met : Option (Text × List Row)) → app ≡ cops_app
     → (is_simple app ≡ true → met ≡ subcommand_of app words) → HasNoJobIn met → (job : Job) → ¬ IsRead words job
 not_read words app met same matches none job read =
@@ -66,14 +66,14 @@ asks_for_none words asked app same kinds only =
     let Taken : App → Type 0 = λ a. is_simple_and_free a ≡ true → fault_of a words ≡ [] in
     let none = subst Taken same kinds simple_command in cc
 
--- words that were taken, and have no job, are told so by a usage
+-- words that were taken, and are no job, get a usage
 pub refused : (words : List Text) (fault : LineFault) → Reports ArgumentConflict fault → TellsNone words → ¬ OnlyAsksFor DisplayHelp words → ¬ OnlyAsksFor DisplayVersion words → Explains words fault
 refused words Memory report none help version = tt
 refused words (Usage text) report none help version = (none, help, version)
 refused words (Help text) report none help version = absurd cc
 refused words (Version text) report none help version = absurd cc
 
--- an error of the parse explains itself
+-- an error of the parser explains itself
 pub explained : (words : List Text) (app : App) (kind : ErrorKind) (fault : LineFault) → 0 < length words → app ≡ cops_app
     → (is_simple_and_free app ≡ true → (kind ≡ OutOfMemory) ⊎ IsAmong kind (fault_of app words)) → Reports kind fault → Explains words fault
 explained words app kind fault some same kinds report = go fault report

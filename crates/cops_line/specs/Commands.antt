@@ -1,4 +1,4 @@
--- The program's command, as far as it says how words are read.
+-- The program's command, as far as it decides how words are read.
 use Rattle.std.specs.Prelude.{codes, pos, true, [], Some}
 use Rattle.clap.specs.Words.{App, Rule, Text, new_app, new_rule, with_rule, with_subcommand}
 use Rattle.clap.specs.Simple.{new_shape}
@@ -8,7 +8,7 @@ use Rattle.clap.specs.declared.builder.value_parser.ValueParser.TheVariants as p
 use Rattle.cops_types.specs.declared.limits.TheConstants.{MAX_OPS, MAX_WORKERS}
 use Rattle.cops_line.specs.declared.job.TheConstants.{MAX_PORT, MAX_SESSIONS, MAX_IDLE}
 
--- an argument that has to be there, and takes one word
+-- a required argument that takes one word
 abbrev pub positional : Text → Rule
 positional id = record (new_rule id) { action = Some Set; required = true; value_names = 1 }
 
@@ -44,7 +44,7 @@ fault_option = number_option (codes "fault") (parser.Signed (pos 1) (pos MAX_OPS
 abbrev pub picture_option : Rule
 picture_option = value_option (codes "picture")
 
--- `PORT`, which has to be there, and is a number from 1 to 65,535
+-- `PORT`, which is required, and is a number from 1 to 65,535
 abbrev pub port_argument : Rule
 port_argument = record (positional (codes "port")) { parser = Some (parser.Signed (pos 1) (pos MAX_PORT)) }
 
@@ -84,7 +84,7 @@ run_app = with_rule (with_rule (new_app (codes "run")) (positional (codes "scena
 abbrev pub serve_app : App
 serve_app = with_rule (with_rule (with_rule (with_rule (new_app (codes "serve")) port_argument) (positional (codes "scenario"))) sessions_option) idle_option
 
--- with a version, and with a subcommand that has to be there as the first of the words
+-- with a version, and with a required subcommand as the first of the words
 abbrev pub versioned : App → App
 versioned app = record {
   top = record (app.top) { no_binary_name = true; subcommand_required = true; has_version = true };
@@ -102,7 +102,7 @@ cops_top = record {
 abbrev pub judging_app : App
 judging_app = with_subcommand (with_subcommand cops_top audit_app.top) explain_app.top
 
--- or one that shows a trace, or makes one of lines or of another one
+-- or one that shows a trace, imports one from lines or converts one
 abbrev pub tracing_app : App
 tracing_app = with_subcommand (with_subcommand (with_subcommand judging_app show_app.top) import_app.top) convert_app.top
 

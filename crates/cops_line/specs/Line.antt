@@ -1,4 +1,4 @@
--- The job that words tell, and what it means that they tell none.
+-- The job that words ask for, and what it means that they ask for none.
 use Rattle.std.specs.Prelude.{◌≡◌, ◌≢◌, ◌≤◌, ℕ, List, [], ◌∷◌, codes, Option, Some, None, option_map}
 use Rattle.std.specs.Str.Parse.{IsNumeral, digits_value, without_leading_plus}
 use Rattle.clap.specs.Words.{Row, Text, first_of, subcommand_of, fault_of, IsAmong}
@@ -14,39 +14,39 @@ use Rattle.cops_line.specs.declared.fault.LineFault.{LineFault}
 use Rattle.cops_line.specs.declared.fault.LineFault.TheVariants.{Memory, Usage, Help, Version}
 use Rattle.cops_line.specs.Commands.{cops_app}
 
--- the number from 1 to some other that a text tells, in digits after a plus or without it
+-- the number from 1 to `most` that a text is in decimal digits, after a plus or without it
 abbrev pub IsNumber : ℕ → Text → ℕ → Type 0
 IsNumber most text n =
     IsNumeral 10 (without_leading_plus text) × (n ≡ digits_value 10 (without_leading_plus text)) × (1 ≤ n) × (n ≤ most)
 
--- the number that a value tells: 1 where there is no value
+-- the number that a value is: 1 where there is no value
 abbrev pub IsNumberOr1 : ℕ → Option Text → ℕ → Type 0
 IsNumberOr1 most None n = n ≡ 1
 IsNumberOr1 most (Some text) n = IsNumber most text n
 
--- the number that a value tells, where there is one
+-- the number that a value is, where there is one
 abbrev pub IsNumberIfGiven : ℕ → Option Text → Option ℕ → Type 0
 IsNumberIfGiven most None None = Unit {0}
 IsNumberIfGiven most None (Some n) = ⊥
 IsNumberIfGiven most (Some text) None = ⊥
 IsNumberIfGiven most (Some text) (Some n) = IsNumber most text n
 
--- the number that a value tells, which has to be there
+-- the number that a value is, which is required
 abbrev pub IsNumberGiven : ℕ → Option Text → ℕ → Type 0
 IsNumberGiven most None n = ⊥
 IsNumberGiven most (Some text) n = IsNumber most text n
 
--- a value tells that its flag was given
+-- the value says that its flag was given
 abbrev pub IsGiven : Option Text → Type 0
 IsGiven value = value ≡ Some (codes "true")
 
--- the faults that the values of `--all` and `--fault` ask for: both ask for none
+-- the faults that the values of `--all` and `--fault` ask for: both together ask for none
 abbrev pub IsAsked : Option Text → Option Text → Selection → Type 0
 IsAsked all fault First = (¬ IsGiven all) × (fault ≡ None)
 IsAsked all fault All = IsGiven all × (fault ≡ None)
 IsAsked all fault (One n) = (¬ IsGiven all) × IsNumberGiven MAX_OPS fault n
 
--- the job of a subcommand with these values: `audit` has one for its flag, which stands beside no number of workers
+-- the job of a subcommand with these values: `audit` has one with its flag, but not together with a number of workers
 abbrev pub IsJobOf : Text → List Row → Job → Type 0
 IsJobOf name rows (Audit trace workers) =
     (name ≡ codes "audit") × (first_of (codes "trace") rows ≡ Some trace.now) × (¬ IsGiven (first_of (codes "so-far") rows)) × IsNumberOr1 MAX_WORKERS (first_of (codes "workers") rows) workers
@@ -67,11 +67,11 @@ IsJobOf name rows (Serve port scenario sessions idle) =
 abbrev pub HasNoJob : Text → List Row → Type 0
 HasNoJob name rows = (job : Job) → ¬ IsJobOf name rows job
 
--- the job of the subcommand that was met
+-- the job of the subcommand that was found
 abbrev pub IsJobIn : Option (Text × List Row) → Job → Type 0
 IsJobIn met job = (name : Text) × (rows : List Row) × (met ≡ Some (name, rows)) × IsJobOf name rows job
 
--- the subcommand that was met, if there is one, has no job
+-- the subcommand that was found, if there is one, has no job
 abbrev pub HasNoJobIn : Option (Text × List Row) → Type 0
 HasNoJobIn met = (job : Job) → ¬ IsJobIn met job
 
@@ -84,12 +84,12 @@ IsDefault _ = ⊥
 abbrev pub IsRead : List Text → Job → Type 0
 IsRead words job = (fault_of cops_app words ≡ []) × IsJobIn (subcommand_of cops_app words) job
 
--- the words are none, or read as the job
+-- there are no words and the job is the default, or the words read as the job
 abbrev pub Tells : List Text → Job → Type 0
 Tells [] job = IsDefault job
 Tells (word ∷ words) job = IsRead (word ∷ words) job
 
--- the words tell no job
+-- the words are no job
 abbrev pub TellsNone : List Text → Type 0
 TellsNone words = (job : Job) → ¬ Tells words job
 
@@ -97,19 +97,19 @@ TellsNone words = (job : Job) → ¬ Tells words job
 abbrev pub AsksFor : ErrorKind → List Text → Type 0
 AsksFor kind words = IsAmong kind (fault_of cops_app words)
 
--- they ask for it, and there is nothing else that they could be told
+-- the words ask for it and for nothing else, and nothing else is wrong with them
 abbrev pub OnlyAsksFor : ErrorKind → List Text → Type 0
 OnlyAsksFor kind words = fault_of cops_app words ≡ kind ∷ []
 
--- A fault is want of memory, or the words tell no job. Help and version are given only where they ask for them, and
--- where they ask for nothing else usage is not given in their place.
+-- The fault is out of memory, or the words are no job. Help and version are returned only where the words ask for them, and where they ask for
+-- nothing else usage is not returned in their place.
 abbrev pub Explains : List Text → LineFault → Type 0
 Explains words Memory = Unit {0}
 Explains words (Usage text) = TellsNone words × (¬ OnlyAsksFor DisplayHelp words) × (¬ OnlyAsksFor DisplayVersion words)
 Explains words (Help text) = TellsNone words × AsksFor DisplayHelp words
 Explains words (Version text) = TellsNone words × AsksFor DisplayVersion words
 
--- the fault that is made of an error of this kind
+-- the fault for an error of this kind
 abbrev pub Reports : ErrorKind → LineFault → Type 0
 Reports kind Memory = Unit {0}
 Reports kind (Usage text) = (kind ≢ OutOfMemory) × (kind ≢ DisplayHelp) × (kind ≢ DisplayVersion)

@@ -15,7 +15,7 @@ use clap::{Arg, ArgAction, value_parser};
 use cops_types::{MAX_OPS, MAX_WORKERS};
 use std::alloc::Global;
 
-/// An argument of a subcommand, which has to be there.
+/// A required argument of a subcommand.
 pub fn file_arg<'a>(
     alloc: Global,
     id: &'static str,
@@ -85,7 +85,7 @@ pub fn workers_arg<'a>(alloc: Global) -> Arg<'a>
     number_arg(alloc, "workers", "N", number, WORKERS_HELP)
 }
 
-/// The flag that asks for what is said so far.
+/// The flag that asks for the verdict so far.
 pub fn so_far_arg<'a>(alloc: Global) -> Arg<'a>
     ensures rule { rule_of result ≡ so_far_option }
     ensures local { result.global ≡ false }
@@ -118,7 +118,7 @@ pub fn picture_arg<'a>(alloc: Global) -> Arg<'a>
     value_arg(alloc, "picture", "FILE", PICTURE_HELP)
 }
 
-/// The port, which has to be there.
+/// The port, which is required.
 pub fn port_arg<'a>(alloc: Global) -> Arg<'a>
     ensures rule { rule_of result ≡ port_argument }
     ensures local { result.global ≡ false }
@@ -134,7 +134,7 @@ pub fn sessions_arg<'a>(alloc: Global) -> Arg<'a>
     number_arg(alloc, "sessions", "N", large_number(), SESSIONS_HELP)
 }
 
-/// The option that names for how many seconds a client may be idle.
+/// The option for how many seconds a client may be idle.
 pub fn idle_arg<'a>(alloc: Global) -> Arg<'a>
     ensures rule { rule_of result ≡ idle_option }
     ensures local { result.global ≡ false }

@@ -17,7 +17,7 @@ use crate::texts::{
 use clap::{Arg, Command};
 use std::alloc::{AllocError, Global};
 
-/// A subcommand of this name with its texts, and without arguments.
+/// A subcommand with this name and its texts, without arguments.
 fn described<'a>(
     alloc: Global,
     name: &'static str,
@@ -32,7 +32,7 @@ fn described<'a>(
         .long_about(long_about)
 }
 
-/// A subcommand of this name with its texts and its first argument.
+/// A subcommand with this name, its texts and its first argument.
 fn of_argument<'a>(
     alloc: Global,
     name: &'static str,
@@ -144,7 +144,7 @@ fn serve_command<'a>(alloc: Global) -> Result<Command<'a>, AllocError>
     command.arg(sessions_arg(alloc))?.arg(idle_arg(alloc))
 }
 
-/// The command with the version. A subcommand has to be there, and the words begin after the program's name.
+/// The command with its version. A subcommand is required, and the words begin after the program's name.
 fn with_version<'a>(command: Command<'a>) -> Command<'a>
     ensures app { app_of result ≡ versioned (app_of command.entry) }
     ensures local { (fields_of result).has_globals ≡ (fields_of command.entry).has_globals }
@@ -173,7 +173,7 @@ fn judging_command<'a>(alloc: Global) -> Result<Command<'a>, AllocError>
     command.subcommand(explain)
 }
 
-/// The same with those that show one, or make one of lines or of another one.
+/// The command of `judging_command` with the subcommands that show a trace, import one from lines or convert one.
 fn tracing_command<'a>(alloc: Global) -> Result<Command<'a>, AllocError>
     ensures { IfOk result (λ c. app_of c ≡ tracing_app) }
 {
@@ -185,7 +185,7 @@ fn tracing_command<'a>(alloc: Global) -> Result<Command<'a>, AllocError>
     command.subcommand(convert)
 }
 
-/// The program's command: a subcommand has to be there, and each takes the words of its own job.
+/// The program's command. A subcommand is required, and each takes the words of its own job.
 pub fn cops_command<'a>(alloc: Global) -> Result<Command<'a>, AllocError>
     ensures { IfOk result (λ c. app_of c ≡ cops_app) }
 {

@@ -6,7 +6,7 @@ pub enum LineFault {
     /// Memory ran out.
     #[error("out of memory")]
     Memory,
-    /// The words are mistaken: what is wrong with them, and the usage.
+    /// The words are wrong: what is wrong with them, and the usage.
     #[error("{0}")]
     Usage(String),
     /// The words ask for help, and this is its text.

@@ -1,39 +1,40 @@
-//! The jobs that words ask for.
+//! The jobs that the words on the command line ask for.
 use cops_types::Selection;
 
 /// The greatest port.
 pub const MAX_PORT: u16 = 65_535;
 
-/// The most sessions of a serving.
+/// The greatest number of sessions of a server.
 pub const MAX_SESSIONS: u16 = 65_535;
 
-/// The most seconds that a client of a serving may be idle, where a number is given.
+/// The greatest number of seconds that a client of a server may be idle, where a number is given.
 pub const MAX_IDLE: u16 = 65_535;
 
 /// What the words ask for.
 #[derive(Clone, Copy, Debug, PartialEq, Eq)]
 pub enum Job<'a> {
-    /// Judge a trace by so many workers, 1 to 64, and print the verdict. `-` is standard input.
+    /// Judge a trace by `workers` workers, 1 to 64, and print the verdict. `-` is standard input.
     Audit {
         trace: &'a str,
         workers: u8,
     },
-    /// The same by one worker, and where the trace is cut, print where, and what is said so far of what came before.
+    /// Judge a trace by one worker and print the verdict. Where the trace is cut, print where, and the verdict so far
+    /// on what came before. `-` is standard input.
     SoFar {
         trace: &'a str,
     },
-    /// Explain these faults of a trace, and draw them to a file, where one is named. `-` as the trace is standard
+    /// Explain these faults of a trace, and draw a picture to a file, if one is named. `-` as the trace is standard
     /// input.
     Explain {
         trace: &'a str,
         faults: Selection,
         picture: Option<&'a str>,
     },
-    /// Print a trace, a line for each frame. `-` is standard input.
+    /// Print a trace, one line for each frame. `-` is standard input.
     Show {
         trace: &'a str,
     },
-    /// Make a trace of lines, write it to a file, and print the names of its clients. `-` as the lines is standard
+    /// Import lines as a trace, write it to a file, and print the names of its clients. `-` as the lines is standard
     /// input, and as the trace standard output.
     Import {
         lines: &'a str,
@@ -45,15 +46,15 @@ pub enum Job<'a> {
         trace: &'a str,
         new: &'a str,
     },
-    /// Run a scenario, print what came of it, and write the trace of it to a file. `-` as the scenario is standard
-    /// input, and as the trace standard output.
+    /// Run a scenario, print its outcome, and write its trace to a file. `-` as the scenario is standard input, and as
+    /// the trace standard output.
     Run {
         scenario: &'a str,
         trace: &'a str,
     },
-    /// Serve so many sessions, 1 to 65,535, of a scenario's cluster on a port of 127.0.0.1, and print the report. `-`
-    /// is standard input. A client that is idle for so many seconds, 1 to 65,535, is given up, and none where they are
-    /// not given.
+    /// Serve `sessions` sessions, 1 to 65,535, of a scenario's cluster on a port of 127.0.0.1, and print the report.
+    /// `-` is standard input. A client that is idle for `idle` seconds, 1 to 65,535, is dropped; where no number is
+    /// given, no client is.
     Serve {
         port: u16,
         scenario: &'a str,

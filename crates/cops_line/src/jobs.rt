@@ -7,7 +7,7 @@ use crate::job::Job;
 use crate::values::{asked, idle, is_given, port, sessions, value, workers};
 use clap::ArgMatches;
 
-/// The audit of a trace, also of one that is cut: a number of workers has no job beside `--so-far`.
+/// The job of `audit`, for a trace that is whole or may be cut: a number of workers together with `--so-far` is no job.
 fn audit_job<'a>(matches: &ArgMatches<'a>) -> Option<Job<'a>>
     ensures some { IfSome result (IsJobOf (codes "audit") (rows_of (found_of matches.now))) }
     ensures none { IfNone result (HasNoJob (codes "audit") (rows_of (found_of matches.now))) }
@@ -23,7 +23,7 @@ fn audit_job<'a>(matches: &ArgMatches<'a>) -> Option<Job<'a>>
     }
 }
 
-/// What explains faults of a trace: all of them and one of them have no job together.
+/// The job of `explain`: all faults and one of them together are no job.
 fn explain_job<'a>(matches: &ArgMatches<'a>) -> Option<Job<'a>>
     ensures some { IfSome result (IsJobOf (codes "explain") (rows_of (found_of matches.now))) }
     ensures none { IfNone result (HasNoJob (codes "explain") (rows_of (found_of matches.now))) }
@@ -105,7 +105,7 @@ fn job_of<'a>(name: &str, matches: &ArgMatches<'a>) -> Option<Job<'a>>
     }
 }
 
-/// The job of the subcommand that was met, if it is one.
+/// The job of the subcommand that was found, if it is one.
 pub fn job_in<'a>(matches: &ArgMatches<'a>) -> Option<Job<'a>>
     ensures some { IfSome result (IsJobIn (subcommand_rows_of matches.now)) }
     ensures none { IfNone result (HasNoJobIn (subcommand_rows_of matches.now)) }

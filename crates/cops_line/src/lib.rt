@@ -1,8 +1,8 @@
-//! The words after the program's name, read as one job: `audit TRACE`, also with `--workers N` or with `--so-far`,
-//! `explain TRACE`, also with `--all` or `--fault N` and with `--picture FILE`, `show TRACE`, `import LINES TRACE`,
-//! `run SCENARIO TRACE` or `serve PORT SCENARIO`, also with `--sessions N` and `--idle SECONDS`, and with no words the
-//! audit of standard input. Stands on `clap`, whose texts are those of usage and help. The layer above uses the job
-//! with its texts, which the words determine, and the text to print where there is none.
+//! The words after the program's name, read as one job: `audit TRACE`, also with `--workers N` or with `--so-far`;
+//! `explain TRACE`, also with `--all` or `--fault N` and with `--picture FILE`; `show TRACE`; `import LINES TRACE`;
+//! `convert TRACE NEW`; `run SCENARIO TRACE`; or `serve PORT SCENARIO`, also with `--sessions N` and `--idle SECONDS`;
+//! and with no words the audit of standard input. The crate depends on `clap`, which has the texts of usage and help.
+//! The layer above uses the job with its texts, which the words determine, and the text to print where there is none.
 #![tactic(auto)]
 
 mod arguments;

@@ -12,7 +12,7 @@ use clap::Error;
 use clap::error::ErrorKind;
 use std::alloc::Global;
 
-/// The text of an error of the parse, as the fault that it is.
+/// The fault for an error of the parser, with its text.
 fn as_fault(alloc: Global, error: &Error) -> LineFault
     ensures { Reports (kind_of error.now) result }
 {
@@ -28,9 +28,9 @@ fn as_fault(alloc: Global, error: &Error) -> LineFault
     }
 }
 
-/// The fault of words that the command takes, though they have no job: of `explain`, `--all` stands beside `--fault` in
-/// them, and of `audit`, `--so-far` beside `--workers`. No others are without a job, though that is not proved, as no
-/// clause says that a required argument has a value.
+/// The fault for words that the command takes, though they are no job: those of `explain` with both `--all` and
+/// `--fault`, and those of `audit` with both `--so-far` and `--workers`. No other words are without a job, though that
+/// is not proved, as no clause says that a required argument has a value.
 fn no_job(alloc: Global, subcommand: Option<&str>) -> LineFault
     ensures { Reports ArgumentConflict result }
 {
@@ -44,16 +44,22 @@ fn no_job(alloc: Global, subcommand: Option<&str>) -> LineFault
     }
 }
 
-/// The job that the words ask for: `audit TRACE`, with `--workers N` or without it, which is as 1, or with `--so-far`;
-/// `explain TRACE`, with `--all` or `--fault N` or neither, which is as the first 20, and with `--picture FILE` or
-/// without it; `show TRACE`; `import LINES TRACE`; `convert TRACE NEW`; `run SCENARIO TRACE`; `serve PORT SCENARIO`,
-/// with `--sessions N` or without it, which is as 1, and with `--idle SECONDS` or without it; or none, which is as
-/// `audit -`. `words` are those after the program's name. `Usage` where they are no job, as `audit` with both
-/// `--workers` and `--so-far` and `explain` with both `--all` and `--fault`, `Help` where they ask for help, by
-/// `--help`, `-h` or `help`, and `Version` where they ask for the version, by `--version` or `-V`, each with `clap`'s
-/// text, but for those of both options, whose text is shaped as `clap`'s; `Memory` where there are words and a growth
-/// was refused. No words that tell a job are answered with one of these texts, and words that only ask for the help or
-/// the version are not answered with `Usage`.
+/// The job that the words after the program's name ask for:
+///
+/// - `audit TRACE`, with `--workers N` or without it, which means 1, or with `--so-far`;
+/// - `explain TRACE`, with `--all` or `--fault N` or neither, which means the first 20, and with `--picture FILE` or
+///   without it;
+/// - `show TRACE`; `import LINES TRACE`; `convert TRACE NEW`; `run SCENARIO TRACE`;
+/// - `serve PORT SCENARIO`, with `--sessions N` or without it, which means 1, and with `--idle SECONDS` or without it;
+/// - no words, which means `audit -`.
+///
+/// The errors: `Usage` where the words are no job, such as `audit` with both `--workers` and `--so-far` and `explain`
+/// with both `--all` and `--fault`; `Help` where they ask for help, by `--help`, `-h` or `help`; `Version` where they
+/// ask for the version, by `--version` or `-V`; `Memory` where there are words and memory runs out. The first three
+/// have `clap`'s text, except for those of both options, whose text has the form of `clap`'s.
+///
+/// Words that are a job never return `Usage`, `Help` or `Version`, and words that only ask for the help or the version
+/// do not return `Usage`.
 pub fn line<'a>(alloc: Global, words: &'a [&'a str]) -> Result<Job<'a>, LineFault>
     ensures job { IfOk result (Tells (map (λ s. s.now) words.entry.now)) }
     ensures fault { IfErr result (Explains (map (λ s. s.now) words.entry.now)) }

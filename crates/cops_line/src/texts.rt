@@ -1,9 +1,9 @@
-//! What help, usage and version tell.
+//! The texts of help, usage and version.
 
 pub const ABOUT: &str =
     "A COPS cluster in one process, and an auditor of the histories that clients recorded";
 
-/// The version of the program, and the kit and its logic by which it is proved and built.
+/// The version of the program, and the Rattle toolchain and its logic with which it is proved and built.
 pub const VERSION: &str = "0.1.0 (rattle-kit-13f, logic dac8208d650f15bf)";
 
 pub const LONG_ABOUT: &str = "\
@@ -131,7 +131,7 @@ pub const FAULT_HELP: &str = "Explain only the fault of this number, 1 to 160000
 pub const PICTURE_HELP: &str =
     "The file to draw one fault to, that of --fault or else the first; `-` for standard output";
 
-/// What is told where `--so-far` stands beside `--workers`.
+/// The usage where `--so-far` is given with `--workers`.
 pub const SO_FAR_CONFLICT: &str = "\
 error: the argument '--so-far' cannot be used with '--workers <N>'
 
@@ -140,7 +140,7 @@ Usage: cops audit --so-far <TRACE>
 For more information, try '--help'.
 ";
 
-/// What is told where `--all` stands beside `--fault`.
+/// The usage where `--all` is given with `--fault`.
 pub const ALL_CONFLICT: &str = "\
 error: the argument '--all' cannot be used with '--fault <N>'
 

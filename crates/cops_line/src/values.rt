@@ -27,7 +27,7 @@ pub fn is_given(matches: &ArgMatches<'_>, id: &str) -> bool
     }
 }
 
-/// The number that a text tells, from 1 to some other.
+/// The number, from 1 to `most`, that a text is in decimal.
 fn number_in(text: &str, most: u32) -> Option<u32>
     ensures some { IfSome result (IsNumber most text.now) }
     ensures none { IfNone result ((n : ℕ) → ¬ IsNumber most text.now n) }
@@ -44,7 +44,7 @@ fn number_in(text: &str, most: u32) -> Option<u32>
     Some(number)
 }
 
-/// The same of a number that is at most 65,535.
+/// Like `number_in`, for numbers of at most 65,535.
 fn small_number_in(text: &str, most: u16) -> Option<u16>
     ensures some { IfSome result (IsNumber most text.now) }
     ensures none { IfNone result ((n : ℕ) → ¬ IsNumber most text.now n) }
@@ -85,7 +85,7 @@ pub fn sessions(matches: &ArgMatches<'_>) -> Option<u16>
     }
 }
 
-/// For how many seconds a client may be idle: nothing where it is not given.
+/// For how many seconds a client may be idle, or `Some(None)` where it is not given.
 pub fn idle(matches: &ArgMatches<'_>) -> Option<Option<u16>>
     ensures some { IfSome result (IsNumberIfGiven MAX_IDLE (first_of (codes "idle") (rows_of (found_of matches.now)))) }
     ensures none { IfNone result ((n : Option ℕ) → ¬ IsNumberIfGiven MAX_IDLE (first_of (codes "idle") (rows_of (found_of matches.now))) n) }
@@ -96,7 +96,7 @@ pub fn idle(matches: &ArgMatches<'_>) -> Option<Option<u16>>
     }
 }
 
-/// Which faults are asked for: none where all are, and one of them as well.
+/// Which faults are asked for: `None` where both all and one of them are.
 pub fn asked(matches: &ArgMatches<'_>) -> Option<Selection>
     ensures some { IfSome result (IsAsked (first_of (codes "all") (rows_of (found_of matches.now))) (first_of (codes "fault") (rows_of (found_of matches.now)))) }
     ensures none { IfNone result ((asked : ASelection) → ¬ IsAsked (first_of (codes "all") (rows_of (found_of matches.now))) (first_of (codes "fault") (rows_of (found_of matches.now))) asked) }

@@ -1,4 +1,4 @@
--- What a contract sees of the two ends of a link.
+-- Definitions that the contracts of a link's two ends use.
 use Rattle.std.specs.Prelude.{ℕ, List}
 use Rattle.rtrb.specs.Ring as ring
 use Rattle.cops_link.specs.declared.ends.LinkIn.{LinkIn}
@@ -13,11 +13,11 @@ sent l = ring.sent l.producer
 abbrev pub taken : LinkOut → List (List ℕ)
 taken l = ring.received l.consumer
 
--- the frames that the taking end has seen and not taken, oldest first
+-- the frames that the taking end knows of and has not taken, oldest first
 abbrev pub seen : LinkOut → List (List ℕ)
 seen l = ring.known_items l.consumer
 
--- how many frames the sending end knows that there is room for
+-- the number of frames for which the sending end knows that there is room
 abbrev pub known_room : LinkIn → ℕ
 known_room l = ring.known_free l.producer
 
@@ -32,13 +32,13 @@ IsLink i o = ring.IsPair i.producer o.consumer
 abbrev pub IsFinishedOf : Finished → LinkOut → Type 0
 IsFinishedOf f o = ring.IsFinishedOf f.ring o.consumer
 
--- the same end of the same link
+-- both are the same end of the same link
 abbrev pub SameIn : LinkIn → LinkIn → Type 0
 SameIn a b = ring.SameProducer a.producer b.producer
 
 abbrev pub SameOut : LinkOut → LinkOut → Type 0
 SameOut a b = ring.SameConsumer a.consumer b.consumer
 
--- what is left of a sending end: all that was sent
+-- what remains of a sending end: all that was sent
 abbrev pub Finishes : LinkIn → Finished → Type 0
 Finishes i f = ring.Finishes i.producer f.ring

@@ -13,16 +13,16 @@ use cops_wire::Message;
 use rtrb::{Consumer, Producer, PushError, RingBuffer};
 use std::alloc::Global;
 
-/// The most frames that a link holds.
+/// The greatest number of frames that a link can hold.
 pub const MAX_CAPACITY: usize = 1024;
 
-/// The end that sends.
+/// The sending end of a link.
 #[derive(Drop)]
 pub struct LinkIn {
     producer: Producer<Frame, Global, PutAfters>,
 }
 
-/// The end that takes.
+/// The taking end of a link.
 #[derive(Drop)]
 pub struct LinkOut {
     consumer: Consumer<Frame, Global, PutAfters>,
@@ -35,7 +35,9 @@ pub struct Finished {
     ring: rtrb::Finished<Frame, Global, PutAfters>,
 }
 
-/// A link that holds as many frames as its capacity says: `BadCapacity` unless that is 1 to 1,024.
+/// Makes a link that holds up to `capacity` frames, and returns its two ends.
+///
+/// Errors: `BadCapacity` unless the capacity is 1 to 1,024; `Memory` when memory runs out.
 pub fn link(alloc: Global, capacity: usize) -> Result<(LinkIn, LinkOut), LinkFault>
     ensures ok { IfOk result (λ r. IsLink r.0 r.1 × (sent r.0 ≡ []) × (taken r.1 ≡ []) × (known_room r.0 ≡ capacity)) }
     ensures bad { IsErrOf result LinkFault.BadCapacity ↔ ((capacity < 1) ⊎ (MAX_CAPACITY < capacity)) }
@@ -51,7 +53,7 @@ pub fn link(alloc: Global, capacity: usize) -> Result<(LinkIn, LinkOut), LinkFau
 }
 
 impl LinkIn {
-    /// Sends a frame: `Full` gives it back where there is no room. It takes no memory.
+    /// Sends a frame. It allocates no memory. Returns `Full` with the frame where the link has no room.
     pub fn send(&mut self, frame: Frame) -> Result<(), SendFault>
         ensures same { SameIn self.old self.new }
         ensures ok { OnOk result (sent self.new ≡ sent self.old ++ frame ∷ []) }
@@ -65,7 +67,7 @@ impl LinkIn {
         }
     }
 
-    /// Ends the sending. At `None` the end is gone, and nothing is told.
+    /// Closes the sending end. If this returns `None`, the end is gone, and it is not known what was sent.
     pub fn finish(self) -> Option<Finished>
         ensures { IfSome result (λ finished. Finishes self finished) }
     {
@@ -76,8 +78,8 @@ impl LinkIn {
 }
 
 impl LinkOut {
-    /// Takes the oldest frame that is there and gives its message, which replicates a put or a deletion; `None` where
-    /// no frame is there. It takes memory only for a frame that is there; where that runs out nothing is taken.
+    /// Takes the oldest frame in the link and returns its message, which replicates a put or a deletion; `None` where
+    /// the link is empty. It allocates memory only for a frame that is there; on `Memory` nothing is taken.
     pub fn take(&mut self) -> Result<Option<Message>, Memory>
         ensures same { SameOut self.old self.new }
         ensures none { IfOk result (λ o. MatchOption o ((taken self.new ≡ taken self.old) × (seen self.new ≡ [])) (λ _. Unit {0})) }
@@ -93,7 +95,7 @@ impl LinkOut {
         Ok(Some(message))
     }
 
-    /// How many frames are left, once the sender has finished. The condition: both are ends of one link.
+    /// The number of frames that are left after the sender has finished. `finished` must belong to the same link.
     pub fn after(&mut self, finished: &mut Finished) -> usize
         requires { IsFinishedOf finished.old self.old }
         ensures same { SameOut self.old self.new × (taken self.new ≡ taken self.old) }

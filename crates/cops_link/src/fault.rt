@@ -1,9 +1,9 @@
-//! Why there is no link, and why a frame was not sent.
+//! Why a link cannot be made, and why a frame was not sent.
 
 use crate::frame::Frame;
 use thiserror::Error;
 
-/// Why no link was made. The numbers are the faults' codes.
+/// Why a link cannot be made. The numbers are the faults' codes.
 #[derive(Clone, Copy, Debug, PartialEq, Eq, Error)]
 pub enum LinkFault {
     /// 0: out of memory.
@@ -14,10 +14,10 @@ pub enum LinkFault {
     BadCapacity,
 }
 
-/// Why a frame was not sent. It takes no memory, so want of memory is not among them.
+/// Why a frame was not sent. Sending allocates no memory, so running out of memory is not among the reasons.
 #[derive(Debug, Drop, Error)]
 pub enum SendFault {
-    /// 1: the link is full. The frame comes back.
+    /// 1: the link is full. Returns the frame.
     #[error("the link is full")]
     Full(Frame),
 }

@@ -31,7 +31,8 @@ impl Frame {
     ghost use Rattle.cops_wire.specs.Replicated.{put_after};
     ghost use Rattle.cops_link.specs.Frame.{spelled, IsPutAfter};
 
-    /// The frame of the message of a put, or of a deletion where the put has no value. It is of format 2 always.
+    /// Encodes the message of a put, or of a deletion where the put has no value, always in format 2. Returns `Memory`
+    /// when memory runs out.
     pub fn of(alloc: Global, put: &PutRecord) -> Result<Frame, Memory>
         ensures { IfOk result (λ frame. frame ≡ spelled put.now) }
     {
@@ -40,14 +41,14 @@ impl Frame {
         Ok(Frame { bytes })
     }
 
-    /// It spells the message of a put or a deletion: what the type keeps, told to the prover.
+    /// States the type's invariant for the prover: the frame encodes the message of a put or a deletion.
     pub(crate) fn spells_a_put(&self)
         ensures { IsPutAfter self.now }
     {
         let _bytes = &self.bytes;
     }
 
-    /// The message that it spells, which replicates a put or a deletion.
+    /// Decodes the frame's message, which replicates a put or a deletion. Returns `Memory` when memory runs out.
     pub(crate) fn message(&self, alloc: Global) -> Result<Message, Memory>
         ensures { IfOk result (λ m. (put : PutRecord) × (m ≡ put_after put) × (spelled put ≡ self.now)) }
     {
@@ -58,7 +59,7 @@ impl Frame {
     }
 }
 
-/// The one fault that a frame has.
+/// The only fault that decoding a frame can have: out of memory.
 fn want_of_memory(fault: WireFault) -> Memory
     requires { fault ≡ WireFault.Memory }
 {
@@ -68,7 +69,7 @@ fn want_of_memory(fault: WireFault) -> Memory
     }
 }
 
-/// The rule of a link's queue: each item is the frame of the message of a put or a deletion.
+/// The protocol of a link's queue: each item is the frame of the message of a put or a deletion.
 pub struct PutAfters;
 
 impl Protocol<Frame> for PutAfters {

@@ -22,11 +22,11 @@ use Rattle.cops_net.proofs.Lists.{calls-append, spoken-append, spoken_one, repli
 one_more : (ms : List Message) (m : Message) → text (ms ++ m ∷ []) ≡ text ms ++ spelled m
 one_more ms m = flat_map-append spelled ms (m ∷ []) ∙ ap (λ (x : List ℕ). text ms ++ x) (append-nil (spelled m))
 
--- nothing was taken yet
+-- before anything was taken
 pub begun : (format : Format) → Answered format [] [] [] [] []
 begun format = record { legal = tt; read = refl; called = refl; told = refl; told_legal = All-nil (IsLegalIn format) }
 
--- more bytes came, and none was taken
+-- more bytes came, and no message was taken
 pub more_came : (format : Format) (ms : List Message) (input : List ℕ) (calls : List Call) (written rest more : List ℕ) → Answered format ms input calls written rest
     → Answered format ms (input ++ more) calls written (rest ++ more)
 more_came format ms input calls written rest more a = record {
@@ -67,7 +67,7 @@ goes_on format ms input calls written rest m more left gained reply a l k t = re
   told_legal = one_more_legal format ms m calls gained reply a.called t a.told_legal;
 }
 
--- a message was taken and handed over, and its reply was not written whole
+-- a message was taken and handed over, and its reply was not written completely
 pub breaks_off : (format : Format) (ms : List Message) (input : List ℕ) (calls : List Call) (written rest : List ℕ) (m : Message) (more left : List ℕ) (gained : List Call) (reply : Message) (part missing : List ℕ)
     → Answered format ms input calls written rest → IsLegalIn (next_format format calls) m → rest ++ more ≡ spelled m ++ left → IsTurn format (list_any welcomes calls) m gained reply
     → spelled reply ≡ part ++ missing → missing ≢ []
@@ -88,7 +88,7 @@ breaks_off format ms input calls written rest m more left gained reply part miss
 
 -- ---- the ends of a session
 
--- no message was taken, for a fault
+-- no message was taken because of a fault
 pub ends_reading : (format : Format) (P : Type 0) (ms : List Message) (input : List ℕ) (calls : List Call) (written rest more left : List ℕ) (e : NetFault)
     → StaysOpen ms → Answered format ms input calls written rest → IsTaken (next_format format calls) P (rest ++ more) (Err e) left → Serves format P (input ++ more) calls written (Err e)
 ends_reading format P ms input calls written rest more left Memory stays a t = (ms, rest ++ more, stays, inl (more_came format ms input calls written rest more a))
@@ -96,14 +96,14 @@ ends_reading format P ms input calls written rest more left (Wire fault) stays a
 ends_reading format P ms input calls written rest more left ReadFailed stays a t = (ms, rest ++ more, stays, more_came format ms input calls written rest more a, t)
 ends_reading format P ms input calls written rest more left _ stays a t = absurd t
 
--- the input ended behind a message
+-- the input ended after a message
 pub ends_input : (format : Format) (P : Type 0) (ms : List Message) (input : List ℕ) (calls : List Call) (written rest more left : List ℕ) (n : ℕ)
     → StaysOpen ms → Answered format ms input calls written rest → n ≡ length ms → IsTaken (next_format format calls) P (rest ++ more) (Ok None) left
     → Serves format P (input ++ more) calls written (Ok (record { answered = n }))
 ends_input format P ms input calls written rest more left n stays a count t =
     (ms, rest ++ more, more_came format ms input calls written rest more a, count, inr (stays, t.0, t.1))
 
--- the client said that it ends
+-- the client said `Bye`
 pub ends_bye : (format : Format) (P : Type 0) (ms : List Message) (input : List ℕ) (calls : List Call) (written rest : List ℕ) (m : Message) (more left : List ℕ) (gained : List Call) (out : List ℕ) (after : Bool) (n : ℕ)
     → StaysOpen ms → Answered format ms input calls written rest → n ≡ length ms → IsLegalIn (next_format format calls) m → rest ++ more ≡ spelled m ++ left
     → IsAnswered format (list_any welcomes calls) m gained out (Ok after) → is_bye m ≡ true
@@ -116,7 +116,7 @@ ends_bye format P ms input calls written rest m more left gained out after n sta
   inl (ms, stays, ap (λ (x : Message). ms ++ x ∷ []) (bye_only m bye)),
 )
 
--- a message was not answered
+-- a message got no reply
 pub ends_answering : (format : Format) (P : Type 0) (ms : List Message) (input : List ℕ) (calls : List Call) (written rest : List ℕ) (m : Message) (more left : List ℕ) (gained : List Call) (out : List ℕ) (e : NetFault)
     → StaysOpen ms → Answered format ms input calls written rest → IsLegalIn (next_format format calls) m → rest ++ more ≡ spelled m ++ left
     → IsAnswered format (list_any welcomes calls) m gained out (Err e)
@@ -137,30 +137,30 @@ ends_answering format P ms input calls written rest m more left gained out Write
 )
 ends_answering format P ms input calls written rest m more left gained out _ stays a l k t = absurd t
 
--- one message too many
+-- there was one message more than the limit
 pub ends_full : (format : Format) (P : Type 0) (ms : List Message) (input : List ℕ) (calls : List Call) (written rest : List ℕ) (m : Message) (more left : List ℕ)
     → StaysOpen ms → Answered format ms input calls written rest → length ms ≡ MAX_MESSAGES → IsTaken (next_format format calls) P (rest ++ more) (Ok (Some m)) left
     → Serves format P (input ++ more) calls written (Err TurnLimit)
 ends_full format P ms input calls written rest m more left stays a count t =
     (ms, left, stays, (m, t.0, subst (λ (x : List ℕ). Answered format ms (input ++ more) calls written x) t.1 (more_came format ms input calls written rest more a)), count)
 
--- one message more, which does not end the session
+-- appending a message that does not end the session
 pub stays_open : (ms : List Message) (m : Message) → StaysOpen ms → is_bye m ≡ false → StaysOpen (ms ++ m ∷ [])
 stays_open ms m stays bye = list_any-append is_bye ms (m ∷ []) ∙ rw (stays, bye) refl
 
 pub greeted_on : (calls gained : List Call) → (list_any welcomes calls || list_any welcomes gained) ≡ list_any welcomes (calls ++ gained)
 greeted_on calls gained = sym (list_any-append welcomes calls gained)
 
--- what is said where it did not fail
+-- what holds unless it failed
 pub heard_ok : {T E P : Type 0} (x : T) (e : E) → ◌≡◌ {A = Result T E} (Ok x) (Err e) ⊎ P → P
 heard_ok x e (inl q) = absurd cc
 heard_ok x e (inr p) = p
 
--- an error is the same whatever else might have been answered
+-- an error is the same in every result type
 pub same_error : {T U E : Type 0} (a b : E) → ◌≡◌ {A = Result T E} (Err a) (Err b) → ◌≡◌ {A = Result U E} (Err a) (Err b)
 same_error a b q = let e : a ≡ b = cc in ap Err e
 
--- the error that was put in the place of another
+-- the error that replaced another
 pub put_error : {T E D : Type 0} (r : Result T E) (e y : D) → Err y ≡ result_or r (Err e) → y ≡ e
 put_error (Ok x) e y q = absurd cc
 put_error (Err x) e y q = cc

@@ -1,4 +1,4 @@
--- Sessions that go on: more messages, with more calls.
+-- Sessions that continue: more messages, with more calls.
 use Rattle.std.proofs.Common.{◌≡◌, suc, length, Bool, true, false, ◌||◌, if◌then◌else◌, List, [], ◌∷◌, ◌++◌, MatchBool, refl, sym, ap, subst, ◌∙◌}
 use Rattle.std.proofs.Math.Bool.{or-false}
 use Rattle.std.proofs.lemmas.List.{append-nil}
@@ -57,7 +57,7 @@ replies-append format greeted (m ∷ ms) others calls more h = go (λ b cs x. re
         ∙ ap (λ (b : Bool). replies format (greeted || welcomes c) ms cs ++ replies format b others more) (or_assoc greeted (welcomes c) (list_any welcomes cs)))
     go again false cs h = ap (λ (rs : List Message). own_reply greeted m ∷ rs) (again greeted cs h)
 
--- each message was legal in the format in which it was read, and so is each that follows
+-- appending messages that are each legal in the format in which they are read
 pub spoken-append : (format : Format) (greeted : Bool) (ms others : List Message) (calls more : List Call) → AreCallsOf format greeted ms calls → AreSpoken format greeted ms calls
     → AreSpoken format (greeted || list_any welcomes calls) others more → AreSpoken format greeted (ms ++ others) (calls ++ more)
 spoken-append format greeted [] others calls more h s k =
@@ -77,7 +77,7 @@ spoken-append format greeted (m ∷ ms) others calls more h s k = (s.0, go (λ b
         again (greeted || welcomes c) cs h.1 s (subst (λ (b : Bool). AreSpoken format b others more) (sym (or_assoc greeted (welcomes c) (list_any welcomes cs))) k)
     go again false cs h s k = again greeted cs h s k
 
--- one message
+-- a single message that is legal in its format
 pub spoken_one : (format : Format) (greeted : Bool) (m : Message) (calls : List Call) → IsLegalIn (phase format greeted) m → AreCallsOf format greeted (m ∷ []) calls
     → AreSpoken format greeted (m ∷ []) calls
 spoken_one format greeted m calls legal h = (legal, go (is_handed format greeted m) calls h)
@@ -89,7 +89,7 @@ spoken_one format greeted m calls legal h = (legal, go (is_handed format greeted
     go true (c ∷ cs) h = tt
     go false cs h = tt
 
--- calls that follow those of the messages change no reply
+-- calls after those of the messages do not change the replies
 pub replies_ignore : (format : Format) (greeted : Bool) (ms : List Message) (calls more : List Call) → AreCallsOf format greeted ms calls → replies format greeted ms (calls ++ more) ≡ replies format greeted ms calls
 replies_ignore format greeted ms calls more h =
     ap (λ (x : List Message). replies format greeted x (calls ++ more)) (sym (append-nil ms)) ∙ replies-append format greeted ms [] calls more h ∙ append-nil (replies format greeted ms calls)

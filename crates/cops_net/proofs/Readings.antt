@@ -11,12 +11,12 @@ use Rattle.cops_net.specs.declared.fault.NetFault.{NetFault}
 use Rattle.cops_net.specs.declared.fault.NetFault.TheVariants.{Wire}
 use Rattle.cops_net.specs.Turns.{IsTaken}
 
--- a writer that stays gained nothing
+-- a writer that does not change gained nothing
 pub appends_none : (a : Option (List ℕ)) → Appends a a []
 appends_none None = tt
 appends_none (Some u) = sym (append-nil u)
 
--- the reader's end, behind a message or inside a frame
+-- the reader's end, after a message or inside a frame
 pub taken_at_end : (format : Format) (P : Type 0) (input rest : List ℕ) (waiting : ℕ) (r : Result (Option Message) NetFault) → waiting ≡ length input
     → (waiting ≡ 0 → r ≡ Ok None) → (waiting ≢ 0 → r ≡ Err (Wire wire.Short)) → IsShort (grammar format) input → P → IsTaken format P input r rest
 taken_at_end format P [] rest waiting r count none some short end = rw (none count) (refl, end)

@@ -1,4 +1,4 @@
--- A message and its reply are a turn of a session.
+-- A message and its reply form a turn of a session.
 use Rattle.std.proofs.Common.{◌≡◌, Bool, true, false, [], ◌∷◌, refl, sym, ap, ◌∙◌}
 use Rattle.std.proofs.Math.Bool.{or-false}
 use Rattle.cops_types.specs.declared.format.Format.{Format}

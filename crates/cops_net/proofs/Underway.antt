@@ -1,4 +1,4 @@
--- A session that is under way, and what it did when it ends.
+-- A session in progress, and what it did when it ends.
 use Rattle.std.proofs.Common.{◌≡◌, ℕ, ◌+◌, Bool, true, false, List, [], ◌∷◌, ◌++◌, length, Option, Some, None, Result, Ok, Err, refl, sym, ap, subst, ◌∙◌, append_assoc, arith}
 use Rattle.std.specs.List.{list_any}
 use Rattle.std.specs.Io.KnownBytes.{Appends, Consumes, IsAtEnd}
@@ -17,7 +17,7 @@ use Rattle.cops_net.specs.Turns.{IsTaken, IsAnswered}
 use Rattle.cops_net.proofs.Going.{begun, goes_on, ends_reading, ends_input, ends_bye, ends_answering, ends_full, stays_open, greeted_on}
 use Rattle.cops_net.proofs.Readings.{appends_none}
 
--- what was taken, asked and written since the reader, the session and the writer were as they began, and the bytes that wait
+-- what was taken, called and written since the session began, and the bytes that are not taken yet
 pub record Underway (format : Format) (from to : Option (List ℕ)) (old new : List Call) (before after : Option (List ℕ)) (rest : List ℕ) (greeted : Bool) (n : ℕ) : Type 0 where
   pub input : List ℕ
   pub gained : List Call
@@ -46,14 +46,14 @@ starts format from old before none = record {
   count = refl;
 }
 
--- what a session did, by its answer
+-- what a session did, by its result
 abbrev pub Did : Format → Option (List ℕ) → Option (List ℕ) → List Call → List Call → Option (List ℕ) → Option (List ℕ) → Result Served NetFault → Type 0
 Did format from to old new before after result =
     (input : List ℕ) × (gained : List Call) × (written : List ℕ)
     × Consumes from to input × (new ≡ old ++ gained) × Appends before after written
     × Serves format (IsAtEnd to) input gained written result
 
--- what came behind the bytes that wait
+-- what came after the bytes that are not taken yet
 abbrev pub Next : Format → Option (List ℕ) → Option (List ℕ) → List ℕ → Result (Option Message) NetFault → List ℕ → Type 0
 Next format from to rest result left = (came : List ℕ) × Consumes from to came × IsTaken format (IsAtEnd to) (rest ++ came) result left
 
@@ -67,7 +67,7 @@ module _ {format : Format} {from mid : Option (List ℕ)} {old new : List Call} 
   read_on : (came : List ℕ) (result : Result Served NetFault) → Consumes mid to came → Serves format (IsAtEnd to) (u.input ++ came) u.gained u.written result → Did format from to old new before after result
   read_on came result took serves = (u.input ++ came, u.gained, u.written, consumed from mid to u.input came u.taken took, u.called, u.appended, serves)
 
-  -- the message is read in the format of those that were taken
+  -- the message is read in the format that follows from the calls so far
   taken_here : (came : List ℕ) (result : Result (Option Message) NetFault) → IsTaken read (IsAtEnd to) (rest ++ came) result left
       → IsTaken (next_format format u.gained) (IsAtEnd to) (rest ++ came) result left
   taken_here came result t = subst (λ (f : Format). IsTaken f (IsAtEnd to) (rest ++ came) result left) (is_read ∙ ap (λ (f : Format). phase f greeted) is_same ∙ ap (λ (b : Bool). phase format b) u.greets) t

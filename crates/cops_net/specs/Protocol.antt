@@ -1,6 +1,6 @@
--- The protocol of the front door: each message of a client has one reply, in order. Some messages are handed to the
--- session, whose answer the reply tells; the front door answers the others itself. A session has a format. What a client
--- sends is read in format 1 until a greeting was answered with a data centre, and behind that greeting in the session's format.
+-- The server's protocol: each message of a client has one reply, in order. Some messages are handed to the session, whose answer the reply reports;
+-- the front door answers the others itself. A session has a format. What a client sends is read in format 1 until a greeting was answered with a data
+-- centre, and in the session's format after that greeting.
 use Rattle.std.specs.Prelude.{◌≡◌, ℕ, min, Bool, true, false, ◌||◌, ◌==◌, if◌then◌else◌, MatchBool, List, [], ◌∷◌, Option, Some, None, Result, Ok, Err}
 use Rattle.cops_types.specs.declared.format.Format.{Format}
 use Rattle.cops_types.specs.declared.format.Format.TheVariants.{One}
@@ -20,15 +20,15 @@ use Rattle.cops_net.specs.declared.reply.Reply.TheVariants as replied
 use Rattle.cops_net.specs.declared.reply.Call.{Call}
 use Rattle.cops_net.specs.declared.reply.Call.TheVariants as called
 
--- the format in which a message is read: format 1 before the greeting was answered, and the session's after it
+-- the format in which a message is read: format 1 until the greeting was answered, and the session's after it
 abbrev pub phase : Format → Bool → Format
 phase format greeted = if greeted then format else One
 
--- the format has the message, and what stands in it is legal there
+-- the format has the message, and its fields are legal there
 abbrev pub IsLegalIn : Format → Message → Type 0
 IsLegalIn format m = IsMessage (grammar format) (parts m)
 
--- the asker's number of a message, or 0 where it has none
+-- the request number of a message, or 0 where it has none
 abbrev pub seq_of : Message → ℕ
 seq_of (Put seq key value) = seq
 seq_of (Get seq key) = seq
@@ -46,8 +46,8 @@ seq_of (Deleted seq version) = seq
 seq_of (Gone seq version) = seq
 seq_of _ = 0
 
--- Whether a message is handed to the session: before the greeting was answered, a greeting whose profile is the number of
--- the session's format; after it, a put, a deletion, a get, and the questions whether a put is there and how a node stands.
+-- Whether a message is handed to the session: before the greeting was answered, a greeting whose profile is the number of the session's format; after
+-- it, a put, a deletion, a get, and the questions whether a put is settled and for a node's status.
 abbrev pub is_handed : Format → Bool → Message → Bool
 is_handed format false (Hello profile client) = profile == number_of format
 is_handed format true (Put seq key value) = true
@@ -57,12 +57,12 @@ is_handed format true (DepCheck seq key version) = true
 is_handed format true (Status seq node) = true
 is_handed format _ _ = false
 
--- the reply that tells a refusal
+-- the reply that reports a refusal
 abbrev pub refused : ℕ → Refusal → Message
 refused seq refusal = Refused seq (code_of refusal)
 
--- The front door's own reply to a message that it does not hand over: another profile than the number of the
--- session's format, a second greeting, a message before the greeting was answered, and no message of a client.
+-- The server's own reply to a message that it does not hand over: a goodbye, a profile other than the number of the session's format, a second
+-- greeting, a message before the greeting was answered, or a message that is not a client's.
 abbrev pub own_reply : Bool → Message → Message
 own_reply greeted Bye = ByeOk
 own_reply false (Hello profile client) = refused 0 BadProfile
@@ -89,7 +89,7 @@ abbrev pub welcome : ℕ → Result (ℕ × ℕ) Refusal → Message
 welcome seq (Ok place) = HelloOk place.0 place.1
 welcome seq (Err refusal) = refused seq refusal
 
--- a node's answer as a message
+-- a session's answer as a message
 abbrev pub outcome : ℕ → Reply → Message
 outcome seq (replied.PutDone version) = PutDone seq version
 outcome seq (replied.Deleted version) = Deleted seq version
@@ -100,16 +100,16 @@ outcome seq replied.Yes = DepYes seq
 outcome seq replied.Wait = DepWait seq
 outcome seq (replied.Refused refusal) = refused seq refusal
 
--- the greatest count that a message tells
+-- a count, capped at the greatest that a message can hold
 abbrev pub capped : ℕ → ℕ
 capped n = min n 4294967295
 
--- how a node stands as a message, if it is there
+-- a node's status as a message, if there is such a node
 abbrev pub standing : ℕ → Option NodeStatus → Message
 standing seq None = refused seq NoSuchNode
 standing seq (Some s) = StatusIs seq s.clock (capped s.keys) (capped s.settled) (capped s.held)
 
--- the reply that tells a call's answer
+-- the reply that reports a call's answer
 abbrev pub told : ℕ → Call → Message
 told seq (called.Hello client answer) = welcome seq answer
 told seq (called.Put key value answer) = outcome seq answer
@@ -123,7 +123,7 @@ abbrev pub welcomes : Call → Bool
 welcomes (called.Hello client (Ok place)) = true
 welcomes _ = false
 
--- there is a first call, and this holds of it and the calls that follow
+-- there is a first call, and `P` holds of it and of the calls that follow
 abbrev pub HasFirst : List Call → (Call → List Call → Type 0) → Type 0
 HasFirst [] P = ⊥
 HasFirst (c ∷ cs) P = P c cs
@@ -141,8 +141,8 @@ AreCallsOf format greeted (m ∷ ms) calls =
     (HasFirst calls (λ c cs. Hands m c × AreCallsOf format (greeted || welcomes c) ms cs))
     (AreCallsOf format greeted ms calls)
 
--- Each message is legal in the format in which it is read: format 1 up to the one that is answered with a data centre,
--- and the session's format behind it.
+-- Each message is legal in the format in which it is read: format 1 up to the greeting that is answered with a data centre, and the session's format
+-- after it.
 abbrev pub AreSpoken : Format → Bool → List Message → List Call → Type 0
 AreSpoken format greeted [] calls = Unit {0}
 AreSpoken format greeted (m ∷ ms) calls =
@@ -151,7 +151,7 @@ AreSpoken format greeted (m ∷ ms) calls =
     (HasFirst calls (λ c cs. AreSpoken format (greeted || welcomes c) ms cs))
     (AreSpoken format greeted ms calls)
 
--- The replies to messages, one for each, told from the calls. Where a call is missing they end.
+-- The replies to messages, one for each, as they follow from the calls. They end where a call is missing.
 abbrev pub replies : Format → Bool → List Message → List Call → List Message
 replies format greeted [] calls = []
 replies format greeted (m ∷ ms) calls =

@@ -1,5 +1,4 @@
--- What a session of the front door did: the messages that it took from the input, the calls that it made, and the bytes
--- that it wrote.
+-- What a session did: the messages that it took from the input, the calls that it made, and the bytes that it wrote.
 use Rattle.std.specs.Prelude.{◌≡◌, ◌≢◌, ℕ, ◌⊎◌, Bool, true, false, List, [], ◌∷◌, ◌++◌, length, All, Result, Ok, Err}
 use Rattle.std.specs.List.{flat_map, list_any}
 use Rattle.cops_types.specs.declared.format.Format.{Format}
@@ -34,9 +33,9 @@ StaysOpen ms = list_any is_bye ms ≡ false
 abbrev pub next_format : Format → List Call → Format
 next_format format calls = phase format (list_any welcomes calls)
 
--- These messages, each legal in the format in which it is read, were taken from the input, and this is the rest of it. Each that
--- is handed over was handed over by one call, in order, and there was no other call. What was written is the spellings of the
--- replies, one for each message, which are legal in the session's format.
+-- These messages, each legal in the format in which it is read, were taken from the input, and `rest` is the rest of it. Each message that is handed
+-- over was handed over by one call, in order, and there was no other call. What was written is the encodings of the replies, one for each message,
+-- which are legal in the session's format.
 pub record Answered (format : Format) (ms : List Message) (input : List ℕ) (calls : List Call) (written rest : List ℕ) : Type 0 where
   pub legal : AreSpoken format false ms calls
   pub read : input ≡ text ms ++ rest
@@ -44,7 +43,7 @@ pub record Answered (format : Format) (ms : List Message) (input : List ℕ) (ca
   pub told : written ≡ text (replies format false ms calls)
   pub told_legal : All (IsLegalIn format) (replies format false ms calls)
 
--- The last message was taken and handed over as it should, but of its reply a part alone was written, and not all.
+-- The last message was taken and handed over as it should be, but only a part of its reply was written, and not all.
 pub record BrokeOff (format : Format) (ms : List Message) (last : Message) (input : List ℕ) (calls : List Call) (written rest : List ℕ) : Type 0 where
   pub legal : AreSpoken format false (ms ++ last ∷ []) calls
   pub read : input ≡ text (ms ++ last ∷ []) ++ rest
@@ -58,18 +57,18 @@ pub record BrokeOff (format : Format) (ms : List Message) (last : Message) (inpu
   pub told : written ≡ text (replies format false ms calls) ++ part
   pub told_legal : All (IsLegalIn format) (replies format false (ms ++ last ∷ []) calls)
 
--- The session is over: the last message is the first that ends it, or the input ended behind the last message.
+-- The session is over: the last message is the first that ends it, or the input ended after the last message.
 abbrev pub IsOver : Type 0 → List Message → List ℕ → Type 0
 IsOver at_end ms rest =
     ((before : List Message) × StaysOpen before × (ms ≡ before ++ Bye ∷ []))
     ⊎ (StaysOpen ms × (rest ≡ []) × at_end)
 
--- why no further message of a format was taken from the rest: it is not whole and the input ended, or it has a fault
+-- why no further message of a format was taken from the rest: it is incomplete and the input ended, or it has a fault
 abbrev pub IsWrong : Format → Type 0 → List ℕ → WireFault → Type 0
 IsWrong format at_end rest wire.Short = (rest ≢ []) × IsShort (grammar format) rest × at_end
 IsWrong format at_end rest fault = IsStopped (grammar format) rest fault
 
--- What a session of a format did, by its answer. `at_end` says that the reader has no more.
+-- What a session of a format did, by its result. `at_end` says that the reader has no more.
 abbrev pub Serves : Format → Type 0 → List ℕ → List Call → List ℕ → Result Served NetFault → Type 0
 Serves format at_end input calls written (Ok served) =
     (ms : List Message) × (rest : List ℕ) × Answered format ms input calls written rest

@@ -26,8 +26,8 @@ pub record IsTurn (format : Format) (greeted : Bool) (m : Message) (calls : List
   pub reply_legal : IsLegalIn format reply
   pub welcomed : is_welcome reply ≡ list_any welcomes calls
 
--- What was taken in a format from the front of the bytes that came so far, and what is left of them: nothing, where the
--- front is no whole frame.
+-- What was taken in a format from the start of the bytes that came so far, and what is left of them: nothing is taken where they do not start with a
+-- whole frame.
 abbrev pub IsFront : Format → List ℕ → Result (Option Message) NetFault → List ℕ → Type 0
 IsFront format came (Ok (Some m)) rest = IsLegalIn format m × (came ≡ spelled m ++ rest)
 IsFront format came (Ok None) rest = IsShort (grammar format) came × (rest ≡ came)
@@ -35,7 +35,7 @@ IsFront format came (Err Memory) rest = Unit {0}
 IsFront format came (Err (Wire fault)) rest = IsStopped (grammar format) came fault
 IsFront format came (Err _) rest = ⊥
 
--- What was taken in a format from the front of an input, and what is left of it. `at_end` says that nothing comes after it.
+-- What was taken in a format from the start of an input, and what is left of it. `at_end` says that nothing comes after it.
 abbrev pub IsTaken : Format → Type 0 → List ℕ → Result (Option Message) NetFault → List ℕ → Type 0
 IsTaken format at_end input (Ok (Some m)) rest = IsLegalIn format m × (input ≡ spelled m ++ rest)
 IsTaken format at_end input (Ok None) rest = (input ≡ []) × at_end
@@ -44,8 +44,8 @@ IsTaken format at_end input (Err (Wire fault)) rest = IsWrong format at_end inpu
 IsTaken format at_end input (Err ReadFailed) rest = IsShort (grammar format) input
 IsTaken format at_end input (Err _) rest = ⊥
 
--- A message was answered: its calls, and the bytes that were written, all of its reply or a front of them. The answer
--- tells whether the session was greeted.
+-- A message was answered: its calls, and the bytes that were written, which are its whole reply or a prefix of it. The result is whether the session
+-- is greeted afterwards.
 abbrev pub IsAnswered : Format → Bool → Message → List Call → List ℕ → Result Bool NetFault → Type 0
 IsAnswered format greeted m calls written (Ok after) =
     (reply : Message) × IsTurn format greeted m calls reply × (written ≡ spelled reply) × (after ≡ (greeted || list_any welcomes calls))

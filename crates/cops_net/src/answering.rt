@@ -27,7 +27,7 @@ fn welcome(answer: Result<(u8, u8), Refusal>) -> Message
     }
 }
 
-/// A node's answer as a message.
+/// A session's answer as a message.
 fn outcome(seq: u32, reply: Reply) -> Message
     ensures message { result ≡ outcome seq reply }
     ensures legal { (format : AFormat) → IsReplyIn format reply → IsLegalIn format result }
@@ -61,14 +61,14 @@ fn outcome(seq: u32, reply: Reply) -> Message
     }
 }
 
-/// A count as a message tells it: at most the greatest that it can tell.
+/// A count as a message can hold it: capped at 4,294,967,295.
 fn capped(count: u64) -> u32
     ensures { result ≡ capped count }
 {
     count.min(u64::from(u32::MAX)) as u32
 }
 
-/// How a node stands as a message.
+/// A node's status as a message.
 fn standing(seq: u32, status: Option<NodeStatus>) -> Message
     requires { IsStanding status }
     ensures message { result ≡ standing seq status }
@@ -86,7 +86,7 @@ fn standing(seq: u32, status: Option<NodeStatus>) -> Message
     }
 }
 
-/// Hands a message to the session, which has room for the call, and tells its answer.
+/// Hands a message to the session, which has room for the call, and returns the reply that reports its answer.
 fn ask<R: Wait, S: Session>(rt: &R, session: &mut S, greeted: bool, message: Message) -> Message
     requires handed { is_handed (S.format session.old) greeted message ≡ true }
     requires room { S.has_room session.old }
@@ -110,8 +110,8 @@ fn ask<R: Wait, S: Session>(rt: &R, session: &mut S, greeted: bool, message: Mes
     }
 }
 
-/// The reply to a message, which is handed to the session by one call, or by none. Where memory runs out it was not
-/// handed over.
+/// The reply to a message, which takes one call of the session or none. On `Memory` the message was not handed to the
+/// session.
 pub(crate) fn answer<R: Wait, S: Session>(
     rt: &R,
     session: &mut S,

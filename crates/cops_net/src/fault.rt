@@ -1,14 +1,14 @@
-//! Why a session or the front door ended.
+//! Why a session or the front door ended early.
 use cops_wire::WireFault;
 use thiserror::Error;
 
-/// Why a session, or the front door, ended before its end.
+/// Why a session, or the front door, ended early. The numbers are the faults' codes.
 #[derive(Clone, Copy, Debug, PartialEq, Eq, Error)]
 pub enum NetFault {
-    /// 0: memory ran out, here or in the session.
+    /// 0: out of memory, here or in the session.
     #[error("out of memory")]
     Memory,
-    /// 1: what the client sent is no message; `Short` where its bytes end inside a frame.
+    /// 1: what the client sent is not a message; `Short` where its bytes end inside a frame.
     #[error("{0}")]
     Wire(WireFault),
     /// 2: a read failed.

@@ -11,10 +11,10 @@ use cops_wire::{Feeder, Message, WireFault, body_len};
 use std::alloc::Global;
 use std::io::Read;
 
-/// How many bytes are asked for in one read.
+/// The number of bytes that one read asks for.
 const PIECE: usize = 4096;
 
-/// What came from a reader and is not taken yet.
+/// The bytes that came from a reader and are not taken yet.
 #[derive(Drop)]
 pub(crate) struct Incoming {
     feeder: Feeder,
@@ -25,7 +25,7 @@ pub(crate) struct Incoming {
 impl Incoming {
     ghost use Rattle.std.specs.Prelude.{[]};
 
-    /// Nothing came yet.
+    /// A new `Incoming`, to which nothing came yet.
     pub(crate) fn new(alloc: Global) -> Incoming
         ensures rest { result.feeder.rest ≡ [] }
         ensures whole { result.feeder.fault ≡ None }
@@ -36,7 +36,9 @@ impl Incoming {
         }
     }
 
-    /// The message at the front of what came, or nothing while the front is no whole frame.
+    /// Takes the message at the start of what came; `None` while there is no whole frame.
+    ///
+    /// Errors: `Memory` when memory runs out; `Wire` where the bytes have a fault.
     fn front(&mut self) -> Result<Option<Message>, NetFault>
         ensures front { IsFront self.old.feeder.format self.old.feeder.rest result self.new.feeder.rest }
         ensures kept { self.new.feeder.format ≡ self.old.feeder.format }
@@ -53,9 +55,12 @@ impl Incoming {
         }
     }
 
-    /// The next message, which is read in this format, or nothing where the reader's bytes ended behind the last one.
-    /// It reads pieces of at most 4,096 bytes, and only while no whole message is there. A failed read is not tried
-    /// again. The condition: no fault of the bytes was met.
+    /// Takes the next message, which is read in this format; `None` where the reader's bytes ended after the last one.
+    /// Reads pieces of at most 4,096 bytes, and only while there is no whole message. No fault of the bytes may have
+    /// been met before.
+    ///
+    /// Errors: `Memory` when memory runs out; `Wire` where the bytes have a fault, which is `Short` where they end
+    /// inside a frame; `ReadFailed` where a read failed, which is not tried again.
     pub(crate) fn next<I: Read>(
         &mut self,
         format: Format,
@@ -87,7 +92,7 @@ impl Incoming {
         }
     }
 
-    /// Takes the next piece. Where memory runs out nothing changes.
+    /// Appends the next piece. An error, which is `Memory`, leaves everything unchanged.
     fn feed(&mut self, piece: &[u8]) -> Result<(), Memory>
         requires { length self.old.feeder.rest + length piece.now < 2 ^ 63 }
         ensures ok { OnOk result (self.new.feeder.rest ≡ self.old.feeder.rest ++ piece.now) }
@@ -101,7 +106,7 @@ impl Incoming {
     }
 }
 
-/// What is told where the reader's bytes ended and so many of them were not taken.
+/// The result where the reader's bytes ended and `waiting` of them were not taken.
 fn at_end(waiting: usize) -> Result<Option<Message>, NetFault>
     ensures none { waiting ≡ 0 → result ≡ Ok None }
     ensures some { waiting ≢ 0 → result ≡ Err (NetFault.Wire WireFault.Short) }

@@ -1,16 +1,16 @@
-//! The front door: a client's messages are read from a stream, each is handed to a session or answered at once, and one
-//! reply for each is written back, in order.
+//! The server's protocol: a client's messages are read from a stream, each is handed to a session or answered directly,
+//! and one reply for each is written back, in order.
 //!
-//! `specs/Protocol.antt` has the protocol as functions of whole lists: which messages are handed over, as which calls,
-//! and the replies told from the messages and those calls. `serve_session` does that and nothing else; `listen` does it
-//! for one connection after the other, and so does `listen_with_idle`, which waits for an idle client no longer than it
-//! is told. Who answers stands behind the trait `Session`, which keeps the list of its calls with their answers.
+//! `specs/Protocol.antt` defines the protocol as functions of whole lists: which messages are handed over, as which
+//! calls, and the replies that follow from the messages and those calls. `serve_session` does exactly that; `listen`
+//! does it for one connection after the other, and so does `listen_with_idle`, which waits for an idle client no longer
+//! than a given time. The trait `Session` is what answers; it keeps the list of its calls with their answers.
 //!
 //! A session has a format. A client greets with the format's number; what it sends up to that greeting is read in
-//! format 1, and what it sends behind it in the session's format.
+//! format 1, and what it sends after it in the session's format.
 //!
-//! Stands on `cops_types` and on the messages of `cops_wire`. The program uses that the replies tell the messages and
-//! what the session's list gained.
+//! It builds on `cops_types` and on the messages of `cops_wire`. The program relies on this: the replies follow from
+//! the messages and from the calls that the session's list gained.
 #![tactic(auto)]
 
 mod answering;

@@ -1,4 +1,4 @@
-//! Sessions over connections, one after the other.
+//! Serving sessions over connections, one after the other.
 ghost use Rattle.std.specs.Prelude.{◌≡◌, ◌<◌, ◌+◌, ◌^◌, ◌++◌, ◌↔◌, List, ℕ, Result, IsErr, IsErrOf, OnErr};
 ghost use Rattle.std.specs.Io.KnownBytes.{Appends, Consumes, IsAtEnd};
 ghost use Rattle.cops_types.specs.Counted.{failures, inner};
@@ -20,8 +20,8 @@ use std::net::{Ipv4Addr, Net, TcpListener, TcpStream};
 use std::sync::Wait;
 use std::time::Duration;
 
-/// Serves one client over a reader and a writer. Want of memory alone is told: what else ended the session ended it
-/// alone.
+/// Serves one client over a reader and a writer. Returns `Memory` when memory ran out; anything else that ended the
+/// session ended only that session, and is not an error here.
 fn serve_client<R: Wait, I: Read, W: Write, S: Session>(
     rt: &R,
     alloc: Global,
@@ -29,7 +29,7 @@ fn serve_client<R: Wait, I: Read, W: Write, S: Session>(
     writer: &mut Counted<W>,
     session: &mut S,
 ) -> Result<(), Memory>
-    // The bytes and the calls are those of a session, which ended with `Memory` exactly where this does.
+    // The bytes and the calls are those of a session, which ended with `Memory` exactly where this call does.
     ensures serves { (end : Result Served Fault) × (input : List ℕ) × (gained : List Call) × (written : List ℕ)
         × Consumes (I.remaining (inner reader.old)) (I.remaining (inner reader.new)) input
         × (S.calls session.new ≡ S.calls session.old ++ gained)
@@ -37,7 +37,7 @@ fn serve_client<R: Wait, I: Read, W: Write, S: Session>(
         × Serves (S.format session.old) (IsAtEnd (I.remaining (inner reader.new))) input gained written end
         × (IsErr result ↔ IsErrOf end NetFault.Memory) }
 
-    // Where it ends with `Memory` no read and no write has failed.
+    // Where it ends with `Memory`, no read and no write has failed.
     ensures heard { OnErr result ((failures reader.new ≡ failures reader.old) × (failures writer.new ≡ failures writer.old)) }
     ensures kept_format { S.format session.new ≡ S.format session.old }
     ensures ended { S.ended session.new ≡ S.ended session.old }
@@ -48,15 +48,15 @@ fn serve_client<R: Wait, I: Read, W: Write, S: Session>(
     }
 }
 
-/// Lets a read or a write wait so long, where a time is given, and as long as it likes where none is.
+/// Limits how long a read or a write may wait, if a time is given; otherwise there is no limit.
 fn let_wait(stream: &TcpStream, idle: Option<Duration>) -> io::Result<()> {
     stream.set_read_timeout(idle)?;
     stream.set_write_timeout(idle)
 }
 
-/// Serves one connection, on which a read or a write that waits longer than the time that is given fails. Where the
-/// system does not take that time the session ends before its first read. What was written is read by a client that
-/// reads it, whatever it sends behind the end of its session, within the bounds of `part_from`.
+/// Serves one connection. If a time is given, a read or a write that waits longer fails. Where the system does not
+/// accept that time, the session ends before its first read. A client that reads gets everything that was written,
+/// whatever it sends after the end of its session, within the limits of `part_from`.
 fn serve_connection<R: Wait, S: Session>(
     rt: &R,
     alloc: Global,
@@ -79,10 +79,11 @@ fn serve_connection<R: Wait, S: Session>(
     served
 }
 
-/// Listens on a port of 127.0.0.1, and serves so many connections, one after the other, each by `serve_session`. What
-/// ends one session, but `Memory`, ends it alone, and it counts as served. `after_session` stands after each. It ends
-/// with `BindFailed` where the port cannot be bound, with `AcceptFailed` where no connection can be accepted, and with
-/// `Memory` behind the session that met it.
+/// Listens on a port of 127.0.0.1, and serves `sessions` connections, one after the other, each by `serve_session`. Any
+/// fault but `Memory` ends only its session, which counts as served. `after_session` is called after each session.
+///
+/// Errors: `BindFailed` where the port cannot be bound, `AcceptFailed` where no connection can be accepted, and
+/// `Memory` after the session in which memory ran out.
 pub fn listen<R: Net<Listener = TcpListener, Stream = TcpStream> + Wait, S: Session>(
     rt: &R,
     alloc: Global,
@@ -90,8 +91,8 @@ pub fn listen<R: Net<Listener = TcpListener, Stream = TcpStream> + Wait, S: Sess
     session: &mut S,
     sessions: u16,
 ) -> Result<(), NetFault>
-    // The session's list gained the calls of so many sessions, and no other, and each of them was ended before the
-    // next. So many more have ended, while their number is below 2 ^ 64.
+    // The session's list gained the calls of `begun` sessions, and no others, and each session ended before the next
+    // began. The number of ended sessions rose by `begun`, as long as it is below 2 ^ 64.
     ensures sessions { (begun : ℕ) × (gained : List Call) × (S.calls session.new ≡ S.calls session.old ++ gained)
         × AreSessions (S.format session.old) begun gained
         × AreServed (S.format session.old) S.calls S.ends begun session.old session.new × IsCount sessions begun result
@@ -100,8 +101,8 @@ pub fn listen<R: Net<Listener = TcpListener, Stream = TcpStream> + Wait, S: Sess
     listen_with_idle(rt, alloc, port, session, sessions, None)
 }
 
-/// As `listen`. Where a time is given, a client that sends nothing, or takes nothing, for longer than that in
-/// mid-session ends its session alone, as a failed read or a failed write does.
+/// Like `listen`, but if a time is given, a client that sends nothing, or takes nothing, for longer than that in
+/// mid-session ends its session alone, as a failed read or a failed write does. The errors are those of `listen`.
 pub fn listen_with_idle<R: Net<Listener = TcpListener, Stream = TcpStream> + Wait, S: Session>(
     rt: &R,
     alloc: Global,

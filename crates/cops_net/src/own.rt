@@ -1,4 +1,4 @@
-//! What the front door answers itself.
+//! Replies that the front door gives without the session.
 ghost use Rattle.std.specs.Prelude.{◌≡◌, false};
 ghost use Rattle.cops_types.specs.declared.format.Format.{Format as AFormat};
 ghost use Rattle.cops_types.specs.Refusal.{code_of};
@@ -10,15 +10,15 @@ ghost use Rattle.cops_net.specs.Turns.{is_welcome};
 use cops_types::{Format, Refusal};
 use cops_wire::Message;
 
-/// The format in which a client's next message is read: format 1 before its greeting was answered with a data centre,
-/// and the session's after it.
+/// The format in which a client's next message is read: format 1 until its greeting was answered with a data centre,
+/// and the session's format afterwards.
 pub(crate) fn phase(format: Format, greeted: bool) -> Format
     ensures { result ≡ phase format greeted }
 {
     if greeted { format } else { Format::One }
 }
 
-/// The asker's number of a message, or 0 where it has none.
+/// The request number of a message, or 0 where it has none.
 pub(crate) fn seq_of(message: &Message) -> u32
     ensures { result ≡ seq_of message.now }
 {
@@ -70,7 +70,7 @@ pub(crate) fn is_welcome(message: &Message) -> bool
     matches!(message, Message::HelloOk { .. })
 }
 
-/// The reply that tells a refusal.
+/// The reply that reports a refusal.
 pub(crate) fn refused(seq: u32, refusal: Refusal) -> Message
     ensures reply { result ≡ Refused seq (code_of refusal) }
     ensures legal { (format : AFormat) → IsLegalIn format result }
@@ -79,7 +79,7 @@ pub(crate) fn refused(seq: u32, refusal: Refusal) -> Message
     Message::Refused { seq, code }
 }
 
-/// The front door's own reply to a message that is not handed to the session.
+/// The server's own reply to a message that is not handed to the session.
 pub(crate) fn own_reply(greeted: bool, message: &Message) -> Message
     ensures reply { result ≡ own_reply greeted message.now }
     ensures legal { (format : AFormat) → IsLegalIn format result }

@@ -6,19 +6,19 @@ use std::io::Read;
 use std::net::{Shutdown, TcpStream};
 use std::time::Duration;
 
-/// The most bytes that are read away behind a session.
+/// The greatest number of bytes that are read and discarded after a session.
 const MOST_BEHIND: usize = 1_048_576;
 
-/// The most reads behind a session.
+/// The greatest number of reads after a session.
 const READS_BEHIND: u32 = 1_024;
 
-/// How many bytes are asked for in one of them.
+/// The number of bytes that one of these reads asks for.
 const PIECE: usize = 16_384;
 
-/// How many seconds one of them may wait.
+/// The number of seconds that one of these reads may wait.
 const LAST_WAIT: u64 = 1;
 
-/// Reads away what still comes, until the reader's end, a failed read or the last read that there may be.
+/// Reads and discards what still comes, until the reader's end, a failed read or the limits on bytes and reads.
 fn read_away<I: Read>(reader: &mut I)
     ensures { (came : List ℕ) × Consumes (I.remaining reader.old) (I.remaining reader.new) came × (length came ≤ MOST_BEHIND) }
 {
@@ -38,9 +38,10 @@ fn read_away<I: Read>(reader: &mut I)
     }
 }
 
-/// Ends a connection whose session has ended. Where one is closed while bytes of its client are unread, the system
-/// gives up what the client has not read yet. So the writing side is shut alone at first, and what still comes is read
-/// away. A client that sends nothing more and stays is waited for once. What fails here ends no more than this.
+/// Ends a connection whose session has ended. Closing a connection while bytes of its client are unread makes the
+/// system discard what the client has not read yet. So only the writing side is shut down at first, and what still
+/// comes is read and discarded. A client that stays and sends nothing more is waited for once. A failure here is
+/// ignored.
 pub(crate) fn part_from(stream: &TcpStream) {
     let wait = Duration::from_secs(LAST_WAIT);
     if stream.shutdown(Shutdown::Write).is_ok() && stream.set_read_timeout(Some(wait)).is_ok() {

@@ -1,8 +1,8 @@
-//! What a session answers, and its calls with their answers.
+//! A session's answers, and its calls with their answers.
 use cops_types::{Key, NodeStatus, Refusal, Value, Version};
 use std::alloc::AllocError;
 
-/// A node's answer to a put, a deletion, a get, or a question whether a put is there.
+/// A session's answer to a put, a deletion, a get, or the question whether a put is settled.
 #[derive(Debug, Drop)]
 pub enum Reply {
     /// The put has this version.
@@ -15,15 +15,15 @@ pub enum Reply {
     Gone(Version),
     /// The get found nothing.
     Missed,
-    /// The put is there.
+    /// The put is settled.
     Yes,
-    /// The put is not there yet.
+    /// The put is not settled yet.
     Wait,
-    /// It was refused for this reason.
+    /// The call was refused for this reason.
     Refused(Refusal),
 }
 
-/// A copy that equals it.
+/// A clone is equal to its original.
 impl Clone for Reply {
     ghost use Rattle.std.specs.Prelude.{◌≡◌};
 
@@ -67,13 +67,13 @@ pub enum Call {
         key: Key,
         answer: Reply,
     },
-    /// A question whether this put is there.
+    /// A question whether this put is settled.
     DepCheck {
         key: Key,
         version: Version,
         answer: Reply,
     },
-    /// A question how the node of this place stands: nothing where there is none.
+    /// A question for the status of the node at this place: `None` where there is no such node.
     Status {
         place: u8,
         answer: Option<NodeStatus>,

@@ -21,14 +21,14 @@ use std::alloc::Global;
 use std::io::{Read, Write};
 use std::sync::Wait;
 
-/// The most messages of one session.
+/// The greatest number of messages in one session.
 const MAX_MESSAGES: u32 = 1_000_000;
 
-/// How many bytes stand around the value in the reply that has one: the frame's length, the kind, the asker's number,
+/// The number of bytes around the value in the reply that has one: the frame's length, the kind, the request number,
 /// the value's length, and the version.
 const AROUND_A_VALUE: usize = 19;
 
-/// The most bytes of a reply.
+/// The greatest number of bytes in a reply.
 fn longest_reply(format: Format) -> usize {
     match format {
         Format::One => AROUND_A_VALUE + MAX_VALUE_IN_ONE,
@@ -36,14 +36,16 @@ fn longest_reply(format: Format) -> usize {
     }
 }
 
-/// A session that came to its end.
+/// The result of a session that came to its end.
 #[derive(Clone, Copy, Debug, PartialEq, Eq)]
 pub struct Served {
-    /// How many replies were written: one for each message.
+    /// The number of replies that were written: one for each message.
     pub answered: u32,
 }
 
-/// Writes a reply, which is put together in `out`. It tells whether the session was greeted by then.
+/// Encodes a reply in `out` and writes it. Returns whether the session is greeted after it.
+///
+/// Errors: `Memory` when memory runs out; `WriteFailed` where the write failed.
 fn write_reply<W: Write>(
     writer: &mut Counted<W>,
     out: &mut Vec<u8>,
@@ -67,8 +69,7 @@ fn write_reply<W: Write>(
     }
 }
 
-/// Answers a message and writes its reply, which is put together in `out`. It tells whether the session was greeted by
-/// then.
+/// Answers a message, and encodes its reply in `out` and writes it. Returns whether the session is greeted after it.
 fn turn<R: Wait, W: Write, S: Session>(
     rt: &R,
     writer: &mut Counted<W>,
@@ -96,13 +97,14 @@ fn turn<R: Wait, W: Write, S: Session>(
     }
 }
 
-/// Serves one client: reads its messages, hands over to the session those that the protocol hands over, and writes one
-/// reply for each, until the client says `Bye` or its bytes end between two messages. `answered` is the number of
-/// replies. Until a greeting was answered with a data centre the bytes are read in format 1, and behind that greeting
-/// in the session's format. It ends with `Wire` at a fault of the bytes, which is answered by nothing (`Short` where
-/// they end inside a frame), with `ReadFailed` or `WriteFailed` where a read or a write failed, which is not tried
-/// again, and with `TurnLimit` at a 1,000,001st message, which is not answered. At `Memory` the last message may be
-/// left out.
+/// Serves one client: reads its messages, hands to the session those that the protocol hands over, and writes one reply
+/// for each, until the client says `Bye` or its bytes end between two messages. `answered` is the number of replies.
+/// The bytes up to a greeting that was answered with a data centre are read in format 1, and those after it in the
+/// session's format.
+///
+/// Errors: `Wire` at a fault of the bytes, which gets no reply (`Short` where they end inside a frame); `ReadFailed` or
+/// `WriteFailed` where a read or a write failed, which is not tried again; `TurnLimit` at a 1,000,001st message, which
+/// gets no reply; and `Memory` when memory runs out, where the last message may be left without a reply.
 pub fn serve_session<R: Wait, I: Read, W: Write, S: Session>(
     rt: &R,
     alloc: Global,
@@ -111,23 +113,23 @@ pub fn serve_session<R: Wait, I: Read, W: Write, S: Session>(
     session: &mut S,
 ) -> Result<Served, NetFault>
     // The bytes that were taken from the reader, the calls that the session's list gained and the bytes that the writer
-    // gained are those of a session with this answer.
+    // gained are those of a session with this result.
     ensures serves { (input : List ℕ) × (gained : List Call) × (written : List ℕ)
         × Consumes (I.remaining (inner reader.old)) (I.remaining (inner reader.new)) input
         × (S.calls session.new ≡ S.calls session.old ++ gained)
         × Appends (W.contents (inner writer.old)) (W.contents (inner writer.new)) written
         × Serves (S.format session.old) (IsAtEnd (I.remaining (inner reader.new))) input gained written result }
 
-    // The devices' faults are told exactly where they were met.
+    // The reader's and the writer's failures are reported exactly where they happened.
     ensures read_count { IsErrOf result NetFault.ReadFailed → Failed (failures reader.old) (failures reader.new) }
     ensures write_count { IsErrOf result NetFault.WriteFailed → Failed (failures writer.old) (failures writer.new) }
     ensures read_heard { IsErrOf result NetFault.ReadFailed ⊎ (failures reader.new ≡ failures reader.old) }
     ensures write_heard { IsErrOf result NetFault.WriteFailed ⊎ (failures writer.new ≡ failures writer.old) }
 
-    // The session's format stays.
+    // The session's format does not change.
     ensures kept_format { S.format session.new ≡ S.format session.old }
 
-    // No session counts as ended by this.
+    // This does not change the number of ended sessions.
     ensures ended { S.ended session.new ≡ S.ended session.old }
 {
     let format = session.format();

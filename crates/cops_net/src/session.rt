@@ -1,12 +1,14 @@
-//! Who answers a client.
+//! The trait of what answers a client.
 use crate::reply::{Call, Reply};
 use cops_types::{Format, Key, Memory, NodeStatus, Refusal, Value, Version};
 use std::sync::Wait;
 
-/// Who answers a client's messages, in a format that no call changes. It keeps the list of its calls with their
-/// answers. Before each of the six calls that answer stands a `room`, so that none of them is lost for want of memory.
-/// A session that says more of its calls gives for each the relation of the session before it, what was asked and
-/// answered, and the session after it; where it gives none, nothing more is said.
+/// A handler that answers a client's messages, in a format that no call changes. It keeps the list of its calls with
+/// their answers. `room` is called before each of the six calls that answer, so that no answer is lost when memory runs
+/// out.
+///
+/// An implementation that promises more of its calls gives, for each, the relation between the session before it, what
+/// was asked and answered, and the session after it; by default nothing more is promised.
 pub trait Session {
     ghost use Rattle.std.specs.Prelude.{◌≡◌, ◌<◌, ◌+◌, ◌-◌, ◌^◌, ◌++◌, ◌∷◌, [], ℕ, List, Option, Result, OnOk, ⊤};
     ghost use Rattle.cops_types.specs.declared.format.Format.{Format as AFormat};
@@ -16,51 +18,52 @@ pub trait Session {
     ghost use Rattle.cops_net.specs.declared.reply.Call.{Call};
     ghost use Rattle.cops_net.specs.Answers.{IsWelcome, IsPutReply, IsDelReply, IsGetReply, IsCheckReply, IsStanding};
 
-    /// Its calls so far, each with its answer.
+    /// The calls so far, each with its answer.
     ghost calls: { Self → List Call };
 
-    /// Its format.
+    /// The session's format.
     ghost format: { Self → AFormat };
 
-    /// How many sessions have ended.
+    /// The number of sessions that have ended.
     ghost ended: { Self → ℕ };
 
-    /// It has room for one more call.
+    /// There is room for one more call.
     ghost has_room: { Self → Type 0 };
 
-    /// What making room leaves.
+    /// What making room changes.
     ghost rooms: { Self → Self → Type 0 } = { λ _ _. ⊤ };
 
-    /// What a greeting by a client's number does.
+    /// What a greeting by a client's number changes.
     ghost hellos: { Self → ℕ → Result (ℕ × ℕ) Refused → Self → Type 0 } = { λ _ _ _ _. ⊤ };
 
-    /// What a put of a value on a key does.
+    /// What a put of a value on a key changes.
     ghost puts: { Self → List ℕ → List ℕ → Answer → Self → Type 0 } = { λ _ _ _ _ _. ⊤ };
 
-    /// What a deletion of a key does.
+    /// What a deletion of a key changes.
     ghost dels: { Self → List ℕ → Answer → Self → Type 0 } = { λ _ _ _ _. ⊤ };
 
-    /// What a get of a key does.
+    /// What a get of a key changes.
     ghost gets: { Self → List ℕ → Answer → Self → Type 0 } = { λ _ _ _ _. ⊤ };
 
-    /// What the question does whether the put on a key with a version is there.
+    /// What the question changes whether the put on a key with a version is settled.
     ghost dep_checks: { Self → List ℕ → ℕ → Answer → Self → Type 0 } = { λ _ _ _ _ _. ⊤ };
 
-    /// What the question does how the node of a place stands.
+    /// What the question for the status of the node at a place changes.
     ghost statuses: { Self → ℕ → Option Standing → Self → Type 0 } = { λ _ _ _ _. ⊤ };
 
-    /// What is done when a client's session has ended.
+    /// What the end of a client's session changes.
     ghost ends: { Self → Self → Type 0 } = { λ _ _. ⊤ };
 
-    /// Its calls so far, each with its answer, in order.
+    /// The calls so far, each with its answer, in order.
     fn calls(&self) -> &[Call]
         ensures { result.now ≡ calls self.now };
 
-    /// Its format, which says whether it has deletions; its number is the profile with which a client greets.
+    /// The session's format, which decides whether it has deletions. The format's number is the profile with which a
+    /// client greets.
     fn format(&self) -> Format
         ensures { result ≡ format self.now };
 
-    /// Makes room for one call.
+    /// Makes room for one more call. Returns `Memory` when memory runs out.
     fn room(&mut self) -> Result<(), Memory>
         ensures kept { calls self.new ≡ calls self.old }
         ensures room { OnOk result (has_room self.new) }
@@ -68,8 +71,8 @@ pub trait Session {
         ensures kept_format { format self.new ≡ format self.old }
         ensures ended { ended self.new ≡ ended self.old };
 
-    /// A client greets: its data centre, below 16, and the number of its nodes, 1 to 64; or `UnknownClient` where there
-    /// is no such client.
+    /// Greets for a client: returns its data centre, below 16, and the number of nodes there, 1 to 64; or
+    /// `UnknownClient` where there is no such client.
     fn hello(&mut self, client: u16) -> Result<(u8, u8), Refusal>
         requires { has_room self.old }
         ensures told { calls self.new ≡ calls self.old ++ Call.Hello client result ∷ [] }
@@ -78,7 +81,7 @@ pub trait Session {
         ensures kept_format { format self.new ≡ format self.old }
         ensures ended { ended self.new ≡ ended self.old };
 
-    /// A put: `PutDone`, or `Refused` with `ClockExhausted`, `UnknownClient`, `Memory`, `SessionFull` or
+    /// Puts a value: `PutDone`, or `Refused` with `ClockExhausted`, `UnknownClient`, `Memory`, `SessionFull` or
     /// `NotInFormat`.
     fn put<R: Wait>(&mut self, rt: &R, key: Key, value: Value) -> Reply
         requires { has_room self.old }
@@ -88,7 +91,7 @@ pub trait Session {
         ensures kept_format { format self.new ≡ format self.old }
         ensures ended { ended self.new ≡ ended self.old };
 
-    /// A deletion: `Deleted` where the format has deletions, or `Refused` with `ClockExhausted`, `UnknownClient`,
+    /// Deletes a key: `Deleted` where the format has deletions, or `Refused` with `ClockExhausted`, `UnknownClient`,
     /// `Memory`, `SessionFull` or `NotInFormat`.
     fn del<R: Wait>(&mut self, rt: &R, key: &Key) -> Reply
         requires { has_room self.old }
@@ -98,8 +101,8 @@ pub trait Session {
         ensures kept_format { format self.new ≡ format self.old }
         ensures ended { ended self.new ≡ ended self.old };
 
-    /// A get: `Got` with a value that fits the format, `Gone` where the format has deletions, `Missed`, or `Refused`
-    /// with `ContextFull`, `UnknownClient`, `Memory` or `SessionFull`.
+    /// Gets a key: `Got` with a value that fits the format, `Gone` where the format has deletions, `Missed`, or
+    /// `Refused` with `ContextFull`, `UnknownClient`, `Memory` or `SessionFull`.
     fn get<R: Wait>(&mut self, rt: &R, key: &Key) -> Reply
         requires { has_room self.old }
         ensures told { calls self.new ≡ calls self.old ++ Call.Get key.now result ∷ [] }
@@ -108,7 +111,7 @@ pub trait Session {
         ensures kept_format { format self.new ≡ format self.old }
         ensures ended { ended self.new ≡ ended self.old };
 
-    /// Whether this put is there, in the client's data centre: `Yes`, `Wait`, or `Refused` with `Memory`.
+    /// Whether this put is settled in the client's data centre: `Yes`, `Wait`, or `Refused` with `Memory`.
     fn dep_check<R: Wait>(&mut self, rt: &R, key: &Key, version: Version) -> Reply
         requires { has_room self.old }
         ensures told { calls self.new ≡ calls self.old ++ Call.DepCheck key.now version result ∷ [] }
@@ -117,8 +120,8 @@ pub trait Session {
         ensures kept_format { format self.new ≡ format self.old }
         ensures ended { ended self.new ≡ ended self.old };
 
-    /// How the node of this place in the client's data centre stands, with a clock of at most 281,474,976,710,655;
-    /// nothing where there is no such node.
+    /// The status of the node at this place in the client's data centre, with a clock of at most 281,474,976,710,655;
+    /// `None` where there is no such node.
     fn status<R: Wait>(&mut self, rt: &R, place: u8) -> Option<NodeStatus>
         requires { has_room self.old }
         ensures told { calls self.new ≡ calls self.old ++ Call.Status place result ∷ [] }
@@ -127,7 +130,7 @@ pub trait Session {
         ensures kept_format { format self.new ≡ format self.old }
         ensures ended { ended self.new ≡ ended self.old };
 
-    /// What is to be done when a client's session has ended. It is no call of the list.
+    /// Called when a client's session has ended. It adds no call to the list.
     fn after_session<R: Wait>(&mut self, rt: &R)
         ensures kept { calls self.new ≡ calls self.old }
         ensures done { ends self.old self.new }

@@ -1,4 +1,4 @@
--- What an event asks of a node: a put and a deletion are one write.
+-- What an event asks of a node. A put and a deletion are both writes.
 use Rattle.std.specs.Prelude.{ℕ, List, Option, Some, None}
 use Rattle.cops_types.specs.declared.dep.Dep.{Dep}
 use Rattle.cops_types.specs.declared.put_record.PutRecord.{PutRecord}
@@ -7,7 +7,7 @@ use Rattle.cops_node.specs.declared.event.NodeEvent.TheVariants as event
 use Rattle.cops_node.specs.declared.outcome.Outcome.{Outcome}
 use Rattle.cops_node.specs.declared.outcome.Outcome.TheVariants.{PutDone, Deleted, Got, Gone}
 
--- a client writes a content at a key: where there is no value, that deletes the key
+-- a client writes a content at a key, or deletes the key where there is no value; and the other events
 pub data Act : Type 0 where
   Write : ℕ → List ℕ → Option (List ℕ) → List Dep → Act
   Get : ℕ → List ℕ → Act
@@ -25,7 +25,7 @@ act_of (event.Ask key version) = Ask key version
 act_of (event.Mark version dep) = Mark version dep
 act_of (event.Settle version) = Settle version
 
--- a content was written at this version
+-- the outcome of a write of this content at this version
 abbrev pub written : Option (List ℕ) → ℕ → Outcome
 written (Some value) version = PutDone version
 written None version = Deleted version
@@ -36,7 +36,7 @@ version_given (PutDone version) = Some version
 version_given (Deleted version) = Some version
 version_given _ = None
 
--- a content of this version was found
+-- the outcome of a get that found this content at this version
 abbrev pub found : Option (List ℕ) → ℕ → Outcome
 found (Some value) version = Got value version
 found None version = Gone version

@@ -1,4 +1,4 @@
--- One node: what it keeps, and what it answers to each event.
+-- One node: its state, and its answer to each event.
 use Rattle.std.specs.Prelude.{◌≡◌, ◌⊎◌, ℕ, ◌+◌, max, if◌then◌else◌, ◌||◌, nat_lt, List, [], ◌∷◌, length, slice_get, Option, None, Some, is_some}
 use Rattle.cops_types.specs.declared.dep.Dep.{Dep}
 use Rattle.cops_types.specs.declared.put_record.PutRecord.{PutRecord}
@@ -22,30 +22,30 @@ pub record Node : Type 0 where
 abbrev pub opened : ℕ → Node
 opened number = record { number = number; clock = 0; settled = []; held = [] }
 
--- the pair that a put bears, and the put as it is settled
+-- the pair of a put, and the put as it is settled
 abbrev pub put_pair : PutRecord → Dep
 put_pair put = record { key = put.key; version = put.version }
 
 abbrev pub stored_of : PutRecord → Stored
 stored_of put = record { key = put.key; value = put.value; version = put.version }
 
--- the greatest among a clock and those of the pairs
+-- the greatest clock among this one and those of the pairs
 abbrev pub raised : ℕ → List Dep → ℕ
 raised clock [] = clock
 raised clock (d ∷ deps) = raised (max clock (clock_of d.version)) deps
 
--- what a client writes is settled at once, at a version of this clock
+-- a client's write is settled at once, at a version of this clock
 abbrev pub write_at : Node → List ℕ → Option (List ℕ) → ℕ → Outcome × Node
 write_at n key content clock =
     let version = version_of clock n.number in
     (written content version, record n { clock = clock; settled = with_settled n.settled (record { key = key; value = content; version = version }) })
 
--- what a client writes, whose context is deps: it has a version above those of its dependencies
+-- a client's write, with its context `deps`: its version is above those of its dependencies
 abbrev pub writes : Node → List ℕ → Option (List ℕ) → List Dep → Outcome × Node
 writes n key content deps =
     if nat_lt (raised n.clock deps) MAX_CLOCK then write_at n key content (raised n.clock deps + 1) else (Refused ClockExhausted, n)
 
--- what the key shows
+-- the answer to a get: what the key shows
 abbrev pub answer : Option Stored → Outcome
 answer None = Missed
 answer (Some s) = found s.value s.version
@@ -56,7 +56,7 @@ mark_at n version dep None = (Refused NotHeld, n)
 mark_at n version dep (Some w) =
     if nat_lt dep (length w.put.deps) then (Marked, record n { held = with_mark n.held version dep }) else (Refused NoSuchDep, n)
 
--- a waiting put leaves the table and is settled, and the clock rises to its
+-- a waiting put leaves the table and is settled, and the clock rises to that of its version
 abbrev pub settled_node : Node → PutRecord → Node
 settled_node n put =
     record n { clock = max n.clock (clock_of put.version); settled = with_settled n.settled (stored_of put); held = without n.held put.version }
@@ -65,8 +65,8 @@ abbrev pub settle_at : Node → Option Waiting → Outcome × Node
 settle_at n None = (Refused NotHeld, n)
 settle_at n (Some w) = if all_marked w then (Settled, settled_node n w.put) else (Refused DepsOpen, n)
 
--- What the node answers, and the node afterwards. A delivered put waits,
--- unless it does already or is settled; a question is answered Yes for exactly a settled pair.
+-- The node's answer, and the node afterwards. A delivered put waits, unless it already waits or is settled; the answer to a question is Yes for
+-- exactly a settled pair.
 abbrev pub act_step : Node → Act → Outcome × Node
 act_step n (Write client key content deps) = writes n key content deps
 act_step n (Get client key) = (answer (shown n.settled key), n)
@@ -81,11 +81,11 @@ act_step n (Settle version) = settle_at n (waiting n.held version)
 abbrev pub node_step : Node → NodeEvent → Outcome × Node
 node_step n event = act_step n (act_of event)
 
--- the act's step, or none for want of memory
+-- the act's step, or no step because memory ran out
 abbrev pub ActHappens : Node → Act → Outcome → Node → Type 0
 ActHappens old act outcome new = (act_step old act ≡ (outcome, new)) ⊎ ((outcome ≡ Refused Memory) × (new ≡ old))
 
--- the event's step, or none for want of memory
+-- the event's step, or no step because memory ran out
 abbrev pub NodeHappens : Node → NodeEvent → Outcome → Node → Type 0
 NodeHappens old event = ActHappens old (act_of event)
 

@@ -1,4 +1,4 @@
--- Outcomes by what they hold, and a node that has settled a pair.
+-- Outcomes by their contents, and a node that has settled a pair.
 use Rattle.std.specs.Prelude.{ℕ, max, List, Option}
 use Rattle.cops_types.specs.Version.{clock_of}
 use Rattle.cops_store.specs.Store.{with_settled}
@@ -11,7 +11,7 @@ abbrev pub IsGot : Outcome → Type 0
 IsGot (Got value version) = Unit {0}
 IsGot _ = ⊥
 
--- an answer for which a node takes memory: it keeps a pair or a put, or copies a value
+-- the answers that need memory: the node keeps a pair or a put, or copies a value
 abbrev pub TakesMemory : Outcome → Type 0
 TakesMemory (PutDone version) = Unit {0}
 TakesMemory (Deleted version) = Unit {0}
@@ -20,7 +20,7 @@ TakesMemory Held = Unit {0}
 TakesMemory Settled = Unit {0}
 TakesMemory _ = ⊥
 
--- a pair is settled, and the clock rises to its
+-- a pair is settled, and the clock rises to that of its version
 abbrev pub settled_at : Node → List ℕ → Option (List ℕ) → ℕ → Node
 settled_at n key content version = record {
   number = n.number;

@@ -1,4 +1,4 @@
--- With what a node refuses where the held table does.
+-- A node's refusals for the faults of the held table.
 use Rattle.cops_types.specs.declared.refusal.Refusal.{Refusal}
 use Rattle.cops_types.specs.declared.refusal.Refusal.TheVariants as refusal
 use Rattle.cops_held.specs.declared.fault.HeldFault.{HeldFault}

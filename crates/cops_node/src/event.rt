@@ -22,7 +22,7 @@ pub enum NodeEvent {
         client: u16,
         key: Key,
     },
-    /// A put of another data centre comes.
+    /// A put or a deletion of another data centre arrives.
     Deliver(PutRecord),
     /// A node of the same data centre asks whether exactly this pair is settled.
     Ask {
@@ -40,7 +40,7 @@ pub enum NodeEvent {
     },
 }
 
-/// A copy that equals it.
+/// A clone is equal to its original.
 impl Clone for NodeEvent {
     ghost use Rattle.std.specs.Prelude.{◌≡◌};
 

@@ -1,7 +1,8 @@
 //! One node of a data centre (COPS, sections 4.2 and 4.3): a Lamport clock, the settled pairs, and the puts of other
-//! data centres that wait. Stands on the types, the store and the held table. The layers above use a node's own step:
-//! what a node answers to an event, and the node afterwards, is a function of the node and the event, but for want of
-//! memory.
+//! data centres that wait.
+//!
+//! It builds on the types, the store and the held table. The layers above rely on this: a node's answer to an event,
+//! and the node afterwards, are a function of the node and the event, unless memory runs out.
 #![tactic(auto)]
 
 mod event;

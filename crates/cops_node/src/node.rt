@@ -45,7 +45,7 @@ impl Node {
     ghost use Rattle.cops_node.specs.Acts.{written};
     ghost use Rattle.cops_node.specs.Node.{NodeHappens, answer, node_step, opened, dep_at, writes};
 
-    /// A node that has met no event. It takes no memory.
+    /// A node to which nothing has happened. It allocates no memory.
     pub fn open(alloc: Global, node: u16) -> Self
         requires { node < NODES }
         ensures { result ≡ opened node }
@@ -66,8 +66,8 @@ impl Node {
         self.number
     }
 
-    /// A client's put, whose context is `deps`: it is settled at once, at a version above those of its dependencies.
-    /// Refused where the clock can rise no further, and for want of memory.
+    /// A client's put, with its context `deps`. It is settled at once, at a version above those of its dependencies.
+    /// Refused with `ClockExhausted` where the clock can rise no further, and with `Memory` when memory runs out.
     pub fn put(&mut self, client: u16, key: Key, value: Value, deps: Deps) -> Outcome
         ensures happens { NodeHappens self.old (Put client key value deps) result self.new }
         ensures memory { result ≡ RefusedWith OutOfMemory → TakesMemory (node_step self.old (Put client key value deps)).0 }
@@ -75,8 +75,8 @@ impl Node {
         events!(row Put self.write(key, Some(value), &deps))
     }
 
-    /// A client's deletion of a key, whose context is `deps`: it is settled as a put is. Refused where the clock can
-    /// rise no further, and for want of memory.
+    /// A client's deletion of a key, with its context `deps`. It is settled like a put. Refused with `ClockExhausted`
+    /// where the clock can rise no further, and with `Memory` when memory runs out.
     pub fn del(&mut self, client: u16, key: Key, deps: Deps) -> Outcome
         ensures happens { NodeHappens self.old (Del client key deps) result self.new }
         ensures memory { result ≡ RefusedWith OutOfMemory → TakesMemory (node_step self.old (Del client key deps)).0 }
@@ -84,7 +84,8 @@ impl Node {
         events!(row Del self.write(key, None, &deps))
     }
 
-    /// Settles what a client writes, without a value a deletion, at a version above those of its dependencies.
+    /// Settles a client's write, which is a deletion where there is no value, at a version above those of its
+    /// dependencies.
     fn write(&mut self, key: Key, content: Option<Value>, deps: &Deps) -> Result<Version, Refusal>
         ensures ok { IfOk result (λ version. writes self.old key content deps.now ≡ (written content version, self.new)) }
         ensures err { IfErr result (λ refused. (writes self.old key content deps.now ≡ (RefusedWith refused, self.new)) ⊎ ((refused ≡ OutOfMemory) × (self.new ≡ self.old))) }
@@ -97,7 +98,7 @@ impl Node {
         }
     }
 
-    /// Settles what a client writes at a version above the clock, which rises to it, or answers a refusal.
+    /// Settles a client's write at a version above the clock, which rises to it. Returns `Memory` when memory runs out.
     fn settle_own(
         &mut self,
         key: Key,
@@ -116,7 +117,7 @@ impl Node {
         Ok(version)
     }
 
-    /// A client's get: what the key shows. Refused for want of memory, which only a value takes.
+    /// A client's get: what the key shows. Refused with `Memory` when memory runs out; only a value needs memory.
     pub fn get(&mut self, client: u16, key: &Key) -> Outcome
         ensures happens { NodeHappens self.old (Get client key.now) result self.new }
         ensures memory { result ≡ RefusedWith OutOfMemory → TakesMemory (node_step self.old (Get client key.now)).0 }
@@ -124,7 +125,7 @@ impl Node {
         events!(row Get self.copy_of_shown(key))
     }
 
-    /// A copy of what the key shows.
+    /// A copy of what the key shows. Returns `Memory` when memory runs out.
     fn copy_of_shown(&self, key: &Key) -> Result<Option<(Option<Value>, Version)>, Memory>
         ensures ok { IfOk result (λ copy. option_map (λ r. record { key = key.now; value = r.0; version = r.1 }) copy ≡ shown self.now.settled key.now) }
         ensures err { OnErr result (TakesMemory (answer (shown self.now.settled key.now))) }
@@ -136,8 +137,8 @@ impl Node {
         }
     }
 
-    /// A put of another data centre comes. It waits from now on, or nothing changes where it does already or is
-    /// settled. Refused for want of memory.
+    /// A put of another data centre arrives. It waits from now on; where it waits already or is settled, nothing
+    /// changes. Refused with `Memory` when memory runs out.
     pub fn deliver(&mut self, put: PutRecord) -> Outcome
         ensures happens { NodeHappens self.old (Deliver put) result self.new }
         ensures memory { result ≡ RefusedWith OutOfMemory → TakesMemory (node_step self.old (Deliver put)).0 }
@@ -148,7 +149,7 @@ impl Node {
         events!(row Deliver self.held.hold(put))
     }
 
-    /// Whether exactly this pair is settled here. It takes no memory.
+    /// Whether exactly this pair is settled here. It allocates no memory.
     pub fn ask(&mut self, key: &Key, version: Version) -> Outcome
         ensures happens { NodeHappens self.old (Ask key.now version) result self.new }
         ensures answered { node_step self.old (Ask key.now version) ≡ (result, self.new) }
@@ -156,8 +157,8 @@ impl Node {
         events!(row Ask self.store.has(key, version))
     }
 
-    /// A dependency of a waiting put, by its index, is settled in this data centre. Refused where no put waits at the
-    /// version, and where it has no such dependency. It takes no memory.
+    /// Marks a dependency of a waiting put, given by its index, as settled in this data centre. Refused with `NotHeld`
+    /// where no put waits at the version, and with `NoSuchDep` where it has no such dependency. It allocates no memory.
     pub fn mark(&mut self, version: Version, dep: u16) -> Outcome
         ensures happens { NodeHappens self.old (Mark version dep) result self.new }
         ensures answered { node_step self.old (Mark version dep) ≡ (result, self.new) }
@@ -165,8 +166,8 @@ impl Node {
         events!(row Mark self.held.mark(version, dep))
     }
 
-    /// A waiting put is settled, and the clock rises to its. Refused where no put waits at the version, where not all
-    /// its dependencies are marked, and for want of memory.
+    /// Settles a waiting put; the clock rises to that of its version. Refused with `NotHeld` where no put waits at the
+    /// version, with `DepsOpen` where not all its dependencies are marked, and with `Memory` when memory runs out.
     pub fn settle(&mut self, version: Version) -> Outcome
         ensures happens { NodeHappens self.old (Settle version) result self.new }
         ensures memory { result ≡ RefusedWith OutOfMemory → TakesMemory (node_step self.old (Settle version)).0 }
@@ -186,7 +187,7 @@ impl Node {
         events!(row Settle Ok(()))
     }
 
-    /// Takes one event, as its own call does.
+    /// Applies one event, like the event's own call.
     pub fn step(&mut self, event: NodeEvent) -> Outcome
         ensures happens { NodeHappens self.old event result self.new }
         ensures memory { result ≡ RefusedWith OutOfMemory → TakesMemory (node_step self.old event).0 }
@@ -201,22 +202,22 @@ impl Node {
         events!(dispatch self, event)
     }
 
-    /// What the key shows: the greatest version that was settled on it, with its value, or without one where that is a
-    /// deletion. None where nothing was settled on it.
+    /// What the key shows: the greatest version that was settled on it, with its value, or without a value where that
+    /// is a deletion. `None` where nothing was settled on it.
     pub fn shown(&self, key: &Key) -> Option<(Option<&Value>, Version)>
         ensures { option_map (λ r. record { key = key.now; value = option_copied r.0; version = r.1 }) result ≡ shown self.now.settled key.now }
     {
         self.store.get(key)
     }
 
-    /// Whether exactly this pair is settled here, as `ask` answers it.
+    /// Whether exactly this pair is settled here, as `ask` would answer.
     pub fn has(&self, key: &Key, version: Version) -> bool
         ensures { result ≡ has_pair self.now.settled (record { key = key.now; version = version }) }
     {
         self.store.has(key, version)
     }
 
-    /// A dependency of the put that waits at a version, by its index. None where there is no such put or dependency.
+    /// A dependency of the put that waits at a version, by its index. `None` where there is no such put or dependency.
     pub fn dep_of(&self, version: Version, dep: u16) -> Option<&Dep>
         ensures { option_copied result ≡ dep_at (waiting self.now.held version) dep }
     {
@@ -224,7 +225,7 @@ impl Node {
         put.deps.as_slice().get(usize::from(dep))
     }
 
-    /// The clock, and how many keys show a value or a deletion, pairs are settled, and puts wait.
+    /// The clock, and the numbers of keys that show a value or a deletion, of settled pairs, and of waiting puts.
     pub fn status(&self) -> NodeStatus
         ensures status { result ≡ record { clock = self.now.clock; keys = length (shown_keys self.now.settled); settled = length self.now.settled; held = length self.now.held } }
         ensures clock { result.clock ≤ MAX_CLOCK }

@@ -1,6 +1,6 @@
 use cops_types::{Memory, Refusal, Value, Version};
 
-/// What a node answers to one event.
+/// A node's answer to one event.
 #[derive(Debug, Drop, PartialEq, Eq)]
 pub enum Outcome {
     /// The put was given this version.
@@ -36,7 +36,7 @@ impl Outcome {
     ghost use Rattle.cops_node.specs.Acts.{found, version_given};
     ghost use Rattle.cops_node.specs.Outcomes.{IsGot};
 
-    /// A get found this: a value, or without one a deletion.
+    /// The outcome of a get that found a value, or a deletion where there is no value.
     pub(crate) fn found(content: Option<Value>, version: Version) -> Self
         ensures { result ≡ found content version }
     {
@@ -46,7 +46,7 @@ impl Outcome {
         }
     }
 
-    /// A copy. It takes memory for the value that a get returned alone.
+    /// A copy. It allocates memory only for the value that a get returned, and returns `Memory` when that runs out.
     pub fn copy(&self) -> Result<Outcome, Memory>
         ensures ok { IfOk result (λ copy. copy ≡ self.now) }
         ensures err { OnErr result (IsGot self.now) }
@@ -77,7 +77,7 @@ impl Outcome {
         }
     }
 
-    /// Whether nothing happened for want of memory.
+    /// Whether this is the refusal because memory ran out.
     pub fn is_memory(&self) -> bool
         ensures { IsTrue result ↔ (self.now ≡ RefusedWith OutOfMemory) }
     {

@@ -5,7 +5,8 @@ ghost use Rattle.cops_node.specs.Node.{raised};
 
 use cops_types::Dep;
 
-/// The greatest among a clock and those of the pairs (COPS, section 4.2: a put's version is above its dependencies').
+/// The greatest clock among this one and those of the pairs (COPS, section 4.2: a put's version is above its
+/// dependencies').
 pub(crate) fn raised_clock(clock: u64, deps: &[Dep]) -> u64
     requires { clock ≤ MAX_CLOCK }
     ensures raised { result ≡ raised clock deps.now }

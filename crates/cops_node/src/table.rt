@@ -1,7 +1,7 @@
-//! The table of a node's events and outcomes, which the matches of this crate are made from.
+//! The table of a node's events and outcomes, from which the `match` expressions of this crate are generated.
 
-/// Calls a macro with what it is given and the events of a node. Each row has an event, the call of the node that takes
-/// it, and the outcome for each answer of the part of the node that this call asks.
+/// Calls a macro with its arguments followed by the table of a node's events. Each row has an event, the node's call
+/// for it, and the outcome for each answer of the part of the node that this call asks.
 macro_rules! events {
     ($make:ident $($given:tt)*) => {
         $make! {
@@ -40,7 +40,7 @@ macro_rules! events {
     };
 }
 
-/// Makes the match of an event's answers to its outcomes, from the event's row.
+/// Generates the `match` from an event's answers to its outcomes, from the event's row.
 macro_rules! row {
     (Put $answer:expr; Put $($rows:tt)*) => { row!(@ $answer; $($rows)*) };
     (Del $answer:expr; Del $($rows:tt)*) => { row!(@ $answer; $($rows)*) };

@@ -12,7 +12,7 @@ pub record APlace : Type 0 where
   pub dcs : ℕ
   pub splits : List (List ℕ)
 
--- the key is not above the other, or is below it, byte by byte
+-- whether a key is not above another, and whether it is below another, byte by byte
 abbrev pub is_at_most : List ℕ → List ℕ → Bool
 is_at_most a b = is_le (slice_cmp nat_cmp a b)
 
@@ -35,7 +35,7 @@ pub record IsPlace (p : APlace) : Type 0 where
   pub range : IsInRange p.dcs p.splits
   pub ascending : AreAscending p.splits
 
--- what never changes: the format, whose limits hold, where keys live, and the data centre of each client
+-- what never changes: the format, which sets the limits, where keys live, and the data centre of each client
 pub record Setting : Type 0 where
   pub format : Format
   pub place : APlace

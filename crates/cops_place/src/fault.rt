@@ -1,8 +1,8 @@
-//! Why data centres and splits make no place.
+//! Why data centres and split keys do not form a place.
 
 use thiserror::Error;
 
-/// Why no place was made. The numbers are the faults' codes.
+/// Why a place could not be made. The numbers are the faults' codes.
 #[derive(Clone, Copy, Debug, PartialEq, Eq, Error)]
 pub enum PlaceFault {
     /// 1: there are not 1 to 16 data centres, or more than 63 split keys.

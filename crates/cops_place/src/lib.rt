@@ -1,7 +1,9 @@
 //! Where a key lives (COPS, section 4.2: each data centre holds all keys, split over its nodes). Split keys cut the key
-//! space into ranges, one for each node of a data centre, the same in all of them. Stands on the types. The layers
-//! above use that a key's place is the number of split keys that are not above it, and a node's number is 64 times its
-//! data centre's and its place. The setting of a world or a cluster is a place with the data centre of each client.
+//! space into ranges, one for each node of a data centre; all data centres have the same ranges. The setting of a world
+//! or a cluster is a place together with the data centre of each client.
+//!
+//! It builds on the types. The layers above rely on this: a key's place is the number of split keys that are not above
+//! it, and a node's number is 64 times its data centre plus its place.
 #![tactic(auto)]
 
 mod fault;

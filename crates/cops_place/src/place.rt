@@ -6,7 +6,7 @@ use cops_types::{Key, MAX_DCS, node_number};
 use std::alloc::AllocError;
 use std::marker::Model;
 
-/// The most split keys.
+/// The greatest number of split keys.
 pub const MAX_SPLITS: usize = 63;
 
 /// Where a key lives: 1 to 16 data centres, and at most 63 split keys, each above the one before it. Keys compare byte
@@ -33,8 +33,10 @@ impl Place {
     ghost use Rattle.cops_types.specs.NodeNumber.{node_number};
     ghost use Rattle.cops_types.specs.declared.limits.TheConstants.{NODES};
 
-    /// So many data centres, and these split keys: `BadCount` unless there are 1 to 16 data centres and at most 63
-    /// split keys, then `SplitsNotAscending` unless each split key is above the one before it.
+    /// A place of `dcs` data centres with these split keys.
+    ///
+    /// Errors: `BadCount` unless there are 1 to 16 data centres and at most 63 split keys; then `SplitsNotAscending`
+    /// unless each split key is above the one before it.
     pub fn new(dcs: u8, splits: Vec<Key>) -> Result<Self, PlaceFault>
         ensures ok { IfOk result (λ place. place ≡ record { dcs = dcs; splits = splits.items }) }
         ensures bad_count { IsErrOf result PlaceFault.BadCount ↔ (IsInRange dcs splits.items → ⊥) }
@@ -49,7 +51,7 @@ impl Place {
         Ok(Place { dcs, splits })
     }
 
-    /// How many data centres there are, 1 to 16.
+    /// The number of data centres, 1 to 16.
     pub fn dcs(&self) -> u8
         ensures count { result ≡ self.now.dcs }
         ensures place { IsPlace self.now }
@@ -57,7 +59,7 @@ impl Place {
         self.dcs
     }
 
-    /// How many nodes each data centre has, 1 to 64.
+    /// The number of nodes of each data centre, 1 to 64.
     pub fn nodes(&self) -> u8
         ensures count { result ≡ length self.now.splits + 1 }
         ensures place { IsPlace self.now }
@@ -65,7 +67,7 @@ impl Place {
         self.splits.len() as u8 + 1
     }
 
-    /// The place of a key's primary node in each data centre: how many split keys are not above the key.
+    /// The place of a key's primary node in each data centre: the number of split keys that are not above the key.
     pub fn primary(&self, key: &Key) -> u8
         ensures count { result ≡ primary self.now.splits key.now }
         ensures range { result ≤ length self.now.splits }
@@ -75,7 +77,7 @@ impl Place {
         count as u8
     }
 
-    /// The number of a key's primary node in a data centre, below 1,024: 64 times the data centre, and the place.
+    /// The number of a key's primary node in a data centre, below 1,024: 64 times the data centre, plus the place.
     pub fn node(&self, dc: u8, key: &Key) -> u16
         requires { dc < self.now.dcs }
         ensures number { result ≡ node_number dc (primary self.now.splits key.now) }
@@ -85,7 +87,7 @@ impl Place {
     }
 }
 
-/// A copy that equals it.
+/// A clone is equal to its original.
 impl Clone for Place {
     ghost use Rattle.std.specs.Prelude.{◌≡◌};
 
@@ -115,7 +117,7 @@ fn are_ascending(keys: &[Key]) -> bool
     true
 }
 
-/// How many of the keys are not above this one.
+/// The number of keys that are not above this one.
 fn count_at_most(keys: &[Key], key: &Key) -> usize
     ensures { result ≡ primary keys.now key.now }
 {

@@ -5,8 +5,8 @@ use cops_types::{Format, Key, MAX_CLIENTS};
 use std::alloc::AllocError;
 use std::marker::Model;
 
-/// What never changes in a cluster: the format, whose limits hold, where keys live, and the data centre of each client,
-/// at most 65,535, each of which is there.
+/// What never changes in a cluster: the format, which sets the limits; where keys live; and the data centre of each
+/// client. There are at most 65,535 clients, and their data centres exist.
 #[derive(Debug, Drop)]
 pub struct Setting {
     format: Format,
@@ -29,7 +29,8 @@ impl Setting {
     ghost use Rattle.cops_place.specs.Clients.{AreClients};
     ghost use Rattle.cops_place.specs.Place.{IsSetting, home, primary_in};
 
-    /// The setting, in format 1: none where a client's data centre is not there, or there are more than 65,535 clients.
+    /// The setting, in format 1; `None` where a client's data centre does not exist, or there are more than 65,535
+    /// clients.
     pub fn new(place: Place, homes: Vec<u8>) -> Option<Self>
         ensures some { IfSome result (λ setting. setting ≡ record { format = Format.One; place = place; homes = homes.items }) }
         ensures none { IfNone result (AreClients place homes.items → ⊥) }
@@ -37,7 +38,8 @@ impl Setting {
         Setting::new_in(Format::One, place, homes)
     }
 
-    /// The setting, in a format: none where a client's data centre is not there, or there are more than 65,535 clients.
+    /// The setting, in the given format; `None` where a client's data centre does not exist, or there are more than
+    /// 65,535 clients.
     pub fn new_in(format: Format, place: Place, homes: Vec<u8>) -> Option<Self>
         ensures some { IfSome result (λ setting. setting ≡ record { format = format; place = place; homes = homes.items }) }
         ensures none { IfNone result (AreClients place homes.items → ⊥) }
@@ -52,7 +54,7 @@ impl Setting {
         })
     }
 
-    /// The format, whose limits hold.
+    /// The format, which sets the limits.
     pub fn format(&self) -> Format
         ensures format { result ≡ self.now.format }
         ensures setting { IsSetting self.now }
@@ -76,7 +78,7 @@ impl Setting {
         &self.homes
     }
 
-    /// How many clients there are.
+    /// The number of clients.
     pub fn clients(&self) -> usize
         ensures count { result ≡ length self.now.homes }
         ensures setting { IsSetting self.now }
@@ -92,7 +94,7 @@ impl Setting {
         self.homes[client as usize]
     }
 
-    /// How many data centres there are.
+    /// The number of data centres.
     pub fn dcs(&self) -> u8
         ensures count { result ≡ self.now.place.dcs }
         ensures setting { IsSetting self.now }
@@ -100,7 +102,7 @@ impl Setting {
         self.place.dcs()
     }
 
-    /// How many nodes each data centre has.
+    /// The number of nodes of each data centre.
     pub fn nodes(&self) -> u8
         ensures count { result ≡ length self.now.place.splits + 1 }
         ensures setting { IsSetting self.now }
@@ -118,7 +120,7 @@ impl Setting {
     }
 }
 
-/// A copy that equals it.
+/// A clone is equal to its original.
 impl Clone for Setting {
     ghost use Rattle.std.specs.Prelude.{◌≡◌};
 

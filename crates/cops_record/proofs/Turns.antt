@@ -17,7 +17,7 @@ use Rattle.cops_record.specs.Records.{State, seat, IsKept}
 abbrev pub front : State → ℕ → ATrace
 front s i = record { format = s.format; clients = length s.seats; records = map record_of (take i s.records) }
 
--- Before a record, its client has fewer than in the whole list.
+-- Before a record, its client has fewer records than in the whole list.
 pub turn_below : (rs : List Record) (i : ℕ) (d : Record) → i < length rs → turn (get_or rs i d).client (map record_of (take i rs)) < turn (get_or rs i d).client (map record_of rs)
 turn_below rs i d inside =
     let r = get_or rs i d in
@@ -31,7 +31,7 @@ turn_below rs i d inside =
     one : (r : ARecord) (rest : List ARecord) → 0 < turn r.client (r ∷ rest)
     one r rest = rw (turn-cons r.client r rest) (grind arith)
 
--- The one fault of a history that has the client and has room.
+-- The only fault that a history can have that has the client and has room: out of memory.
 pub only_memory : (e : TypeFault) (A B : Type 0) → IsHistoryFault e → (IsErrOf {T = Unit {0}} (Err e) UnknownClient ↔ A) → (IsErrOf {T = Unit {0}} (Err e) TooManyOps ↔ B) → (A → ⊥) → (B → ⊥) → e ≡ Memory
 only_memory Memory A B only unknown many not_a not_b = refl
 only_memory UnknownClient A B only unknown many not_a not_b = absurd (not_a (unknown.0 refl))
@@ -43,7 +43,7 @@ only_memory BadVersion A B only unknown many not_a not_b = absurd only
 only_memory ClockExhausted A B only unknown many not_a not_b = absurd only
 only_memory BadDeps A B only unknown many not_a not_b = absurd only
 
--- Before a record its client is there, and the trace of those before it has room for it.
+-- Before a record, its client exists, and the trace of the earlier records has room for it.
 pub room_before : (format : Format) (seats : List Seat) (rs : List Record) (reserved capacity i : ℕ) (r : Record) → IsKept format seats rs reserved capacity → i < length rs → r ≡ get_or rs i r
     → let before = map record_of (take i rs) in (r.client < length seats) × (turn r.client before < MAX_CLIENT_OPS) × (length before < MAX_OPS)
 room_before format seats rs reserved capacity i r kept inside is =

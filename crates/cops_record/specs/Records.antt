@@ -1,4 +1,4 @@
--- What a recorder keeps: records in order of arrival, and the slots that are reserved.
+-- The state of a recorder: records in order of arrival, and the reserved slots.
 use Rattle.std.specs.Prelude.{◌≡◌, ℕ, ◌+◌, ◌-◌, ◌<◌, ◌≤◌, ◌^◌, List, [], ◌∷◌, ◌++◌, length, map, All, slice_index_or, slice_set, ◌⊎◌}
 use Rattle.std.specs.List.{sum_by}
 use Rattle.cops_types.specs.declared.format.Format.{Format}
@@ -19,7 +19,7 @@ pub record State : Type 0 where
 abbrev pub seat : ℕ → ℕ → Seat
 seat filled reserved = record { filled = filled; reserved = reserved }
 
--- the seat of a client, empty for one that is not there
+-- the seat of a client, or an empty one where there is no such client
 abbrev pub seat_of : State → ℕ → Seat
 seat_of s client = slice_index_or s.seats client (seat 0 0)
 
@@ -27,11 +27,11 @@ seat_of s client = slice_index_or s.seats client (seat 0 0)
 abbrev pub with_slot : State → ℕ → State
 with_slot s client = record s { seats = slice_set s.seats client (seat (seat_of s client).filled ((seat_of s client).reserved + 1)) }
 
--- one slot less is reserved for the client
+-- one slot fewer is reserved for the client
 abbrev pub without_slot : State → ℕ → State
 without_slot s client = record s { seats = slice_set s.seats client (seat (seat_of s client).filled ((seat_of s client).reserved - 1)) }
 
--- a slot of the client is filled: its operation takes the next place
+-- a slot of the client is filled: its operation becomes the next record
 abbrev pub with_op : State → ℕ → Op → State
 with_op s client op =
     record {
@@ -40,11 +40,11 @@ with_op s client op =
       seats = slice_set s.seats client (seat ((seat_of s client).filled + 1) ((seat_of s client).reserved - 1));
     }
 
--- all reserved slots
+-- the number of all reserved slots
 abbrev pub slots : List Seat → ℕ
 slots seats = sum_by (λ (s : Seat). s.reserved) seats
 
--- records and slots of the client are 1,000,000, or all together 16,000,000
+-- the client has 1,000,000 records and slots, or all clients together have 16,000,000
 abbrev pub IsFull : State → ℕ → Type 0
 IsFull s client = ((seat_of s client).filled + (seat_of s client).reserved ≡ MAX_CLIENT_OPS) ⊎ (length s.records + slots s.seats ≡ MAX_OPS)
 
@@ -52,7 +52,7 @@ IsFull s client = ((seat_of s client).filled + (seat_of s client).reserved ≡ M
 abbrev pub recorded : State → ATrace
 recorded s = record { format = s.format; clients = length s.seats; records = map record_of s.records }
 
--- the records are in the format, the seats count those of their clients, and slots and records together are within a trace's limits
+-- the records are in the format, the seats count those of their clients, and records and slots together are within a trace's limits
 pub record IsKept (format : Format) (seats : List Seat) (records : List Record) (reserved capacity : ℕ) : Type 0 where
   pub clients : length seats < 2 ^ 16
   pub known : All (λ (r : Record). r.client < length seats) records

@@ -1,8 +1,8 @@
-//! Why no slot was reserved, and why no trace was made.
+//! Why a slot was not reserved, and why a trace was not made.
 use crate::recorder::Recorder;
 use thiserror::Error;
 
-/// Why no slot was reserved. The numbers are the faults' codes.
+/// Why a slot was not reserved. The numbers are the faults' codes.
 #[derive(Clone, Copy, Debug, PartialEq, Eq, Error)]
 pub enum RecordFault {
     /// 0: out of memory.
@@ -16,10 +16,10 @@ pub enum RecordFault {
     SessionFull,
 }
 
-/// Why no trace was made.
+/// Why a trace was not made.
 #[derive(Debug, Drop, Error)]
 pub enum IntoTraceFault {
-    /// The recorder comes back as it was.
+    /// Out of memory. Returns the recorder unchanged.
     #[error("out of memory")]
     Memory(Recorder),
 }

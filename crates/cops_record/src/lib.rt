@@ -1,7 +1,9 @@
-//! What clients saw while they ran, in order of arrival. A client reserves a slot before it asks a node and fills it
-//! with what it was told, or cancels it: so no answer is lost for want of memory. One lock keeps the records; what it
-//! keeps is always a trace within its limits. Stands on the types and on traces. The layers above use that, and that
-//! filling and cancelling a slot never fail.
+//! Records what clients see while they run, in order of arrival. A client reserves a slot before it asks a node, and
+//! fills it with the operation that it saw or cancels it, so no answer is lost when memory runs out. The records are
+//! under one lock, and always form a trace within its limits.
+//!
+//! It builds on the types and on traces. The layers above rely on that, and on filling and cancelling a slot never
+//! failing.
 #![tactic(auto)]
 
 mod fault;

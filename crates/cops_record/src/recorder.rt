@@ -9,8 +9,8 @@ use std::alloc::Global;
 use std::fmt;
 use std::sync::{Mutex, Wait};
 
-/// What clients saw, under one lock: records in order of arrival, each with its client, within a trace's limits. How
-/// many clients there are stands beside the lock, for it never changes.
+/// The records of what clients saw, under one lock: in order of arrival, each with its client, and within a trace's
+/// limits. The number of clients is outside the lock, since it never changes.
 #[derive(Drop)]
 pub struct Recorder {
     clients: u16,
@@ -24,7 +24,7 @@ impl fmt::Debug for Recorder {
     }
 }
 
-/// A place that is kept for an operation of a client, until it is filled or cancelled.
+/// A place reserved for an operation of a client, until it is filled or cancelled.
 #[must_use]
 pub struct Slot {
     client: u16,
@@ -34,14 +34,14 @@ impl Recorder {
     ghost use Rattle.std.specs.Prelude.{◌≡◌, ◌≤◌, ◌↔◌, IfErr, IfOk, IsErrOf};
     ghost use Rattle.cops_record.specs.Back.{IsBack};
 
-    /// A recorder of format 1 and of so many clients, with no records.
+    /// A recorder of format 1 for `clients` clients, without records. Returns `Memory` when memory runs out.
     pub fn new(alloc: Global, clients: u16) -> Result<Recorder, Memory>
         ensures { IfOk result (λ r. r.clients ≡ clients) }
     {
         Recorder::new_in(Format::One, alloc, clients)
     }
 
-    /// A recorder of a format and of so many clients, with no records.
+    /// A recorder of a format for `clients` clients, without records. Returns `Memory` when memory runs out.
     pub fn new_in(format: Format, alloc: Global, clients: u16) -> Result<Recorder, Memory>
         ensures { IfOk result (λ r. r.clients ≡ clients) }
     {
@@ -53,8 +53,10 @@ impl Recorder {
         })
     }
 
-    /// Reserves a slot, which counts against the limits: `UnknownClient` where there is no such client, then
-    /// `SessionFull` where the client's records and slots are 1,000,000, or those of all are 16,000,000.
+    /// Reserves a slot, which counts against the limits.
+    ///
+    /// Errors: `UnknownClient` where there is no such client; then `SessionFull` where the client has 1,000,000 records
+    /// and slots, or all clients together have 16,000,000; `Memory` when memory runs out.
     pub fn reserve<R: Wait>(&self, rt: &R, client: u16) -> Result<Slot, RecordFault>
         ensures slot { IfOk result (λ slot. slot.client ≡ client) }
         ensures unknown { IsErrOf result RecordFault.UnknownClient ↔ (self.now.clients ≤ client) }
@@ -65,33 +67,34 @@ impl Recorder {
         match self.records.lock(rt).reserve(client) {
             Ok(()) => Ok(Slot { client }),
             Err(RecordFault::Memory) => Err(RecordFault::Memory),
-            // (what stands under the lock has a seat for each client, and else none would be free)
+            // (the records have a seat for each client; a client without one could reserve no slot)
             Err(RecordFault::UnknownClient | RecordFault::SessionFull) => {
                 Err(RecordFault::SessionFull)
             }
         }
     }
 
-    /// Fills the slot: its operation takes the next place, or the slot is given back where the operation is not in the
-    /// recorder's format. It never fails. Where nothing is reserved here for the slot's client, as for a slot of
-    /// another recorder, nothing changes.
+    /// Fills the slot: its operation becomes the next record. Where the operation is not in the recorder's format, the
+    /// slot is cancelled instead. It never fails. Where no slot is reserved here for the slot's client, as for a slot
+    /// of another recorder, nothing changes.
     pub fn fill<R: Wait>(&self, rt: &R, slot: Slot, op: Op) {
         let Slot { client } = slot;
         self.records.lock(rt).fill(client, op);
     }
 
-    /// Gives the slot back. It never fails. Where nothing is reserved here for the slot's client, nothing changes.
+    /// Cancels the slot, which frees its place. It never fails. Where no slot is reserved here for the slot's client,
+    /// nothing changes.
     pub fn cancel<R: Wait>(&self, rt: &R, slot: Slot) {
         let Slot { client } = slot;
         self.records.lock(rt).cancel(client);
     }
 
-    /// A copy of the records from a place on.
+    /// A copy of the records from `place` on. Returns `Memory` when memory runs out.
     pub fn copy_from<R: Wait>(&self, rt: &R, place: usize) -> Result<Vec<Record>, Memory> {
         self.records.lock(rt).copy_from(self.alloc, place)
     }
 
-    /// The trace of the records, once no other thread records. Where memory runs out the recorder comes back.
+    /// Turns the records into a trace, once no other thread records. On `Memory` the recorder is returned.
     pub fn into_trace(self) -> Result<Trace, IntoTraceFault>
         ensures { IfErr result (IsBack self) }
     {

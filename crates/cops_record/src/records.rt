@@ -1,4 +1,4 @@
-//! The records, and the slots that are reserved.
+//! The records, and the reserved slots.
 ghost use Rattle.std.specs.Prelude.{◌≡◌};
 
 use crate::fault::RecordFault;
@@ -7,15 +7,15 @@ use cops_types::{Format, MAX_CLIENT_OPS, MAX_OPS, Memory, Op, TypeFault};
 use std::alloc::Global;
 use std::marker::Model;
 
-/// How many records a client has, and how many slots are reserved for it.
+/// The number of a client's records, and of the slots that are reserved for it.
 #[derive(Clone, Copy, Debug, PartialEq, Eq)]
 pub(crate) struct Seat {
     filled: u32,
     reserved: u32,
 }
 
-/// The records in order of arrival, operations of the format, with room for all reserved slots, and a seat for each
-/// client.
+/// The records in order of arrival, each an operation of the format, with room for all reserved slots, and a seat for
+/// each client.
 #[derive(Drop)]
 pub(crate) struct Records {
     format: Format,
@@ -41,7 +41,7 @@ impl Records {
     ghost use Rattle.cops_types.specs.Operations.{operation_of};
     ghost use Rattle.cops_record.specs.Records.{State, IsFull, recorded, seat_of, seat, slots, with_slot, without_slot, with_op};
 
-    /// No records, and no slots, of so many clients.
+    /// No records and no slots, for `clients` clients. Returns `Memory` when memory runs out.
     pub(crate) fn new(format: Format, alloc: Global, clients: u16) -> Result<Records, Memory>
         ensures { IfOk result (λ r. r ≡ record { format = format; records = []; seats = replicate clients (seat 0 0) }) }
     {
@@ -57,8 +57,10 @@ impl Records {
         })
     }
 
-    /// Reserves a slot: `UnknownClient` where there is no such client, then `SessionFull` where its records and slots
-    /// are 1,000,000, or those of all are 16,000,000. A fault changes nothing.
+    /// Reserves a slot. An error leaves everything unchanged.
+    ///
+    /// Errors: `UnknownClient` where there is no such client; then `SessionFull` where the client has 1,000,000 records
+    /// and slots, or all clients together have 16,000,000; `Memory` when memory runs out.
     pub(crate) fn reserve(&mut self, client: u16) -> Result<(), RecordFault>
         ensures ok { OnOk result (self.new ≡ with_slot self.old client) }
         ensures known { OnOk result (client < length self.old.seats) }
@@ -88,8 +90,8 @@ impl Records {
         Ok(())
     }
 
-    /// Fills a slot of the client, or gives it back where the operation is not in the format. Where none is reserved
-    /// for it, nothing changes.
+    /// Fills a slot of the client, or cancels it where the operation is not in the format. Where no slot is reserved
+    /// for the client, nothing changes.
     pub(crate) fn fill(&mut self, client: u16, op: Op)
         ensures filled { 0 < (seat_of self.old client).reserved → IsInFormat self.old.format (operation_of op) → self.new ≡ with_op self.old client op }
         ensures given { 0 < (seat_of self.old client).reserved → ¬ IsInFormat self.old.format (operation_of op) → self.new ≡ without_slot self.old client }
@@ -115,7 +117,7 @@ impl Records {
         self.records.push_reserved(Record { client, op });
     }
 
-    /// Gives a slot of the client back. Where none is reserved for it, nothing changes.
+    /// Cancels a slot of the client. Where no slot is reserved for it, nothing changes.
     pub(crate) fn cancel(&mut self, client: u16)
         ensures given { 0 < (seat_of self.old client).reserved → self.new ≡ without_slot self.old client }
         ensures idle { (seat_of self.old client).reserved ≡ 0 → self.new ≡ self.old }
@@ -135,7 +137,8 @@ impl Records {
         self.reserved -= 1;
     }
 
-    /// A copy of the records from a place on: none, which takes no memory, from a place that is not there.
+    /// A copy of the records from `place` on. It is empty, and allocates no memory, where there are no records from
+    /// there on. Returns `Memory` when memory runs out.
     pub(crate) fn copy_from(&self, alloc: Global, place: usize) -> Result<Vec<Record>, Memory>
         ensures ok { IfOk result (λ copies. copies.items ≡ drop place self.now.records) }
         ensures err { OnErr result (place < length self.now.records) }
@@ -149,7 +152,7 @@ impl Records {
         Ok(copies)
     }
 
-    /// The trace of the records.
+    /// The trace of the records. Returns `Memory` when memory runs out.
     pub(crate) fn trace(&self, alloc: Global) -> Result<Trace, Memory>
         ensures { IfOk result (λ trace. trace ≡ recorded self.now) }
     {
@@ -164,7 +167,7 @@ impl Records {
     }
 }
 
-/// The one fault of a trace that has the client and has room.
+/// The only fault that a trace can have that has the client and has room: out of memory.
 fn want_of_memory(fault: TypeFault) -> Memory
     requires { fault ≡ TypeFault.Memory }
 {

@@ -1,4 +1,4 @@
--- What a sender read and carried, one step after the other.
+-- What a sender read and carried, step by step.
 use Rattle.std.proofs.Common.{◌≡◌, ◌==◌, ◌||◌, ◌+◌, ◌≤◌, Bool, true, inl, inr, rules, ℕ, List, [], ◌∷◌, ◌++◌, All, drop, length, map, slice_index, slice_set, append_assoc, ap, refl, sym, ◌∙◌, subst, arith}
 use Rattle.std.proofs.lemmas.List.{append-nil}
 use Rattle.std.proofs.Common.{replicate}
@@ -32,7 +32,7 @@ puts_both read (r ∷ rs) ss =
     ap (λ (l : List PutRecord). first ++ l) (puts_both next rs ss)
     ∙ sym (append_assoc first (puts_read next rs) (puts_read (read_after next rs) ss))
 
--- puts that are sent more than once, in two parts
+-- repeating the puts of two lists
 repeated_both : (more : ℕ) (xs ys : List PutRecord) → repeated more (xs ++ ys) ≡ repeated more xs ++ repeated more ys
 repeated_both more xs ys = flat_map-append (replicate (more + 1)) xs ys
 
@@ -63,7 +63,7 @@ carries_trans cluster a b c p q =
       carried = subst (λ (l : List PutRecord). Carried l (lanes a) (lanes c)) all (carried_trans first (repeated b.repeat (puts_read b.read q.readings)) (lanes a) (lanes b) (lanes c) p.carried q.carried);
     }
 
--- a book was read
+-- reading one log
 pub carries_one : (cluster : Cluster) (a b : Sender) (place count : ℕ) (puts : List PutRecord) (entries : List Entry) → b.dc ≡ a.dc → b.repeat ≡ a.repeat → IsReadingAt cluster a.dc (record { place = place; entries = entries }) → count ≡ length entries → b.read ≡ slice_set a.read place count → puts ≡ puts_in (drop (slice_index a.read place) entries) → lanes b ≡ map (and_due (repeated a.repeat puts)) (lanes a) → Carries cluster a b
 carries_one cluster a b place count puts entries dc repeat node all read found more =
     let r : Reading = record { place = place; entries = entries } in
@@ -77,7 +77,7 @@ carries_one cluster a b place count puts entries dc repeat node all read found m
       carried = subst (λ (l : List PutRecord). Carried (repeated a.repeat l) (lanes a) (lanes b)) found_all (carried_more (repeated a.repeat puts) (lanes a) (lanes b) more);
     }
 
--- some frames were sent
+-- sending frames
 pub carries_sent : (cluster : Cluster) (a b : Sender) → b.dc ≡ a.dc → b.repeat ≡ a.repeat → b.read ≡ a.read → EachSends (lanes a) (lanes b) → Carries cluster a b
 carries_sent cluster a b dc repeat read sends = record {
   dc = dc;
@@ -88,16 +88,16 @@ carries_sent cluster a b dc repeat read sends = record {
   carried = carried_sent (lanes a) (lanes b) sends;
 }
 
--- no more nodes than before are to be read
+-- no node is at a place below 0
 pub below_none : (cluster : Cluster) (dc : ℕ) (rs : List Reading) → AreReadBelow cluster dc 0 rs
 below_none cluster dc rs = λ place less is. absurd (omega (arith, less))
 
--- what was read is read also where more is read after it
+-- what was read stays read when more is read after it
 pub below_kept : (cluster : Cluster) (dc end : ℕ) (rs ss : List Reading) → AreReadBelow cluster dc end rs → AreReadBelow cluster dc end (rs ++ ss)
 below_kept cluster dc end rs ss all = λ place less is.
     list_any-append (is_at place) rs ss ∙ ap (λ (b : Bool). b || list_any (is_at place) ss) (all place less is)
 
--- or before it
+-- what was read stays read when more is read before it
 pub below_after : (cluster : Cluster) (dc end : ℕ) (rs ss : List Reading) → AreReadBelow cluster dc end ss → AreReadBelow cluster dc end (rs ++ ss)
 below_after cluster dc end rs ss all = λ place less is.
     list_any-append (is_at place) rs ss ∙ ap (λ (b : Bool). list_any (is_at place) rs || b) (all place less is) ∙ or-true (list_any (is_at place) rs)
@@ -108,7 +108,7 @@ same_place n = search rules
 here_is : (n : ℕ) (entries : List Entry) → list_any (is_at n) (record { place = n; entries = entries } ∷ []) ≡ true
 here_is n entries = grind (arith, common_steps, same_place n)
 
--- one node more
+-- reading one more node
 pub below_more : (cluster : Cluster) (dc end : ℕ) (rs : List Reading) (entries : List Entry) → AreReadBelow cluster dc end rs → AreReadBelow cluster dc (end + 1) (rs ++ record { place = end; entries = entries } ∷ [])
 below_more cluster dc end rs entries all = λ place less is.
     let r : Reading = record { place = end; entries = entries } in
@@ -119,7 +119,7 @@ below_more cluster dc end rs entries all = λ place less is.
           list_any-append (is_at place) rs (r ∷ []) ∙ ap (λ (b : Bool). list_any (is_at place) rs || b) (subst (λ (n : ℕ). list_any (is_at n) (r ∷ []) ≡ true) same (here_is end entries)) ∙ or-true (list_any (is_at place) rs)
     ]
 
--- no node is at a place from this one on
+-- there is no node from this place on
 pub below_rest : (cluster : Cluster) (dc end : ℕ) (rs : List Reading) → (IsNode cluster dc end → ⊥) → AreReadBelow cluster dc end rs → AreReadBelow cluster dc 64 rs
 below_rest cluster dc end rs none all = λ place less is.
     elim (cases_lt place end) [
@@ -130,7 +130,7 @@ below_rest cluster dc end rs none all = λ place less is.
 pub below_refl : (cluster : Cluster) (a : Sender) → CarriesBelow 0 cluster a a
 below_refl cluster a = record { carries = carries_refl cluster a; all = below_none cluster a.dc (carries_refl cluster a).readings }
 
--- all was read, and then frames were sent
+-- all nodes were read, and then frames were sent
 pub below_sent : (end : ℕ) (cluster : Cluster) (a b c : Sender) (p : CarriesBelow end cluster a b) (q : Carries cluster b c) → CarriesBelow end cluster a c
 unfolding carries_trans
 below_sent end cluster a b c p q = record {
@@ -138,7 +138,7 @@ below_sent end cluster a b c p q = record {
   all = below_kept cluster a.dc end p.carries.readings q.readings p.all;
 }
 
--- all was read at last
+-- all nodes were read in the end
 pub below_at_last : (end : ℕ) (cluster : Cluster) (a b c : Sender) (p : Carries cluster a b) (q : CarriesBelow end cluster b c) → CarriesBelow end cluster a c
 unfolding carries_trans
 below_at_last end cluster a b c p q = record {
@@ -146,7 +146,7 @@ below_at_last end cluster a b c p q = record {
   all = below_after cluster a.dc end p.readings q.carries.readings (subst (λ (dc : ℕ). AreReadBelow cluster dc end q.carries.readings) p.dc q.all);
 }
 
--- the book at the next place was read
+-- the log at the next place was read
 pub below_one : (cluster : Cluster) (start a b : Sender) (place count : ℕ) (puts : List PutRecord) (entries : List Entry) → CarriesBelow place cluster start a → b.dc ≡ a.dc → b.repeat ≡ a.repeat → IsReadingAt cluster a.dc (record { place = place; entries = entries }) → count ≡ length entries → b.read ≡ slice_set a.read place count → puts ≡ puts_in (drop (slice_index a.read place) entries) → lanes b ≡ map (and_due (repeated a.repeat puts)) (lanes a) → CarriesBelow (place + 1) cluster start b
 unfolding carries_trans carries_one
 below_one cluster start a b place count puts entries p dc repeat node all read found more =

@@ -1,4 +1,4 @@
--- How much is done, one step after the other.
+-- How much a receiver does, step by step.
 use Rattle.std.proofs.Common.{◌≡◌, Bool, true, false, cond, ℕ, ◌+◌, ◌-◌, ◌<◌, ◌≤◌, inl, inr, List, [], ◌∷◌, ◌++◌, get_or, length, min, set, ap, refl, sym, subst, ◌∙◌, arith}
 use Rattle.std.specs.List.{count_by, sum_by}
 use Rattle.std.proofs.lemmas.Bool.{cases_Bool, cases_lt}
@@ -23,9 +23,9 @@ use Rattle.cops_replication.specs.Doing.{advances, frames_taken, is_advance}
 use Rattle.cops_replication.specs.Shares.{Gains}
 use Rattle.cops_replication.specs.declared.arrival.Answer.TheVariants.{Marked as WasMarked, Settled as WasSettled}
 
--- ---- what entries say
+-- ---- entries that count
 
--- an entry more
+-- appending one entry
 one_more : (a b : Share) (node : ℕ) (event : NodeEvent) (outcome : Outcome) → AddsEntry a.entries.items b.entries.items node event outcome → advances b ≡ advances a + cond (is_advance event outcome) 1 0
 one_more a b node event outcome adds =
     let count : Made → ℕ = λ (m : Made). cond (is_advance m.entry.event m.entry.outcome) 1 0 in
@@ -34,7 +34,7 @@ one_more a b node event outcome adds =
 same_entries : (a b : Share) → b.entries.items ≡ a.entries.items → advances b ≡ advances a
 same_entries a b same = ap (λ (l : List Made). count_by (λ (m : Made). is_advance m.entry.event m.entry.outcome) l) same
 
--- a step that never is one
+-- a step that never counts
 pub advances_none : (a b : Share) (node : ℕ) (event : NodeEvent) → ((outcome : Outcome) → is_advance event outcome ≡ false) → AddsAtMostOne a.entries.items b.entries.items node event → advances b ≡ advances a
 advances_none a b node event never most =
     elim most [
@@ -42,12 +42,12 @@ advances_none a b node event never most =
       | inr one ↦ one_more a b node event one.0 one.1 ∙ ap (λ (x : Bool). advances a + cond x 1 0) (never one.0) ∙ omega arith
     ]
 
--- a refusal is none
+-- a refusal does not count
 refused_none : (event : NodeEvent) (refusal : Refusal) → is_advance event (Refused refusal) ≡ false
 refused_none (Put client key value deps) refusal = refl
 refused_none event refusal = refl
 
--- nor is what no node answers
+-- neither does an outcome that is not a node's own
 not_of_node : (event : NodeEvent) (outcome : Outcome) → is_of_node outcome ≡ false → is_advance event outcome ≡ false
 not_of_node event (Refused refusal) is = refused_none event refusal
 not_of_node event outcome is = absurd cc
@@ -59,12 +59,12 @@ told_one a b node event outcome adds =
       | inr none ↦ same_entries a b (adds.1 none) ∙ omega arith ∙ ap (λ (x : Bool). advances a + cond x 1 0) (sym (not_of_node event outcome none))
     ]
 
--- where no step was made, and it was refused
+-- a step that did not happen, with a refusal
 refused_one : (a b : Share) (event : NodeEvent) (outcome : Outcome) (refusal : Refusal) → b.entries.items ≡ a.entries.items → outcome ≡ Refused refusal → advances b ≡ advances a + cond (is_advance event outcome) 1 0
 refused_one a b event outcome refusal same is =
     same_entries a b same ∙ omega arith ∙ ap (λ (x : Bool). advances a + cond x 1 0) (sym (ap (is_advance event) is ∙ refused_none event refusal))
 
--- a step at the node of a version, where there is one
+-- a step at the node of a version, if there is one
 pub advances_told : (c : Cluster) (dc place node : ℕ) (a b : Share) (event : NodeEvent) (outcome : Outcome)
     → (IsNode c dc place → Adds a.entries.items b.entries.items node event outcome) → ((IsNode c dc place → ⊥) → b.entries.items ≡ a.entries.items)
     → (c.place.dcs ≤ dc → outcome ≡ Refused UnknownDc) → (dc < c.place.dcs → length c.place.splits < place → outcome ≡ Refused NotHeld)
@@ -79,7 +79,7 @@ advances_told c dc place node a b event outcome told none unknown not_held =
           ]
     ]
 
--- ---- what a receiver heeds of it
+-- ---- what a receiver makes of it
 
 pub marked_is : (version dep : ℕ) (outcome : Outcome) → answer_to outcome ≡ WasMarked → is_advance (Mark version dep) outcome ≡ true
 marked_is version dep Marked is = refl
@@ -110,16 +110,16 @@ pub frames_step : (ls : List LinkOut) (k : ℕ) (old new : LinkOut) → k < leng
 frames_step ls k old new less is =
     ap (λ (l : LinkOut). frames_taken (set ls k new) + length (taken l)) is ∙ sum_by-set (λ (l : LinkOut). length (taken l)) ls k new old less
 
--- from which nothing was taken
+-- nothing was taken from the link
 pub none_taken : (ls : List LinkOut) (k : ℕ) (old new : LinkOut) → k < length ls → old ≡ get_or ls k old → taken new ≡ taken old → frames_taken (set ls k new) ≡ frames_taken ls
 none_taken ls k old new less is same = omega (arith, frames_step ls k old new less is, ap (λ (l : List (List ℕ)). length l) same)
 
--- from which a frame was taken
+-- one frame was taken from the link
 pub one_taken : (ls : List LinkOut) (k : ℕ) (old new : LinkOut) (frame : List ℕ) → k < length ls → old ≡ get_or ls k old → taken new ≡ taken old ++ frame ∷ [] → frames_taken (set ls k new) ≡ frames_taken ls + 1
 one_taken ls k old new frame less is more =
     omega (arith, frames_step ls k old new less is, ap (λ (l : List (List ℕ)). length l) more, length-append (taken old) (frame ∷ []))
 
--- which has no more
+-- the link has no more frames
 pub empty_more : (ls : List LinkOut) (k : ℕ) (new : LinkOut) → k < length ls → seen new ≡ [] → ((j : ℕ) (d : LinkOut) → j < k → seen (get_or ls j d) ≡ [])
     → (j : ℕ) (d : LinkOut) → j < k + 1 → seen (get_or (set ls k new) j d) ≡ []
 empty_more ls k new within none before j d less =
@@ -130,6 +130,6 @@ empty_more ls k new within none before j d less =
           subst (λ (n : ℕ). seen (get_or (set ls k new) n d) ≡ []) here (subst (λ (l : LinkOut). seen l ≡ []) (sym (get_or-set_same ls k new d within)) none)
     ]
 
--- a put more was delivered, where counts are cut at the greatest number
+-- one more put was delivered, with counts that are capped at the greatest number
 pub count_one : (first before after hand more old sum : ℕ) → first ≤ before → after ≡ before + 1 → more ≡ 1 → old ≡ min (before + hand - first) 18446744073709551615 → sum ≡ min (more + old) 18446744073709551615 → sum ≡ min (after + hand - first) 18446744073709551615
 count_one first before after hand more old sum le next one counted is = omega arith

@@ -1,4 +1,4 @@
--- What shares gain, one call after the other.
+-- What shares gain, call by call.
 use Rattle.std.proofs.Common.{◌≡◌, ℕ, [], ◌∷◌, ◌++◌, append_assoc, refl, sym, ap, ◌∙◌, inl, inr}
 use Rattle.std.proofs.lemmas.List.{append-nil}
 use Rattle.cops_node.specs.declared.event.NodeEvent.{NodeEvent}
@@ -24,7 +24,7 @@ gains_trans a b c p q = record {
 gains_entry : (a b : Share) → b.holder ≡ a.holder → (node : ℕ) (event : NodeEvent) (outcome : Outcome) → AddsEntry a.entries.items b.entries.items node event outcome → Gains a b
 gains_entry a b who node event outcome adds = record { holder = who; more = made node (entry adds.0 event outcome) ∷ []; entries = adds.1 }
 
--- by one call of the cluster
+-- one call of the cluster
 pub gains_one : (a b : Share) (node : ℕ) (event : NodeEvent) → b.holder ≡ a.holder → AddsAtMostOne a.entries.items b.entries.items node event → Gains a b
 gains_one a b node event who most =
     elim most [ inl same ↦ gains_nothing a b who same | inr one ↦ gains_entry a b who node event one.0 one.1 ]

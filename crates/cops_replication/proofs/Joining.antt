@@ -1,4 +1,4 @@
--- Senders, receivers and the links between them, as they are made one after the other.
+-- Making the senders, the receivers and the links between them, one after the other.
 use Rattle.std.proofs.Common.{◌≡◌, ◌≢◌, ℕ, zero, suc, ◌+◌, ◌-◌, ◌<◌, ◌≤◌, inl, inr, List, [], ◌∷◌, ◌++◌, All, Option, Some, None, get_or, length, map, set, slice_get, slice_index_or, append_assoc, ap, refl, rules, sym, subst, ◌∙◌, arith}
 use Rattle.std.proofs.lemmas.Bool.{cases_lt, cases_eq}
 use Rattle.std.proofs.lemmas.List.{append-nil, get_or-map, get_or-set_same, get_or-set_other, get_or_append_left, get_or_push, length-append, length-map, length_push, map-id, map-set, map_push, nil_from_length}
@@ -38,7 +38,7 @@ place_next own other ne =
 place_own : (own : ℕ) → place_beside own (own + 1) ≡ place_beside own own
 place_own own = place_high own (own + 1) (omega arith) ∙ omega (arith, place_low own own (omega arith))
 
--- those below it stand before it
+-- a lesser data centre has a lesser place
 place_less : (own other next : ℕ) → other < next → other ≢ own → place_beside own other < place_beside own next
 place_less own other next less ne =
     elim (cases_lt own other) [
@@ -86,7 +86,7 @@ row_is outs k d less = get_or-map (λ (w : Vec LinkOut). w.items) outs k d [] le
 
 -- ---- the links from one data centre
 
--- those to the data centres below this one are made
+-- the links to the data centres below this one are made
 pub record MadeBelow (below from capacity : ℕ) (ins : List LinkIn) (before after : List (List LinkOut)) : Type 0 where
   pub len : length ins ≡ place_beside from below
   pub fresh : All (IsFreshIn capacity) ins
@@ -154,7 +154,7 @@ gains_end : (x : Option LinkIn) (before after : List LinkOut) → GainsEnd x bef
 gains_end None before after p = absurd p
 gains_end (Some i) before after p = (i, refl, p)
 
--- those of the data centres below this one are made
+-- the senders of the data centres below this one are made
 pub record JoinedBelow (below dcs capacity : ℕ) (made : List Sender) (outs : List (List LinkOut)) : Type 0 where
   pub senders : AreSenders below (dcs - 1) capacity made
   pub count : length outs ≡ dcs
@@ -202,7 +202,7 @@ ends_more n dcs ins before after count p gains = λ to less.
           )
     ]
 
--- what a data centre has for one of those that came before stays
+-- the end that a data centre has for an earlier one does not change
 end_kept : (n dcs from to : ℕ) (ins : List LinkIn) (before after : List (List LinkOut)) → length before ≡ dcs → AreEnds dcs n before → GainsEnds n ins before after
     → from < n → to < dcs → from ≢ to → for_other after to from ≡ for_other before to from
 end_kept n dcs from to ins before after count p gains less within other =
@@ -216,7 +216,7 @@ end_kept n dcs from to ins before after count p gains less within other =
           ap (λ (l : List LinkOut). slice_get l (place_beside to from)) o.1 ∙ get_below (slice_index_or before to []) (place_beside to from) o.0 there
     ]
 
--- and the new ones are of one link
+-- the new ends belong to one link
 end_new : (n dcs to : ℕ) (ins : List LinkIn) (before after : List (List LinkOut)) → length before ≡ dcs → AreEnds dcs n before → GainsEnds n ins before after
     → to < dcs → n ≢ to → AreOfOneLink (slice_get (map idle ins) (place_beside n to)) (for_other after to n)
 end_new n dcs to ins before after count p gains within other =
@@ -269,7 +269,7 @@ joined_one n dcs capacity senders s ins before after less p dc read links len fr
           ];
     }
 
--- the same, told of what the loop keeps
+-- one more sender, in terms of the loop's invariants
 pub joined_next : (n dcs capacity : ℕ) (senders more : List Sender) (s : Sender) (ins : List LinkIn) (before after : List (Vec LinkOut)) → n < dcs → JoinedBelow n dcs capacity senders (rows before)
     → s.dc ≡ n → s.read ≡ unread → lanes s ≡ map idle ins → length ins ≡ place_beside n (length before) → All (IsFreshIn capacity) ins → GainsEnds n ins (rows before) (rows after)
     → length after ≡ length before → more ≡ senders ++ s ∷ [] → JoinedBelow (n + 1) dcs capacity more (rows after)
@@ -294,13 +294,13 @@ fresh_receivers dcs outs receivers count p is = λ k d less.
       subst (λ (l : List LinkOut). All IsFreshOut l) row old.1,
     )
 
--- nothing is left where as many were taken as there were
+-- nothing is left where as many elements were taken as there were
 pub all_taken : {X Y : Type 0} (f : X → Y) (xs : List X) (rest zs : List Y) → map f xs ++ rest ≡ zs → length zs ≡ length xs → map f xs ≡ zs
 all_taken f xs rest zs all count =
     let none : rest ≡ [] = nil_from_length rest (omega (arith, count, ap length all, length-append (map f xs) rest, length-map xs f)) in
     sym (append-nil (map f xs)) ∙ ap (λ l. map f xs ++ l) (sym none) ∙ all
 
--- and no fewer were taken where nothing is left
+-- as many elements were taken as there were, where nothing is left
 pub none_left : {X Y : Type 0} (f : X → Y) (xs : List X) (rest zs : List Y) → map f xs ++ rest ≡ zs → length rest ≡ 0 → length zs ≡ length xs
 none_left f xs rest zs all none = omega (arith, none, ap length all, length-append (map f xs) rest, length-map xs f)
 

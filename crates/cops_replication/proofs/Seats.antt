@@ -1,4 +1,4 @@
--- Whose shares there are, by their seats.
+-- The holders of shares, by their seats.
 use Rattle.std.proofs.Common.{◌≡◌, ℕ, zero, suc, ◌+◌, ◌-◌, ◌<◌, ◌≤◌, ◌||◌, Bool, true, inl, inr, List, [], ◌∷◌, ◌++◌, All, get_or, length, map, ap, refl, sym, subst, ◌∙◌, arith}
 use Rattle.std.specs.List.{list_any, range_with_len}
 use Rattle.std.proofs.Math.Bool.{or-true}
@@ -15,7 +15,7 @@ use Rattle.cops_cluster.specs.declared.share.Share.{Share}
 use Rattle.cops_replication.specs.Wiring.{numbers}
 use Rattle.cops_replication.specs.declared.receiver.Receiver.{Receiver}
 
--- one of the holders is the one that is looked for
+-- a holder that satisfies the test is in the list
 any_in : (p : Holder → Bool) (f : ℕ → Holder) (n a k : ℕ) → a ≤ k → k < a + n → p (f k) ≡ true → list_any p (map f (range_with_len a n)) ≡ true
 any_in p f zero a k low high found = absurd (omega (arith, low, high))
 any_in p f (suc n) a k low high found =
@@ -38,7 +38,7 @@ client_seat clients seat less = grind (arith, common_steps, less)
 receiver_seat : (clients seat dc : ℕ) → clients + dc ≡ seat → is_seat clients seat (HeldByReceiver dc) ≡ true
 receiver_seat clients seat dc is = grind (arith, common_steps, is)
 
--- each client's and each receiver's share is there
+-- the share of each client and of each receiver is there
 pub all_seated : (clients dcs : ℕ) (shares : List Share) → holders shares ≡ map HeldByClient (numbers clients) ++ map HeldByReceiver (numbers dcs) → AreAll clients dcs shares
 all_seated clients dcs shares all =
     let of_clients : List Holder = map HeldByClient (numbers clients) in
@@ -77,7 +77,7 @@ numbered_from f (x ∷ xs) a (suc n) len each =
     let tail : map f xs ≡ range_with_len (a + 1) n = numbered_from f xs (a + 1) n (omega (arith, len)) (λ k d less. each (suc k) d (omega (arith, less)) ∙ omega arith) in
     ap (λ (m : ℕ). m ∷ map f xs) head ∙ ap (λ (l : List ℕ). a ∷ l) tail
 
--- holders that are those of these numbers, one by one
+-- holders that match these numbers, one by one
 pub held_from : {X : Type 0} (f : X → Holder) (g : ℕ → Holder) (xs : List X) (a n : ℕ) → length xs ≡ n → ((k : ℕ) (d : X) → k < n → f (get_or xs k d) ≡ g (a + k)) → map f xs ≡ map g (range_with_len a n)
 held_from f g [] a zero len each = refl
 held_from f g [] a (suc n) len each = absurd (omega (arith, len))
@@ -87,7 +87,7 @@ held_from f g (x ∷ xs) a (suc n) len each =
     let tail : map f xs ≡ map g (range_with_len (a + 1) n) = held_from f g xs (a + 1) n (omega (arith, len)) (λ k d less. each (suc k) d (omega (arith, less)) ∙ ap g (omega arith)) in
     ap (λ (h : Holder). h ∷ map f xs) head ∙ ap (λ (l : List Holder). g a ∷ l) tail
 
--- receivers with shares that are held by their places
+-- the receivers hold the shares of their own places
 pub placed_from : (rs : List Receiver) (ss : List Share) (a n : ℕ) → map (λ (r : Receiver). r.dc) rs ≡ range_with_len a n → map (λ (r : Receiver). r.share) rs ≡ ss
     → ((k : ℕ) (d : Share) → k < n → (get_or ss k d).holder ≡ HeldByReceiver (a + k)) → All (λ (r : Receiver). r.share.holder ≡ HeldByReceiver r.dc) rs
 placed_from [] ss a n dcs shares each = λ k d less. absurd (omega (arith, less))

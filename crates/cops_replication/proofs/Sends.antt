@@ -1,4 +1,4 @@
--- What lanes are sent, one frame after the other.
+-- Sending on lanes, frame by frame.
 use Rattle.std.proofs.Common.{◌≡◌, ℕ, zero, suc, ◌+◌, ◌<◌, List, [], ◌∷◌, ◌++◌, length, map, drop, get_or, set, append_assoc, refl, sym, ap, subst, ◌∙◌, arith}
 use Rattle.std.proofs.lemmas.List.{append-nil, drop_more, map-append, map-set, length-map}
 use Rattle.std.proofs.Math.ListN.{get_or-map}
@@ -26,13 +26,13 @@ sends_trans x y z p q = record {
   due = p.due ∙ ap (λ l. p.more ++ l) q.due ∙ sym (append_assoc p.more q.more z.due);
 }
 
--- a lane that is sent nothing
+-- sending nothing on a lane
 pub sends_nothing : (puts : List PutRecord) (x : ALane) (a b : Lane) → Sends x (shown puts a) → SameIn a.link b.link → sent b.link ≡ sent a.link → b.next ≡ a.next → Sends x (shown puts b)
 sends_nothing puts x a b p same sents next =
     let one : Sends (shown puts a) (shown puts b) = record { same = same; more = []; sent = sents ∙ sym (append-nil (sent a.link)); due = ap (λ n. map spelled (drop n puts)) (sym next) } in
     sends_trans x (shown puts a) (shown puts b) p one
 
--- a lane that is sent the frame of the next put
+-- sending the frame of the next put on a lane
 pub sends_one : (puts : List PutRecord) (x : ALane) (a b : Lane) (put : PutRecord) → Sends x (shown puts a) → a.next < length puts → get_or puts a.next put ≡ put → SameIn a.link b.link → sent b.link ≡ sent a.link ++ spelled put ∷ [] → b.next ≡ a.next + 1 → Sends x (shown puts b)
 sends_one puts x a b put p less is same sents next =
     let cut : drop a.next puts ≡ put ∷ drop b.next puts = drop_more puts a.next put less ∙ ap (λ q. q ∷ drop (a.next + 1) puts) is ∙ ap (λ n. put ∷ drop n puts) (sym next) in
@@ -51,7 +51,7 @@ each_trans (x ∷ xs) [] zs p q = absurd p
 each_trans (x ∷ xs) (y ∷ ys) [] p q = absurd q
 each_trans (x ∷ xs) (y ∷ ys) (z ∷ zs) p q = (sends_trans x y z p.0 q.0, each_trans xs ys zs p.1 q.1)
 
--- one more lane is sent some
+-- sending on one more lane
 pub each_set : (xs ys : List ALane) (k : ℕ) (y d : ALane) → k < length ys → EachSends xs ys → Sends (get_or ys k d) y → EachSends xs (set ys k y)
 each_set [] [] k y d less p q = absurd (omega (arith, less))
 each_set [] (b ∷ ys) k y d less p q = absurd p
@@ -59,13 +59,13 @@ each_set (x ∷ xs) [] k y d less p q = absurd p
 each_set (x ∷ xs) (b ∷ ys) zero y d less p q = (sends_trans x b y p.0 q, p.1)
 each_set (x ∷ xs) (b ∷ ys) (suc k) y d less p q = (p.0, each_set xs ys k y d (omega (arith, less)) p.1 q)
 
--- the same of lanes that are kept by how many puts they were sent
+-- sending on one more lane, for lanes that are represented by counters
 pub each_shown_set : (puts : List PutRecord) (xs : List ALane) (ls : List Lane) (k : ℕ) (b d : Lane) → k < length ls → EachSends xs (map (shown puts) ls) → Sends (shown puts (get_or ls k d)) (shown puts b) → EachSends xs (map (shown puts) (set ls k b))
 each_shown_set puts xs ls k b d less p q =
     let within : k < length (map (shown puts) ls) = omega (arith, less, length-map ls (shown puts)) in
     subst (λ l. EachSends xs l) (sym (map-set (shown puts) ls k b)) (each_set xs (map (shown puts) ls) k (shown puts b) (shown puts d) within p (subst (λ x. Sends x (shown puts b)) (sym (get_or-map (shown puts) ls k d)) q))
 
--- what is due after all else stays so
+-- appending frames that are due commutes with sending
 pub and_due_sends : (puts : List PutRecord) (x y : ALane) → Sends x y → Sends (and_due puts x) (and_due puts y)
 and_due_sends puts x y p = record {
   same = p.same;
@@ -101,10 +101,10 @@ pub carried_trans : (p q : List PutRecord) (a b c : List ALane) → Carried p a 
 carried_trans p q a b c one two =
     subst (λ l. EachSends l c) (all_both p q a) (each_trans (map (and_due q) (map (and_due p) a)) (map (and_due q) b) c (each_and_due q (map (and_due p) a) b one) two)
 
--- more puts are due
+-- appending puts that are due
 pub carried_more : (puts : List PutRecord) (a b : List ALane) → b ≡ map (and_due puts) a → Carried puts a b
 carried_more puts a b is = subst (λ l. EachSends (map (and_due puts) a) l) (sym is) (each_refl (map (and_due puts) a))
 
--- some are sent
+-- sending some frames
 pub carried_sent : (a b : List ALane) → EachSends a b → Carried [] a b
 carried_sent a b p = subst (λ l. EachSends l b) (sym (all_none a)) p

@@ -1,4 +1,4 @@
--- Lanes that are kept by how many of the puts they were sent.
+-- Lanes that are represented by how many of the puts were sent on them.
 use Rattle.std.proofs.Common.{◌≡◌, ◌↔◌, Bool, IsTrue, ℕ, ◌+◌, ◌-◌, ◌<◌, ◌≤◌, below_more, get_or, set, List, [], ◌∷◌, ◌++◌, All, length, map, drop, refl, sym, ap, subst, ◌∙◌, arith}
 use Rattle.std.proofs.lemmas.List.{drop-append-le, drop-drop, drop_all, get_or-set_other, get_or-set_same, length-drop, length-map, map-append, map-set}
 use Rattle.std.proofs.lemmas.List.Elements.{All-cons, All-head, All-tail}
@@ -10,7 +10,7 @@ use Rattle.cops_replication.specs.Lanes.{ALane, IsClearOrFull, IsWithin, shown, 
 abbrev lane_of : Lane → List (List ℕ) → ALane
 lane_of l due = record { link = l.link; due = due }
 
--- more puts are due on each lane, after all others
+-- appending puts makes them due on each lane, after all others
 pub shown_more : (puts more : List PutRecord) (ls : List Lane) → All (IsWithin puts) ls → map (shown (puts ++ more)) ls ≡ map (and_due more) (map (shown puts) ls)
 shown_more puts more [] within = refl
 shown_more puts more (l ∷ ls) within =
@@ -19,7 +19,7 @@ shown_more puts more (l ∷ ls) within =
     ap (λ d. lane_of l d ∷ map (shown (puts ++ more)) ls) first
     ∙ ap (λ r. lane_of l (map spelled (drop l.next puts) ++ map spelled more) ∷ r) (shown_more puts more ls (All-tail (IsWithin puts) l ls within))
 
--- nothing changes where the first puts, which every lane was sent, are let go
+-- dropping the first puts, which were sent on every lane, changes nothing that is due
 pub shown_from : (puts : List PutRecord) (first : ℕ) (ls : List Lane) → All (λ (l : Lane). first ≤ l.next) ls → map (shown (drop first puts)) (map (counted_from first) ls) ≡ map (shown puts) ls
 shown_from puts first [] sent = refl
 shown_from puts first (l ∷ ls) sent =
@@ -44,7 +44,7 @@ due_none puts (l ∷ ls) sent =
     (ap (map spelled) (drop_all l.next puts (All-head (λ (x : Lane). length puts ≤ x.next) l ls sent)))
     (due_none puts ls (All-tail (λ (x : Lane). length puts ≤ x.next) l ls sent))
 
--- and no other way
+-- each lane was sent all puts where nothing is due on any lane
 pub none_due : (puts : List PutRecord) (ls : List Lane) → HasSentAll (map (shown puts) ls) → All (λ (l : Lane). length puts ≤ l.next) ls
 none_due puts [] none = λ k d less. absurd (omega (arith, less))
 none_due puts (l ∷ ls) none =
@@ -52,13 +52,13 @@ none_due puts (l ∷ ls) none =
     let count : length puts ≤ l.next = omega (arith, sym (length-map (drop l.next puts) spelled) ∙ ap length first, length-drop l.next puts) in
     All-cons (λ (x : Lane). length puts ≤ x.next) l ls count (none_due puts ls (All-tail (λ (x : ALane). x.due ≡ []) (shown puts l) (map (shown puts) ls) none))
 
--- what was told of how many puts each lane was sent, told of what is due
+-- how many puts were sent on each lane, in terms of what is due
 pub clear_is : (puts : List PutRecord) (ls same : List Lane) (n : ℕ) (all : List ALane) (b : Bool) → same ≡ ls → n ≡ length puts → map (shown puts) ls ≡ all → IsTrue b ↔ All (λ (l : Lane). n ≤ l.next) same → IsTrue b ↔ HasSentAll all
 clear_is puts ls same n all b is count view told =
     let each : IsTrue b ↔ All (λ (l : Lane). length puts ≤ l.next) ls = subst (λ m. IsTrue b ↔ All (λ (l : Lane). m ≤ l.next) ls) count (subst (λ xs. IsTrue b ↔ All (λ (l : Lane). n ≤ l.next) xs) is told) in
     (λ h. subst HasSentAll view (due_none puts ls (each.0 h)), λ h. each.1 (none_due puts ls (subst HasSentAll (sym view) h)))
 
--- one more lane was sent all, or is full
+-- one more lane has nothing due, or is full
 pub filled_more : (puts : List PutRecord) (ls : List Lane) (k : ℕ) (l : Lane) → k < length ls → ((i : ℕ) (d : ALane) → i < k → IsClearOrFull (get_or (map (shown puts) ls) i d)) → IsClearOrFull (shown puts l)
     → (i : ℕ) (d : ALane) → i < k + 1 → IsClearOrFull (get_or (map (shown puts) (set ls k l)) i d)
 filled_more puts ls k l inside before here = λ i d less.

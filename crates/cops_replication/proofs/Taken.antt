@@ -1,4 +1,4 @@
--- What is taken from links, one frame after the other.
+-- Taking from links, frame by frame.
 use Rattle.std.proofs.Common.{◌≡◌, ℕ, zero, suc, ◌+◌, ◌<◌, ◌≤◌, List, [], ◌∷◌, ◌++◌, drop, get_or, length, set, append_assoc, ap, refl, sym, ◌∙◌, subst, arith}
 use Rattle.std.proofs.lemmas.List.{append-nil, drop-drop, drop-set-lt, length-append}
 use Rattle.cops_link.specs.Link.{taken, SameOut}
@@ -44,7 +44,7 @@ each_takes_more m n (x ∷ xs) [] le p = absurd p
 each_takes_more m n (x ∷ xs) (y ∷ ys) le p =
     (record { same = p.0.same; more = p.0.more; taken = p.0.taken; few = omega (arith, p.0.few, le) }, each_takes_more m n xs ys le p.1)
 
--- some are taken from one more link, from which none was taken
+-- taking from one more link, from which nothing was taken before
 pub each_takes_set : (xs ys : List LinkOut) (k : ℕ) (y d : LinkOut) → k < length xs → EachTakesUpTo 1 xs ys → drop k ys ≡ drop k xs → TakesUpTo 1 (get_or ys k d) y → EachTakesUpTo 1 xs (set ys k y)
 each_takes_set [] ys k y d less p rest one = absurd (omega (arith, less))
 each_takes_set (x ∷ xs) [] k y d less p rest one = absurd p
@@ -53,11 +53,11 @@ each_takes_set (x ∷ xs) (b ∷ ys) zero y d less p rest one =
     (subst (λ (l : LinkOut). TakesUpTo 1 l y) same one, p.1)
 each_takes_set (x ∷ xs) (b ∷ ys) (suc k) y d less p rest one = (p.0, each_takes_set xs ys k y d (omega (arith, less)) p.1 rest one)
 
--- the links after it stay
+-- the links after it do not change
 pub rest_set : (xs ys : List LinkOut) (k : ℕ) (y : LinkOut) → drop k ys ≡ drop k xs → drop (k + 1) (set ys k y) ≡ drop (k + 1) xs
 rest_set xs ys k y rest =
     drop-set-lt (k + 1) ys k y (omega arith) ∙ sym (drop-drop 1 k ys) ∙ ap (drop 1) rest ∙ drop-drop 1 k xs
 
--- the same, told of what was read at its place
+-- taking from one more link, in terms of the loop's invariants
 pub each_step : (xs ys : List LinkOut) (k : ℕ) (old new : LinkOut) → k < length xs → EachTakesUpTo 1 xs ys → drop k ys ≡ drop k xs → old ≡ get_or ys k old → TakesUpTo 1 old new → EachTakesUpTo 1 xs (set ys k new)
 each_step xs ys k old new less p rest is one = each_takes_set xs ys k new old less p rest (subst (λ (l : LinkOut). TakesUpTo 1 l new) is one)

@@ -1,10 +1,10 @@
--- What nodes answer, as far as a receiver heeds it.
+-- The nodes' answers, reduced to what a receiver acts on.
 use Rattle.cops_node.specs.declared.outcome.Outcome.{Outcome}
 use Rattle.cops_node.specs.declared.outcome.Outcome.TheVariants.{Held, Repeat, Marked, Settled}
 use Rattle.cops_replication.specs.declared.arrival.Answer.{Answer}
 use Rattle.cops_replication.specs.declared.arrival.Answer.TheVariants.{Waits, Repeat as Repeats, Marked as WasMarked, Settled as WasSettled, Other}
 
--- the outcome in short
+-- the answer for an outcome
 abbrev pub answer_to : Outcome → Answer
 answer_to Held = Waits
 answer_to Repeat = Repeats

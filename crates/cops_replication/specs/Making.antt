@@ -1,4 +1,4 @@
--- Links while they are made, from one data centre after the other.
+-- The links while they are made, one data centre after the other.
 use Rattle.std.specs.Prelude.{◌≡◌, ◌≢◌, ℕ, ◌<◌, List, [], ◌∷◌, ◌++◌, length, map, slice_get, slice_index_or, Option, Some, None}
 use Rattle.std.specs.List.{All}
 use Rattle.std.specs.Global.{Vec}
@@ -10,21 +10,21 @@ use Rattle.cops_replication.specs.Receiving.{ends}
 use Rattle.cops_replication.specs.Wiring.{IsFreshOut, numbers, place_beside}
 use Rattle.cops_replication.specs.declared.receiver.Receiver.{Receiver}
 
--- the ends that take, of each data centre
+-- the taking ends of each data centre
 abbrev pub rows : List (Vec LinkOut) → List (List LinkOut)
 rows outs = map (λ (v : Vec LinkOut). v.items) outs
 
--- the taking end of this link, from which nothing was taken, came last
+-- the taking end of this link, from which nothing was taken, was appended
 abbrev pub GainsEnd : Option LinkIn → List LinkOut → List LinkOut → Type 0
 GainsEnd None before after = ⊥
 GainsEnd (Some i) before after = (o : LinkOut) × (after ≡ before ++ o ∷ []) × IsLink i o × IsFreshOut o
 
--- each data centre but this one gained the taking end of the link that is for it
+-- each data centre but this one gained the taking end of the link that leads to it
 pub record GainsEnds (from : ℕ) (ins : List LinkIn) (before after : List (List LinkOut)) : Type 0 where
   pub own : slice_index_or after from [] ≡ slice_index_or before from []
   pub others : (to : ℕ) → to < length before → to ≢ from → GainsEnd (slice_get ins (place_beside from to)) (slice_index_or before to []) (slice_index_or after to [])
 
--- each of so many data centres has an end of a link from each other one of the first so many, from which nothing was taken
+-- each of `dcs` data centres has the end of a link from each other one of the first `count`, from which nothing was taken
 abbrev pub AreEnds : ℕ → ℕ → List (List LinkOut) → Type 0
 AreEnds dcs count outs = (to : ℕ) → to < dcs → (length (slice_index_or outs to []) ≡ place_beside to count) × All IsFreshOut (slice_index_or outs to [])
 

@@ -1,4 +1,4 @@
--- What a turn that did so much answers, and why turns ended.
+-- The result of a turn by how much it did, and why turns ended.
 use Rattle.std.specs.Prelude.{◌≡◌, ℕ, ◌<◌, min}
 use Rattle.cops_types.specs.declared.gate.Point.{Point}
 use Rattle.cops_types.specs.NodeNumber.{node_number}
@@ -10,11 +10,11 @@ use Rattle.cops_replication.specs.declared.turn.Turn.TheVariants.{Did, Idle}
 use Rattle.cops_replication.specs.declared.turn.TurnFault.{TurnFault}
 use Rattle.cops_replication.specs.declared.turn.TurnFault.TheVariants.{Memory, Held, TurnLimit}
 
--- so many, or at least so many where no number of 64 bits tells more
+-- the count is `all`, capped at the greatest number of 64 bits
 abbrev pub IsCountOf : ℕ → ℕ → Type 0
 IsCountOf all count = count ≡ min all 18446744073709551615
 
--- so much was done, or at least so much where no number tells more
+-- the turn's result is how much was done, capped at the greatest number of 32 bits
 abbrev pub IsTurnOf : ℕ → Turn → Type 0
 IsTurnOf done Idle = done ≡ 0
 IsTurnOf done (Did told) = (0 < done) × (told ≡ min done 4294967295)
@@ -23,13 +23,13 @@ IsTurnOf done (Did told) = (0 < done) × (told ≡ min done 4294967295)
 abbrev pub MayHoldReceiver : (Point → Type 0) → Cluster → ℕ → Type 0
 MayHoldReceiver may_hold cluster dc = (place : ℕ) × IsNode cluster dc place × MayHoldStep may_hold (node_number dc place) RECEIVER
 
--- why a turn ended early
+-- why a turn failed
 abbrev pub IsFaultAt : (Point → Type 0) → Cluster → ℕ → TurnFault → Type 0
 IsFaultAt may_hold cluster dc Memory = Unit {0}
 IsFaultAt may_hold cluster dc Held = MayHoldReceiver may_hold cluster dc
 IsFaultAt may_hold cluster dc TurnLimit = ⊥
 
--- why turns ended before all was done
+-- why a sequence of turns failed
 abbrev pub IsEndAt : (Point → Type 0) → Cluster → ℕ → TurnFault → Type 0
 IsEndAt may_hold cluster dc Memory = Unit {0}
 IsEndAt may_hold cluster dc Held = MayHoldReceiver may_hold cluster dc

@@ -1,4 +1,4 @@
-//! Puts and deletions that were taken from links, and what nodes answer to them.
+//! Puts and deletions taken from links, and the nodes' answers to them.
 ghost use Rattle.std.specs.Prelude.{◌≡◌, [], ◌∷◌, ◌++◌, IfNone, IfOk, IfSome};
 ghost use Rattle.cops_types.specs.declared.put_record.PutRecord.{PutRecord};
 ghost use Rattle.cops_wire.specs.Replicated.{put_after};
@@ -12,18 +12,18 @@ use cops_node::Outcome;
 use cops_types::{Memory, PutRecord};
 use cops_wire::Message;
 
-/// What is known of a put that was taken from a link.
+/// What the receiver knows of a put that it took from a link.
 #[derive(Clone, Copy, PartialEq)]
 pub enum Stage {
-    /// It is to be delivered.
+    /// The put still has to be delivered.
     Taken,
-    /// It is to be delivered, and a gate held its delivery, whose answer is not known.
+    /// The put still has to be delivered. A gate stopped an earlier delivery, whose answer is not known.
     Unknown,
-    /// It waits at its node.
+    /// The put waits at its node.
     Waiting,
 }
 
-/// What a node answered, as far as a receiver heeds it.
+/// A node's answer, reduced to what a receiver acts on.
 #[derive(Clone, Copy)]
 pub enum Answer {
     Waits,
@@ -41,7 +41,7 @@ pub struct Arrival {
 }
 
 impl Answer {
-    /// The answer in short: `Memory` where it is want of memory.
+    /// The answer for an outcome; `Memory` where the outcome is a refusal because memory ran out.
     pub fn of(outcome: Outcome) -> Result<Self, Memory>
         ensures { IfOk result (λ answer. answer ≡ answer_to outcome) }
     {
@@ -58,7 +58,7 @@ impl Answer {
     }
 }
 
-/// Whether this answer to a delivery says that the put waits at its node, which was at this stage before.
+/// Whether the put waits at its node after this answer to its delivery, given its stage before the delivery.
 pub fn waits(answer: Answer, stage: Stage) -> bool {
     match answer {
         Answer::Waits => true,
@@ -67,7 +67,7 @@ pub fn waits(answer: Answer, stage: Stage) -> bool {
     }
 }
 
-/// Takes the next frame, if one is there.
+/// Takes the next frame from the link, if there is one. Returns `Memory` when memory runs out.
 pub fn next_arrival(link: &mut LinkOut) -> Result<Option<Arrival>, Memory>
     ensures takes { TakesUpTo 1 link.old link.new }
     ensures some { IfOk result (λ o. IfSome o (λ a. taken link.new ≡ taken link.old ++ spelled a.put ∷ [])) }
@@ -79,7 +79,7 @@ pub fn next_arrival(link: &mut LinkOut) -> Result<Option<Arrival>, Memory>
     }
 }
 
-/// The put that a message replicates, without a value where that is a deletion.
+/// The put that a message replicates. A deletion is a put without a value.
 fn arrival_of(message: Message) -> Arrival
     requires { (put : PutRecord) × (message ≡ put_after put) }
     ensures { message ≡ put_after result.put }

@@ -1,4 +1,4 @@
-//! Puts that were delivered and are not settled yet, and what is to be asked of their dependencies.
+//! Puts that were delivered and are not settled yet, and the questions to ask about their dependencies.
 ghost use Rattle.std.specs.Prelude.{◌≡◌, IfOk, length};
 
 use cops_types::{Dep, Deps, Memory, PutRecord, Version};
@@ -10,27 +10,27 @@ use std::alloc::{AllocError, Global};
 struct Waiting {
     pair: Dep,
     deps: Deps,
-    /// How many dependencies are not marked.
+    /// The number of dependencies that are not marked.
     unmarked: usize,
 }
 
-/// A question to be asked: that of a dependency, by its index, of the put of this version. A put with no dependency has
-/// one question too, for its turn to come.
+/// A question to ask: whether a dependency, given by its index, of the put of this version is settled. A put without
+/// dependencies has one question too, which brings the put to its settlement.
 #[derive(Clone, Copy)]
 pub(crate) struct Question {
     pub(crate) version: Version,
     pub(crate) dep: u16,
 }
 
-/// Puts that wait. Each of their open dependencies stands in one of two places: among the questions that are to be
-/// asked, or, once it was answered Wait, at its pair, until that is settled.
+/// The puts that wait. Each dependency that is not marked yet is in one of two places: in `questions`, or, after the
+/// answer Wait, in `parked` under its pair until that pair is settled.
 #[derive(Drop)]
 pub(crate) struct Backlog {
     waiting: IndexMap<Version, Waiting>,
-    /// The next question stands last.
+    /// The questions to ask. The next one is the last.
     questions: Vec<Question>,
     parked: IndexMap<Dep, Vec<Question>>,
-    /// The put that is to be settled before all else.
+    /// The put to settle before anything else.
     ready: Option<Version>,
     alloc: Global,
 }
@@ -52,7 +52,7 @@ impl Waiting {
         })
     }
 
-    /// The questions that it begins with, the first one last.
+    /// The put's first questions, in reverse order: the first one to ask is the last.
     fn questions(&self, alloc: Global) -> Result<Vec<Question>, AllocError> {
         let mut questions = Vec::new(alloc);
         let last = self.deps.as_slice().len().saturating_sub(1);
@@ -89,7 +89,7 @@ impl Backlog {
         self.waiting.is_empty()
     }
 
-    /// A put that waits from now on, unless it does so already. A refusal changes nothing.
+    /// Adds a put that waits, unless it is there already. An error, which is `Memory`, leaves the backlog unchanged.
     pub(crate) fn add(&mut self, put: &PutRecord) -> Result<(), Memory>
         ensures unmarked { OnOk result (IsNone (unmarked_of self.old put.now.version) → unmarked_of self.new put.now.version ≡ Some (length put.now.deps)) }
     {
@@ -112,12 +112,12 @@ impl Backlog {
         Ok(())
     }
 
-    /// The put that is to be settled before all else.
+    /// The put to settle before anything else.
     pub(crate) fn ready(&self) -> Option<Version> {
         self.ready
     }
 
-    /// The question that is to be asked next.
+    /// The question to ask next.
     pub(crate) fn question(&self) -> Option<Question> {
         Some(*self.questions.last()?)
     }
@@ -127,7 +127,8 @@ impl Backlog {
         pair_in(&self.waiting, self.question()?)
     }
 
-    /// The next question was answered Wait: it is asked again once its pair is settled. A refusal changes nothing.
+    /// Parks the next question after the answer Wait: it is asked again once its pair is settled. An error, which is
+    /// `Memory`, leaves the backlog unchanged.
     pub(crate) fn park(&mut self) -> Result<(), Memory> {
         let Some(question) = self.question() else {
             return Ok(());
@@ -146,7 +147,8 @@ impl Backlog {
         Ok(())
     }
 
-    /// The dependency of the next question is marked. Its put is to be settled where that was the last.
+    /// Marks the dependency of the next question. If that was the put's last unmarked dependency, the put is ready to
+    /// settle.
     pub(crate) fn mark(&mut self)
         ensures ready { self.new.ready ≡ option_map_or (λ q. ready_after self.old q.version) (next self.old) self.old.ready }
         ensures unmarked { IfSome (next self.old) (λ q. unmarked_of self.new q.version ≡ one_fewer (unmarked_of self.old q.version)) }
@@ -156,7 +158,7 @@ impl Backlog {
         }
     }
 
-    /// A dependency of the put of this version is marked.
+    /// Marks one dependency of the put of this version.
     fn mark_put(&mut self, version: Version)
         ensures ready { self.new.ready ≡ ready_after self.old version }
         ensures unmarked { unmarked_of self.new version ≡ one_fewer (unmarked_of self.old version) }
@@ -170,14 +172,15 @@ impl Backlog {
         }
     }
 
-    /// The put of the next question has no such dependency: it is to be settled.
+    /// Drops the next question, whose put has no such dependency: the put is ready to settle.
     pub(crate) fn skip(&mut self) {
         if let Some(question) = self.questions.pop() {
             self.ready = Some(question.version);
         }
     }
 
-    /// The questions about a put that is about to be settled are to be asked again. A refusal changes nothing.
+    /// Moves the questions parked at a put that is about to be settled back to the questions to ask. An error, which is
+    /// `Memory`, leaves the backlog unchanged.
     pub(crate) fn wake(&mut self, version: Version) -> Result<(), Memory> {
         let Some(waiting) = self.waiting.get(&version) else {
             return Ok(());
@@ -188,7 +191,7 @@ impl Backlog {
         Ok(())
     }
 
-    /// The put was settled.
+    /// Removes a put that was settled.
     pub(crate) fn settle(&mut self, version: Version) {
         self.ready = None;
         if let Some(waiting) = self.waiting.swap_remove(&version) {
@@ -197,14 +200,14 @@ impl Backlog {
     }
 }
 
-/// One question alone.
+/// A list of this one question.
 fn only(alloc: Global, question: Question) -> Result<Vec<Question>, Memory> {
     let mut questions = Vec::new(alloc);
     questions.push(question)?;
     Ok(questions)
 }
 
-/// The pair that a question about one of these puts is about.
+/// The pair that a question is about, for a question about one of these puts.
 fn pair_in(waiting: &IndexMap<Version, Waiting>, question: Question) -> Option<&Dep> {
     let asked = waiting.get(&question.version)?;
     asked.deps.as_slice().get(usize::from(question.dep))

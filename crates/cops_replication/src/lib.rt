@@ -1,9 +1,12 @@
-//! What the threads of a data centre do so that its puts come into the others, and theirs into it (COPS, section 4.3: a
-//! put is replicated with its nearest dependencies, and is settled once each dependency was checked). A sender reads
-//! the books of its data centre's nodes and sends each put on each of its links; a receiver takes what comes and
-//! delivers, asks, marks and settles it. Each works in turns, so that whoever drives it says when it ends. Stands on
-//! the cluster and on the links. The layers above use that a sender loses, doubles and swaps nothing, that a receiver's
-//! share only gains its own steps, and that a drained one keeps nothing back.
+//! Replication: the work of a data centre's threads that brings its puts to the other data centres, and theirs to it
+//! (COPS, section 4.3: a put is replicated with its nearest dependencies, and is settled once each dependency was
+//! checked). A sender reads the logs of its data centre's nodes and sends each put on each of its links. A receiver
+//! takes the frames that arrive, and delivers, asks, marks and settles their puts. Both work in turns, so that the
+//! thread that drives them decides when to stop.
+//!
+//! It builds on the cluster and on the links. The layers above rely on this: a sender does not lose, duplicate or
+//! reorder anything; a receiver only adds its own steps to its share; and a drained sender or receiver has nothing
+//! pending.
 #![tactic(auto)]
 
 mod arrival;

@@ -1,4 +1,4 @@
-//! Puts that are to go out on links.
+//! Puts waiting to be sent on links.
 ghost use Rattle.std.specs.Prelude.{◌≡◌, ◌≤◌, ◌↔◌, ◌-◌, ◌++◌, All, IfOk, OnOk, IsTrue, drop, map, replicate, vec_len};
 ghost use Rattle.cops_replication.specs.Lanes.{AreClearOrFull, EachSends, counted_from, frames, repeated, shown, IsWithin};
 ghost use Rattle.cops_replication.specs.Turns.{IsCountOf};
@@ -8,14 +8,14 @@ use cops_types::{Memory, PutRecord};
 use std::alloc::Global;
 use std::marker::Model;
 
-/// A link, and how many of the puts at hand it was sent.
+/// A link, and how many of the outbox's puts were sent on it.
 #[derive(Drop)]
 pub(crate) struct Lane {
     link: LinkIn,
     next: usize,
 }
 
-/// Links, and puts in order, of which each link is sent those that it was not sent yet.
+/// Links, and an ordered list of puts, all of which are sent on each link.
 #[derive(Drop)]
 pub(crate) struct Outbox {
     lanes: Vec<Lane>,
@@ -40,8 +40,8 @@ impl Lane {
     ghost use Rattle.cops_link.specs.Link.{sent};
     ghost use Rattle.cops_replication.specs.Lanes.{IsClearOrFull, Sends, shown, IsWithin};
 
-    /// Sends the puts that were not sent yet, until the link is full, and says how many. Without want of
-    /// memory it leaves none where there is room.
+    /// Sends the puts that were not sent yet until the link is full, and returns how many it sent. Unless memory runs
+    /// out (`Memory`), it stops only at a full link.
     fn send(&mut self, alloc: Global, puts: &[PutRecord]) -> Result<usize, Memory>
         requires { IsWithin puts.now self.old }
         ensures within { IsWithin puts.now self.new }
@@ -66,7 +66,7 @@ impl Outbox {
     ghost use Rattle.cops_replication.specs.Lanes.{AreClearOrFull, EachSends, HasSentAll, and_due, frames, idle, repeated};
     ghost use Rattle.cops_replication.specs.Turns.{IsCountOf};
 
-    /// These links, with nothing to send. Where memory runs out the links are gone.
+    /// An outbox of these links, with nothing to send. On `Memory` the links are dropped.
     pub(crate) fn new(alloc: Global, links: Vec<LinkIn>) -> Result<Self, Memory>
         ensures { IfOk result (λ o. o ≡ map idle links.items) }
     {
@@ -81,7 +81,7 @@ impl Outbox {
         })
     }
 
-    /// More puts, each so many times more, which go last. A refusal changes nothing.
+    /// Appends puts, each repeated `repeat` more times. An error, which is `Memory`, leaves the outbox unchanged.
     pub(crate) fn add(&mut self, puts: Vec<PutRecord>, repeat: u8) -> Result<(), Memory>
         ensures ok { OnOk result (self.new ≡ map (and_due (repeated repeat puts.items)) self.old) }
         ensures err { OnErr result (self.new ≡ self.old) }
@@ -91,7 +91,8 @@ impl Outbox {
         Ok(())
     }
 
-    /// Sends on each link what it was not sent yet, until it is full, and says how many frames in all.
+    /// Sends on each link the puts that were not sent on it yet until it is full, and returns the total number of
+    /// frames. Returns `Memory` when memory runs out.
     pub(crate) fn send(&mut self) -> Result<usize, Memory>
         ensures sends { EachSends self.old self.new }
         ensures count { IfOk result (IsCountOf (frames self.new - frames self.old)) }
@@ -100,7 +101,7 @@ impl Outbox {
         send_on(&mut self.lanes, self.alloc, &self.puts)
     }
 
-    /// Lets go of the puts that every link was sent, once they are half of those at hand.
+    /// Drops the puts that were sent on every link, once they are at least half of the list.
     pub(crate) fn forget(&mut self)
         ensures { self.new ≡ self.old }
     {
@@ -112,14 +113,14 @@ impl Outbox {
         count_from(&mut self.lanes, sent);
     }
 
-    /// Whether each link was sent all.
+    /// Whether all puts were sent on every link.
     pub(crate) fn is_clear(&self) -> bool
         ensures { IsTrue result ↔ HasSentAll self.now }
     {
         were_sent(&self.lanes, self.puts.len())
     }
 
-    /// Ends the sending on each link.
+    /// Closes the sending end of each link.
     pub(crate) fn finish(self) {
         let Outbox {
             lanes,
@@ -133,7 +134,7 @@ impl Outbox {
     }
 }
 
-/// Puts, each so many times more.
+/// The puts, each repeated `repeat` more times.
 fn repeated(alloc: Global, puts: Vec<PutRecord>, repeat: u8) -> Result<Vec<PutRecord>, Memory>
     ensures { IfOk result (λ all. all.items ≡ repeated repeat puts.items) }
 {
@@ -147,7 +148,7 @@ fn repeated(alloc: Global, puts: Vec<PutRecord>, repeat: u8) -> Result<Vec<PutRe
     Ok(all)
 }
 
-/// Adds a put so many times.
+/// Appends a put `times` times.
 fn push_times(all: &mut Vec<PutRecord>, put: &PutRecord, times: u16) -> Result<(), Memory>
     ensures { OnOk result (all.new.items ≡ all.old.items ++ replicate times put.now) }
 {
@@ -157,7 +158,7 @@ fn push_times(all: &mut Vec<PutRecord>, put: &PutRecord, times: u16) -> Result<(
     Ok(())
 }
 
-/// Sends on each link those of the puts that it was not sent yet, until it is full, and says how many frames in all.
+/// Sends on each link the puts that were not sent on it yet until it is full, and returns the total number of frames.
 fn send_on(lanes: &mut [Lane], alloc: Global, puts: &[PutRecord]) -> Result<usize, Memory>
     requires { All (IsWithin puts.now) lanes.old }
     ensures within { All (IsWithin puts.now) lanes.new }
@@ -173,7 +174,7 @@ fn send_on(lanes: &mut [Lane], alloc: Global, puts: &[PutRecord]) -> Result<usiz
     Ok(sent)
 }
 
-/// How many of so many puts every link was sent.
+/// How many of the first `puts` puts were sent on every link.
 fn sent_on_all(lanes: &[Lane], puts: usize) -> usize
     ensures puts { result ≤ puts }
     ensures each { All (λ l. result ≤ l.next) lanes.now }
@@ -185,7 +186,7 @@ fn sent_on_all(lanes: &[Lane], puts: usize) -> usize
     least
 }
 
-/// Lets go of the first so many puts.
+/// Drops the first `count` puts.
 fn let_go(puts: &mut Vec<PutRecord>, count: usize)
     requires { count ≤ vec_len puts.old }
     ensures { puts.new.items ≡ drop count puts.old.items }
@@ -193,7 +194,7 @@ fn let_go(puts: &mut Vec<PutRecord>, count: usize)
     puts.drain(..count);
 }
 
-/// Counts the puts that each link was sent from this one on.
+/// Makes the counters of the links relative to the put at `first`.
 fn count_from(lanes: &mut [Lane], first: usize)
     requires { All (λ l. first ≤ l.next) lanes.old }
     ensures { lanes.new ≡ map (counted_from first) lanes.old }
@@ -203,7 +204,7 @@ fn count_from(lanes: &mut [Lane], first: usize)
     }
 }
 
-/// Whether each link was sent so many puts.
+/// Whether at least `puts` puts were sent on each link.
 fn were_sent(lanes: &[Lane], puts: usize) -> bool
     ensures { IsTrue result ↔ All (λ l. puts ≤ l.next) lanes.now }
 {

@@ -7,8 +7,8 @@ use cops_types::{Gate, Memory, PutRecord, Version};
 use std::alloc::Global;
 use std::sync::Wait;
 
-/// What brings the puts of other data centres into one. Of a dependency that was answered Wait it asks again only once
-/// it has settled exactly that pair, so a turn's work is in proportion to what came and to what became ready.
+/// A receiver brings the puts of other data centres into its own. After the answer Wait it asks for a dependency again
+/// only once it has settled exactly that pair, so a turn's work is proportional to what arrived and what became ready.
 #[derive(Drop)]
 pub struct Receiver {
     dc: u8,
@@ -28,7 +28,7 @@ impl Receiver {
     ghost use Rattle.cops_replication.specs.Turns.{IsCountOf, IsEndAt, IsFaultAt, IsTurnOf};
     ghost use Rattle.cops_replication.specs.Doing.{AreEmpty, advances, at_hand, delivered, done};
 
-    /// The receiver of a data centre, with these links and this share. It takes no memory.
+    /// The receiver of a data centre, with these links and this share. It allocates no memory.
     pub fn new(alloc: Global, dc: u8, links: Vec<LinkOut>, share: Share) -> Self
         ensures dc { result.dc ≡ dc }
         ensures links { ends result ≡ links.items }
@@ -43,16 +43,18 @@ impl Receiver {
         }
     }
 
-    /// Its data centre.
+    /// The receiver's data centre.
     pub fn dc(&self) -> u8
         ensures { result ≡ self.now.dc }
     {
         self.dc
     }
 
-    /// Takes at most one frame from each link and delivers its put. Then it asks for each dependency that it has not
-    /// asked for, or whose pair was settled since, marks those with a yes, and settles each put whose dependencies are
-    /// all marked. What met want of memory is tried on the next turn.
+    /// Takes at most one frame from each link and delivers its put. It then asks for each dependency that it has not
+    /// asked for, or whose pair was settled since, marks those that are settled, and settles each put whose
+    /// dependencies are all marked.
+    ///
+    /// Errors: `Memory` when memory runs out; the next turn tries again. `Held` where the gate stops a step.
     pub fn turn<R: Wait, G: Gate>(
         &mut self,
         rt: &R,
@@ -71,8 +73,10 @@ impl Receiver {
         Ok(Turn::of(done.saturating_add(delivered)))
     }
 
-    /// Makes turns until one is idle with nothing kept back, which is a put that is not settled: `TurnLimit` where that
-    /// is none of so many turns, and what a turn met where one met a fault.
+    /// Makes turns until one is idle and nothing is pending, that is, every put that was taken is settled.
+    ///
+    /// Errors: `TurnLimit` where none of `turns` turns is such; otherwise the error of the turn that failed, which is
+    /// `Memory` or `Held`.
     pub fn drain<R: Wait, G: Gate>(
         &mut self,
         rt: &R,
@@ -96,7 +100,7 @@ impl Receiver {
         Err(TurnFault::TurnLimit)
     }
 
-    /// Lends the share. All else of the receiver stays.
+    /// Borrows the share mutably. The rest of the receiver does not change.
     pub fn share(&mut self) -> &mut Share
         ensures* writes_back { sem 𝓛 (LendsShare self.entry result) }
         ensures value { result.now ≡ self.old.share }
@@ -104,7 +108,7 @@ impl Receiver {
         &mut self.share
     }
 
-    /// The share, for whom the receiver is no longer of use.
+    /// Consumes the receiver and returns its share.
     pub fn into_share(self) -> Share
         ensures { result ≡ self.share }
     {
@@ -112,15 +116,15 @@ impl Receiver {
         share
     }
 
-    /// Whether nothing is kept back.
+    /// Whether nothing is pending.
     fn is_clear(&self) -> bool
         ensures { IsTrue result ↔ KeepsNothing self.now }
     {
         self.arrival.is_none() && self.backlog.is_empty()
     }
 
-    /// Delivers what an earlier turn kept back, and then what comes from each link. It says how many puts were
-    /// delivered.
+    /// Delivers the put that an earlier turn left pending, and then what arrives on each link. Returns how many puts
+    /// were delivered.
     fn take_in<R: Wait, G: Gate>(
         &mut self,
         rt: &R,
@@ -147,7 +151,7 @@ impl Receiver {
         Ok(delivered)
     }
 
-    /// Delivers the put that was taken, if one was, and says how many those are.
+    /// Delivers the put that was taken, if there is one. Returns how many puts that are.
     fn arrive<R: Wait, G: Gate>(
         &mut self,
         rt: &R,
@@ -207,7 +211,7 @@ impl Receiver {
         }
     }
 
-    /// The put that was taken waits from now on, and counts as one that was delivered.
+    /// Moves the put that was taken to the backlog, and counts it as delivered.
     fn keep(&mut self) -> Result<usize, TurnFault>
         ensures same { IsSame self.old self.new }
         ensures share { self.new.share ≡ self.old.share }
@@ -221,7 +225,7 @@ impl Receiver {
         Ok(1)
     }
 
-    /// Lets go of the put that was taken.
+    /// Drops the put that was taken.
     fn forget(&mut self)
         ensures same { IsSame self.old self.new }
         ensures share { self.new.share ≡ self.old.share }
@@ -230,8 +234,8 @@ impl Receiver {
         drop(self.arrival.take());
     }
 
-    /// Asks, marks and settles until there is nothing to be asked and to be settled, and says how often it marked and
-    /// settled.
+    /// Asks, marks and settles until nothing is left to ask or to settle. Returns how many marks and settlements it
+    /// made.
     fn work<R: Wait, G: Gate>(
         &mut self,
         rt: &R,
@@ -258,7 +262,7 @@ impl Receiver {
         Ok(done)
     }
 
-    /// Asks the next question, and marks where the answer is yes. It says how often it marked.
+    /// Asks the next question, and marks its dependency if the answer is yes. Returns how many marks it made.
     fn ask<R: Wait, G: Gate>(
         &mut self,
         rt: &R,
@@ -291,7 +295,7 @@ impl Receiver {
         }
     }
 
-    /// Marks the dependency of the next question, for which this is the answer, and says how often it marked.
+    /// Marks the dependency of the next question, to which `yes` is the answer. Returns how many marks it made.
     fn mark<R: Wait, G: Gate>(
         &mut self,
         rt: &R,
@@ -318,7 +322,8 @@ impl Receiver {
         }
     }
 
-    /// Settles a put whose dependencies are all marked, and has those asked again that wait for it.
+    /// Settles a put whose dependencies are all marked. Before that, it moves the questions parked at the put back to
+    /// the questions to ask. Returns how many settlements it made.
     fn settle<R: Wait, G: Gate>(
         &mut self,
         rt: &R,

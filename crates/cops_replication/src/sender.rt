@@ -6,16 +6,17 @@ use cops_types::Memory;
 use std::alloc::Global;
 use std::sync::Wait;
 
-/// The most nodes of a data centre.
+/// The greatest number of nodes of a data centre.
 const MAX_NODES: usize = 64;
 
-/// What sends the puts of a data centre to others, each once on each of its links, or some times more.
+/// A sender sends the puts of its data centre to others: each put once on each of its links, or more often if `repeat`
+/// is not 0.
 #[derive(Drop)]
 pub struct Sender {
     dc: u8,
-    /// How many times more each put is sent.
+    /// How many more times than once each put is sent.
     repeat: u8,
-    /// Of each node, by its place, how many entries of its book were read.
+    /// For each node, by its place, how many entries of its log were read.
     read: [usize; MAX_NODES],
     outbox: Outbox,
 }
@@ -29,8 +30,8 @@ impl Sender {
     ghost use Rattle.cops_replication.specs.Sending.{Carries, CarriesBelow, lanes};
     ghost use Rattle.cops_replication.specs.Turns.{IsTurnOf};
 
-    /// The sender of a data centre, with these links, which has read nothing, and sends each put so many times more
-    /// than once. Where memory runs out the links are gone.
+    /// The sender of a data centre, with these links, which has read nothing yet and sends each put `repeat` more times
+    /// than once. On `Memory` the links are dropped.
     pub fn new(alloc: Global, dc: u8, links: Vec<LinkIn>, repeat: u8) -> Result<Self, Memory>
         ensures dc { IfOk result (λ s. s.dc ≡ dc) }
         ensures repeat { IfOk result (λ s. s.repeat ≡ repeat) }
@@ -45,9 +46,9 @@ impl Sender {
         })
     }
 
-    /// Reads the puts that were issued at the nodes of its data centre since it last did, and sends on each link those
-    /// that it was not sent yet, until that is full. What it did not send is kept for the next turn, and want of memory
-    /// loses nothing.
+    /// Reads the puts that were issued at the nodes of its data centre since the last reading, and sends on each link
+    /// those that were not sent on it yet, until it is full. Puts that were not sent are kept for the next turn.
+    /// Returns `Memory` when memory runs out, which loses nothing.
     pub fn turn<R: Wait>(&mut self, rt: &R, cluster: &Cluster) -> Result<Turn, Memory>
         ensures carries { Carries cluster.now self.old self.new }
         ensures all { OnOk result (CarriesBelow PLACES cluster.now self.old self.new) }
@@ -61,8 +62,9 @@ impl Sender {
         Ok(Turn::of(sent))
     }
 
-    /// Makes turns until one is idle with nothing kept back: `TurnLimit` where that is none of so many turns, and
-    /// `Memory` where a turn met it.
+    /// Makes turns until one is idle and nothing is left to send.
+    ///
+    /// Errors: `TurnLimit` where none of `turns` turns is such; `Memory` where a turn ran out of memory.
     pub fn drain<R: Wait>(&mut self, rt: &R, cluster: &Cluster, turns: u32) -> Result<(), TurnFault>
         ensures carries { Carries cluster.now self.old self.new }
         ensures all { OnOk result (CarriesBelow PLACES cluster.now self.old self.new) }
@@ -79,7 +81,7 @@ impl Sender {
         Err(TurnFault::TurnLimit)
     }
 
-    /// Ends the sending on each link.
+    /// Closes the sending end of each link.
     pub fn finish(self) {
         let Sender {
             dc: _,
@@ -90,7 +92,7 @@ impl Sender {
         outbox.finish();
     }
 
-    /// Reads the puts that were issued at the nodes since it last did.
+    /// Reads the puts that were issued at the nodes since the last reading.
     fn read<R: Wait>(&mut self, rt: &R, cluster: &Cluster) -> Result<(), Memory>
         ensures carries { Carries cluster.now self.old self.new }
         ensures all { OnOk result (CarriesBelow PLACES cluster.now self.old self.new) }

@@ -1,4 +1,4 @@
-//! What a turn did, and why turns ended.
+//! What a turn did, and why a sequence of turns failed.
 ghost use Rattle.std.specs.Prelude.{◌≡◌};
 ghost use Rattle.cops_replication.specs.declared.turn.TurnFault.TheVariants.{Memory as OutOfMemory, Held as HeldByGate};
 
@@ -9,14 +9,15 @@ use thiserror::Error;
 /// What one turn did.
 #[derive(Clone, Copy, Debug, PartialEq, Eq)]
 pub enum Turn {
-    /// So many things, at least one: of a sender the frames that it sent, of a receiver the frames that it delivered,
-    /// and what it marked and settled. More than 4,294,967,295 count as so many.
+    /// How many things the turn did, at least one: for a sender the frames that it sent, for a receiver the frames that
+    /// it delivered, and the marks and settlements that it made. Numbers above 4,294,967,295 are reported as
+    /// 4,294,967,295.
     Did(u32),
-    /// Nothing.
+    /// The turn did nothing.
     Idle,
 }
 
-/// Why a turn, or a number of turns, did not end well. The numbers are the faults' codes.
+/// Why a turn, or a sequence of turns, failed. The numbers are the faults' codes.
 #[derive(Clone, Copy, Debug, PartialEq, Eq, Error)]
 pub enum TurnFault {
     /// 0: out of memory.
@@ -35,7 +36,7 @@ impl Turn {
     ghost use Rattle.cops_replication.specs.declared.turn.Turn.TheVariants.{Idle as DidNothing};
     ghost use Rattle.cops_replication.specs.Turns.{IsTurnOf};
 
-    /// The turn that did so much.
+    /// The result of a turn that did `done` things.
     pub(crate) fn of(done: usize) -> Turn
         ensures { IsTurnOf done result }
     {
@@ -48,7 +49,7 @@ impl Turn {
         Turn::Did(done as u32)
     }
 
-    /// Whether it did nothing.
+    /// Whether the turn did nothing.
     pub(crate) fn is_idle(self) -> bool
         ensures { IsTrue result ↔ (self ≡ DidNothing) }
     {

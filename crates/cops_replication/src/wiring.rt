@@ -14,16 +14,17 @@ use cops_link::{LinkFault, LinkIn, LinkOut, link};
 use cops_types::Memory;
 use std::alloc::Global;
 
-/// What replicates: a sender and a receiver for each data centre.
+/// The parts of a cluster that replicate: a sender and a receiver for each data centre.
 #[derive(Drop)]
 pub struct Replicas {
     pub senders: Vec<Sender>,
     pub receivers: Vec<Receiver>,
 }
 
-/// A sender and a receiver for each of so many data centres, in order, with a link of this capacity from each sender to
-/// the receiver of each other one, on which each put is sent so many times more than once. The receivers take the
-/// shares in order. Where shares are missing, the last data centres have no receiver.
+/// Makes a sender and a receiver for each of `dcs` data centres, in order, with a link of this capacity from each
+/// sender to the receiver of each other data centre. Each put is sent on each link `repeat` more times than once. The
+/// receivers take the shares in order; if there are fewer shares than data centres, the last data centres have no
+/// receiver. Returns `Memory` when memory runs out.
 pub fn wired(
     alloc: Global,
     dcs: u8,
@@ -43,7 +44,7 @@ pub fn wired(
     Ok(Replicas { senders, receivers })
 }
 
-/// A list for the ends that take of each data centre, still empty.
+/// An empty list for the taking ends of each data centre's links.
 fn no_ends(alloc: Global, dcs: u8) -> Result<Vec<Vec<LinkOut>>, Memory>
     ensures length { IfOk result (λ outs. length outs.items ≡ dcs) }
     ensures none { IfOk result (λ outs. All (λ (v : _). v.items ≡ []) outs.items) }
@@ -55,7 +56,7 @@ fn no_ends(alloc: Global, dcs: u8) -> Result<Vec<Vec<LinkOut>>, Memory>
     Ok(outs)
 }
 
-/// The sender of each data centre, with a link to each other one. The ends that take go to the others.
+/// The sender of each data centre, with a link to each other one. The taking ends are appended to the others' lists.
 fn senders(
     alloc: Global,
     dcs: u8,
@@ -79,7 +80,7 @@ fn senders(
     Ok(senders)
 }
 
-/// A link from a data centre to each other one. The ends that take go to the others.
+/// The links from a data centre to each other one. The taking ends are appended to the others' lists.
 fn links_from(
     alloc: Global,
     from: u8,
@@ -103,7 +104,7 @@ fn links_from(
     Ok(ins)
 }
 
-/// A link, of which nothing was sent or taken.
+/// A link on which nothing was sent or taken.
 fn link_of(alloc: Global, capacity: u16) -> Result<(LinkIn, LinkOut), Memory>
     requires { (1 ≤ capacity) × (capacity ≤ MAX_CAPACITY) }
     ensures { IfOk result (λ r. IsLink r.0 r.1 × (sent r.0 ≡ []) × (taken r.1 ≡ []) × (known_room r.0 ≡ capacity)) }
@@ -115,7 +116,7 @@ fn link_of(alloc: Global, capacity: u16) -> Result<(LinkIn, LinkOut), Memory>
     }
 }
 
-/// The receivers of the data centres, in order, as far as there are shares.
+/// The receivers of the data centres, in order, as long as there are shares.
 fn receivers(
     alloc: Global,
     dcs: u8,

@@ -1,4 +1,4 @@
--- What a search that is done says of chains.
+-- What a finished search says about chains.
 use Rattle.std.proofs.Common.{◌≡◌, ◌∙◌, ◌+◌, ◌<◌, ◌≤◌, ℕ, List, [], ◌∷◌, ◌++◌, length, Some, None, refl, sym, ap, subst, arith, inl, inr, append_assoc}
 use Rattle.std.proofs.lemmas.Bool.{cases_eq, cases_lt}
 use Rattle.std.proofs.lemmas.List.{append-nil}
@@ -20,7 +20,7 @@ one_further h to t d i a b k lt has st =
     let from : HasSteps t a m.0.steps = (m.0, m.1, refl) in
     (m.0.steps, from, i.near a b m.0.steps k from has (inl lt) st)
 
--- names from which so many steps lead to the end have at most so many, where the search has gone so far
+-- a name from which k steps lead to the end has at most k steps, as far as the search has gone
 reaches : (h : Sessions) (to : OpName) (t : Table) (d : ℕ) → IsSearch h to t d [] → (rest : List OpName) (a : OpName) → LeadsTo h to a rest → length rest ≤ d
     → (j : ℕ) × HasSteps t a j × (j ≤ length rest)
 reaches h to t d i [] a leads le = (0, subst (λ (x : OpName). HasSteps t x 0) (sym leads) i.root, omega arith)
@@ -30,7 +30,7 @@ reaches h to t d i (b ∷ rest) a leads le =
     let more = one_further h to t d i a b on.0 low on.1 leads.0 in
     (more.0, more.1, omega (arith, more.2, on.2))
 
--- where the search has come to its end, all of them do
+-- where the search has ended, all such names are marked
 reaches_all : (h : Sessions) (to : OpName) (t : Table) (d : ℕ) → IsSearch h to t d [] → ((n : OpName) → ¬ HasSteps t n (d + 1)) → ((n : OpName) → ¬ HasSteps t n d)
     → (rest : List OpName) (a : OpName) → LeadsTo h to a rest → IsMarked t a
 reaches_all h to t d i fresh empty rest a leads = (let r = go rest a leads in (r.1.0, r.1.1))
@@ -51,7 +51,7 @@ reaches_all h to t d i fresh empty rest a leads = (let r = go rest a leads in (r
         let more = one_further h to t d i a b on.0 (low b on.0 on.1) on.1 leads.0 in
         (more.0, more.1)
 
--- what follows from mark to mark is a chain, of as many steps as the first mark says
+-- the names that follow along the marks are a chain, with as many steps as the first mark says
 follows_leads : (h : Sessions) (to : OpName) (t : Table) (d : ℕ) → IsSearch h to t d [] → (rest : List OpName) (a : OpName) → Follows t to a rest → LeadsTo h to a rest × HasSteps t a (length rest)
 follows_leads h to t d i [] a f = (f, subst (λ (x : OpName). HasSteps t x 0) (sym f) i.root)
 follows_leads h to t d i (b ∷ rest) a f =
@@ -63,7 +63,7 @@ follows_leads h to t d i (b ∷ rest) a f =
     let count : m.steps ≡ length (b ∷ rest) = omega (arith, f.0.3) in
     ((subst (Step h a) next st.0, on.0), (m, f.0.2, count))
 
--- and it is the first of those that are as short
+-- and it is the first of those with the same length
 follows_first : (h : Sessions) (to : OpName) (t : Table) (d : ℕ) → IsSearch h to t d [] → (rest : List OpName) (a : OpName) → Follows t to a rest → length rest ≤ d
     → (others : List OpName) → LeadsTo h to a others → length others ≡ length rest → ComesFirst rest others
 follows_first h to t d i [] a f le others leads same = tt

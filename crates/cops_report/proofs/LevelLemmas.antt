@@ -19,7 +19,7 @@ use Rattle.cops_report.proofs.Tables.{mark_at-other, mark_at-same, mark_at-unmar
 pub none_contained : {X : Type 0} (x : X) → ¬ Contains {X = X} [] x
 none_contained x c = absurd (omega (arith, c.1))
 
--- the names that gained the mark are the next level
+-- the names that got the mark are the next level
 pub level_next : (h : Sessions) (mark : Mark) (s t : Table) (names more : List OpName) (k : ℕ) → mark.steps ≡ k → Gains h mark s t names more → IsLevel s k names → IsLevel t k more
 level_next h mark s t names more k is g level n = (
   λ c. elim (g.listed n c) [
@@ -49,7 +49,7 @@ level_named h t k level i d places is lt =
 contains_taken : (xs : List OpName) (i j : ℕ) (x : OpName) → j < i → j < length xs → get_or xs j x ≡ x → Contains (take i xs) x
 contains_taken xs i j x lt inside at = (j, omega (arith, length-take i xs), get_or-take i xs j x lt ∙ at)
 
--- the names of a rising level that are not done yet are at or after the one at hand
+-- the names of a rising level that are not done yet are at or after the current one
 pub not_before : (t : Table) (k : ℕ) (level : List OpName) (i : ℕ) (d : OpName) → IsLevel t k level → IsRising level → i < length level → (n : OpName) → HasSteps t n k
     → Contains (take i level) n ⊎ IsAtOrBefore (get_or level i d) n
 not_before t k level i d is rising lt n a =
@@ -87,7 +87,7 @@ sessions_marked h to t d level i e lt rising is places search index before near 
           elim (not_before t d level i e is rising lt n there) [ inl done ↦ inr done | inr at ↦ absurd (not_after next n refl before at) ]
     ]
 
--- a level that is done, and the search stands before the next one
+-- the level is done, and the search is before the next one
 pub level_end : (h : Sessions) (to : OpName) (t : Table) (d : ℕ) (level : List OpName) → IsSearch h to t d level → IsLevel t d level → IsSearch h to t (d + 1) []
 level_end h to t d level i is = record {
   root = i.root;

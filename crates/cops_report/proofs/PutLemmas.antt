@@ -14,7 +14,7 @@ use Rattle.cops_report.specs.Marks.{Table, Gains, IsMarked}
 use Rattle.cops_report.specs.Puts.{HasPut, HasAllPuts}
 use Rattle.cops_report.proofs.Tables.{named_index}
 
--- an operation's client is there
+-- the client of an operation is in the history
 pub named_client : (h : Sessions) (n : OpName) → IsNamed h n → n.client < length h
 named_client h n named = elim (cases_lt n.client (length h)) [
   | inl lt ↦ lt
@@ -30,7 +30,7 @@ source_named h p g s = (_, s.put)
 abbrev put_of : OpName → ℕ → VersionedPut
 put_of n v = record { version = v; name = n }
 
--- sorted, they are a table
+-- all puts, sorted, are a table
 pub table_sorted : (h : Sessions) (xs ys : List VersionedPut) → AreAllPuts h xs → IsPermutation xs ys → IsNonDecreasingBy (λ p. p.version) ys → HasAllPuts h ys
 table_sorted h xs ys puts permuted rising = record {
   all = λ n v put. Contains-permutation xs ys (put_of n v) permuted ((puts.members (put_of n v)).1 put);
@@ -75,7 +75,7 @@ from_all puts v i parts n has = subst (λ (xs : List VersionedPut). HasPut xs n 
 pub got_once : (h : Sessions) (p g : OpName) (v : ℕ) (s : SourceStep h p g) → GetsVersion h g v → s.version ≡ v
 got_once h p g v s got = (let e : Some (read s.key s.content s.version) ≡ Some (read got.0 got.1 v) = sym s.got ∙ got.2 in cc)
 
--- the puts that stand first are marked where they are sources
+-- the first i puts are marked where they are sources
 abbrev pub BearersMarked : Sessions → Table → Mark → List VersionedPut → ℕ → Type 0
 BearersMarked h t mark puts i = (k : ℕ) (d : VersionedPut) → k < i → SourceStep h (get_or puts k d).name mark.next → IsMarked t (get_or puts k d).name
 
@@ -89,7 +89,7 @@ bearers_more h mark s t names more puts i d lt all g here k e below st = elim (c
       subst (λ (p : VersionedPut). IsMarked t p.name) is (here (subst (λ (p : VersionedPut). SourceStep h p.name mark.next) (sym is) st))
 ]
 
--- all sources are marked where those are that stand first, and no further one has the version
+-- all sources are marked where those among the first i puts are, and no later put has the version
 pub bearers_all : (h : Sessions) (t : Table) (mark : Mark) (puts : List VersionedPut) (i v : ℕ) → BearersMarked h t mark puts i
     → ((k : ℕ) (d : VersionedPut) → i ≤ k → k < length puts → (get_or puts k d).version ≢ v) → (n : OpName) → HasPut puts n v → SourceStep h n mark.next → IsMarked t n
 bearers_all h t mark puts i v marked further n has st = elim (cases_lt has.0 i) [

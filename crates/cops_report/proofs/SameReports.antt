@@ -1,4 +1,4 @@
--- Histories that differ in values alone and have one verdict have one report.
+-- Histories that differ only in values and have one verdict have one report.
 use Rattle.std.proofs.Common.{IfOk, Result, Ok, Err, ◌≡◌, ◌≢◌, ◌+◌, ◌⊎◌, ℕ, zero, suc, List, [], ◌∷◌, ◌++◌, length, map, flat_map, Option, Some, None, option_map, refl, sym, ◌∙◌, ap, ap₂, inl, inr, slice_get, slice_index_or}
 use Rattle.std.specs.Prelude.{codes, count_by, cond}
 use Rattle.std.proofs.lemmas.Bool.{cases_eq}
@@ -222,11 +222,11 @@ module _ (h k : Sessions) (same : without_values h ≡ without_values k) where
     is.2 ∙ ap (λ (l : List ℕ). l ++ is.0) (same_refused (length faults.items)),
   )
 
--- the report of one history that was judged so is the report of each
+-- a report on one history that was judged is the report on each with the same verdict and sessions up to values
 pub one_report : (h k : Sessions) (judged : AJudged) → IsJudged h judged → IsJudged k judged → (text : List ℕ) → IsReport h judged.verdict text → IsReport k judged.verdict text
 one_report h k judged own other text is = report_too h k (sym own.sessions ∙ other.sessions) judged.verdict own.verdict other.verdict text is
 
--- what is answered holds in another form too
+-- an implication carries over to the result of a call
 pub ok_too : {A E : Type 0} (P Q : A → Type 0) → ((a : A) → P a → Q a) → (r : Result A E) → IfOk r P → IfOk r Q
 ok_too P Q on (Ok a) p = on a p
 ok_too P Q on (Err e) p = tt

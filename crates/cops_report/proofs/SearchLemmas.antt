@@ -1,4 +1,4 @@
--- A search goes on, name by name.
+-- A search continues, name by name.
 use Rattle.std.proofs.Common.{◌≡◌, ◌≢◌, ◌∙◌, ◌+◌, ◌<◌, ◌≤◌, ◌⊎◌, ℕ, List, [], ◌∷◌, ◌++◌, Some, None, sym, ap, subst, arith, inl, inr}
 use Rattle.std.specs.Prelude.{Contains}
 use Rattle.std.proofs.lemmas.List.Elements.{Contains-push_cases}
@@ -18,7 +18,7 @@ one_steps t n j k a b =
 pub steps_kept : (h : Sessions) (mark : Mark) (s t : Table) (names more : List OpName) (n : OpName) (k : ℕ) → Gains h mark s t names more → HasSteps s n k → HasSteps t n k
 steps_kept h mark s t names more n k g a = (a.0, g.kept n a.0 a.1, a.2)
 
--- steps other than those of the mark were there before
+-- a name that has k steps, which are not the mark's, had them before
 pub steps_before : (h : Sessions) (mark : Mark) (s t : Table) (names more : List OpName) (n : OpName) (k : ℕ) → Gains h mark s t names more → k ≢ mark.steps → HasSteps t n k → HasSteps s n k
 steps_before h mark s t names more n k g other a = elim (g.gained n a.0 a.1) [
   | inl old ↦ (a.0, old, a.2)
@@ -34,7 +34,7 @@ module _ (h : Sessions) (to b0 : OpName) (mark : Mark) (s t : Table) (d : ℕ) (
   keeps : (n : OpName) (k : ℕ) → HasSteps s n k → HasSteps t n k
   keeps n k a = steps_kept h mark s t names more n k g a
 
-  -- fewer steps than the mark's were there before
+  -- a name that has fewer steps than the mark had them before
   before : (n : OpName) (k : ℕ) → k ≤ d → HasSteps t n k → HasSteps s n k
   before n k low a = steps_before h mark s t names more n k g (λ e. absurd (omega arith)) a
 

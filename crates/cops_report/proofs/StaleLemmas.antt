@@ -1,4 +1,4 @@
--- The lines of stale gets, one after another.
+-- The lines of stale gets, one by one.
 use Rattle.std.proofs.Common.{◌∙◌, ◌+◌, ◌<◌, ℕ, List, [], ◌∷◌, ◌++◌, length, take, get_or, refl, sym, ap, subst, append_assoc}
 use Rattle.std.proofs.lemmas.List.{append-nil, take_more}
 use Rattle.cops_types.specs.Histories.{Sessions}
@@ -15,7 +15,7 @@ more_lines h f line adds (g ∷ faults) text lines =
 pub none_added : (h : Sessions) (old : List ℕ) → AddsStaleLines h [] old old
 none_added h old = ([], refl, sym (append-nil old))
 
--- one line more
+-- one more line
 pub stale_more : (h : Sessions) (faults : List Stale) (i : ℕ) (d : Stale) (start old new : List ℕ) → i < length faults → AddsStaleLines h (take i faults) start old
     → AddsStaleLine h (get_or faults i d) old new → AddsStaleLines h (take (i + 1) faults) start new
 stale_more h faults i d start old new lt lines one =

@@ -24,7 +24,7 @@ earlier_named h n index named lt = earlier_there (get_or h n.client []) index n.
 pub earlier_step : (h : Sessions) (n : OpName) (index : ℕ) → IsNamed h n → index < n.index → Step h (name_at n.client index) n
 earlier_step h n index named lt = inl (record { same_client = refl; earlier = lt; is_there = named })
 
--- the first of a session step is there too
+-- the first operation of a session step is in the history too
 pub first_named : (h : Sessions) (a b : OpName) → SessionStep h a b → IsNamed h a
 first_named h a b st =
     let named = earlier_named h b a.index st.is_there st.earlier in

@@ -19,7 +19,7 @@ Session = Vec (Option Mark) Global
 abbrev pub marks_of : Session → List (Option Mark)
 marks_of s = s.items
 
--- a vector in whose place another with one mark more stands
+-- a vector of sessions in which one session has one more mark
 pub marked_session : (xs : List Session) (name : OpName) (old new : Session) (mark : Mark) → name.client < length xs → old ≡ get_or xs name.client old
     → new.items ≡ set old.items name.index (Some mark) → map marks_of (set xs name.client new) ≡ with_mark (map marks_of xs) name mark
 marked_session xs name old new mark inside at more =
@@ -28,7 +28,7 @@ marked_session xs name old new mark inside at more =
 
 -- ---- places
 
--- a name that has a place is of a client that is there
+-- the client of a name that has a place is in the table
 pub place_client : (t : Table) (name : OpName) → HasPlace t name → name.client < length t
 place_client t name there = elim (cases_Bool (ltb name.client (length t))) [
   | inl p ↦ ltb-true _ _ p
@@ -43,7 +43,7 @@ no_marks n = replicate n None
 abbrev pub no_marks_of : List Operation → List (Option Mark)
 no_marks_of s = replicate (length s) None
 
--- the sessions' vectors have a place for each operation
+-- the vectors of all sessions together are the table without marks
 pub all_unmarked : (h : Sessions) (n : ℕ) (xs : List Session) → length h ≤ n → map marks_of xs ≡ unmarked (take n h) → map marks_of xs ≡ unmarked h
 all_unmarked h n xs all same = same ∙ ap unmarked (take_all n h all)
 
@@ -64,7 +64,7 @@ mark_at-same t n m there =
     ap (λ (x : List (Option Mark)). get_or x n.index None) (get_or-set_same t n.client (set s n.index (Some m)) [] inside)
     ∙ get_or-set_same s n.index (Some m) None there
 
--- a session of another client, or another place in the session
+-- the mark of another name stays, in another session or at another place
 pub mark_at-other : (t : Table) (n k : OpName) (m : Mark) → k ≢ n → mark_at (with_mark t n m) k ≡ mark_at t k
 mark_at-other t n k m other = elim (cases_eq k.client n.client) [
   | inl c ↦
@@ -80,7 +80,7 @@ mark_at-other t n k m other = elim (cases_eq k.client n.client) [
   | inr c ↦ ap (λ (x : List (Option Mark)). get_or x k.index None) (get_or-set_other t n.client k.client (set (get_or t n.client []) n.index (Some m)) [] c)
 ]
 
--- a mark moves no place
+-- a mark changes no place
 pub place-with_mark : (t : Table) (n k : OpName) (m : Mark) → length (get_or (with_mark t n m) k.client []) ≡ length (get_or t k.client [])
 place-with_mark t n k m =
     let s = get_or t n.client [] in

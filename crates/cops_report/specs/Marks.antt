@@ -1,15 +1,15 @@
--- Marks: what a search backwards from a name has found of each operation.
+-- Marks: what a backward search from a name has found for each operation.
 use Rattle.std.specs.Prelude.{◌≡◌, ◌<◌, ◌+◌, ◌⊎◌, ◌↔◌, ℕ, List, [], map, length, sum_by, count_by, replicate, Contains, Option, Some, None, is_none, slice_index_or, slice_set}
 use Rattle.cops_types.specs.declared.op.OpName.{OpName}
 use Rattle.cops_types.specs.Histories.{Sessions, IsNamed}
 use Rattle.cops_types.specs.Past.{Step}
 use Rattle.cops_report.specs.declared.marks.Mark.{Mark}
 
--- a mark or none for each operation of each session
+-- for each operation of each session its mark, if it has one
 abbrev pub Table : Type 0
 Table = List (List (Option Mark))
 
--- the mark of a name, none for a name that the table has no place for
+-- the mark of a name, none for a name that has no place in the table
 abbrev pub mark_at : Table → OpName → Option Mark
 mark_at t name = slice_index_or (slice_index_or t name.client []) name.index None
 
@@ -21,7 +21,7 @@ HasPlace t name = name.index < length (slice_index_or t name.client [])
 abbrev pub PlacesAll : Table → Sessions → Type 0
 PlacesAll t h = (n : OpName) → HasPlace t n ↔ IsNamed h n
 
--- the table with this mark of the name
+-- the table with this mark for the name
 abbrev pub with_mark : Table → OpName → Mark → Table
 with_mark t name mark = slice_set t name.client (slice_set (slice_index_or t name.client []) name.index (Some mark))
 
@@ -45,13 +45,12 @@ AreMarked t client index = (k : ℕ) → k < index → IsMarked t (record { clie
 abbrev pub IsNearer : Table → OpName → ℕ → Type 0
 IsNearer t name steps = (m : Mark) × (mark_at t name ≡ Some m) × (m.steps < steps)
 
--- before each earlier operation of the mark's session that is marked with fewer steps, all are marked
+-- before each earlier operation of the session of the mark's next name that is marked with fewer steps, all operations are marked
 abbrev pub SessionsMarked : Table → Mark → Type 0
 SessionsMarked t mark = (index : ℕ) → index < mark.next.index
     → IsNearer t (record { client = mark.next.client; index = index }) mark.steps → AreMarked t mark.next.client index
 
--- names from which a step leads to the mark's next name have gained the mark, where they had none, and stand at the end
--- of the list; all else is as it was
+-- some names without a mark, from each of which a step leads to the mark's next name, got the mark and were added to the list; all else is as it was
 pub record Gains (h : Sessions) (mark : Mark) (old new : Table) (names more : List OpName) : Type 0 where
   pub kept : (n : OpName) (m : Mark) → mark_at old n ≡ Some m → mark_at new n ≡ Some m
   pub gained : (n : OpName) (m : Mark) → mark_at new n ≡ Some m

@@ -34,7 +34,7 @@ abbrev pub returned_text : Option Operation → List ℕ
 returned_text (Some (read key value version)) = version_text version
 returned_text _ = codes "nothing"
 
--- the line of a history that is accepted
+-- the line of an accepted history
 abbrev pub accepted_line : ℕ → ℕ → List ℕ
 accepted_line operations puts = codes "accepted: " ⧺ decimal operations ⧺ codes " operations, " ⧺ decimal puts ⧺ codes " puts\n"
 
@@ -43,7 +43,7 @@ abbrev pub refused_line : ℕ → ℕ → ℕ → List ℕ
 refused_line operations puts faults =
     codes "refused: " ⧺ decimal operations ⧺ codes " operations, " ⧺ decimal puts ⧺ codes " puts, " ⧺ decimal faults ⧺ codes " faults\n"
 
--- a fault that is told by a name and its version
+-- the line of a fault that is reported by a name and its version
 abbrev pub named_line : List ℕ → Sessions → OpName → List ℕ
 named_line word h name = word ⧺ codes " " ⧺ name_text name ⧺ codes " at " ⧺ version_text (version_at h name) ⧺ codes "\n"
 
@@ -53,7 +53,7 @@ not_above_line h f =
     codes "not above " ⧺ name_text f.op ⧺ codes " at " ⧺ version_text (version_at h f.op)
     ⧺ codes ", earlier " ⧺ name_text f.earlier ⧺ codes " at " ⧺ version_text (version_at h f.earlier) ⧺ codes "\n"
 
--- the names of a chain, each behind a space
+-- the names of a chain, each after a space
 abbrev pub chain_text : List OpName → List ℕ
 chain_text names = flat_map (λ n. codes " " ++ name_text n) names
 
@@ -63,7 +63,7 @@ stale_head h f =
     codes "stale " ⧺ name_text f.op ⧺ codes " returned " ⧺ returned_text (op_at h f.op)
     ⧺ codes ", newer " ⧺ name_text f.newer ⧺ codes " at " ⧺ version_text (version_at h f.newer) ⧺ codes ", chain"
 
--- that, and the chain from the newer put to the get
+-- what a stale get returned, the newer put, and the chain from the newer put to the get
 abbrev pub stale_line : Sessions → Stale → List OpName → List ℕ
 stale_line h f chain = stale_head h f ++ chain_text chain ++ codes "\n"
 
@@ -73,11 +73,11 @@ AreStaleLines h [] text = text ≡ []
 AreStaleLines h (f ∷ fs) text = (chain : List OpName) × (rest : List ℕ)
     × IsFirstChain h f.newer f.op chain × (text ≡ stale_line h f chain ++ rest) × AreStaleLines h fs rest
 
--- a text with the line of one stale get more
+-- the text gains the line of one stale get
 abbrev pub AddsStaleLine : Sessions → Stale → List ℕ → List ℕ → Type 0
 AddsStaleLine h f old new = (chain : List OpName) × IsFirstChain h f.newer f.op chain × (new ≡ old ++ stale_line h f chain)
 
--- a text with the lines of stale gets more
+-- the text gains the lines of stale gets
 abbrev pub AddsStaleLines : Sessions → List Stale → List ℕ → List ℕ → Type 0
 AddsStaleLines h faults old new = (lines : List ℕ) × AreStaleLines h faults lines × (new ≡ old ++ lines)
 

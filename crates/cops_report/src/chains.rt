@@ -11,14 +11,14 @@ use crate::search::search;
 use cops_types::{History, Memory, OpName, VersionedPut};
 use std::alloc::{AllocError, Global};
 
-/// Whether there is an operation of that name.
+/// Whether the history has an operation with this name.
 fn is_named(history: &History, name: OpName) -> bool
     ensures { IsTrue result ↔ IsNamed history.now.sessions name }
 {
     history.op(name).is_some()
 }
 
-/// The names from one that is marked to the end, from mark to mark.
+/// The names from a marked one to `to`, along the marks.
 fn walk(alloc: Global, marks: &Marks, from: OpName, to: OpName) -> Result<Vec<OpName>, AllocError>
     requires marked { IsMarked marks.now from }
     requires back { LeadsBack marks.now to }
@@ -33,7 +33,7 @@ fn walk(alloc: Global, marks: &Marks, from: OpName, to: OpName) -> Result<Vec<Op
     Ok(names)
 }
 
-/// As `chain`, with the puts of the history at hand.
+/// Like `chain`, with the puts of the history given.
 pub fn chain_by(
     alloc: Global,
     history: &History,
@@ -57,13 +57,13 @@ pub fn chain_by(
     Ok(Some(names))
 }
 
-/// A chain from the one operation to the other, in which each next name is one session step or one source step on: a
-/// shortest, and of the shortest the first by the order of names, compared one after another. From a name of the
-/// history to itself it is that name alone. `None` where no steps lead from the one to the other, `Memory` where a
-/// growth was refused.
+/// A chain from one operation to the other, in which each next name is one session step or one source step after the
+/// name before it: a shortest one, and of the shortest the first by the order of names, compared one by one. From a
+/// name of the history to itself it is that name alone. It is `None` where no steps lead from the one to the other. The
+/// only error is `Memory`, where memory runs out.
 ///
-/// The search goes backwards from `to` by levels, and over each operation once, so it takes time in proportion to the
-/// operations times a logarithm, where no version is borne by many puts.
+/// The search goes backward from `to` by levels and visits each operation once, so it takes time in proportion to the
+/// operations times a logarithm, as long as few puts have one version.
 pub fn chain(
     alloc: Global,
     history: &History,

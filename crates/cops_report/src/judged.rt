@@ -8,8 +8,8 @@ use cops_audit::Judged;
 use cops_types::Memory;
 use std::alloc::Global;
 
-/// The text of the verdict on a history of which only the sessions without their values are left, as `report` gives it:
-/// it is the same for each history that these are left of. `Memory` where a growth was refused.
+/// The text of the verdict on a history of which only the sessions without their values are kept. It is the text of
+/// `report` for each history with these sessions. The only error is `Memory`, where memory runs out.
 pub fn report_judged(alloc: Global, judged: &Judged) -> Result<Vec<u8>, Memory>
     ensures { (h : Sessions) → IsJudged h judged.now → IfOk result (λ text. IsReport h judged.now.verdict text.items) }
 {

@@ -4,7 +4,7 @@ ghost use Rattle.cops_types.specs.Histories.{Sessions};
 ghost use Rattle.cops_types.specs.Past.{Past};
 ghost use Rattle.cops_report.specs.Chains.{IsChain, IsFirstChain};
 
-/// A law of the definitions: of the shortest chains from one operation to another, one is the first.
+/// A law of the definitions: among the shortest chains from one operation to another, at most one is the first.
 pub fn one_chain()
     ensures { (h : Sessions) (from to : OpName) (a b : List OpName) →
         IsFirstChain h from to a → IsFirstChain h from to b → a ≡ b }
@@ -16,7 +16,7 @@ pub fn chain_is_evidence()
         IsChain h from to names → 2 ≤ length names → Past h from to }
 {}
 
-/// A law of the definitions: whatever is in the past of an operation has a chain to it.
+/// A law of the definitions: each operation in the past of another has a chain to it.
 pub fn past_has_a_chain()
     ensures { (h : Sessions) (from to : OpName) →
         Past h from to → (names : List OpName) × IsChain h from to names }

@@ -1,7 +1,7 @@
-//! Reports: the text of a verdict on a history, and the chains of steps that show why a get is stale. Stands on
-//! cops_types and cops_audit. The layer above uses that the text is exactly that of the verdict's lines, and that a
-//! chain is the first of the shortest by which an operation is in the past of another. Explanations use the parts that
-//! a report is made of: its first line, chains with the puts at hand, and the puts by their versions.
+//! Reports: the text of a verdict on a history, and the chains of steps that show why a get is stale. The crate depends
+//! on cops_types and cops_audit. The layer above uses that the text is exactly the verdict's lines, and that a chain is
+//! the first of the shortest by which an operation is in the past of another. Explanations use the parts of a report:
+//! its first line, chains with the puts given, and the puts by their versions.
 #![tactic(auto)]
 
 mod chains;

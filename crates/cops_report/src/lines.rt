@@ -24,7 +24,7 @@ pub fn version_at(history: &History, name: OpName) -> Version
     }
 }
 
-/// The line of a history that is accepted.
+/// The line of an accepted history.
 pub fn accepted(
     alloc: Global,
     out: &mut Vec<u8>,
@@ -96,7 +96,7 @@ pub fn not_above(
     Ok(())
 }
 
-/// The names of a chain, each behind a space.
+/// The names of a chain, each after a space.
 fn chain_names(alloc: Global, out: &mut Vec<u8>, names: &[OpName]) -> Result<(), AllocError>
     ensures { OnOk result (out.new.items ≡ out.old.items ++ chain_text names.now) }
 {

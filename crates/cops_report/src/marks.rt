@@ -9,7 +9,7 @@ pub struct Mark {
     pub next: OpName,
 }
 
-/// A mark or none for each operation of a history.
+/// For each operation of a history its mark, if it has one.
 #[derive(Debug, Drop)]
 pub struct Marks {
     sessions: Vec<Vec<Option<Mark>>>,
@@ -64,7 +64,7 @@ impl Marks {
 
 ghost use Rattle.std.specs.Prelude.{◌≡◌, IfOk, replicate, None};
 
-/// No marks for so many operations.
+/// `operations` places without a mark.
 fn no_marks(alloc: Global, operations: usize) -> Result<Vec<Option<Mark>>, AllocError>
     ensures { IfOk result (λ marks. marks.items ≡ replicate operations None) }
 {

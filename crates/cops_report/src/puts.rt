@@ -9,7 +9,7 @@ ghost use Rattle.cops_report.specs.Puts.{HasPut, HasAllPuts};
 use cops_types::{History, Version, VersionedPut};
 use std::alloc::{AllocError, Global};
 
-/// All puts, in order of versions. `AllocError` where a growth was refused.
+/// All puts, in order of versions. The only error is `AllocError`, where memory runs out.
 pub fn put_table(alloc: Global, history: &History) -> Result<Vec<VersionedPut>, AllocError>
     ensures { IfOk result (λ v. HasAllPuts history.now.sessions v.items) }
 {
@@ -19,7 +19,7 @@ pub fn put_table(alloc: Global, history: &History) -> Result<Vec<VersionedPut>, 
     Ok(puts)
 }
 
-/// The puts from a version on, of puts in order of versions.
+/// The puts from a version on, in a list in order of versions.
 pub fn from_version(puts: &[VersionedPut], version: Version) -> &[VersionedPut]
     requires { IsNonDecreasingBy (λ p. p.version) puts.now }
     ensures rising { IsNonDecreasingBy (λ p. p.version) result.now }

@@ -57,7 +57,7 @@ fn stale_lines(
     Ok(())
 }
 
-/// The first line of a refusal with so many faults: `refused: N operations, M puts, F faults`.
+/// The first line of a refusal with this number of faults: `refused: N operations, M puts, F faults`.
 fn refused(alloc: Global, history: &History, faults: usize) -> Result<Vec<u8>, Memory>
     ensures { IfOk result (λ text. text.items ≡ refusal history.now.sessions faults []) }
 {
@@ -75,7 +75,7 @@ fn accepted(alloc: Global, history: &History) -> Result<Vec<u8>, Memory>
     Ok(text)
 }
 
-/// A refusal by faults that are names.
+/// A refusal whose faults are names.
 fn refused_names(
     alloc: Global,
     history: &History,
@@ -130,12 +130,12 @@ fn refusal(alloc: Global, history: &History, faults: &Faults) -> Result<Vec<u8>,
     }
 }
 
-/// The text of a verdict on a history, each line ended by a line feed: `accepted: N operations, M puts`, or
+/// The text of a verdict on a history. Each line ends with a line feed. It is `accepted: N operations, M puts`, or
 /// `refused: N operations, M puts, F faults` and then, in order of names, a line for each fault: `doubled NAME at
 /// VERSION`, `no source NAME at VERSION`, `not above NAME at VERSION, earlier NAME at VERSION`, or `stale NAME returned
 /// VERSION, newer NAME at VERSION, chain NAME NAME ..`, which for a get that found nothing says `returned nothing`. A
-/// stale get's chain is that of `chain` from the newer put to it. A deletion is counted and named as any put. `Memory`
-/// where a growth was refused.
+/// stale get's chain is that of `chain` from the newer put to it. A deletion is counted and named as a put. The only
+/// error is `Memory`, where memory runs out.
 pub fn report(alloc: Global, history: &History, verdict: &Verdict) -> Result<Vec<u8>, Memory>
     requires { IsVerdict history.now.sessions verdict.now }
     ensures { IfOk result (λ text. IsReport history.now.sessions verdict.now text.items) }

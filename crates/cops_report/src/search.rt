@@ -1,4 +1,4 @@
-//! The search backwards from an operation, by the number of steps that lead to it.
+//! The backward search from an operation, by the number of steps that lead to it.
 ghost use Rattle.cops_types.specs.declared.limits.TheConstants.{MAX_OPS};
 ghost use Rattle.std.specs.Prelude.{◌≡◌, ℕ, ◌+◌, ◌<◌, ◌≤◌, OnOk, IfOk, IsTrue, ◌↔◌, [], length, slice_index_or};
 ghost use Rattle.std.specs.List.Sorted.{IsNonDecreasingBy};
@@ -44,8 +44,8 @@ fn is_nearer(marks: &Marks, name: OpName, steps: u32) -> bool
     }
 }
 
-/// Marks the operations before the mark's next one in its session. All before one that is marked with fewer steps are
-/// marked already, so each operation is gone over once.
+/// Marks the operations that are before `mark.next` in its session. It stops at one that is marked with fewer steps,
+/// before which all are marked already, so that the search visits each operation once.
 fn mark_session(
     history: &History,
     marks: &mut Marks,
@@ -71,7 +71,7 @@ fn mark_session(
     Ok(())
 }
 
-/// Marks the first of the puts that the mark's next one returned: those with its version.
+/// Marks the puts that `mark.next` returned. `puts` are in order of versions and begin with those of its version.
 fn mark_bearers(
     history: &History,
     puts: &[VersionedPut],
@@ -101,7 +101,7 @@ fn mark_bearers(
     Ok(())
 }
 
-/// Marks the puts that the mark's next one returned.
+/// Marks the puts that `mark.next` returned.
 fn mark_sources(
     history: &History,
     puts: &[VersionedPut],
@@ -125,7 +125,7 @@ fn mark_sources(
     }
 }
 
-/// Marks the operations from which one step leads to the mark's next one.
+/// Marks the operations from which one step leads to `mark.next`.
 fn mark_before(
     history: &History,
     puts: &[VersionedPut],
@@ -146,7 +146,7 @@ fn mark_before(
     Ok(())
 }
 
-/// Marks the operations from which one step leads to a name of the level; they are the next level.
+/// Marks the operations from which one step leads to a name of the level. These are the next level.
 fn mark_level(
     alloc: Global,
     history: &History,
@@ -180,7 +180,8 @@ fn mark_level(
     Ok(names)
 }
 
-/// The marks of a search backwards from `to` that has come to `from`, or to all from which steps lead to `to`.
+/// The marks of a backward search from `to`, which ends when it reaches `from` or has marked all operations from which
+/// steps lead to `to`.
 pub fn search(
     alloc: Global,
     history: &History,

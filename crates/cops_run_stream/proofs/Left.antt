@@ -1,4 +1,4 @@
--- What a run leaves, from what its parts answer.
+-- What a run produces, from what its parts return.
 use Rattle.std.specs.Prelude.{IfOk}
 use Rattle.std.specs.Global.{Vec}
 use Rattle.cops_types.specs.declared.fault.Memory.{Memory}
@@ -21,7 +21,7 @@ use Rattle.cops_run_stream.specs.Parts.{AreAnswers, IsRunLeft}
 use Rattle.cops_run_stream.specs.Running.{all_seen, IsEventRun, IsRunOf, IsLeft}
 use Rattle.cops_run_stream.proofs.Recording.{run_of, run_saw}
 
--- a world that was opened, and events came
+-- a new world that takes the events
 answered : (s : AScenario) (c : AWorld) (d : Setting) (events : List Event) (outcomes : List Outcome) (end : World)
     → ((t : Setting) (w : World) → IsSetting t → IsReached t w → HasAcceptedVerdict w.sessions)
     → c ≡ opened_world (setting_of s) → d ≡ c.setting → IsSetting d → AnswersEach c.setting c.world events outcomes end → AreAnswers (setting_of s) events outcomes
@@ -38,7 +38,7 @@ pub answered_if : (s : AScenario) (c : AWorld) (d : Setting) (events : List Even
 answered_if s c d events (Ok outcomes) end law opened same legal ran = answered s c d events outcomes.items end law opened same legal ran
 answered_if s c d events (Err e) end law opened same legal ran = tt
 
--- the trace of such events holds what the world's sessions do
+-- the trace of such events has the world's sessions
 pub event_run : (s : AScenario) (events : List Event) (outcomes : List Outcome) (lines : List ℕ) (t : ATrace) (n : ℕ) → AreAnswers (setting_of s) events outcomes
     → n ≡ length s.clients → t ≡ record { format = s.format; clients = n; records = all_seen events outcomes } → lines ≡ outcome_lines outcomes
     → IsEventRun s events lines t × HasAcceptedVerdict (sessions_of t)
@@ -63,7 +63,7 @@ pub if_ok_both : {X E : Type 0} {P Q R : X → Type 0} (r : Result X E) → ((x 
 if_ok_both (Ok x) both p q = both x p q
 if_ok_both (Err e) both p q = tt
 
--- what a run left, once its report was appended to its lines
+-- what a run produced, once its report was appended to its lines
 pub left_of : (s : AScenario) (left : Left) (t : ATrace) (lines : List ℕ) → IsRunOf s s.events lines t → HasAcceptedVerdict (sessions_of t) → (left.trace ≡ t) × IsTrace t
     → ((verdict : Verdict) × (report : List ℕ) × IsReportOf (sessions_of t) verdict report × (left.text.items ≡ lines ++ report)) → IsRunLeft s left
 left_of s left t lines ran accepted (same, legal) (verdict, report, is_report, told) =

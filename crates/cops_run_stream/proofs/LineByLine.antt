@@ -1,4 +1,4 @@
--- One line more.
+-- Appending one line.
 use Rattle.std.proofs.Common.{◌≡◌, ℕ, zero, suc, ◌+◌, ◌<◌, List, [], ◌∷◌, ◌++◌, length, take, slice_index_or, sym, ap, ◌∙◌, arith, append_assoc, append-nil}
 use Rattle.cops_run_stream.specs.Lines.{numbered_from}
 

@@ -17,12 +17,12 @@ use Rattle.cops_trace.specs.Text.{ARecord, sessions_after}
 use Rattle.cops_core.proofs.Asking.{done_asks}
 use Rattle.cops_run_stream.specs.Running.{saw, all_seen, written_by}
 
--- some records, and then others
+-- two lists of records, one after the other
 after_all : (h : Sessions) (xs ys : List ARecord) → sessions_after h (xs ++ ys) ≡ sessions_after (sessions_after h xs) ys
 after_all h [] ys = refl
 after_all h (r ∷ rs) ys = after_all (with_op h r.client r.op) rs ys
 
--- what the world keeps of an answer
+-- what the world records of an outcome
 keeps_saw : (w : World) (dc place : ℕ) (act : Act) (outcome : Outcome) (n : Node)
     → (keeps w dc place act outcome n).sessions ≡ sessions_after w.sessions (saw act outcome)
 keeps_saw w dc place (WriteBy c k x) outcome n = by_version (version_given outcome)
@@ -36,12 +36,12 @@ keeps_saw w dc place (GetBy c k) (Gone version) n = refl
 keeps_saw w dc place (AskAt d k version) Yes n = refl
 keeps_saw w dc place act outcome n = refl
 
--- of a refusal nobody sees anything
+-- a refusal shows no client anything
 refused_saw : (act : Act) (code : Refusal) → saw act (Refused code) ≡ []
 refused_saw (WriteBy c k x) code = refl
 refused_saw act code = refl
 
--- a world that stays, of which an act was refused
+-- a world that an act does not change, which is refused
 refused_stays : (w mid : World) (act : Act) (code : Refusal) (outcome : Outcome) → ◌≡◌ {A = Outcome × World} (Refused code, w) (outcome, mid)
     → mid.sessions ≡ sessions_after w.sessions (saw act outcome)
 refused_stays w mid act code outcome e =
@@ -74,7 +74,7 @@ happened_saw s w mid act outcome (inr (e, same)) =
     let none : saw act outcome ≡ [] = ap (λ (o : Outcome). saw act o) e ∙ refused_saw act Memory in
     ap (λ (v : World). v.sessions) same ∙ ap (λ (rs : List ARecord). sessions_after w.sessions rs) (sym none)
 
--- what is answered so is a run
+-- events with these outcomes are a run
 pub run_of : (s : Setting) (old : World) (events : List Event) (outcomes : List Outcome) (new : World) → AnswersEach s old events outcomes new
     → Run s old events outcomes new
 run_of s old [] [] new e = e
@@ -93,7 +93,7 @@ run_saw s old (event ∷ events) (outcome ∷ outcomes) new (mid, (first, rest))
 run_saw s old [] (outcome ∷ outcomes) new none = absurd none
 run_saw s old (event ∷ events) [] new none = absurd none
 
--- an answer for each event
+-- there is one outcome for each event
 pub run_len : (s : Setting) (old : World) (events : List Event) (outcomes : List Outcome) (new : World) → Run s old events outcomes new → length outcomes ≡ length events
 run_len s old [] [] new e = refl
 run_len s old (event ∷ events) (outcome ∷ outcomes) new (mid, (first, rest)) = ap suc (run_len s mid events outcomes new rest)
@@ -109,7 +109,7 @@ seen_suc (e ∷ es) (o ∷ os) (suc n) event outcome p q =
     ap (λ (rs : List ARecord). saw (act_of e) o ++ rs) (seen_suc es os n event outcome (omega (arith, p)) (omega (arith, q)))
     ∙ sym (append_assoc (saw (act_of e) o) (all_seen (take n es) (take n os)) (saw (act_of (slice_index_or es n event)) (slice_index_or os n outcome)))
 
--- one event more
+-- one more event
 pub seen_next : (events : List Event) (outcomes : List Outcome) (n : ℕ) (event : Event) (outcome : Outcome) → n < length events → n < length outcomes
     → all_seen (take (n + 1) events) (take (n + 1) outcomes) ≡ all_seen (take n events) (take n outcomes) ++ saw (act_of (slice_index_or events n event)) (slice_index_or outcomes n outcome)
 seen_next events outcomes n event outcome p q =

@@ -1,4 +1,4 @@
--- What the parts of running a scenario hand over.
+-- What the parts of running a scenario return.
 use Rattle.std.specs.Prelude.{List}
 use Rattle.cops_node.specs.declared.outcome.Outcome.{Outcome}
 use Rattle.cops_core.specs.declared.event.Event.{Event}
@@ -9,11 +9,10 @@ use Rattle.cops_scenario.specs.Scenario.{AScenario}
 use Rattle.cops_run_stream.specs.declared.leaving.Left.{Left}
 use Rattle.cops_run_stream.specs.Running.{IsLeft}
 
--- a world that was opened so answered these events with these outcomes, out of memory only where an answer takes some, and what its clients
--- saw is accepted
+-- a new world gives these outcomes to these events, `Memory` only where an answer allocates, and the verdict on what its clients saw is accepted
 abbrev pub AreAnswers : Setting → List Event → List Outcome → Type 0
 AreAnswers s events outcomes = (end : World) × AnswersEach s (opening s) events outcomes end × HasAcceptedVerdict end.sessions
 
--- a run of the scenario, and what tells it
+-- a run of the scenario, and its text
 abbrev pub IsRunLeft : AScenario → Left → Type 0
 IsRunLeft s left = IsLeft s left.trace left.text.items

@@ -1,4 +1,4 @@
--- What running a scenario leaves: the trace of what its clients saw, the lines that tell what happened, and the report.
+-- What running a scenario produces: the trace of what its clients saw, the lines that report what happened, and the report.
 use Rattle.std.specs.Prelude.{◌≡◌, ◌⊎◌, ℕ, List, [], ◌∷◌, ◌++◌, length, Option, None, Some}
 use Rattle.std.specs.Io.KnownBytes.{Appends, Keeps}
 use Rattle.cops_types.specs.Histories.{write, read, missed}
@@ -24,12 +24,12 @@ use Rattle.cops_command.specs.Told.{IsReportOf}
 use Rattle.cops_command.specs.declared.status.Status.TheVariants.{Accepted, Faulty}
 use Rattle.cops_run_stream.specs.Lines.{outcome_lines, client_lines}
 
--- what a client wrote at this version, if it was given one
+-- the record of a client's write at this version, if it was given one
 abbrev pub written_by : ℕ → List ℕ → Option (List ℕ) → Option ℕ → List ARecord
 written_by client key content None = []
 written_by client key content (Some version) = record { client = client; op = write key content version } ∷ []
 
--- what a client saw of an act that was answered so: of its write that was done, and of its get
+-- what a client saw of an act with this outcome: its write if it was done, or its get
 abbrev pub saw : Act → Outcome → List ARecord
 saw (WriteBy client key content) outcome = written_by client key content (version_given outcome)
 saw (GetBy client key) (Answered value version) = record { client = client; op = read key (Some value) version } ∷ []
@@ -43,8 +43,7 @@ all_seen [] outcomes = []
 all_seen (event ∷ events) [] = []
 all_seen (event ∷ events) (outcome ∷ outcomes) = saw (act_of event) outcome ++ all_seen events outcomes
 
--- these events, one after the other, in the scenario's world, each refused for memory only where its answer takes some: the trace is what
--- its clients saw
+-- these events happen in order in the scenario's world, refused with `Memory` only where an answer allocates, and the trace is what its clients saw
 pub record IsEventRun (s : AScenario) (events : List Event) (lines : List ℕ) (t : ATrace) : Type 0 where
   pub outcomes : List Outcome
   pub end : World
@@ -53,7 +52,7 @@ pub record IsEventRun (s : AScenario) (events : List Event) (lines : List ℕ) (
   pub saw_these : end.sessions ≡ sessions_of t
   pub lines_are : lines ≡ outcome_lines outcomes
 
--- the scripts of the scenario's clients on threads: the books of all nodes are one run of its world, whose clients saw the trace
+-- the scripts of the scenario's clients ran on threads: the logs of all nodes are one run of its world, whose clients saw the trace
 pub record IsScriptRun (s : AScenario) (lines : List ℕ) (t : ATrace) : Type 0 where
   pub books : List (List Entry)
   pub events : List Event
@@ -61,12 +60,12 @@ pub record IsScriptRun (s : AScenario) (lines : List ℕ) (t : ATrace) : Type 0 
   pub ran : IsRun (setting_of s) s.clients books (sessions_of t) events outcomes
   pub lines_are : lines ≡ client_lines outcomes
 
--- its events where it has them, and else its scripts
+-- the run of the scenario's events if it has them, and otherwise of its scripts
 abbrev pub IsRunOf : AScenario → Option (List Event) → List ℕ → ATrace → Type 0
 IsRunOf s None lines t = IsScriptRun s lines t
 IsRunOf s (Some events) lines t = IsEventRun s events lines t
 
--- a run of the scenario with its trace, which is accepted, and the text that tells it: the lines, and then the report
+-- a run of the scenario with its trace, which is accepted, and its text: the lines, and then the report
 pub record IsLeft (s : AScenario) (t : ATrace) (told : List ℕ) : Type 0 where
   pub lines : List ℕ
   pub verdict : Verdict
@@ -77,7 +76,7 @@ pub record IsLeft (s : AScenario) (t : ATrace) (told : List ℕ) : Type 0 where
   pub is_report : IsReportOf (sessions_of t) verdict report
   pub told_is : told ≡ lines ++ report
 
--- how it ends well: the bytes tell a scenario, the one writer gained the text of a run's trace, and the other what tells it
+-- how it ends successfully: the bytes decode to a scenario, one writer gained the text of a run's trace, and the other the run's text
 pub record EndsWell (bytes : List ℕ) (trace_old trace_new old new : Option (List ℕ)) : Type 0 where
   pub scenario : AScenario
   pub trace : ATrace
@@ -87,12 +86,12 @@ pub record EndsWell (bytes : List ℕ) (trace_old trace_new old new : Option (Li
   pub traced : Appends trace_old trace_new (text trace)
   pub printed : Appends old new told
 
--- how it ends, by the status: so where it is accepted, and faulty where the bytes tell no scenario; there is no other
+-- how it ends, by the status: `EndsWell` where it is accepted, and faulty where the bytes do not decode to a scenario; there is no other status
 abbrev pub EndsAs : List ℕ → ℕ → Option (List ℕ) → Option (List ℕ) → Option (List ℕ) → Option (List ℕ) → Type 0
 EndsAs bytes status trace_old trace_new old new =
     ((status ≡ number Accepted) × EndsWell bytes trace_old trace_new old new)
     ⊎ ((status ≡ number Faulty) × TellsNone bytes × Keeps trace_old trace_new)
 
--- some first bytes of a trace's text went out, fewer than all
+-- a proper prefix of a trace's text was written
 abbrev pub IsCut : Option (List ℕ) → Option (List ℕ) → Type 0
 IsCut old new = (written : ℕ) × IsCutShort old new written

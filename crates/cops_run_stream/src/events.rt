@@ -1,4 +1,4 @@
-//! The run of an event list, in a world on one thread.
+//! Running an event list, in a world on one thread.
 ghost use Rattle.std.specs.Prelude.{◌≡◌, ◌++◌, Some, length, IfOk, OnOk};
 ghost use Rattle.cops_scenario.specs.Scenario.{setting_of};
 ghost use Rattle.cops_types.specs.declared.op.Op.TheVariants.{Put as Wrote, Got};
@@ -15,7 +15,7 @@ use cops_trace::Trace;
 use cops_types::{Format, Key, Memory, Op, Value, Version};
 use std::alloc::Global;
 
-/// Runs the events in a world of the scenario: a line for each event.
+/// Runs the events in a world of the scenario. Prints one line for each event. Returns `Memory` when memory runs out.
 pub(crate) fn run_events(
     alloc: Global,
     scenario: &Scenario,
@@ -31,7 +31,8 @@ pub(crate) fn run_events(
     Ok(reported_left(alloc, lines, trace)?)
 }
 
-/// What a world of the scenario answers to the events. Whatever they are, what its clients saw is accepted.
+/// The outcomes of the events in a world of the scenario. Whatever the events are, the verdict on what its clients saw
+/// is accepted.
 fn answers(alloc: Global, scenario: &Scenario, events: &[Event]) -> Result<Vec<Outcome>, Memory>
     ensures { IfOk result (λ outcomes. AreAnswers (setting_of scenario.now) events.now outcomes.items) }
 {
@@ -40,7 +41,7 @@ fn answers(alloc: Global, scenario: &Scenario, events: &[Event]) -> Result<Vec<O
     world.run(events)
 }
 
-/// A line for each event.
+/// One line for each event.
 fn lines(alloc: Global, outcomes: &[Outcome]) -> Result<Vec<u8>, Memory>
     ensures { IfOk result (λ text. text.items ≡ outcome_lines outcomes.now) }
 {
@@ -69,8 +70,8 @@ fn recorded(
     Ok(trace)
 }
 
-/// Records what a client saw of an event, if it saw any of it. The world takes no more operations than a trace, and
-/// answers none that is not in its format.
+/// Records the operation that a client saw of an event, if any. The world takes no more operations than a trace does,
+/// and its outcomes are in its format.
 fn record(trace: &mut Trace, event: &Event, outcome: &Outcome) -> Result<(), Memory>
     ensures { OnOk result (trace.new ≡ record { format = trace.old.format; clients = trace.old.clients; records = trace.old.records ++ saw (act_of event.now) outcome.now }) }
 {

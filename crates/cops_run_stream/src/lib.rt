@@ -1,6 +1,6 @@
 //! The program's command that runs a scenario, over readers and writers: an event list in a world, or scripted clients
-//! on threads. Stands on scenarios, the world, the run on threads, the audit and the report. The program uses the
-//! status.
+//! on threads. It builds on scenarios, the world, the run on threads, the audit and the report. The program uses the
+//! status that it returns.
 #![tactic(auto)]
 
 mod events;

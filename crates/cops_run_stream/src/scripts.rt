@@ -1,4 +1,4 @@
-//! The run of scripted clients, on threads.
+//! Running scripted clients, on threads.
 ghost use Rattle.std.specs.Prelude.{◌≡◌, ◌≢◌, ◌++◌, ℕ, List, None, IfErr, IfOk, string_bytes};
 ghost use Rattle.std.specs.Io.KnownBytes.{Appends};
 ghost use Rattle.cops_types.specs.Counted.{failures, inner};
@@ -19,14 +19,14 @@ use std::io::Write;
 use std::sync::Wait;
 use std::thread::Threads;
 
-/// What a run of scripts left, or why there is none, and the writer that its trace was written to.
+/// What a run of scripts produced, or why there is no run, and the writer that its trace was written to.
 #[derive(Drop)]
 pub(crate) struct Scripted<T: Write> {
     pub(crate) ran: Result<Left, RunFault>,
     pub(crate) trace: Counted<T>,
 }
 
-/// Runs the scenario's scripts, whose trace is written while they run: a line for each client.
+/// Runs the scenario's scripts, and writes their trace while they run. Prints one line for each client.
 pub(crate) fn run_scripts<R: Threads + Wait + Sync, G: Gate, T: Write + Send + Drop>(
     rt: &R,
     alloc: Global,
@@ -54,7 +54,7 @@ pub(crate) fn run_scripts<R: Threads + Wait + Sync, G: Gate, T: Write + Send + D
     }
 }
 
-/// What a run leaves.
+/// What a run produces. Returns `Memory` when memory runs out.
 fn left_of(alloc: Global, run: Run) -> Result<Left, RunFault>
     ensures trace { IfOk result (λ left. (left.trace ≡ run.trace) × IsTrace run.trace) }
     ensures text { IfOk result (λ left. (verdict : Verdict) × (report : List ℕ) × IsReportOf (sessions_of run.trace) verdict report × (left.text.items ≡ client_lines run.outcomes.items ++ report)) }
@@ -74,7 +74,7 @@ fn left_of(alloc: Global, run: Run) -> Result<Left, RunFault>
     }
 }
 
-/// A line for each client.
+/// One line for each client.
 fn lines(alloc: Global, outcomes: &[ClientOutcome]) -> Result<Vec<u8>, Memory>
     ensures { IfOk result (λ text. text.items ≡ client_lines outcomes.now) }
 {

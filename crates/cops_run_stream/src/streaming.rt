@@ -26,19 +26,21 @@ use std::io::{Read, Write};
 use std::sync::Wait;
 use std::thread::Threads;
 
-/// A command's status, and the writer that a trace was written to, which comes back in any case.
+/// A command's status, and the writer that a trace was written to, which is returned in any case.
 #[derive(Drop)]
 pub struct Streamed<T: Write> {
     pub status: Result<u8, Memory>,
     pub trace: Counted<T>,
 }
 
-/// Runs a scenario: its events in a world, or the scripts of its clients on threads. It writes the trace of what the
+/// Runs a scenario: its events in a world, or the scripts of its clients on threads. Writes the trace of what the
 /// clients saw, and prints a line for each event, or for each client, and then the report. The trace of scripts is
-/// written while they run. The answer is the status: 0 for a run, whose history is accepted; 2 for a faulty scenario,
-/// which a line on `out` tells; and 4 where a read or a write failed, or the run on threads did, which a line on
-/// `errors` tells. Where a run failed nothing was written but that line and some first bytes of a trace's text, fewer
-/// than all.
+/// written while they run.
+///
+/// Returns the exit status: 0 for a run, whose history is accepted; 2 for a faulty scenario, which a line on `out`
+/// names; and 4 where a read or a write failed, or the run on threads did, which a line on `errors` names. Where a run
+/// failed, nothing was written but that line and a proper prefix of a trace's text. The status is `Memory` when memory
+/// runs out.
 pub fn run_stream<S, R, T, W, E, G>(
     rt: &S,
     alloc: Global,
@@ -55,11 +57,11 @@ where
     W: Write,
     E: Write,
     G: Gate,
-    // The status is that of the reader's bytes and of what was written, unless something failed: never 1.
+    // The status follows from the reader's bytes and from what was written, unless something failed. It is never 1.
     ensures ended { IfOk result.status (λ status. (status ≡ number EndsFailed) ⊎ IfSome (R.remaining (inner reader.old)) (λ bytes.
         EndsAs bytes status (T.contents (inner trace)) (T.contents (inner result.trace)) (W.contents (inner out.old)) (W.contents (inner out.new)))) }
 
-    // What failed was a device, or a run, of whose trace a front was written, not all, and nothing else.
+    // What failed was a reader or a writer, or a run, of whose trace a proper prefix was written, and nothing else.
     ensures failed { result.status ≡ Ok (number EndsFailed) → Failed (failures reader.old) (failures reader.new) ⊎ (Failed (failures trace) (failures result.trace)
         ⊎ (Failed (failures out.old) (failures out.new) ⊎ (IsCut (T.contents (inner trace)) (T.contents (inner result.trace)) × Keeps (W.contents (inner out.old)) (W.contents (inner out.new))))) }
     ensures heard { (result.status ≡ Ok (number EndsFailed)) ⊎ ((failures reader.new ≡ failures reader.old) × ((failures result.trace ≡ failures trace) × (failures out.new ≡ failures out.old))) }
@@ -85,7 +87,7 @@ where
     Streamed { status, trace }
 }
 
-/// Runs the events, writes the trace of what the clients saw, prints the lines, and gives the status.
+/// Runs the events, writes the trace of what the clients saw, prints the lines, and returns the exit status.
 fn tell_events<T: Write, W: Write, E: Write>(
     alloc: Global,
     scenario: &Scenario,
@@ -107,8 +109,8 @@ fn tell_events<T: Write, W: Write, E: Write>(
     }
 }
 
-/// Prints the lines of a run whose trace is written, or tells why there is none, and gives the status. Only where the
-/// writer of the trace did not fail may memory be refused.
+/// Prints the lines of a run whose trace is written, or why there is no run, and returns the exit status. Returns
+/// `Memory` only where the writer of the trace did not fail.
 fn tell_scripts<W: Write, E: Write>(
     alloc: Global,
     ran: Result<Left, RunFault>,
@@ -139,7 +141,7 @@ fn tell_scripts<W: Write, E: Write>(
     }
 }
 
-/// Writes the trace of a run, prints its lines, and gives the status.
+/// Writes the trace of a run, prints its lines, and returns the exit status.
 fn write<T: Write, W: Write, E: Write>(
     alloc: Global,
     left: &Left,

@@ -1,4 +1,4 @@
-//! Sessions of the front door with deletions, and in format 1, which has none.
+//! Server sessions with deletions, and in format 1, which has none.
 use cops_net::{Call, NetFault, Reply, Served, Session, serve_session};
 use cops_scenario::Scenario;
 use cops_serve::{FrontEnd, ServeFault};
@@ -11,7 +11,7 @@ use std::test::Fail;
 /// One data centre with one node and one client, in format 1.
 const ONE: &[u8] = b"{\"data_centres\":1,\"clients\":[{\"at\":0}]}";
 
-/// The same in format 2.
+/// One data centre with one node and one client, in format 2.
 const TWO: &[u8] = b"{\"format\":2,\"data_centres\":1,\"clients\":[{\"at\":0}]}";
 
 /// A greeting of client 0 in format 1, and its deletion of x.
@@ -20,7 +20,7 @@ const MESSAGES_OF_ONE: [u8; 20] = [
     0, 0, 0, 7, 22, 0, 0, 0, 2, 1, 120,
 ];
 
-/// Its greeting in format 2, its put of 1 at x, its deletion of x, and its get of x.
+/// Client 0's greeting in format 2, its put of 1 at x, its deletion of x, and its get of x.
 const MESSAGES_OF_TWO: [u8; 45] = [
     0, 0, 0, 5, 1, 0, 2, 0, 0, //
     0, 0, 0, 10, 3, 0, 0, 0, 1, 1, 120, 0, 1, 49, //
@@ -28,7 +28,7 @@ const MESSAGES_OF_TWO: [u8; 45] = [
     0, 0, 0, 7, 4, 0, 0, 0, 3, 1, 120,
 ];
 
-/// Where a greeting ends, and behind it a deletion of x in format 1.
+/// Where the greeting ends, after which comes a deletion of x in format 1.
 const GREETED: usize = 9;
 
 /// The replies: data centre 0 has 1 node, the put was done with the version 1.0, the deletion with 2.0, and the get
@@ -53,7 +53,7 @@ fn front_end(alloc: Global, scenario: &[u8]) -> Result<FrontEnd, Fail> {
     Ok(opened?)
 }
 
-/// How a session of these messages ends in a scenario's cluster, and whether just these replies were written.
+/// How a session with these messages ends in a scenario's cluster, and whether exactly these replies were written.
 fn served<R: Wait>(
     rt: &R,
     alloc: Global,
@@ -93,7 +93,7 @@ fn a_greeting_names_the_format(rt: HostRuntime) -> Result<(), Fail> {
     Ok(())
 }
 
-/// Before a greeting was answered, and in format 1, a deletion is no message.
+/// Before a greeting was answered, and in format 1, a deletion is not a message.
 #[test]
 fn a_deletion_is_unknown(rt: HostRuntime) -> Result<(), Fail> {
     for (scenario, messages, replies) in [
@@ -107,8 +107,8 @@ fn a_deletion_is_unknown(rt: HostRuntime) -> Result<(), Fail> {
     Ok(())
 }
 
-/// The place of a call in such a session, told by its answer: a greeting, a put that was done, a deletion that was done,
-/// and a get that found one. Of any other answer it is 4.
+/// The place of a call in such a session, by its answer: a greeting, a put that was done, a deletion that was done, and
+/// a get that found a deletion. For any other answer it is 4.
 fn place_of(call: &Call) -> usize {
     match call {
         Call::Put { answer, .. } | Call::Del { answer, .. } | Call::Get { answer, .. } => {

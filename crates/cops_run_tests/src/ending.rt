@@ -11,7 +11,7 @@ use std::sync::Wait;
 use std::test::Fail;
 use std::thread::Threads;
 
-/// Whether what a run left passes in this setting with these outcomes in the place of its own.
+/// Whether what a run left passes the check in this setting, with these outcomes in place of its own.
 fn passes_in(
     alloc: Global,
     scenario: &Scenario,
@@ -29,7 +29,7 @@ fn passes_in(
     passes
 }
 
-/// The same in the scenario's setting.
+/// Like `passes_in`, in the scenario's setting.
 fn passes(alloc: Global, scenario: &Scenario, run: &Run, outcomes: &[ClientOutcome]) -> bool {
     match scenario.setting(alloc) {
         Ok(setting) => {
@@ -47,8 +47,8 @@ const CONTEXT_FULL: ClientOutcome = ClientOutcome::Stopped(Refusal::ContextFull)
 
 const SESSION_FULL: ClientOutcome = ClientOutcome::Stopped(Refusal::SessionFull);
 
-/// A run passes with the outcomes that its sessions say, and where memory is said to have been refused, and with no
-/// others.
+/// A run passes with the outcomes that follow from its sessions, and with one that says that memory ran out, but with
+/// no others.
 fn ends_as_said<R: Abort>(rt: &R, alloc: Global, scenario: &Scenario, run: &Run) {
     assert!(*rt; passes(alloc, scenario, run, &[DONE, DONE]));
     assert!(*rt; passes(alloc, scenario, run, &[DONE, NO_MEMORY]));
@@ -57,7 +57,7 @@ fn ends_as_said<R: Abort>(rt: &R, alloc: Global, scenario: &Scenario, run: &Run)
     assert!(*rt; !passes(alloc, scenario, run, &[DONE]));
 }
 
-/// A run of the scenario that both tests have.
+/// A run of the scenario `TWO`.
 fn run_of_two<R: Threads + Wait + Sync>(rt: &R, alloc: Global) -> Result<Run, Fail> {
     Ok(ran(rt, alloc, TWO, &OpenGate)??)
 }
@@ -85,7 +85,7 @@ fn cut(books: &mut [Vec<Entry>]) {
     }
 }
 
-/// Has each put that was settled marked in its place.
+/// Changes each outcome `Settled` to `Marked`.
 fn alter(books: &mut [Vec<Entry>]) {
     for book in books {
         for entry in book.iter_mut() {
@@ -96,7 +96,7 @@ fn alter(books: &mut [Vec<Entry>]) {
     }
 }
 
-/// Whether a run passes whose books are cut or, where they are not, altered.
+/// Whether a run passes whose books are cut or, if `is_cut` is false, altered.
 fn passes_altered<R: Threads + Wait + Sync>(
     rt: &R,
     alloc: Global,
@@ -114,7 +114,7 @@ fn passes_altered<R: Threads + Wait + Sync>(
     Ok(passes)
 }
 
-/// Whether it passes with cut books, and with altered ones.
+/// Whether a run passes with cut books, and with altered ones.
 fn pass_altered<R: Threads + Wait + Sync>(
     rt: &R,
     alloc: Global,
@@ -137,10 +137,10 @@ fn altered_books_do_not_pass(rt: HostRuntime) -> Result<(), Fail> {
 const DELETED: &str =
     "{\"format\":2,\"data_centres\":1,\"clients\":[{\"at\":0,\"script\":[{\"put\":[\"x\",\"1\"]},{\"del\":\"x\"}]}]}";
 
-/// The same data centre and client in format 1.
+/// The data centre and the client of `DELETED`, in format 1.
 const WITHOUT: &str = "{\"data_centres\":1,\"clients\":[{\"at\":0}]}";
 
-/// The ticket at which what a run left is not tied in this setting, or none. What was tied is let go.
+/// The ticket at which what a run left is not tied in this setting, or none. Drops what was tied.
 fn untied_in(alloc: Global, setting: &Setting, run: &Run) -> Option<u64> {
     if run.entries.len() != setting.dcs() as usize * setting.nodes() as usize {
         return Some(0);
@@ -155,7 +155,7 @@ fn untied_in(alloc: Global, setting: &Setting, run: &Run) -> Option<u64> {
     ticket
 }
 
-/// The same in the setting of a scenario's text.
+/// Like `untied_in`, in the setting of a scenario's text.
 fn untied(alloc: Global, text: &str, run: &Run) -> Result<Option<u64>, Fail> {
     let scenario = scenario(alloc, text)?;
     let setting = scenario.setting(alloc);
@@ -166,13 +166,13 @@ fn untied(alloc: Global, text: &str, run: &Run) -> Result<Option<u64>, Fail> {
     Ok(ticket)
 }
 
-/// The same in the setting of each format.
+/// Like `untied`, in the setting of each format.
 fn untied_in_each(alloc: Global, run: &Run) -> Result<(Option<u64>, Option<u64>), Fail> {
     let with = untied(alloc, DELETED, run)?;
     Ok((with, untied(alloc, WITHOUT, run)?))
 }
 
-/// The put alone is of both worlds.
+/// The put alone belongs to both worlds.
 #[test]
 fn a_deletion_is_untied_in_format_1(rt: HostRuntime) -> Result<(), Fail> {
     let run = ran(&rt, rt.alloc(), DELETED, &OpenGate)??;

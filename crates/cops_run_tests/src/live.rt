@@ -11,7 +11,7 @@ use std::sync::atomic::{AtomicBool, AtomicU64, Ordering};
 use std::test::Fail;
 use std::thread::Threads;
 
-/// Whether a text is accepted, and just this is told of it.
+/// Whether the audit of a text accepts it and prints exactly `wanted`.
 fn is_accepted<R: Threads + Wait + Sync + AllocGlobal>(
     rt: &R,
     alloc: Global,
@@ -25,7 +25,7 @@ fn is_accepted<R: Threads + Wait + Sync + AllocGlobal>(
     Ok(matches!(answer?, Answer::Accepted) && is_told)
 }
 
-/// How many operations the trace of a run of a scenario's text has, where both clients are done, and what was written.
+/// The number of operations in the trace of a run of a scenario's text, if both clients are done, and what was written.
 fn written<R: Threads + Wait + Sync>(
     rt: &R,
     alloc: Global,
@@ -65,7 +65,7 @@ fn deletions_are_written_and_audited(rt: HostRuntime) -> Result<(), Fail> {
     Ok(())
 }
 
-/// Counts the answers to clients.
+/// A gate that counts the answers to clients.
 #[derive(Drop)]
 struct Answers {
     told: AtomicU64,
@@ -103,7 +103,7 @@ fn clients_end_though_a_write_failed(rt: HostRuntime) -> Result<(), Fail> {
     Ok(())
 }
 
-/// Lets client 0 go on from its first answer once a second piece was written.
+/// A gate that lets client 0 continue from its first answer once a second piece was written.
 #[derive(Drop)]
 struct Waits<'a> {
     written: &'a AtomicBool,
@@ -120,7 +120,7 @@ impl Gate for Waits<'_> {
     }
 }
 
-/// Tells of its second write.
+/// A writer that reports its second write.
 #[derive(Drop)]
 struct Telling<'a> {
     writes: u64,
@@ -145,7 +145,7 @@ impl Write for Telling<'_> {
     }
 }
 
-/// A trace that is written at the end alone would be held here.
+/// A trace that is written only at the end would be held here.
 #[test]
 fn records_are_written_while_clients_run(rt: HostRuntime) -> Result<(), Fail> {
     let scenario = scenario(rt.alloc(), TWO)?;

@@ -16,20 +16,20 @@ use std::thread::Threads;
 const SPLIT: &str =
     "{\"data_centres\":1,\"splits\":[\"m\"],\"clients\":[{\"at\":0},{\"at\":0,\"script\":[{\"put\":[\"a\",\"1\"]}]},{\"at\":0,\"script\":[{\"put\":[\"z\",\"1\"]}]}]}";
 
-/// A client puts three keys, which go through a link for one frame, and a loop may make one turn.
+/// A client puts three keys, which pass through a link for one frame, and a loop may make one turn.
 const LIMITED: &str =
     "{\"data_centres\":2,\"link\":1,\"turns\":1,\"clients\":[{\"at\":0,\"script\":[{\"put\":[\"a\",\"1\"]},{\"put\":[\"b\",\"1\"]},{\"put\":[\"c\",\"1\"]}]}]}";
 
-/// A client puts two keys, whose messages go through a link for one frame, each three times, to a receiver that comes
-/// late.
+/// A client puts two keys, whose messages pass through a link for one frame, each three times, to a receiver with late
+/// turns.
 const LATE: &str =
     "{\"data_centres\":2,\"link\":1,\"repeat\":2,\"hold\":5,\"clients\":[{\"at\":0,\"script\":[{\"put\":[\"x\",\"1\"]},{\"put\":[\"y\",\"2\"]}]}]}";
 
-/// The same in format 2, where the second message is of a deletion.
+/// Like `LATE` in format 2, where the second message is of a deletion.
 const LATE_DELETION: &str =
     "{\"format\":2,\"data_centres\":2,\"link\":1,\"repeat\":2,\"hold\":5,\"clients\":[{\"at\":0,\"script\":[{\"put\":[\"x\",\"1\"]},{\"del\":\"x\"}]}]}";
 
-/// How many outcomes a run left, and how many operations. What it left is let go.
+/// The numbers of outcomes and of operations that a run left. Drops what the run left.
 fn sizes(ran: Result<Run, RunFault>) -> Option<(usize, usize)> {
     let sizes = match &ran {
         Ok(run) => Some((run.outcomes.len(), run.trace.len())),
@@ -39,7 +39,7 @@ fn sizes(ran: Result<Run, RunFault>) -> Option<(usize, usize)> {
     sizes
 }
 
-/// One thread for both clients, or one lock round both nodes, would be held here.
+/// A single thread for both clients, or a single lock around both nodes, would be held here.
 #[test]
 fn steps_of_two_nodes_stand_side_by_side(rt: HostRuntime) -> Result<(), Fail> {
     let gate = Meeting::new(
@@ -70,7 +70,7 @@ fn a_gate_holds_a_run(rt: HostRuntime) -> Result<(), Fail> {
     Ok(())
 }
 
-/// Keeps a receiver for a while at its first step, in which the clients come to their ends.
+/// A gate that delays a receiver at its first step, while the clients finish.
 #[derive(Drop)]
 struct Slow {
     passed: AtomicU64,
@@ -101,7 +101,7 @@ fn a_sender_makes_its_turns(rt: HostRuntime) -> Result<(), Fail> {
     Ok(())
 }
 
-/// Lets client 1 go on from its first answer once client 0 has so many.
+/// A gate that lets client 1 continue from its first answer once client 0 has `wanted` answers.
 #[derive(Drop)]
 struct Turns {
     answered: AtomicU64,
@@ -127,8 +127,8 @@ impl Gate for Turns {
     }
 }
 
-/// Writes a scenario in which client 0 puts so many keys and gets the first of them, and client 1 gets a key that
-/// nobody puts, and then them and the first of them again.
+/// Writes a scenario in which client 0 puts `keys` keys and gets the first of them, and client 1 gets a key that nobody
+/// puts, and then those keys and the first of them again.
 fn write_many(text: &mut String, keys: u32) -> Result<(), Fail> {
     text.push_str("{\"data_centres\":1,\"clients\":[{\"at\":0,\"script\":[")?;
     for n in 0..keys {
@@ -142,7 +142,7 @@ fn write_many(text: &mut String, keys: u32) -> Result<(), Fail> {
     Ok(())
 }
 
-/// How a run of such a scenario ends.
+/// Runs such a scenario, and returns the run's result.
 fn ran_many<R: Threads + Wait + Sync, G: Gate>(
     rt: &R,
     alloc: Global,
@@ -179,12 +179,13 @@ fn world_of(alloc: Global, text: &str) -> Result<World, Fail> {
     Ok(World::of(alloc, setting?)?)
 }
 
-/// How many of the outcomes are like one.
+/// The number of outcomes that are equal to `like`.
 fn count(outcomes: &[Outcome], like: &Outcome) -> usize {
     outcomes.iter().filter(|outcome| *outcome == like).count()
 }
 
-/// How many puts such a world holds by these events, how many it has again, and how many it settles.
+/// How many deliveries of these events such a world answers with held, how many with repeat, and how many puts it
+/// settles.
 fn counts(alloc: Global, text: &str, events: &[Event]) -> Result<[usize; 3], Fail> {
     let mut world = world_of(alloc, text)?;
     let outcomes = world.run(events);
@@ -215,7 +216,7 @@ fn a_deletion_comes_three_times(rt: HostRuntime) -> Result<(), Fail> {
     Ok(())
 }
 
-/// Each of the two puts comes once to the other data centre and is settled there.
+/// Each of the two puts is delivered once to the other data centre and settled there.
 #[test]
 fn each_put_is_settled_in_the_other_data_centre(rt: HostRuntime) -> Result<(), Fail> {
     let run = ran(&rt, rt.alloc(), TWO, &OpenGate)??;
@@ -233,7 +234,7 @@ fn clients_delete(rt: HostRuntime) -> Result<(), Fail> {
     Ok(())
 }
 
-/// Each put and each deletion comes once to the other data centre and is settled there.
+/// Each put and each deletion is delivered once to the other data centre and settled there.
 #[test]
 fn each_deletion_is_settled_in_the_other_data_centre(rt: HostRuntime) -> Result<(), Fail> {
     let run = ran(&rt, rt.alloc(), DELETING, &OpenGate)??;

@@ -38,7 +38,8 @@ fn front_end(alloc: Global) -> Result<FrontEnd, Fail> {
     Ok(opened?)
 }
 
-/// How the session ends where the first reads and the first bytes of writes alone go through, and how much was written.
+/// How the session ends where only the first `reads` reads and the first `writes` bytes of writes succeed, and how much
+/// was written.
 fn served<R: Wait>(
     rt: &R,
     alloc: Global,
@@ -90,7 +91,7 @@ fn are_listed(calls: &[Call]) -> bool {
     )
 }
 
-/// The greeting and the put are handed over, the goodbye is not.
+/// The greeting and the put are handed to the session, the goodbye is not.
 #[test]
 fn calls_are_listed(rt: HostRuntime) -> Result<(), Fail> {
     let mut front_end = front_end(rt.alloc())?;
@@ -107,8 +108,8 @@ fn calls_are_listed(rt: HostRuntime) -> Result<(), Fail> {
     Ok(())
 }
 
-/// How a session of the first bytes of the messages ends, and how many bytes were replied, where those are the first
-/// of the replies.
+/// How a session with the first `len` bytes of the messages ends, and how many bytes were replied, if those are a
+/// prefix of the replies.
 fn cut<R: Wait>(
     rt: &R,
     alloc: Global,
@@ -126,7 +127,7 @@ fn cut<R: Wait>(
     Ok((ended, are_first.then_some(written)))
 }
 
-/// How many messages end within so many bytes, and how long their replies are.
+/// The number of messages that end within `len` bytes, and the length of their replies.
 fn whole(len: usize) -> (u32, usize) {
     let mut whole = (0u32, 0);
     for (end, replied) in ENDS {
@@ -137,7 +138,7 @@ fn whole(len: usize) -> (u32, usize) {
     whole
 }
 
-/// A session may end between two messages, and inside one it is cut.
+/// A session may end between two messages. Inside a message it is an error.
 #[test]
 fn messages_are_cut_at_each_byte(rt: HostRuntime) -> Result<(), Fail> {
     for len in 0..=MESSAGES.len() {
@@ -156,7 +157,7 @@ fn messages_are_cut_at_each_byte(rt: HostRuntime) -> Result<(), Fail> {
     Ok(())
 }
 
-/// Whether there is no report, since not even the first ticket is of the scenario. A report is let go.
+/// Whether there is no report because not even the first ticket belongs to the scenario. Drops a report.
 fn is_untied(ended: Result<Vec<u8>, ServeFault>) -> bool {
     let is_untied = matches!(&ended, Err(ServeFault::Untied { ticket: 0 }));
     drop(ended);

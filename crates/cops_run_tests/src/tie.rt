@@ -16,7 +16,7 @@ fn put(alloc: Global) -> Result<NodeEvent, TypeFault> {
     })
 }
 
-/// The event, also where one growth was refused.
+/// The event, even if one allocation fails.
 fn surely(alloc: Global) -> Result<NodeEvent, TypeFault> {
     match put(alloc) {
         Err(TypeFault::Memory) => put(alloc),
@@ -24,14 +24,14 @@ fn surely(alloc: Global) -> Result<NodeEvent, TypeFault> {
     }
 }
 
-/// Whether a growth was refused. The outcome is let go.
+/// Whether an allocation failed. Drops the outcome.
 fn is_refused(outcome: Outcome) -> bool {
     let is_refused = matches!(&outcome, Outcome::Refused(Refusal::Memory));
     drop(outcome);
     is_refused
 }
 
-/// Whether a put is entered, at the second try where a growth was refused, which makes no entry.
+/// Whether a put is entered. Where an allocation fails, that makes no entry, and the put is tried a second time.
 fn is_entered(alloc: Global, book: &mut Book, ticket: u64) -> Result<bool, TypeFault> {
     let before = book.entries().len();
     let event = surely(alloc)?;
@@ -43,7 +43,7 @@ fn is_entered(alloc: Global, book: &mut Book, ticket: u64) -> Result<bool, TypeF
     Ok(is_same && !is_refused(book.step(ticket, event)))
 }
 
-/// Whether ten puts are entered, by which the node's clock is 10.
+/// Whether ten puts are entered, after which the node's clock is 10.
 fn are_entered(alloc: Global, book: &mut Book) -> Result<bool, TypeFault> {
     for ticket in 0..10 {
         if !is_entered(alloc, book, ticket)? {
@@ -53,7 +53,7 @@ fn are_entered(alloc: Global, book: &mut Book) -> Result<bool, TypeFault> {
     Ok(book.node().status().clock == 10)
 }
 
-/// Holds for every one growth that is refused: no entry is made, and the event can be taken again.
+/// Holds whichever single allocation fails: no entry is made, and the event can be taken again.
 #[test]
 fn a_refused_growth_changes_nothing(rt: HostRuntime) -> Result<(), Fail> {
     let mut book = Book::open(rt.alloc(), 0);

@@ -1,4 +1,4 @@
--- Clients of a list, one after the other.
+-- Reading the clients of a list, one after the other.
 use Rattle.std.proofs.Common.{◌≡◌, ◌<◌, ℕ, ◌+◌, List, [], ◌∷◌, ◌++◌, map, take, length, get_or, sym, ap, subst, ◌∙◌}
 use Rattle.std.proofs.Common.{add-one}
 use Rattle.std.proofs.Math.Seq.{take-suc}
@@ -15,7 +15,7 @@ tell_one_more [] (x ∷ cs) d c told one = absurd told
 tell_one_more (e ∷ ds) [] d c told one = absurd told
 tell_one_more (e ∷ ds) (x ∷ cs) d c told one = (told.0, tell_one_more ds cs d c told.1 one)
 
--- the clients of the first items, and then that of the next
+-- the clients of the first items, and then the client of the next item
 pub tell_next : (items : List Value) (i : ℕ) (cs : List ScriptedClient) (item : Value) (c : ScriptedClient) → TellClients (map view (take i items)) cs → i < length items → item ≡ get_or items i item → TellsClient (view item) c
     → TellClients (map view (take (i + 1) items)) (cs ++ c ∷ [])
 tell_next items i cs item c told within is one =

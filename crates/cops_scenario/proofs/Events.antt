@@ -1,4 +1,4 @@
--- What tells no event of one kind tells none under its name, and so with the operations of a script.
+-- JSON that is no event of one kind is no event with that kind's name; likewise the operations of a script.
 use Rattle.std.proofs.Common.{◌≡◌, ◌≤◌, ◌∙◌, ℕ, List, [], ◌∷◌, ap, arith, get_or, length, sym}
 use Rattle.std.specs.Prelude.{◌≢◌, codes, Some}
 use Rattle.serde_json.specs.Data.{Data}
@@ -16,7 +16,7 @@ use Rattle.cops_scenario.specs.File.{event_json, kind_of, list_json, one_json, o
 use Rattle.cops_scenario.specs.Limits.{IsLegalEvent, IsLegalOp}
 use Rattle.cops_scenario.proofs.Forms.{same_list, same_one}
 
--- the name and the parts that an event's JSON has
+-- the name and the parts in an event's JSON are those of the event
 pub same_event : (json of : Data) (name : List ℕ) (parts : List Data) (e : Event) → json ≡ one_json name of → of ≡ list_json parts → json ≡ event_json e → (name ≡ kind_of e) × (parts ≡ parts_of e)
 same_event json of name parts e named listed told =
     let same = same_one name (kind_of e) of (list_json (parts_of e)) (sym named ∙ told) in

@@ -1,4 +1,4 @@
--- A JSON form tells what it stands for.
+-- A JSON form determines what it encodes.
 use Rattle.std.proofs.Common.{◌≡◌, ◌<◌, ℕ, zero, suc, List, [], ◌∷◌, All, map, length, get_or, refl, sym, ap, ◌∙◌, arith}
 use Rattle.std.specs.Prelude.{◌≢◌, Some}
 use Rattle.std.proofs.lemmas.List.Elements.{All-head, All-tail}
@@ -48,7 +48,7 @@ part_at (v ∷ vs) (suc i) item (d ∷ ds) within is e =
     let rest : map view vs ≡ ds = cc in
     part_at vs i item ds (omega arith) is rest
 
--- an item of a list is one of those that the list tells
+-- an item of a list encodes one of those that the list encodes
 pub no_such_item : {A : Type 0} (json : A → Data) (P : A → Type 0) (items : List Value) (i : ℕ) (item : Value) (xs : List A)
     → i < length items → item ≡ get_or items i item → ((x : A) → P x → view item ≢ json x) → map view items ≡ map json xs → All P xs → ⊥
 no_such_item json P [] i item xs within is none e each = omega arith
@@ -60,7 +60,7 @@ no_such_item json P (v ∷ vs) (suc i) item (x ∷ xs) within is none e each =
     let rest : map view vs ≡ map json xs = cc in
     no_such_item json P vs i item xs (omega arith) is none rest (All-tail P x xs each)
 
--- nor is one among the clients that it tells
+-- an item of a list encodes one of the clients that the list encodes
 pub no_such_client : (P : ScriptedClient → Type 0) (items : List Value) (i : ℕ) (item : Value) (cs : List ScriptedClient)
     → i < length items → item ≡ get_or items i item → ((c : ScriptedClient) → P c → TellsClient (view item) c → ⊥) → TellClients (map view items) cs → All P cs → ⊥
 no_such_client P [] i item cs within is none told each = omega arith

@@ -17,7 +17,7 @@ use Rattle.cops_scenario.specs.Fields.{format_at, name_of, number_or}
 use Rattle.cops_scenario.specs.Limits.{AreLegalEvents, IsLegalClient, IsLegalScenario}
 use Rattle.cops_scenario.specs.File.{IsNoNumberOf, IsNoText, TellsNumber, IsTextOf, IsWrong, IsWrongText, TellsScenario}
 
--- what has a member is an object
+-- a value with a member is an object
 no_member : (k : List ℕ) (root d : Data) → as_object root ≡ None → get k root ≡ Some d → ⊥
 no_member k null d none e = cc
 no_member k (boolean b) d none e = cc
@@ -26,13 +26,13 @@ no_member k (string s) d none e = cc
 no_member k (array ds) d none e = cc
 no_member k (object ms) d none e = cc
 
--- a number of its range that is told is none that is wrong
+-- a number within its range is not wrong
 no_wrong : (missing : Option ℕ) (least most : ℕ) (d : Option Data) (n : ℕ) → TellsNumber missing d n → least ≤ n → n ≤ most → IsNoNumberOf missing least most d → ⊥
 no_wrong None least most d n told low high wrong = wrong n low high told
 no_wrong (Some m) least most None n told low high wrong = wrong.0 refl
 no_wrong (Some m) least most (Some d) n told low high wrong = wrong.1 n low high (ap (λ (x : Data). Some x) told)
 
--- the numbers of formats
+-- the range of the formats' numbers
 number_in_range : (format : Format) → (1 ≤ number_of format) × (number_of format ≤ 2)
 number_in_range One = (omega arith, omega arith)
 number_in_range Two = (omega arith, omega arith)

@@ -1,4 +1,4 @@
--- What is listed has no script.
+-- Listed clients without scripts.
 use Rattle.std.proofs.Common.{◌≡◌, List, [], ◌∷◌, All, map, refl, sym, ap, ◌∙◌}
 use Rattle.std.specs.Prelude.{ℕ, ◌≤◌, length, codes, Option, None, Some, IfSome}
 use Rattle.std.proofs.lemmas.List.Elements.{All-map, All-same, All-cons, All-nil, All-head, All-tail}
@@ -17,7 +17,7 @@ use Rattle.cops_scenario.proofs.Forms.{same_items}
 same_values : (vs : List Value) (d : Data) (ds : List Data) → Some (items_view vs) ≡ as_array d → d ≡ list_json ds → map view vs ≡ ds
 same_values vs d ds seen e = same_items (map view vs) ds (seen ∙ ap as_array e)
 
--- where the values of a list have none, what the list is has none
+-- if none of the values has the member, none of the listed items has it
 pub none_has : (k : List ℕ) (vs : List Value) (d : Data) (ds : List Data) → Some (items_view vs) ≡ as_array d → d ≡ list_json ds → All (λ v. get k (view v) ≡ None) vs → All (λ d. get k d ≡ None) ds
 none_has k vs d ds seen e h = All-same (λ d. get k d ≡ None) ds (map view vs) (sym (same_values vs d ds seen e)) (All-map (λ d. get k d ≡ None) view vs h)
 
@@ -27,7 +27,7 @@ values_have_none k (v ∷ vs) h =
     let P : Data → Type 0 = λ d. get k d ≡ None in
     All-cons (λ v. get k (view v) ≡ None) v vs (All-head P (view v) (map view vs) h) (values_have_none k vs (All-tail P (view v) (map view vs) h))
 
--- and the other way round
+-- if not all values lack the member, not all listed items lack it
 pub one_has : (k : List ℕ) (vs : List Value) (d : Data) (ds : List Data) → Some (items_view vs) ≡ as_array d → d ≡ list_json ds → (All (λ v. get k (view v) ≡ None) vs → ⊥) → All (λ d. get k d ≡ None) ds → ⊥
 one_has k vs d ds seen e some h = some (values_have_none k vs (All-same (λ d. get k d ≡ None) (map view vs) ds (same_values vs d ds seen e) h))
 

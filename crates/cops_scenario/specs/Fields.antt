@@ -37,12 +37,12 @@ range_of Repeat = Some (record { least = 0; most = MAX_REPEAT; missing = Some DE
 range_of Hold = Some (record { least = 0; most = MAX_HOLD; missing = Some DEFAULT_HOLD })
 range_of _ = None
 
--- the whole number of a member, or what stands for it where there is no member
+-- the whole number of a member, or the default if there is no member
 abbrev pub number_or : ℕ → Option Data → ℕ
 number_or missing None = missing
 number_or missing (Some d) = unwrap_or (option_and_then as_u64 (as_number d)) 0
 
--- what stands for a field where it is missing, 0 where nothing does
+-- the default of a field, or 0 if it has none
 abbrev pub missing_of : Field → ℕ
 missing_of field = option_map_or (λ range. unwrap_or range.missing 0) (range_of field) 0
 
@@ -50,6 +50,6 @@ missing_of field = option_map_or (λ range. unwrap_or range.missing 0) (range_of
 abbrev pub number_at : Data → Field → ℕ
 number_at root field = number_or (missing_of field) (get (name_of field) root)
 
--- the format of a file, where its number is one
+-- the format of a file, if its number is that of one
 abbrev pub format_at : Data → Format
 format_at root = unwrap_or (format_of_number (number_at root FormatField)) One

@@ -1,4 +1,4 @@
--- The JSON that stands in a file for each part of a scenario.
+-- The JSON of each part of a scenario.
 use Rattle.std.specs.Prelude.{◌≡◌, ◌≢◌, ◌≤◌, ◌⊎◌, ℕ, List, [], ◌∷◌, length, map, codes, All, Option, None, Some, IfSome, IsUtf8}
 use Rattle.serde_json.specs.Data.{Data, array, object, member, no_members}
 use Rattle.serde_json.specs.Read.{read}
@@ -26,7 +26,7 @@ list_json items = array (items_of items)
 abbrev pub one_json : List ℕ → Data → Data
 one_json name of = object (member name of no_members)
 
--- the name of what happens in an event
+-- the name of an event's kind
 abbrev pub kind_of : Event → List ℕ
 kind_of (Put client key value) = codes "put"
 kind_of (Del client key) = codes "del"
@@ -36,7 +36,7 @@ kind_of (Ask dc key version) = codes "ask"
 kind_of (Mark dc version dep) = codes "mark"
 kind_of (Settle dc version) = codes "settle"
 
--- its numbers, key, value and version
+-- an event's numbers, key, value and version
 abbrev pub parts_of : Event → List Data
 parts_of (Put client key value) = number_json client ∷ text_json key ∷ text_json value ∷ []
 parts_of (Del client key) = number_json client ∷ text_json key ∷ []
@@ -54,12 +54,12 @@ op_json (script.Put key value) = one_json (codes "put") (list_json (text_json ke
 op_json (script.Del key) = one_json (codes "del") (text_json key)
 op_json (script.Get key) = one_json (codes "get") (text_json key)
 
--- the list of these, which may be missing where there are none
+-- the list of these items, which may be missing if there are none
 abbrev pub IsListOrMissing : List Data → Option Data → Type 0
 IsListOrMissing items None = items ≡ []
 IsListOrMissing items (Some d) = d ≡ list_json items
 
--- the whole number that a member is, or what stands for it where there is none
+-- the whole number of a member, or the default if there is no member
 abbrev pub TellsNumber : Option ℕ → Option Data → ℕ → Type 0
 TellsNumber None d n = d ≡ Some (number_json n)
 TellsNumber (Some missing) None n = n ≡ missing
@@ -75,7 +75,7 @@ TellsNumbers root s =
     TellsNumberAt root FormatField (number_of s.format) × TellsNumberAt root DataCentres s.place.dcs × TellsNumberAt root Link s.link × TellsNumberAt root Turns s.turns × TellsNumberAt root Retries s.retries
     × TellsNumberAt root Repeat s.repeat × TellsNumberAt root Hold s.hold
 
--- an object that tells the client's data centre and its script
+-- an object with the client's data centre and its script
 pub record TellsClient (d : Data) (c : ScriptedClient) : Type 0 where
   pub at : get (codes "at") d ≡ Some (number_json c.at)
   pub script : IsListOrMissing (map op_json c.script.items) (get (codes "script") d)
@@ -87,18 +87,18 @@ TellClients (d ∷ ds) (c ∷ cs) = TellsClient d c × TellClients ds cs
 TellClients [] (c ∷ cs) = ⊥
 TellClients (d ∷ ds) [] = ⊥
 
--- the events of a list, or none where it is missing
+-- the events of a list, or none if it is missing
 abbrev pub TellsEvents : Option Data → Option (List Event) → Type 0
 TellsEvents None events = events ≡ None
 TellsEvents (Some d) None = ⊥
 TellsEvents (Some d) (Some events) = d ≡ list_json (map event_json events)
 
--- where there are events no client has a script, not even an empty one
+-- if there are events, no client has a script, not even an empty one
 abbrev pub AreUnscripted : List Data → Option (List Event) → Type 0
 AreUnscripted ds None = Unit {0}
 AreUnscripted ds (Some events) = All (λ d. get (codes "script") d ≡ None) ds
 
--- the file's root tells the whole scenario
+-- the file's root has all parts of the scenario
 pub record TellsScenario (root : Data) (s : AScenario) : Type 0 where
   pub numbers : TellsNumbers root s
   pub splits : IsListOrMissing (map text_json s.place.splits) (get (name_of Splits) root)
@@ -109,7 +109,7 @@ pub record TellsScenario (root : Data) (s : AScenario) : Type 0 where
 abbrev pub IsNoNumber : ℕ → ℕ → Option Data → Type 0
 IsNoNumber least most d = (n : ℕ) → least ≤ n → n ≤ most → d ≢ Some (number_json n)
 
--- no whole number of a range; where it may be missing, it is there
+-- no whole number of a range; if the field may be missing, it is there
 abbrev pub IsNoNumberOf : Option ℕ → ℕ → ℕ → Option Data → Type 0
 IsNoNumberOf None least most d = IsNoNumber least most d
 IsNoNumberOf (Some missing) least most d = (d ≢ None) × IsNoNumber least most d
@@ -118,21 +118,21 @@ IsNoNumberOf (Some missing) least most d = (d ≢ None) × IsNoNumber least most
 abbrev pub IsWrongNumber : Data → Field → Type 0
 IsWrongNumber root field = IfSome (range_of field) (λ range. IsNoNumberOf range.missing range.least range.most (get (name_of field) root))
 
--- the field tells no split keys within their limits
+-- the field has no split keys within their limits
 abbrev pub TellsNoSplits : Data → Type 0
 TellsNoSplits root = (splits : List (List ℕ)) → AreSplits splits → IsListOrMissing (map text_json splits) (get (name_of Splits) root) → ⊥
 
--- it tells no clients within their limits, at most 64
+-- the field has no clients within their limits, at most 64
 abbrev pub TellsNoClients : Data → Type 0
 TellsNoClients root = (ds : List Data) (clients : List ScriptedClient) → get (name_of Clients) root ≡ Some (list_json ds) → TellClients ds clients
     → length clients ≤ MAX_CLIENTS → All (IsLegalClient (format_at root) (number_at root DataCentres)) clients → ⊥
 
--- it tells no events within their limits, beside clients without a script
+-- the field has no events within their limits that go with clients without scripts
 abbrev pub TellsNoEvents : Data → Type 0
 TellsNoEvents root = (ds : List Data) (events : Option (List Event)) → get (name_of Clients) root ≡ Some (list_json ds) → TellsEvents (get (name_of Events) root) events
     → AreLegalEvents (format_at root) events → AreUnscripted ds events → ⊥
 
--- what is wrong with a file's field where it is named: it is missing and has no default, or tells nothing that is legal there
+-- the field is wrong: it is missing without a default, or has nothing that is legal there
 abbrev pub IsWrong : Data → Field → Type 0
 IsWrong root Root = as_object root ≡ None
 IsWrong root FormatField = IsWrongNumber root FormatField
@@ -150,7 +150,7 @@ IsWrong root Events = TellsNoEvents root
 abbrev pub IsNumber : ℕ → ℕ → Option Data → Type 0
 IsNumber least most d = (n : ℕ) × (least ≤ n) × (n ≤ most) × (d ≡ Some (number_json n))
 
--- a whole number of a range, or missing where it may be
+-- a whole number of a range, or missing if it may be
 abbrev pub IsNumberOf : Option ℕ → ℕ → ℕ → Option Data → Type 0
 IsNumberOf None least most d = IsNumber least most d
 IsNumberOf (Some missing) least most d = (d ≡ None) ⊎ IsNumber least most d
@@ -159,7 +159,7 @@ IsNumberOf (Some missing) least most d = (d ≡ None) ⊎ IsNumber least most d
 abbrev pub IsRightNumber : Data → Field → Type 0
 IsRightNumber root field = IfSome (range_of field) (λ range. IsNumberOf range.missing range.least range.most (get (name_of field) root))
 
--- a file's field is of its form and within its limits
+-- a file's field has the right form and is within its limits
 abbrev pub IsRight : Data → Field → Type 0
 IsRight root Root = as_object root ≢ None
 IsRight root FormatField = IsRightNumber root FormatField
@@ -175,7 +175,7 @@ IsRight root Clients =
     × (length clients ≤ MAX_CLIENTS) × All (IsLegalClient (format_at root) (number_at root DataCentres)) clients
 IsRight root Events = (events : Option (List Event)) × TellsEvents (get (name_of Events) root) events × AreLegalEvents (format_at root) events
 
--- the fields that are looked at before it
+-- the fields that are checked before a field
 abbrev pub before : Field → List Field
 before Root = []
 before FormatField = Root ∷ []
@@ -189,19 +189,19 @@ before Hold = Repeat ∷ Retries ∷ Turns ∷ Link ∷ Splits ∷ DataCentres �
 before Clients = Hold ∷ Repeat ∷ Retries ∷ Turns ∷ Link ∷ Splits ∷ DataCentres ∷ FormatField ∷ Root ∷ []
 before Events = Clients ∷ Hold ∷ Repeat ∷ Retries ∷ Turns ∷ Link ∷ Splits ∷ DataCentres ∷ FormatField ∷ Root ∷ []
 
--- those are of their form
+-- the fields before a field are right
 abbrev pub AreRightBefore : Data → Field → Type 0
 AreRightBefore root field = All (IsRight root) (before field)
 
--- the bytes are a JSON text that tells the scenario, which is within its limits
+-- the bytes are a JSON text of this scenario, which is within its limits
 abbrev pub IsTextOf : List ℕ → AScenario → Type 0
 IsTextOf bytes s =
     (root : Data) × IsUtf8 bytes × (read bytes ≡ Some root) × TellsScenario root s × IsLegalScenario s
 
--- they are no JSON text
+-- the bytes are no JSON text
 abbrev pub IsNoText : List ℕ → Type 0
 IsNoText bytes = IsUtf8 bytes → read bytes ≡ None
 
--- they are one in which the field is wrong, and none before it
+-- the bytes are a JSON text in which the field is wrong, and no field before it
 abbrev pub IsWrongText : List ℕ → Field → Type 0
 IsWrongText bytes field = (root : Data) × IsUtf8 bytes × (read bytes ≡ Some root) × IsWrong root field × AreRightBefore root field

@@ -14,16 +14,16 @@ use Rattle.cops_core.specs.declared.script.ScriptedClient.{ScriptedClient}
 use Rattle.cops_scenario.specs.declared.scenario.TheConstants.{MAX_CLIENT, MAX_CLIENTS, MAX_DC, MAX_DEP, MAX_EVENTS, MAX_HOLD, MAX_LINK, MAX_REPEAT, MAX_RETRIES, MAX_SCRIPT, MAX_TURNS}
 use Rattle.cops_scenario.specs.Scenario.{AScenario}
 
--- the client lives in a data centre that is there, and has at most 10,000 operations
+-- the client's data centre exists, and the client has at most 10,000 operations
 abbrev pub IsClientOf : ℕ → ScriptedClient → Type 0
 IsClientOf dcs c = (c.at < dcs) × (length c.script.items ≤ MAX_SCRIPT)
 
--- there are at most 100,000 events, and then no client has a script
+-- if there is a list of events, it has at most 100,000, and no client has a script
 abbrev pub AreEventsOf : List ScriptedClient → Option (List Event) → Type 0
 AreEventsOf clients None = Unit {0}
 AreEventsOf clients (Some events) = (length events ≤ MAX_EVENTS) × All (λ c. c.script.items ≡ []) clients
 
--- within its limits
+-- the scenario is within its limits
 pub record IsScenario (s : AScenario) : Type 0 where
   pub is_place : IsPlace s.place
   pub link_in_range : (1 ≤ s.link) × (s.link ≤ MAX_LINK)
@@ -35,21 +35,21 @@ pub record IsScenario (s : AScenario) : Type 0 where
   pub each_client : All (IsClientOf s.place.dcs) s.clients
   pub few_events : AreEventsOf s.clients s.events
 
--- at most 63 split keys, each a key, and each above the one before it
+-- at most 63 split keys, each a key, and each greater than the one before it
 abbrev pub AreSplits : List (List ℕ) → Type 0
 AreSplits splits = (length splits ≤ MAX_SPLITS) × AreAscending splits × All IsKey splits
 
--- an operation of a script of a format, whose key and value are of their ranges
+-- an operation of a script is of the format, and its key and value are within their ranges
 abbrev pub IsLegalOp : Format → ScriptOp → Type 0
 IsLegalOp format (script.Put key value) = IsKey key × Fits format (Some value)
 IsLegalOp format (script.Del key) = IsKey key × Fits format None
 IsLegalOp format (script.Get key) = IsKey key
 
--- a client within its limits, each operation of whose script is legal
+-- a client is within its limits, and each operation of its script is legal
 abbrev pub IsLegalClient : Format → ℕ → ScriptedClient → Type 0
 IsLegalClient format dcs c = IsClientOf dcs c × All (IsLegalOp format) c.script.items
 
--- an event of a format whose numbers, key, value and version are of their ranges, whatever clients and data centres there are
+-- an event is of the format, and its numbers, key, value and version are within their ranges, whether or not its client and data centre exist
 abbrev pub IsLegalEvent : Format → Event → Type 0
 IsLegalEvent format (event.Put client key value) = (client ≤ MAX_CLIENT) × IsKey key × Fits format (Some value)
 IsLegalEvent format (event.Del client key) = (client ≤ MAX_CLIENT) × IsKey key × Fits format None
@@ -64,7 +64,7 @@ abbrev pub AreLegalEvents : Format → Option (List Event) → Type 0
 AreLegalEvents format None = Unit {0}
 AreLegalEvents format (Some events) = (length events ≤ MAX_EVENTS) × All (IsLegalEvent format) events
 
--- a scenario within its limits, whose split keys are keys, and whose scripts and events are legal
+-- a scenario is within its limits, its split keys are keys, and its scripts and events are legal
 pub record IsLegalScenario (s : AScenario) : Type 0 where
   pub is_scenario : IsScenario s
   pub splits : AreSplits s.place.splits

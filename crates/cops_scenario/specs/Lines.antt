@@ -1,4 +1,4 @@
--- The line that tells an event's outcome.
+-- The printed line of an event's outcome.
 use Rattle.std.specs.Prelude.{ℕ, List, codes, decimal}
 use Rattle.cops_types.specs.Refusal.{code_of}
 use Rattle.cops_types.specs.Texts.{◌⧺◌, version_text}

@@ -1,4 +1,4 @@
--- What a scenario is.
+-- The model of a scenario.
 use Rattle.std.specs.Prelude.{ℕ, List, map, Option}
 use Rattle.cops_types.specs.declared.format.Format.{Format}
 use Rattle.cops_place.specs.Place.{APlace}
@@ -6,8 +6,8 @@ use Rattle.cops_core.specs.declared.event.Event.{Event}
 use Rattle.cops_core.specs.declared.script.ScriptedClient.{ScriptedClient}
 use Rattle.cops_core.specs.World.{Setting}
 
--- the format of the cluster and of its trace, a place, what the links hold, how many turns a loop may take, how often an operation is tried again, how often each record is sent
--- again, how many turns of a receiver come late, the clients, and the events where there are any
+-- the format of the cluster and of its trace, the place, the capacity of a link, the number of turns that a loop may make, how often an operation is
+-- tried again, how often each record is sent again, the number of late turns of a receiver, the clients, and the events if there is a list of them
 pub record AScenario : Type 0 where
   pub format : Format
   pub place : APlace

@@ -1,4 +1,4 @@
-//! Events, and the operations of a script: objects of one member, which names what happens.
+//! Reading events and the operations of scripts: objects with one member, whose name says what happens.
 ghost use Rattle.std.specs.Prelude.{◌≡◌, ◌≢◌, ◌≤◌, ℕ, List, [], ◌∷◌, length, map, codes, All, Err, IfOk, None, Some, OnErr};
 ghost use Rattle.serde_json.specs.View.{view};
 ghost use Rattle.cops_types.specs.Format.{Fits};
@@ -20,7 +20,7 @@ use cops_types::{Format, Key, Value, Version};
 use serde_json::Value as Json;
 use std::alloc::Global;
 
-/// The events of a list of at most so many.
+/// Reads a list of at most `most` events.
 pub(crate) fn events(
     alloc: Global,
     format: Format,
@@ -39,7 +39,7 @@ pub(crate) fn events(
     Ok(events)
 }
 
-/// The operations of a script of at most so many.
+/// Reads a script of at most `most` operations.
 pub(crate) fn script(
     alloc: Global,
     format: Format,
@@ -58,7 +58,7 @@ pub(crate) fn script(
     Ok(script)
 }
 
-/// An operation of a script.
+/// Reads an operation of a script.
 fn script_op(alloc: Global, format: Format, json: &Json) -> Result<ScriptOp, Unread>
     ensures json { IfOk result (λ op. view json.now ≡ op_json op) }
     ensures legal { IfOk result (IsLegalOp format) }
@@ -80,7 +80,7 @@ fn script_op(alloc: Global, format: Format, json: &Json) -> Result<ScriptOp, Unr
     }
 }
 
-/// A key and a value of a format.
+/// Reads a key and a value of a format.
 fn pair(alloc: Global, format: Format, parts: &[Json]) -> Result<(Key, Value), Unread>
     ensures json { IfOk result (λ p. map view parts.now ≡ text_json p.0 ∷ text_json p.1 ∷ []) }
     ensures legal { IfOk result (λ p. IsKey p.0 × Fits format (Some p.1)) }
@@ -92,7 +92,7 @@ fn pair(alloc: Global, format: Format, parts: &[Json]) -> Result<(Key, Value), U
     }
 }
 
-/// An event.
+/// Reads an event.
 fn event(alloc: Global, format: Format, json: &Json) -> Result<Event, Unread>
     ensures json { IfOk result (λ event. view json.now ≡ event_json event) }
     ensures legal { IfOk result (IsLegalEvent format) }
@@ -118,7 +118,7 @@ fn event(alloc: Global, format: Format, json: &Json) -> Result<Event, Unread>
     }
 }
 
-/// A put: a client, a key and a value.
+/// Reads a put: a client, a key and a value.
 fn put(alloc: Global, format: Format, parts: &[Json]) -> Result<Event, Unread>
     ensures json { IfOk result (λ event. (kind_of event ≡ codes "put") × (parts_of event ≡ map view parts.now)) }
     ensures legal { IfOk result (IsLegalEvent format) }
@@ -134,7 +134,7 @@ fn put(alloc: Global, format: Format, parts: &[Json]) -> Result<Event, Unread>
     }
 }
 
-/// A deletion: a client and a key.
+/// Reads a deletion: a client and a key.
 fn del(alloc: Global, format: Format, parts: &[Json]) -> Result<Event, Unread>
     requires { Fits format None }
     ensures json { IfOk result (λ event. (kind_of event ≡ codes "del") × (parts_of event ≡ map view parts.now)) }
@@ -151,7 +151,7 @@ fn del(alloc: Global, format: Format, parts: &[Json]) -> Result<Event, Unread>
     }
 }
 
-/// A get: a client and a key.
+/// Reads a get: a client and a key.
 fn get(alloc: Global, _format: Format, parts: &[Json]) -> Result<Event, Unread>
     ensures json { IfOk result (λ event. (kind_of event ≡ codes "get") × (parts_of event ≡ map view parts.now)) }
     ensures legal { IfOk result (IsLegalEvent _format) }
@@ -166,7 +166,7 @@ fn get(alloc: Global, _format: Format, parts: &[Json]) -> Result<Event, Unread>
     }
 }
 
-/// A data centre, and the version of a put.
+/// Reads a data centre, and the version of a put.
 fn put_at(parts: &[Json]) -> Result<(u8, Version), Unread>
     ensures json { IfOk result (λ p. map view parts.now ≡ number_json p.0 ∷ text_json (version_text p.1) ∷ []) }
     ensures legal { IfOk result (λ p. (p.0 ≤ MAX_DC) × IsVersion p.1) }
@@ -178,7 +178,7 @@ fn put_at(parts: &[Json]) -> Result<(u8, Version), Unread>
     }
 }
 
-/// A question: a data centre, a key and a version.
+/// Reads an ask: a data centre, a key and a version.
 fn ask(alloc: Global, _format: Format, parts: &[Json]) -> Result<Event, Unread>
     ensures json { IfOk result (λ event. (kind_of event ≡ codes "ask") × (parts_of event ≡ map view parts.now)) }
     ensures legal { IfOk result (IsLegalEvent _format) }
@@ -194,7 +194,7 @@ fn ask(alloc: Global, _format: Format, parts: &[Json]) -> Result<Event, Unread>
     }
 }
 
-/// A mark: a data centre, the version of a put and a dependency's index.
+/// Reads a mark: a data centre, the version of a put and a dependency's index.
 fn mark(_format: Format, parts: &[Json]) -> Result<Event, Unread>
     ensures json { IfOk result (λ event. (kind_of event ≡ codes "mark") × (parts_of event ≡ map view parts.now)) }
     ensures legal { IfOk result (IsLegalEvent _format) }

@@ -1,4 +1,4 @@
-//! Why bytes are no scenario.
+//! The faults of reading a scenario.
 use crate::scenario::{
     DEFAULT_FORMAT, DEFAULT_HOLD, DEFAULT_LINK, DEFAULT_REPEAT, DEFAULT_RETRIES, DEFAULT_TURNS,
     MAX_FORMAT, MAX_HOLD, MAX_LINK, MAX_REPEAT, MAX_RETRIES, MAX_TURNS,
@@ -8,7 +8,7 @@ use cops_types::MAX_DCS;
 use std::fmt;
 use thiserror::Error;
 
-/// The range of a field that is a whole number, and what stands for it where the field is missing.
+/// The range of a field that is a whole number, and its default, if it may be missing.
 #[derive(Clone, Copy)]
 pub(crate) struct Range {
     pub(crate) least: u64,
@@ -16,7 +16,7 @@ pub(crate) struct Range {
     pub(crate) missing: Option<u64>,
 }
 
-/// What a scenario file has, in the order in which it is looked at. `Root` is the whole of it.
+/// The fields of a scenario file, in the order of the checks. `Root` is the whole file.
 #[derive(Clone, Copy, Debug, PartialEq, Eq)]
 pub enum Field {
     Root,
@@ -36,7 +36,7 @@ impl Field {
     ghost use Rattle.std.specs.Prelude.{◌≡◌};
     ghost use Rattle.cops_scenario.specs.Fields.{name_of, range_of};
 
-    /// The field's range, where it is a whole number.
+    /// The field's range, if it is a whole number.
     pub(crate) fn range(self) -> Option<Range>
         ensures { result ≡ range_of self }
     {
@@ -88,16 +88,16 @@ impl fmt::Display for Field {
     }
 }
 
-/// Why bytes are no scenario.
+/// The faults of reading a scenario.
 #[derive(Clone, Copy, Debug, PartialEq, Eq, Error)]
 pub enum ScenarioFault {
     /// 0: out of memory.
     #[error("out of memory")]
     Memory,
-    /// 1: the bytes are no JSON text: by its grammar, for their encoding, or nested deeper than 127.
+    /// 1: the bytes are no JSON text: they break the grammar or the encoding, or are nested deeper than 127.
     #[error("scenario is not JSON")]
     NotJson,
-    /// 2: the first field that is missing and has no default, is not of its form, or is not within its limits.
+    /// 2: the first field that is missing without a default, does not have the right form, or is not within its limits.
     #[error("scenario field {0}")]
     BadField(Field),
 }
@@ -105,7 +105,7 @@ pub enum ScenarioFault {
 impl ScenarioFault {
     ghost use Rattle.std.specs.Prelude.{◌≡◌, ◌≢◌};
 
-    /// The fault of a field in which something was not read.
+    /// The fault of a field that was not read.
     pub(crate) fn of(unread: Unread, field: Field) -> ScenarioFault
         ensures memory { unread ≡ Unread.Memory → result ≡ ScenarioFault.Memory }
         ensures form { unread ≡ Unread.Form → result ≡ ScenarioFault.BadField field }

@@ -1,4 +1,4 @@
-//! What stands in a scenario's fields beside keys, values and versions: numbers, and lists of known length.
+//! Reading the parts of a scenario's fields other than keys, values and versions: numbers, and lists of limited length.
 ghost use Rattle.std.specs.Prelude.{◌≡◌, ◌≢◌, ◌≤◌, ℕ, List, length, map, Some, Err, IfOk, OnErr, option_and_then};
 ghost use Rattle.serde_json.specs.Data.{Data};
 ghost use Rattle.serde_json.specs.Find.{as_number, as_u64};
@@ -11,7 +11,7 @@ use crate::scenario::{MAX_CLIENT, MAX_DC};
 use cops_fields::Unread;
 use serde_json::Value as Json;
 
-/// A whole number within a range.
+/// Reads a whole number within a range.
 pub(crate) fn number(json: &Json, least: u64, most: u64) -> Result<u64, Unread>
     ensures value { IfOk result (λ n. Some n ≡ option_and_then as_u64 (as_number (view json.now))) }
     ensures range { IfOk result (λ n. (least ≤ n) × (n ≤ most)) }
@@ -25,7 +25,7 @@ pub(crate) fn number(json: &Json, least: u64, most: u64) -> Result<u64, Unread>
     }
 }
 
-/// A list of at most so many.
+/// Reads a list of at most `most` items.
 pub(crate) fn list(json: &Json, most: usize) -> Result<&[Json], Unread>
     ensures few { IfOk result (λ items. length items.now ≤ most) }
     ensures json { IfOk result (λ items. view json.now ≡ list_json (map view items.now)) }
@@ -39,7 +39,7 @@ pub(crate) fn list(json: &Json, most: usize) -> Result<&[Json], Unread>
     Ok(items.as_slice())
 }
 
-/// The name and the value of an object's only member.
+/// Reads the name and the value of an object's only member.
 pub(crate) fn only_member(json: &Json) -> Result<(&str, &Json), Unread>
     ensures json { IfOk result (λ m. view json.now ≡ one_json m.0.now (view m.1.now)) }
     ensures none { OnErr result ((name : List ℕ) (of : Data) → view json.now ≢ one_json name of) }
@@ -52,7 +52,7 @@ pub(crate) fn only_member(json: &Json) -> Result<(&str, &Json), Unread>
     Ok((name.as_str(), value))
 }
 
-/// A client's number.
+/// Reads a client's number.
 pub(crate) fn client(json: &Json) -> Result<u16, Unread>
     ensures json { IfOk result (λ n. view json.now ≡ number_json n) }
     ensures range { IfOk result (λ n. n ≤ MAX_CLIENT) }
@@ -61,7 +61,7 @@ pub(crate) fn client(json: &Json) -> Result<u16, Unread>
     Ok(number(json, 0, u64::from(MAX_CLIENT))? as u16)
 }
 
-/// A data centre's number, of one that is there or not.
+/// Reads a data centre's number, whether or not the data centre exists.
 pub(crate) fn dc(json: &Json) -> Result<u8, Unread>
     ensures json { IfOk result (λ n. view json.now ≡ number_json n) }
     ensures range { IfOk result (λ n. n ≤ MAX_DC) }

@@ -1,6 +1,6 @@
-//! Scenario files: what a cluster is made of, and what its clients do, as one JSON object. Either each client has a
-//! script, or there is a list of events in which the world takes its steps. Stands on the world's events and on
-//! `serde_json`. The layers above use that a scenario is within its limits, and the line that tells an outcome.
+//! Scenario files: the parts of a cluster, and the operations of its clients, as one JSON object. Either each client
+//! has a script, or there is a list of events, which are the steps of the world. Stands on the world's events and on
+//! `serde_json`. The layers above use that a scenario is within its limits, and the printed line of an outcome.
 #![tactic(auto)]
 
 mod event;

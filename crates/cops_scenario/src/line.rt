@@ -1,4 +1,4 @@
-//! The line of an outcome.
+//! The printed line of an outcome.
 ghost use Rattle.std.specs.Prelude.{◌≡◌, ◌++◌, OnOk, OnErr, IfOk, string_bytes};
 ghost use Rattle.cops_scenario.specs.Lines.{words, outcome_line};
 
@@ -6,8 +6,8 @@ use cops_node::Outcome;
 use cops_types::Memory;
 use std::alloc::{AllocError, Global};
 
-/// Appends the line of the event with this number, from 0: the number, a space, and the outcome's words. Where memory
-/// is refused nothing is appended.
+/// Appends the line of the event with this number, from 0: the number, a space, and the outcome's words. Appends
+/// nothing if memory runs out.
 pub fn outcome_line(
     alloc: Global,
     n: usize,

@@ -1,4 +1,4 @@
-//! A scenario from its JSON text.
+//! Reading a scenario from its JSON text.
 ghost use Rattle.std.specs.Prelude.{◌≡◌, ◌≢◌, ◌≤◌, ◌<◌, ◌⊎◌, List, [], ℕ, length, map, codes, All, Option, None, Some, Err, IfOk, IfSome, OnOk, OnErr, IsSome, unwrap_or, option_map};
 ghost use Rattle.std.specs.Bool.{OnFalse, OnTrue};
 ghost use Rattle.serde_json.specs.Data.{Data};
@@ -30,9 +30,9 @@ impl Scenario {
     ghost use Rattle.std.specs.Prelude.{◌≡◌, Err, IfOk};
     ghost use Rattle.cops_scenario.specs.File.{IsTextOf, IsNoText, IsWrongText};
 
-    /// The scenario of a JSON text, as docs/FORMATS.md has it: `NotJson` where the bytes are no JSON text, else
-    /// `BadField` with the first field, in the order of `Field`, that is missing and has no default, is not of its
-    /// form, or is not within its limits.
+    /// Reads a scenario from its JSON text, as docs/FORMATS.md describes it. Errors: `NotJson` if the bytes are no JSON
+    /// text; `BadField` with the first field, in the order of `Field`, that is missing without a default, does not have
+    /// the right form, or is not within its limits; `Memory` if memory runs out.
     pub fn from_json(alloc: Global, bytes: &[u8]) -> Result<Scenario, ScenarioFault>
         ensures ok { IfOk result (IsTextOf bytes.now) }
         ensures not_json { result ≡ Err ScenarioFault.NotJson → IsNoText bytes.now }
@@ -46,7 +46,7 @@ impl Scenario {
     }
 }
 
-/// The scenario of a JSON value.
+/// Reads a scenario from a JSON value.
 fn scenario(alloc: Global, root: &Json) -> Result<Scenario, ScenarioFault>
     ensures told { IfOk result (TellsScenario (view root.now)) }
     ensures legal { IfOk result IsLegalScenario }
@@ -82,7 +82,7 @@ fn scenario(alloc: Global, root: &Json) -> Result<Scenario, ScenarioFault>
     ))
 }
 
-/// The format that the file names, or format 1 where it names none.
+/// The format that the file names, or format 1 if it names none.
 fn format_of(root: &Json) -> Result<Format, ScenarioFault>
     ensures told { IfOk result (λ format. TellsNumberAt (view root.now) AField.Format (number_in format)) }
     ensures value { IfOk result (λ format. format ≡ format_at (view root.now)) }
@@ -97,7 +97,7 @@ fn format_of(root: &Json) -> Result<Format, ScenarioFault>
     }
 }
 
-/// The whole number of a field that is one, or what stands for it where the field is missing.
+/// The whole number of a field, or its default if it is missing.
 fn number_of(root: &Json, field: Field) -> Result<u64, ScenarioFault>
     requires { IsSome (range_of field) }
     ensures told { IfOk result (TellsNumberAt (view root.now) field) }
@@ -119,7 +119,7 @@ fn number_of(root: &Json, field: Field) -> Result<u64, ScenarioFault>
     }
 }
 
-/// So many data centres, and the split keys of a list, none where it is missing.
+/// The place with `dcs` data centres and the split keys of a list, or none if the list is missing.
 fn place(alloc: Global, dcs: u8, splits: Option<&Json>) -> Result<Place, Unread>
     requires { (1 ≤ dcs) × (dcs ≤ MAX_DCS) }
     ensures dcs { IfOk result (λ place. place.dcs ≡ dcs) }
@@ -137,7 +137,7 @@ fn place(alloc: Global, dcs: u8, splits: Option<&Json>) -> Result<Place, Unread>
     Place::new(dcs, keys).or(Err(Unread::Form))
 }
 
-/// So many data centres with no split keys.
+/// The place with `dcs` data centres and no split keys.
 fn whole_place(alloc: Global, dcs: u8) -> Place
     requires { (1 ≤ dcs) × (dcs ≤ MAX_DCS) }
     ensures { result ≡ record { dcs = dcs; splits = [] } }
@@ -149,7 +149,7 @@ fn whole_place(alloc: Global, dcs: u8) -> Place
     }
 }
 
-/// The clients of a list.
+/// Reads a list of clients.
 fn clients(
     alloc: Global,
     format: Format,
@@ -169,7 +169,7 @@ fn clients(
     Ok(clients)
 }
 
-/// A client: an object with its data centre, and its script, empty where that is missing.
+/// Reads a client: an object with its data centre, and its script, which is empty if it is missing.
 fn client(alloc: Global, format: Format, dcs: u8, json: &Json) -> Result<ScriptedClient, Unread>
     ensures limits { IfOk result (IsClientOf dcs) }
     ensures legal { IfOk result (IsLegalClient format dcs) }
@@ -187,7 +187,7 @@ fn client(alloc: Global, format: Format, dcs: u8, json: &Json) -> Result<Scripte
     Ok(ScriptedClient { at, script })
 }
 
-/// The events of a list, none where it is missing: beside events no client that is listed has a script.
+/// Reads a list of events, or returns none if it is missing. If there are events, no listed client may have a script.
 fn events_beside(
     alloc: Global,
     format: Format,
@@ -209,7 +209,7 @@ fn events_beside(
     Ok(Some(events(alloc, format, json, MAX_EVENTS)?))
 }
 
-/// Whether some client that is listed has a script, be it an empty one.
+/// Whether some listed client has a script, even an empty one.
 fn lists_script(listed: &Json) -> bool
     ensures none { OnFalse result ((ds : List Data) → view listed.now ≡ list_json ds → AreUnscripted ds (Some [])) }
     ensures some { OnTrue result ((ds : List Data) → view listed.now ≡ list_json ds → AreUnscripted ds (Some []) → ⊥) }
@@ -220,7 +220,7 @@ fn lists_script(listed: &Json) -> bool
     }
 }
 
-/// Whether one of these has a script.
+/// Whether one of these clients has a script.
 fn has_script(items: &[Json]) -> bool
     ensures none { OnFalse result (All (λ v. get (codes "script") (view v) ≡ None) items.now) }
     ensures some { OnTrue result (All (λ v. get (codes "script") (view v) ≡ None) items.now → ⊥) }

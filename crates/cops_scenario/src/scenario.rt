@@ -1,4 +1,4 @@
-//! What a scenario holds.
+//! Scenarios.
 use cops_core::{Event, ScriptedClient, Setting};
 use cops_place::Place;
 use cops_types::{Format, Memory};
@@ -8,19 +8,19 @@ use std::marker::Model;
 /// The greatest number of a format.
 pub const MAX_FORMAT: u16 = 2;
 
-/// The number of the format where a file names none.
+/// The number of the format if a file names none.
 pub const DEFAULT_FORMAT: u16 = 1;
 
 /// The most clients of a scenario.
 pub const MAX_CLIENTS: usize = 64;
 
-/// The greatest number that an event may say for a client.
+/// The greatest number of a client in an event.
 pub const MAX_CLIENT: u16 = 65_535;
 
-/// The greatest number that an event may say for a data centre.
+/// The greatest number of a data centre in an event.
 pub const MAX_DC: u8 = 255;
 
-/// The greatest number that an event may say for a dependency.
+/// The greatest index of a dependency in an event.
 pub const MAX_DEP: u16 = 65_535;
 
 /// The most operations of a script.
@@ -32,38 +32,38 @@ pub const MAX_EVENTS: usize = 100_000;
 /// The greatest capacity of a link, in frames.
 pub const MAX_LINK: u16 = 1_024;
 
-/// The capacity of a link where a file names none.
+/// The capacity of a link if a file names none.
 pub const DEFAULT_LINK: u16 = 16;
 
 /// The most turns of a loop.
 pub const MAX_TURNS: u32 = 1_000_000_000;
 
-/// The turns of a loop where a file names none.
+/// The turns of a loop if a file names none.
 pub const DEFAULT_TURNS: u32 = 1_000_000;
 
-/// The most times that an operation of a client is tried again which memory was refused to.
+/// The most times that a client's operation is tried again after memory ran out.
 pub const MAX_RETRIES: u8 = 3;
 
-/// How often it is where a file says nothing.
+/// How often an operation is tried again if a file names no number.
 pub const DEFAULT_RETRIES: u8 = 0;
 
 /// The most times that a record is sent again on each link.
 pub const MAX_REPEAT: u8 = 3;
 
-/// How often it is where a file says nothing.
+/// How often a record is sent again if a file names no number.
 pub const DEFAULT_REPEAT: u8 = 0;
 
-/// The most turns of a receiver that come late.
+/// The most late turns of a receiver.
 pub const MAX_HOLD: u16 = 1_000;
 
-/// How many they are where a file says nothing.
+/// The number of late turns if a file names none.
 pub const DEFAULT_HOLD: u16 = 0;
 
-/// What a cluster is made of, and what happens in it: the format of the cluster and of its trace; where keys live; how
-/// many frames a link holds, 1 to 1,024; how many turns a loop may make, 1 to 1,000,000,000; how often a client's
-/// operation is tried again which memory was refused to, 0 to 3; how often each record is sent again on each link, 0 to
-/// 3; how many turns of a receiver come late, 0 to 1,000; at most 64 clients; and, where no client has a script, at
-/// most 100,000 events.
+/// The parts of a cluster, and what happens in it: the format of the cluster and of its trace; the placement of keys;
+/// the capacity of a link in frames, 1 to 1,024; the number of turns that a loop may make, 1 to 1,000,000,000; how
+/// often a client's operation is tried again after memory ran out, 0 to 3; how often each record is sent again on each
+/// link, 0 to 3; the number of late turns of a receiver, 0 to 1,000; at most 64 clients; and, if no client has a
+/// script, at most 100,000 events.
 #[derive(Debug, Drop)]
 pub struct Scenario {
     format: Format,
@@ -96,7 +96,7 @@ impl Scenario {
     ghost use Rattle.cops_scenario.specs.Scenario.{homes_of, setting_of};
     ghost use Rattle.cops_scenario.specs.Limits.{IsScenario, IsClientOf, AreEventsOf};
 
-    /// The scenario of these parts, which are within their limits.
+    /// The scenario of these parts, which have to be within their limits.
     pub(crate) fn new(
         format: Format,
         place: Place,
@@ -140,7 +140,7 @@ impl Scenario {
         self.format
     }
 
-    /// Where keys live, and in how many data centres.
+    /// The placement of keys, and the number of data centres.
     pub fn place(&self) -> &Place
         ensures place { result.now ≡ self.now.place }
         ensures scenario { IsScenario self.now }
@@ -148,7 +148,7 @@ impl Scenario {
         &self.place
     }
 
-    /// How many frames a link holds, 1 to 1,024.
+    /// The capacity of a link in frames, 1 to 1,024.
     pub fn link(&self) -> u16
         ensures value { result ≡ self.now.link }
         ensures scenario { IsScenario self.now }
@@ -156,7 +156,7 @@ impl Scenario {
         self.link
     }
 
-    /// How many turns a loop may make, 1 to 1,000,000,000.
+    /// The number of turns that a loop may make, 1 to 1,000,000,000.
     pub fn turns(&self) -> u32
         ensures value { result ≡ self.now.turns }
         ensures scenario { IsScenario self.now }
@@ -164,7 +164,7 @@ impl Scenario {
         self.turns
     }
 
-    /// How often an operation of a client is tried again which memory was refused to, 0 to 3.
+    /// How often a client's operation is tried again after memory ran out, 0 to 3.
     pub fn retries(&self) -> u8
         ensures value { result ≡ self.now.retries }
         ensures scenario { IsScenario self.now }
@@ -180,8 +180,8 @@ impl Scenario {
         self.repeat
     }
 
-    /// How many turns a receiver makes first that take no frame, once the clients are joined, 0 to 1,000. Where it is
-    /// above 0 it makes none before.
+    /// The number of turns without a frame that a receiver makes first, once the clients are joined, 0 to 1,000. If it
+    /// is above 0, the receiver makes no turns before that.
     pub fn hold(&self) -> u16
         ensures value { result ≡ self.now.hold }
         ensures scenario { IsScenario self.now }
@@ -197,7 +197,7 @@ impl Scenario {
         &self.clients
     }
 
-    /// Its format and data centres, and its clients' places in them.
+    /// The scenario's format, its data centres, and each client's data centre. Fails if memory runs out.
     pub fn setting(&self, alloc: Global) -> Result<Setting, Memory>
         ensures { IfOk result (λ setting. setting ≡ setting_of self.now) }
     {
@@ -207,7 +207,7 @@ impl Scenario {
         }
     }
 
-    /// The data centre of each client.
+    /// The data centre of each client. Fails if memory runs out.
     fn homes(&self, alloc: Global) -> Result<Vec<u8>, AllocError>
         ensures homes { IfOk result (λ homes. homes.items ≡ homes_of self.now) }
         ensures there { IfOk result (λ homes. AreClients self.now.place homes.items) }
@@ -219,7 +219,7 @@ impl Scenario {
         Ok(homes)
     }
 
-    /// The events, at most 100,000, where the scenario has them: no client then has a script.
+    /// The events, at most 100,000, if the scenario has a list of them: then no client has a script.
     pub fn events(&self) -> Option<&[Event]>
         ensures events { option_map (λ e. e.now) result ≡ self.now.events }
         ensures scenario { IsScenario self.now }

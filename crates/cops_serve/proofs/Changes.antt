@@ -1,4 +1,4 @@
--- A client that was changed in its place of the list, and what a call that was not made leaves of it.
+-- A client that was changed in its place of the list, and what a call that did not happen leaves unchanged.
 use Rattle.std.proofs.Common.{◌≡◌, ◌⊎◌, inl, inr, ℕ, ◌<◌, ◌≤◌, List, length, Some, slice_index_or, slice_set, refl, sym, ap, subst, ◌∙◌, arith}
 use Rattle.std.specs.Prelude.{Option, None, slice_get, MatchOption}
 use Rattle.std.specs.Global.{Vec}
@@ -26,17 +26,17 @@ use Rattle.cops_serve.specs.declared.front_end.Greeted.{Greeted}
 use Rattle.cops_serve.specs.FrontEnd.{DoneByGreeted, HasWritten, HasGot, HasAsked, IsSame}
 use Rattle.cops_serve.specs.Replying.{IsOutcomeIn, IsReplyTo, IsWriteReply}
 
--- what was lent from its place stands there
+-- an element that was borrowed from its place is in the list there
 there : {X : Type 0} (xs : List X) (number place : ℕ) (x : X) → place ≡ number → (place < length xs) × ((d : X) → x ≡ slice_index_or xs place d)
     → slice_get xs number ≡ Some x
 there xs number place x e (inside, at) = rw (sym e) (slice_get_read xs (length xs) place x refl inside (at x))
 
--- the same where the list goes by another name
+-- like `there`, for an equal list
 pub there_in : {X : Type 0} (xs ys : List X) (number place : ℕ) (x : X) → ys ≡ xs → place ≡ number → (place < length ys) × ((d : X) → x ≡ slice_index_or ys place d)
     → slice_get xs number ≡ Some x
 there_in {X} xs ys number place x same e at = there xs number place x e (subst (λ (l : List X). (place < length l) × ((d : X) → x ≡ slice_index_or l place d)) same at)
 
--- where a client is at a data centre that is not there, it is at none that is
+-- a client whose data centre does not exist is at no data centre that exists
 pub not_home : (xs : List Client) (number dcs dc : ℕ) (x : Client) → slice_get xs number ≡ Some x → dcs ≤ x.dc
     → (client : Client) × (slice_get xs number ≡ Some client) × (client.dc ≡ dc) × (dc < dcs) → ⊥
 not_home xs number dcs dc x e far (client, found, home, near) = let s : x ≡ client = cc in absurd (omega (arith, ap (λ (c : Client). c.dc) s, home, far, near))
@@ -44,17 +44,17 @@ not_home xs number dcs dc x e far (client, found, home, near) = let s : x ≡ cl
 set_there : {X : Type 0} (xs : List X) (number place : ℕ) (x : X) → place ≡ number → slice_set xs place x ≡ slice_set xs number x
 set_there xs number place x e = ap (λ (n : ℕ). slice_set xs n x) e
 
--- what was lent from its place is put back as it became, and this happened to it
+-- putting an element that was borrowed from its place back after it changed by `Did`
 pub changed : {X : Type 0} (Did : X → X → Type 0) (xs : List X) (number place : ℕ) (before after : X) → place ≡ number → (place < length xs) × ((d : X) → before ≡ slice_index_or xs place d) → Did before after
     → (x : X) × (y : X) × (slice_get xs number ≡ Some x) × (slice_set xs place after ≡ slice_set xs number y) × Did x y
 changed Did xs number place before after e lent did = (before, after, there xs number place before e lent, set_there xs number place after e, did)
 
--- of copies of the key and the value
+-- writing copies of the key and the value
 pub put_of : (c : Cluster) (key value k v : List ℕ) (out : Outcome) (before after : Client) → k ≡ key → v ≡ value → HasWritten c k (Some v) out before after
     → HasWritten c key (Some value) out before after
 put_of c key value k v out before after ek ev h = rw (sym ek, sym ev) h
 
--- of a copy of the key
+-- deleting a copy of the key
 pub del_of : (c : Cluster) (key k : List ℕ) (out : Outcome) (before after : Client) → k ≡ key → HasWritten c k None out before after → HasWritten c key None out before after
 del_of c key k out before after ek h = rw (sym ek) h
 
@@ -65,18 +65,18 @@ abbrev outcome_in : Outcome → Result Outcome GateHeld → Outcome
 outcome_in other (Ok outcome) = outcome
 outcome_in other (Err held) = other
 
--- what is told of the answer is told of its outcome
+-- what holds of a refusal holds of the outcome that is this refusal
 pub where_refused : (Says : Type 0) (result : Result Outcome GateHeld) (out : Outcome) (refused : Refusal) → result ≡ Ok out → (result ≡ Ok (Refused refused) → Says) → out ≡ Refused refused → Says
 where_refused Says result out refused is told e = told (is ∙ ap Ok e)
 
 pub some_refusal : (result : Result Outcome GateHeld) (out : Outcome) → result ≡ Ok out → (refused : Refusal) × (result ≡ Ok (Refused refused)) → (refused : Refusal) × (out ≡ Refused refused)
 some_refusal result out is (refused, e) = (refused, ap (outcome_in out) (sym is ∙ e))
 
--- a write that was not made for want of memory
+-- a write that did not happen because memory ran out
 pub no_write : (c : Cluster) (key : List ℕ) (content : Option (List ℕ)) (client : Client) → HasWritten c key content (Refused Memory) client client
 no_write c key content client = ((refl, refl, refl, refl), (λ h. absurd cc, λ h. refl), refl, λ e. absurd cc, λ e. absurd cc)
 
--- a put is no deletion
+-- the outcome of a put is not a deletion
 pub put_in : (format : Format) (out : Outcome) → IsPutOutcome out → IsOutcomeIn format out
 put_in format out is version e = elim (subst IsPutOutcome e is) [ ]
 
@@ -84,14 +84,14 @@ has_deletions : (format : Format) → ((Fits format None → ⊥) → ⊥) → F
 has_deletions One not = absurd (not (λ x. x))
 has_deletions Two not = tt
 
--- a deletion that is done is in the format, since it was refused neither with 3 nor with 12
+-- a completed deletion is in the format, since it was refused neither with 3 (`UnknownClient`) nor with 12 (`NotInFormat`)
 pub del_in : (c : Cluster) (client : Client) (result : Result Outcome GateHeld) (out : Outcome) → result ≡ Ok out → (IsUnknown c client → result ≡ Ok (Refused UnknownClient))
     → ((¬ Fits c.format None) × (¬ IsUnknown c client) → result ≡ Ok (Refused NotInFormat)) → IsOutcomeIn c.format out
 del_in c client result out is unknown unfit version e =
     let done : result ≡ Ok (Deleted version) = is ∙ ap Ok e in
     has_deletions c.format (λ not. let d : Ok (Deleted version) ≡ Ok (Refused NotInFormat) = sym done ∙ unfit (not, λ u. let d : Ok (Deleted version) ≡ Ok (Refused UnknownClient) = sym done ∙ unknown u in absurd cc) in absurd cc)
 
--- the reply to a write tells its outcome, in the format
+-- the reply to a write reports its outcome, in the format
 pub write_reply : (format : Format) (content : Option (List ℕ)) (out : Outcome) (reply : Reply) → IsWriteOutcome content out → IsOutcomeIn format out → IsReplyTo out reply
     → IsWriteReply format content reply
 write_reply format (Some value) (PutDone version) reply is fits told = rw told tt
@@ -106,11 +106,11 @@ pub either : (content : Option (List ℕ)) (out : Outcome) → IsWriteOutcome co
 either (Some value) out is = inl is
 either None out is = inr is
 
--- a get that was not made for want of memory
+-- a get that did not happen because memory ran out
 pub no_get : (c : Cluster) (key : List ℕ) (client : Client) → HasGot c key (Refused Memory) client client
 no_get c key client = ((refl, refl, refl, refl), (λ h. absurd cc, λ h. refl), refl, λ e. absurd cc, λ e. absurd cc, λ e. (Memory, refl))
 
--- a question with the share that the client lent
+-- a question with the share that was borrowed from the client
 pub asked_of : (c : Cluster) (dc : ℕ) (key : List ℕ) (version : ℕ) (out : Outcome) (client : Client) (lent after : Share) → lent ≡ client.share → after.holder ≡ lent.holder
     → Adds lent.entries.items after.entries.items (node_of c dc key) (Ask key version) out → HasAsked c dc key version out client (with_share client after)
 asked_of c dc key version out client lent after e who told = (
@@ -119,7 +119,7 @@ asked_of c dc key version out client lent after e who told = (
   subst (λ (s : Share). Adds s.entries.items after.entries.items (node_of c dc key) (Ask key version) out) e told,
 )
 
--- what is noted afterwards changes no client
+-- recording a call afterwards changes no client
 pub noted : (old mid new : FrontEnd) (Nobody : Type 0) (Did : Greeted → Client → Client → Type 0) → DoneByGreeted old Nobody Did mid → IsSame mid new
     → DoneByGreeted old Nobody Did new
 noted old mid new Nobody Did (session, did) ((turns, cluster, senders, receivers, greeted, ended), clients) = (

@@ -1,4 +1,4 @@
--- How a serving ends, by what was read and by how the scenario was served.
+-- How serving ends, by what was read and how the scenario was served.
 use Rattle.std.proofs.Common.{◌≡◌, ◌⊎◌, inl, inr, ℕ, List, Option, None, Some, Result, Ok, Err, IfOk, IfSome}
 use Rattle.std.specs.Io.KnownBytes.{Appends}
 use Rattle.cops_command.specs.Status.{number}
@@ -7,11 +7,11 @@ use Rattle.cops_scenario.specs.File.{IsTextOf}
 use Rattle.cops_scenario.specs.Scenario.{AScenario}
 use Rattle.cops_serve.specs.Serving.{EndsAs, IsServed}
 
--- with a report that was printed, or failed
+-- a report was printed, or something failed
 abbrev pub Printed : ℕ → AScenario → Option (List ℕ) → Option (List ℕ) → ℕ → Type 0
 Printed sessions s old new status = (status ≡ number Failed) ⊎ ((text : List ℕ) × IsServed sessions s text × Appends old new text)
 
--- as the bytes tell it, or failed
+-- the status follows from the bytes, or something failed
 abbrev pub Ended : ℕ → Option (List ℕ) → Option (List ℕ) → Option (List ℕ) → ℕ → Type 0
 Ended sessions bytes old new status = (status ≡ number Failed) ⊎ IfSome bytes (λ (b : List ℕ). EndsAs b sessions status old new)
 

@@ -1,4 +1,4 @@
--- Whose shares a front end holds, once it is opened and when it ends.
+-- The holders of a front end's shares, when it is opened and when it ends.
 use Rattle.std.proofs.Common.{◌≡◌, ℕ, List, [], ◌∷◌, ◌++◌, map, slice_index_or, slice_set, refl, sym, ap, ◌∙◌, arith}
 use Rattle.std.proofs.Math.Seq.{map-set_same}
 use Rattle.std.proofs.lemmas.List.{map-append}
@@ -17,7 +17,7 @@ through : {X : Type 0} (f : X → Share) (xs : List X) → map (λ (x : X). (f x
 through f [] = refl
 through f (x ∷ xs) = ap (λ (hs : List Holder). (f x).holder ∷ hs) (through f xs)
 
--- what a cluster is opened with
+-- a new front end
 pub opened : (homes : List ℕ) (count dcs : ℕ) (clients : List Client) (shares : List Share) (receivers : List Receiver) → AreClientsAt homes count clients → AreSharesOfReceivers dcs shares
     → AreReceivers dcs shares receivers → AreSeated count dcs clients receivers
 opened homes count dcs clients shares receivers of_clients of_shares wired = (
@@ -26,7 +26,7 @@ opened homes count dcs clients shares receivers of_clients of_shares wired = (
       ∙ held_from (λ (s : Share). s.holder) HeldByReceiver shares 0 dcs of_shares.0 (λ k d less. of_shares.1 k d less ∙ ap HeldByReceiver (omega arith)),
 )
 
--- the shares are all that there are
+-- the shares of the clients and receivers are all shares
 pub all_of : (count dcs : ℕ) (clients : List Client) (receivers : List Receiver) (shares : List Share) → AreSeated count dcs clients receivers
     → shares ≡ map (λ (c : Client). c.share) clients ++ map (λ (r : Receiver). r.share) receivers → AreAll count dcs shares
 all_of count dcs clients receivers shares (of_clients, of_receivers) are =
@@ -37,7 +37,7 @@ all_of count dcs clients receivers shares (of_clients, of_receivers) are =
     all_seated count dcs shares
     (ap holders are ∙ map-append (λ (s : Share). s.holder) own theirs ∙ ap (λ (hs : List Holder). hs ++ holders theirs) each ∙ ap (λ (hs : List Holder). map HeldByClient (numbers count) ++ hs) beside)
 
--- a client whose share is still its own is put back in its place
+-- putting back a client whose share still has its holder
 pub kept : (count dcs : ℕ) (clients : List Client) (receivers : List Receiver) (place : ℕ) (before after : Client) → AreSeated count dcs clients receivers
     → ((d : Client) → before ≡ slice_index_or clients place d) → after.share.holder ≡ before.share.holder → AreSeated count dcs (slice_set clients place after) receivers
 kept count dcs clients receivers place before after seated at same =

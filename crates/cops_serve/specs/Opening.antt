@@ -9,8 +9,8 @@ use Rattle.cops_replication.specs.declared.sender.Sender.{Sender}
 use Rattle.cops_scenario.specs.Scenario.{AScenario, homes_of}
 use Rattle.cops_serve.specs.declared.front_end.FrontEnd.{FrontEnd}
 
--- a cluster of the scenario's format, its clients, and a sender and a receiver for each data centre, all with empty shares; nobody has greeted, there was no
--- call, and no session has ended
+-- a cluster of the scenario's format, its clients, and a sender and a receiver for each data centre, all with empty shares; no client has greeted,
+-- there was no call, and no session has ended
 pub record IsOpened (s : AScenario) (f : FrontEnd) : Type 0 where
   pub turns : f.turns ≡ s.turns
   pub format : f.cluster.format ≡ s.format

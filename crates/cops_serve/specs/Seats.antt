@@ -1,4 +1,4 @@
--- Whose shares a front end holds.
+-- The holders of a front end's shares.
 use Rattle.std.specs.Prelude.{◌≡◌, ℕ, List, map}
 use Rattle.cops_cluster.specs.declared.client.Client.{Client}
 use Rattle.cops_cluster.specs.declared.share.Holder.{Holder}
@@ -6,11 +6,11 @@ use Rattle.cops_cluster.specs.declared.share.Holder.TheVariants.{Client as HeldB
 use Rattle.cops_replication.specs.Wiring.{numbers}
 use Rattle.cops_replication.specs.declared.receiver.Receiver.{Receiver}
 
--- who holds the shares of the receivers
+-- the holders of the receivers' shares
 abbrev pub holders_of : List Receiver → List Holder
 holders_of receivers = map (λ (r : Receiver). r.share.holder) receivers
 
--- each of so many clients and each of so many receivers has its own share, in order
+-- each of `count` clients and each of `dcs` receivers has its own share, in order
 abbrev pub AreSeated : ℕ → ℕ → List Client → List Receiver → Type 0
 AreSeated count dcs clients receivers =
     (map (λ (c : Client). c.share.holder) clients ≡ map HeldByClient (numbers count))

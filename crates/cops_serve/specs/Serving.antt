@@ -1,4 +1,4 @@
--- What is told when the serving ends.
+-- What is reported when serving ends.
 use Rattle.std.specs.Prelude.{◌≡◌, ◌⊎◌, ◌+◌, ℕ, List, ◌++◌, length, map, Option}
 use Rattle.std.specs.Global.{Vec}
 use Rattle.std.specs.Io.KnownBytes.{Appends}
@@ -26,11 +26,11 @@ use Rattle.cops_serve.specs.declared.front_end.FrontEnd.{FrontEnd}
 use Rattle.cops_serve.specs.FrontEnd.{Ends}
 use Rattle.cops_serve.specs.Opening.{IsOpened}
 
--- as many data centres, and as many nodes in each
+-- the number of data centres, and of nodes in each, is as wanted
 abbrev pub HasNodesOf : APlace → APlace → Type 0
 HasNodesOf wanted place = (place.dcs ≡ wanted.dcs) × (length place.splits ≡ length wanted.splits)
 
--- the entries that the clients and the receivers of a front end were told
+-- the entries in the shares of a front end's clients and receivers
 abbrev pub told_to : FrontEnd → List Made
 told_to f = told (map (λ (c : Client). c.share) f.clients.items ++ map (λ (r : Receiver). r.share) f.receivers.items)
 
@@ -43,14 +43,14 @@ pub record IsTiedReport (s : Setting) (books : List (Vec Entry)) (text : List �
   pub verdict : Verdict
   pub is_report : IsReportOf sessions verdict text
 
--- such a report in a scenario's world, of books that have just the entries that the clients and the receivers of a front end were told
+-- such a report in a scenario's world, where the books have exactly the entries in the shares of a front end's clients and receivers
 pub record IsReportOn (s : AScenario) (f : FrontEnd) (text : List ℕ) : Type 0 where
   pub books : List (Vec Entry)
   pub same : IsPermutation (made_in (length s.place.splits + 1) 0 books) (told_to f)
   pub report : IsTiedReport (setting_of s) books text
 
--- The report on a front end that was opened for this very scenario, and on which just so many sessions were ended: they came
--- one after the other, each was ended before the next, and its calls are theirs.
+-- The report of a front end that was opened for this scenario, and that served exactly `sessions` sessions: they came one after the other, each ended
+-- before the next began, and the front end's calls are theirs.
 pub record IsServed (sessions : ℕ) (s : AScenario) (text : List ℕ) : Type 0 where
   pub opened : FrontEnd
   pub is_opened : IsOpened s opened
@@ -60,7 +60,7 @@ pub record IsServed (sessions : ℕ) (s : AScenario) (text : List ℕ) : Type 0 
   pub calls : AreSessions s.format sessions front_end.calls.items
   pub report : IsReportOn s front_end text
 
--- how serving so many sessions ends, by the status: accepted of a scenario's text, where the writer gained such a report, or faulty
+-- how serving `sessions` sessions ends, by the status: accepted, of a scenario's text, where the writer gained such a report; or faulty
 abbrev pub EndsAs : List ℕ → ℕ → ℕ → Option (List ℕ) → Option (List ℕ) → Type 0
 EndsAs bytes sessions status old new =
     ((status ≡ number Accepted) × ((s : AScenario) × IsTextOf bytes s × ((text : List ℕ) × IsServed sessions s text × Appends old new text)))

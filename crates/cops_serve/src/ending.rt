@@ -1,4 +1,4 @@
-//! The end of the serving: the books are tied to what was recorded.
+//! The end of serving: the nodes' logs are checked against what was recorded.
 ghost use Rattle.std.specs.Prelude.{◌≡◌, ◌+◌, ◌*◌, ◌++◌, ◌↔◌, length, map, IfOk, IsTrue};
 ghost use Rattle.std.specs.List.Sorted.{IsPermutation};
 ghost use Rattle.cops_scenario.specs.Scenario.{setting_of};
@@ -20,9 +20,11 @@ impl FrontEnd {
     ghost use Rattle.std.specs.Prelude.{IfOk};
     ghost use Rattle.cops_serve.specs.Serving.{IsReportOn};
 
-    /// The report of what the clients saw in this scenario's world: `Untied` where the books of the nodes are no run of
-    /// that world with it, at the least ticket that does not continue one, or 0 where there are other nodes than the
-    /// scenario's.
+    /// Closes the cluster and returns the report of what the clients saw in this scenario's world.
+    ///
+    /// Errors: `Untied` where the nodes' logs and the clients' sessions are not a run of that world, or the logs differ
+    /// from what the callers were answered, with the least ticket at which that shows, or 0 where the cluster does not
+    /// have the scenario's nodes; `Memory` when memory runs out.
     pub fn finish(self, scenario: &Scenario) -> Result<Vec<u8>, ServeFault>
         ensures { IfOk result (λ text. IsReportOn scenario.now self text.items) }
     {
@@ -49,7 +51,7 @@ impl FrontEnd {
     }
 }
 
-/// Whether a cluster has as many data centres and nodes as a scenario says.
+/// Whether a cluster has the scenario's number of data centres and of nodes.
 fn is_of(cluster: &Cluster, scenario: &Scenario) -> bool
     ensures { IsTrue result ↔ HasNodesOf scenario.now.place cluster.now.place }
 {
@@ -75,7 +77,7 @@ fn shares(
     Ok(shares)
 }
 
-/// What is left of the cluster, whose entries are those of the shares. None of these is missing.
+/// Closes the cluster. Its entries are those of the shares, none of which is missing.
 fn closed(cluster: Cluster, shares: Vec<Share>) -> Result<Closed, ServeFault>
     requires all { AreAll cluster.clients cluster.place.dcs shares.items }
     ensures len { IfOk result (λ closed. length closed.books.items ≡ cluster.place.dcs * (length cluster.place.splits + 1)) }
@@ -100,7 +102,7 @@ fn told(alloc: Global, scenario: &Scenario, closed: &Closed) -> Result<Vec<u8>, 
     told
 }
 
-/// The same in a world of this setting.
+/// Like `told`, but takes the world's setting.
 fn told_in(alloc: Global, setting: &Setting, closed: &Closed) -> Result<Vec<u8>, ServeFault>
     requires { length closed.now.books.items ≡ setting.now.place.dcs * (length setting.now.place.splits + 1) }
     ensures { IfOk result (λ text. IsTiedReport setting.now closed.now.books.items text.items) }

@@ -1,4 +1,4 @@
-//! Why the serving ended without a report.
+//! Why serving ended without a report.
 use thiserror::Error;
 
 /// Why there is no report.
@@ -6,7 +6,8 @@ use thiserror::Error;
 pub enum ServeFault {
     #[error("memory")]
     Memory,
-    /// The books and what the clients saw are no run: the least ticket that does not continue it.
+    /// The nodes' logs and what the clients saw are not a run of the world. `ticket` is the least one that does not
+    /// continue it.
     #[error("untied at ticket {ticket}")]
     Untied { ticket: u64 },
     #[error("bind")]

@@ -1,4 +1,4 @@
-//! Who answers the clients of a cluster.
+//! The session handler that answers a cluster's clients.
 ghost use Rattle.std.specs.Option.{ForSome};
 ghost use Rattle.std.specs.Prelude.{◌≡◌, ◌<◌, IfOk, vec_len};
 ghost use Rattle.cops_serve.specs.Seats.{AreSeated};
@@ -17,14 +17,14 @@ use cops_types::{
 use std::alloc::{AllocError, Global};
 use std::sync::Wait;
 
-/// A client that has greeted, by its number, and its data centre.
+/// The client that has greeted, by its number, and its data centre.
 #[derive(Clone, Copy, Debug)]
 pub(crate) struct Greeted {
     pub(crate) client: u16,
     pub(crate) dc: u8,
 }
 
-/// Room for the copies that a call makes after its step.
+/// Memory reserved for the copies that a call makes after its step.
 #[derive(Drop)]
 pub(crate) struct Room {
     key: KeyRoom,
@@ -42,9 +42,9 @@ impl Room {
     }
 }
 
-/// A cluster behind the front door: its format; its clients, one of whom has greeted in a session; the senders and
-/// receivers that replicate what was put, on this thread, after each session, in at most so many rounds of turns; the
-/// calls so far; and how many sessions have ended.
+/// A cluster behind the front door: its format; its clients, one of which has greeted in a session; the senders and
+/// receivers that replicate its puts after each session, on this thread and in at most `turns` rounds of turns; the
+/// calls so far; and the number of sessions that have ended.
 #[derive(Drop)]
 pub struct FrontEnd {
     pub(crate) format: Format,
@@ -72,7 +72,7 @@ impl FrontEnd {
     ghost use Rattle.cops_serve.specs.FrontEnd.{Checks, GetsAs, IsHome, IsSame, IsUnnoted, Writes, WritesAs};
     ghost use Rattle.cops_serve.specs.Replying.{IsOutcomeIn, IsWriteReply};
 
-    /// Keeps a call with its answer. All else stays.
+    /// Records a call with its answer. Everything else stays unchanged.
     fn note(&mut self, call: Call)
         requires { vec_len self.old.calls < vec_capacity self.old.calls }
         ensures noted { self.new.calls.items ≡ self.old.calls.items ++ call ∷ [] }
@@ -81,7 +81,8 @@ impl FrontEnd {
         self.calls.push_reserved(call);
     }
 
-    /// Where a client is that may greet: nothing where there is no such client, or its data centre is not there.
+    /// The client that may greet with this number, and its data centre; `None` where there is no such client or its
+    /// data centre does not exist.
     fn home_of(&self, client: u16) -> Option<Greeted>
         ensures some { IfSome result (λ g. (g.client ≡ client) × IsHome self.now client g.dc) }
         ensures there { IfSome result (λ g. (g.client < vec_len self.now.clients) × (g.dc < self.now.cluster.place.dcs) × (g.dc < MAX_DCS)) }
@@ -95,9 +96,9 @@ impl FrontEnd {
         }
     }
 
-    /// The client that has greeted writes a content, which without a value is a deletion: the outcome of the cluster's
-    /// call, which the client's share and context show. It is refused where nobody has greeted, and for want of memory.
-    /// No other client changes.
+    /// Writes a content for the client that has greeted: a put, or a deletion where there is no value. Returns the
+    /// outcome of the cluster's call, which the client's share and context show. Refused with `UnknownClient` where no
+    /// client has greeted, and with `Memory` when memory runs out. No other client changes.
     fn write_outcome<R: Wait>(&mut self, rt: &R, key: &Key, content: Option<&Value>) -> Outcome
         ensures outcome { IsWriteOutcome (option_copied content.entry) result }
         ensures in_format { IsOutcomeIn self.old.cluster.format result }
@@ -124,8 +125,9 @@ impl FrontEnd {
         write_replies(&outcome)
     }
 
-    /// The client that has greeted gets the value of a key: the outcome of the cluster's get, which the client's share
-    /// and context show. It is refused where nobody has greeted, and for want of memory. No other client changes.
+    /// Gets the value of a key for the client that has greeted. Returns the outcome of the cluster's get, which the
+    /// client's share and context show. Refused with `UnknownClient` where no client has greeted, and with `Memory`
+    /// when memory runs out. No other client changes.
     fn get_outcome<R: Wait>(&mut self, rt: &R, key: &Key) -> Outcome
         ensures outcome { IsGetOutcome result }
         ensures done { GetsAs self.old key.now result self.new }
@@ -146,8 +148,9 @@ impl FrontEnd {
         }
     }
 
-    /// Whether a put is there, in the data centre of the client that has greeted: the outcome of the cluster's
-    /// question, which the client's share shows; not yet, where nobody has greeted. No other client changes.
+    /// Asks whether a pair is settled in the data centre of the client that has greeted. Replies with the outcome of
+    /// the cluster's question, which the client's share shows, or with not yet where no client has greeted. No other
+    /// client changes.
     fn checked<R: Wait>(&mut self, rt: &R, key: &Key, version: Version) -> Replies
         ensures twice { result.told ≡ result.kept }
         ensures reply { IsCheckReply result.told }
@@ -170,8 +173,8 @@ impl FrontEnd {
         }
     }
 
-    /// One turn of every sender and then of every receiver: whether any of them did something, or could not for want of
-    /// memory. No client changes.
+    /// Makes one turn of every sender and then of every receiver. Returns whether any of them did something, or ran out
+    /// of memory. No client changes.
     fn round<R: Wait>(&mut self, rt: &R) -> bool
         ensures noted { self.new.calls.items ≡ self.old.calls.items }
         ensures clients { (self.new.clients ≡ self.old.clients) × (self.new.greeted ≡ self.old.greeted) }

@@ -1,9 +1,9 @@
-//! The front door of a scenario's cluster: who answers the clients' messages by calls of the cluster, what is
-//! replicated after each of their sessions, and the report of the end, which is printed only where the nodes' books are
-//! one run of the world with what the clients saw.
+//! The server of a scenario's cluster: it answers the clients' messages by calls of the cluster, replicates after each
+//! session, and prints a report at the end, but only where the nodes' logs and what the clients saw are one run of the
+//! world.
 //!
-//! Stands on the cluster, its senders and receivers, the front door's protocol, the tie, the audit and the report. The
-//! program uses that a report is printed only of a tied history, which is accepted.
+//! It builds on the cluster, its senders and receivers, the front door's protocol, the tie check, the audit and the
+//! report. The program relies on this: a report is printed only of a tied history, which is accepted.
 #![tactic(auto)]
 
 mod ending;

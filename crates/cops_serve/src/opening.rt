@@ -1,4 +1,4 @@
-//! The cluster of a scenario behind the front door.
+//! Opening a scenario's cluster behind the front door.
 use crate::front_end::FrontEnd;
 use cops_cluster::{Cluster, Opened};
 use cops_replication::{Replicas, wired};
@@ -10,7 +10,8 @@ impl FrontEnd {
     ghost use Rattle.std.specs.Prelude.{IfOk};
     ghost use Rattle.cops_serve.specs.Opening.{IsOpened};
 
-    /// A front end of a scenario's cluster, in which nothing has happened and nobody has greeted.
+    /// Opens a scenario's cluster, in which nothing has happened and no client has greeted. Returns `Memory` when
+    /// memory runs out.
     pub fn open(alloc: Global, scenario: &Scenario) -> Result<FrontEnd, Memory>
         ensures { IfOk result (IsOpened scenario.now) }
     {

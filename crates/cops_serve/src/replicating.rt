@@ -1,4 +1,4 @@
-//! The turns that replicate what was put, on the front end's own thread.
+//! The turns that replicate, on the front end's own thread.
 ghost use Rattle.std.specs.Prelude.{◌≡◌};
 ghost use Rattle.cops_serve.specs.Seats.{holders_of};
 
@@ -7,7 +7,7 @@ use cops_replication::{Receiver, Sender, Turn};
 use cops_types::OpenGate;
 use std::sync::Wait;
 
-/// One turn of each sender: whether any of them did something, or could not for want of memory.
+/// Makes one turn of each sender. Returns whether any of them did something, or ran out of memory.
 pub(crate) fn send_each<R: Wait>(rt: &R, cluster: &Cluster, senders: &mut [Sender]) -> bool {
     let mut is_busy = false;
     for sender in senders.iter_mut() {
@@ -16,7 +16,8 @@ pub(crate) fn send_each<R: Wait>(rt: &R, cluster: &Cluster, senders: &mut [Sende
     is_busy
 }
 
-/// The same of each receiver, whose share stays its own.
+/// Makes one turn of each receiver, which keeps its share. Returns whether any of them did something, or ran out of
+/// memory.
 pub(crate) fn receive_each<R: Wait>(rt: &R, cluster: &Cluster, receivers: &mut [Receiver]) -> bool
     ensures { holders_of receivers.new ≡ holders_of receivers.old }
 {

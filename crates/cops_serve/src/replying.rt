@@ -12,14 +12,14 @@ use cops_net::Reply;
 use cops_node::Outcome;
 use cops_types::{Format, Refusal, Value, ValueRoom, Version};
 
-/// An answer, twice: to be kept and to be told.
+/// An answer twice: one copy for the record of calls, and one to send.
 #[derive(Drop)]
 pub(crate) struct Replies {
     pub(crate) kept: Reply,
     pub(crate) told: Reply,
 }
 
-/// The replies to a put or a deletion, which tell its outcome.
+/// The replies that report the outcome of a put or a deletion.
 pub(crate) fn write_replies(outcome: &Outcome) -> Replies
     requires { IsPutOutcome outcome.now ⊎ IsDelOutcome outcome.now }
     ensures same { result.told ≡ result.kept }
@@ -39,8 +39,8 @@ pub(crate) fn write_replies(outcome: &Outcome) -> Replies
     }
 }
 
-/// The replies to a get of this format, which tell its outcome. In format 1, where no node has a deletion or a value
-/// that is longer than the format allows, a get that found one is refused for want of memory.
+/// The replies that report the outcome of a get in this format. In format 1, where no node has a deletion or a value
+/// that is longer than the format allows, a get that found one would be refused with `Memory`.
 pub(crate) fn get_replies(format: Format, room: ValueRoom, outcome: Outcome) -> Replies
     requires got { IsGetOutcome outcome }
     requires room { room ≡ format }
@@ -93,7 +93,7 @@ fn gone(format: Format, version: Version) -> Replies
     }
 }
 
-/// The replies to what was refused.
+/// The replies that report a refusal.
 fn refused(refusal: Refusal) -> Replies
     ensures { (result.kept ≡ Answer.Refused refusal) × (result.told ≡ Answer.Refused refusal) }
 {
@@ -103,7 +103,7 @@ fn refused(refusal: Refusal) -> Replies
     }
 }
 
-/// The replies to the question whether a put is there, which tell its outcome.
+/// The replies that report the outcome of the question whether a pair is settled.
 pub(crate) fn check_replies(asked: &Asked) -> Replies
     requires { IsAskOutcome (outcome_of asked.now) }
     ensures same { result.told ≡ result.kept }
@@ -119,7 +119,7 @@ pub(crate) fn check_replies(asked: &Asked) -> Replies
     }
 }
 
-/// The same by the outcome of the question.
+/// The replies that report this outcome of the question whether a pair is settled.
 fn outcome_replies(outcome: &Outcome) -> Replies
     requires { IsAskOutcome outcome.now }
     ensures same { result.told ≡ result.kept }
@@ -137,7 +137,7 @@ fn outcome_replies(outcome: &Outcome) -> Replies
     }
 }
 
-/// The replies where a put is not there yet.
+/// The replies where a pair is not settled yet.
 pub(crate) fn not_yet() -> Replies
     ensures same { result.told ≡ result.kept }
     ensures told { IsReplyTo NotYet result.told }

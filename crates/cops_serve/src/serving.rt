@@ -1,4 +1,4 @@
-//! The front door of a scenario's cluster, from the scenario's text to the report.
+//! Serving a scenario's cluster, from the scenario's text to the report.
 ghost use Rattle.std.specs.Prelude.{◌≡◌, ◌⊎◌, ◌<◌, ◌+◌, ◌^◌, ◌++◌, List, ℕ, Ok, IfOk, IfSome};
 ghost use Rattle.std.specs.Io.KnownBytes.{Appends};
 ghost use Rattle.cops_types.specs.Counted.{failures, inner};
@@ -23,7 +23,8 @@ use std::net::{Net, TcpListener, TcpStream};
 use std::sync::Wait;
 use std::time::Duration;
 
-/// A port, how many sessions are served there, and for how many seconds a client may be idle, where that is limited.
+/// A port, the number of sessions to serve there, and the number of seconds that a client may be idle, if that is
+/// limited.
 #[derive(Clone, Copy)]
 struct Door {
     port: u16,
@@ -31,12 +32,14 @@ struct Door {
     idle: Option<u16>,
 }
 
-/// Reads a scenario, serves so many sessions of clients of its cluster on a port of 127.0.0.1, one after the other, and
-/// prints the report of what the clients saw. A client that is idle for so many seconds, where they are given, is given
-/// up: its session alone ends, and counts as served. The answer is the status: 0 for a report, which is of an accepted
-/// history; 2 for a faulty scenario, which a line on `out` tells; and 4 where a read or a write failed, the port could
-/// not be bound, no connection could be accepted, or the nodes' books are not tied to what was recorded, which a line
-/// on `errors` tells.
+/// Reads a scenario, serves `sessions` sessions of clients of its cluster on a port of 127.0.0.1, one after the other,
+/// and prints the report of what the clients saw. A client that is idle for `idle` seconds, if that is given, is
+/// dropped: only its session ends, and it counts as served.
+///
+/// Returns the exit status: 0 for a report, which is of an accepted history; 2 for a faulty scenario, which a line on
+/// `out` names; and 4 where a read or a write failed, the port could not be bound, no connection could be accepted, or
+/// the nodes' logs are not tied to what was recorded, which a line on `errors` names. Returns `Memory` when memory runs
+/// out.
 pub fn serve_stream<R, I, W, E>(
     rt: &R,
     alloc: Global,
@@ -52,8 +55,8 @@ where
     I: Read,
     W: Write,
     E: Write,
-    // The status is that of the reader's bytes, of so many sessions and of the text that was printed, unless something
-    // failed.
+    // The status follows from the reader's bytes, from `sessions` sessions and from the text that was printed, unless
+    // something failed.
     ensures ended { IfOk result (λ status. (status ≡ number Failed) ⊎ IfSome (I.remaining (inner reader.old)) (λ bytes.
         EndsAs bytes sessions status (W.contents (inner out.old)) (W.contents (inner out.new)))) }
     ensures heard { (result ≡ Ok (number Failed)) ⊎ ((failures reader.new ≡ failures reader.old) × (failures out.new ≡ failures out.old)) }
@@ -69,7 +72,7 @@ where
     }
 }
 
-/// Serves the sessions of a scenario's cluster, prints the report, and gives the status.
+/// Serves the sessions of a scenario's cluster, prints the report, and returns the exit status.
 fn serve_scenario<R, W, E>(
     rt: &R,
     alloc: Global,
@@ -94,7 +97,7 @@ where
     }
 }
 
-/// Prints why nothing was served, and gives the status.
+/// Prints why there is no report, and returns the exit status.
 fn unserved<E: Write>(
     alloc: Global,
     fault: ServeFault,
@@ -106,7 +109,7 @@ fn unserved<E: Write>(
     Ok(failed(errors, line.as_bytes()))
 }
 
-/// Serves the sessions, and gives the report.
+/// Serves the sessions, and returns the report.
 fn served<R: Net<Listener = TcpListener, Stream = TcpStream> + Wait>(
     rt: &R,
     alloc: Global,
@@ -119,7 +122,7 @@ fn served<R: Net<Listener = TcpListener, Stream = TcpStream> + Wait>(
     front_end.finish(scenario)
 }
 
-/// A front end that was opened for a scenario's cluster, behind so many sessions.
+/// A front end for a scenario's cluster, after all sessions were served.
 fn attended<R: Net<Listener = TcpListener, Stream = TcpStream> + Wait>(
     rt: &R,
     alloc: Global,

@@ -1,4 +1,4 @@
-//! What a client writes at a cluster.
+//! Writes of a client at a cluster.
 ghost use Rattle.std.specs.Prelude.{None, Some, option_copied};
 ghost use Rattle.cops_cluster.specs.Outcomes.{IsDelOutcome, IsPutOutcome, IsWriteOutcome};
 ghost use Rattle.cops_serve.specs.FrontEnd.{HasWritten};
@@ -9,8 +9,9 @@ use cops_node::Outcome;
 use cops_types::{GateHeld, Key, OpenGate, Refusal, Value};
 use std::sync::Wait;
 
-/// A client writes a content, which without a value is a deletion: the outcome of the cluster's call, which the client's
-/// share and context show. It is refused for want of memory too, where the key or the value is not copied.
+/// Writes a content for a client: a put, or a deletion where there is no value. Returns the outcome of the cluster's
+/// call, which the client's share and context show. Refused with `Memory` also where the key or the value cannot be
+/// copied.
 pub(crate) fn written<R: Wait>(
     rt: &R,
     cluster: &Cluster,
@@ -28,7 +29,7 @@ pub(crate) fn written<R: Wait>(
     }
 }
 
-/// A put of copies of the key and the value.
+/// Puts copies of the key and the value.
 fn put<R: Wait>(rt: &R, cluster: &Cluster, client: &mut Client, key: &Key, value: &Value) -> Outcome
     ensures outcome { IsPutOutcome result }
     ensures in_format { IsOutcomeIn cluster.now.format result }
@@ -46,7 +47,7 @@ fn put<R: Wait>(rt: &R, cluster: &Cluster, client: &mut Client, key: &Key, value
     }
 }
 
-/// A deletion of a copy of the key.
+/// Deletes a copy of the key.
 fn deleted<R: Wait>(rt: &R, cluster: &Cluster, client: &mut Client, key: &Key) -> Outcome
     ensures outcome { IsDelOutcome result }
     ensures in_format { IsOutcomeIn cluster.now.format result }

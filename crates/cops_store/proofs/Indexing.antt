@@ -1,4 +1,4 @@
--- What a store finds by its maps, and that they go on to be an index after one more pair.
+-- What a store finds by its maps, and that they remain an index after one more pair.
 use Rattle.std.proofs.Common.{◌≡◌, ◌<◌, ℕ, zero, suc, ◌+◌, Bool, true, false, cond, nat_eq, nat_lt, List, [], ◌∷◌, ◌++◌, length, slice_get, Option, None, Some, is_some, ◌&&◌, refl, sym, ap, ◌∙◌, arith, subst}
 use Rattle.std.specs.Cmp.Lexicographic.{nat_list_eq_equiv}
 use Rattle.std.specs.List.{IsDistinct, position, position_or_len}
@@ -79,7 +79,7 @@ module _ (keys : Keys) (pairs : Pairs) (key : List ℕ) (value : Option (List �
   abbrev at_key : Option ℕ
   at_key = lookup (bytes_eq key) keys
 
-  -- the pair goes last, and the others stay
+  -- the pair is appended, and the others do not change
   settled_after : (w : ℕ) → settled_in (with_key keys key w) (pairs ++ (place, value) ∷ []) ≡ old ++ one ∷ []
   settled_after w =
       let kept = settled_kept keys key w pairs h.placed in
@@ -193,7 +193,7 @@ module _ (keys : Keys) (pairs : Pairs) (key : List ℕ) (value : Option (List �
   pub none_there_yet : has_pair old (record { key = key; version = version }) ≡ false → lookup (λ (q : Place). nat_eq (place_in keys key) q.key && nat_eq version q.version) pairs ≡ None
   none_there_yet new = none_there _ (sym (found_pair keys pairs key (place_in keys key) version (is_at keys key h.distinct) h.placed ∙ new))
 
-  -- the answer is right
+  -- the result is right
   pub answer_after : has_pair old (record { key = key; version = version }) ≡ false → (chosen pairs version at_key).0 ≡ settling old one
   answer_after new = right.0 ∙ sym (ap (λ b. cond b Repeat (shown_or_older one (shown old key))) new)
 
@@ -211,7 +211,7 @@ module _ (keys : Keys) (pairs : Pairs) (key : List ℕ) (value : Option (List �
       go true e rest = absurd cc
       go false e rest = ap (λ r. x ∷ r) (rest e)
 
-  -- a new pair goes last in the map of pairs
+  -- a new pair is appended to the map of pairs
   pub with_pair_at : has_pair old (record { key = key; version = version }) ≡ false → (pairs' : Pairs) (at : ℕ) → at ≡ place_in keys key
       → pairs' ≡ with_pair pairs (record { key = at; version = version }) value
       → pairs' ≡ pairs ++ (place, value) ∷ []

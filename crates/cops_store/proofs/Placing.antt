@@ -30,7 +30,7 @@ all_at P [] j d h l = absurd (omega (arith, l))
 all_at P (x ∷ xs) zero d h l = h.0
 all_at P (x ∷ xs) (suc j) d h l = all_at P xs j d h.1 (omega (arith, l))
 
--- the place of a key among keys that are distinct is the one at which it stands, or the length
+-- among distinct keys, the place of a key is the one at which it occurs, or the length
 at_only : (names : List (List ℕ)) (key : List ℕ) → IsDistinct bytes_eq names → (j : ℕ) → j < length names
     → bytes_eq key (slice_index_or names j []) ≡ nat_eq (position_or_len (bytes_eq key) names) j
 unfolding IsDistinct
@@ -74,7 +74,7 @@ found_pair keys (p ∷ pairs) key at version h placed =
     ∙ ap (λ b. (b && nat_eq version p.0.version) || is_some (lookup (λ (q : Place). nat_eq at q.key && nat_eq version q.version) pairs)) (sym (h p.0.key placed.0))
     ∙ ap (λ b. (bytes_eq key (key_at keys p.0.key) && nat_eq version p.0.version) || b) (found_pair keys pairs key at version h placed.1)
 
--- the keys with one more, which goes last unless it is there
+-- the keys with one more, which is appended unless it is there already
 abbrev pub with_key : Keys → List ℕ → ℕ → Keys
 with_key keys key shown = insert_entry bytes_eq keys key shown
 
@@ -122,7 +122,7 @@ grown (e ∷ keys) key shown = go (bytes_eq key e.0) (grown keys key shown)
     go true h = omega arith
     go false h = omega (arith, h)
 
--- with one more key the pairs' keys stay
+-- adding a key does not change the pairs' keys
 pub settled_kept : (keys : Keys) (key : List ℕ) (shown : ℕ) (pairs : Pairs) → ArePlaced keys pairs → settled_in (with_key keys key shown) pairs ≡ settled_in keys pairs
 settled_kept keys key shown [] placed = refl
 settled_kept keys key shown (p ∷ pairs) placed =

@@ -7,7 +7,7 @@ use Rattle.std.proofs.lemmas.Slice.Eq.{bytes_eq-Decides}
 use Rattle.cops_store.specs.Store.{Stored, newer, shown, has_pair}
 use Rattle.cops_store.specs.Settling.{has_key, shown_keys}
 
--- of what is shown and a pair that is settled after it, the one with the greater version
+-- the pair with the greater version, of the one that is shown and one that is settled after it
 abbrev pub later : Option Stored → Stored → Stored
 later None s = s
 later (Some t) s = if nat_lt s.version t.version then t else s
@@ -72,7 +72,7 @@ has_key_append (x ∷ xs) s k = go (bytes_eq k x.key) (has_key_append xs s k)
     go true e = refl
     go false e = e
 
--- one key more shows something where nothing was settled on the pair's key
+-- one more key shows something where nothing was settled on the pair's key before
 pub keys_append : (xs : List Stored) (s : Stored) → length (shown_keys (xs ++ s ∷ [])) ≡ length (shown_keys xs) + cond (has_key xs s.key) 0 1
 keys_append [] s = refl
 keys_append (x ∷ xs) s =
@@ -89,7 +89,7 @@ keys_append (x ∷ xs) s =
     go false false true same e = omega (arith, e)
     go false false false same e = omega (arith, e)
 
--- what is shown, if there is something, bears the key
+-- the pair that is shown, if there is one, has this key
 abbrev pub IsOn : List ℕ → Option Stored → Type 0
 IsOn k None = Unit {0}
 IsOn k (Some s) = k ≡ s.key

@@ -1,4 +1,4 @@
--- How a store keeps its pairs: a map of keys, each with the place of the pair that it shows, and a map of the pairs.
+-- The representation of a store: a map of keys, each with the place of the pair that it shows, and a map of the pairs.
 use Rattle.std.specs.Prelude.{◌≡◌, ◌<◌, ℕ, List, [], length, map, slice_get, slice_index_or, Option, None, Some}
 use Rattle.std.specs.List.{AllByRecursion, IsDistinct}
 use Rattle.std.specs.Map.{keys_of, lookup}
@@ -25,12 +25,12 @@ stored_at keys p = record { key = key_at keys p.0.key; value = p.1; version = p.
 abbrev pub settled_in : Keys → Pairs → List Stored
 settled_in keys pairs = map (stored_at keys) pairs
 
--- the key shows nothing, or the pair at this place
+-- the key shows nothing, or it shows the pair at this place
 abbrev pub ShowsAt : List Stored → List ℕ → Option ℕ → Type 0
 ShowsAt settled key None = shown settled key ≡ None
 ShowsAt settled key (Some at) = (at < length settled) × (shown settled key ≡ slice_get settled at)
 
--- no key is there twice; each pair's key is there, each key has its place, and no other key is there
+-- the keys are distinct; each pair's key is among them, each key shows the pair at its place, and no other keys are there
 pub record IsIndex (keys : Keys) (pairs : Pairs) : Type 0 where
   pub distinct : IsDistinct bytes_eq (keys_of keys)
   pub placed : AllByRecursion (λ (p : Place × Option (List ℕ)). p.0.key < length keys) pairs

@@ -9,12 +9,12 @@ abbrev pub is_above : ℕ → Option (Place × Option (List ℕ)) → Bool
 is_above version None = false
 is_above version (Some p) = nat_lt version p.0.version
 
--- the pair is older than what stands at a place, or it is shown and stands at another
+-- the new pair is older than the one at a place, or it is shown at its own place
 abbrev pub pick : Bool → ℕ → ℕ → Settled × ℕ
 pick true at new = (Older, at)
 pick false at new = (Shown, new)
 
--- what settling a new pair answers, and the place of what its key shows then, from the place of what it shows now
+-- the result of settling a new pair, and the place of the pair that its key shows afterwards, from the place of the pair that it shows now
 abbrev pub chosen : List (Place × Option (List ℕ)) → ℕ → Option ℕ → Settled × ℕ
 chosen pairs version None = (Shown, length pairs)
 chosen pairs version (Some at) = pick (is_above version (slice_get pairs at)) at (length pairs)

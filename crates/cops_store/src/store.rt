@@ -8,8 +8,8 @@ use indexmap::IndexMap;
 use std::alloc::Global;
 use std::marker::Model;
 
-/// The settled pairs of a node with their contents, in the order in which they were settled: where there is no value,
-/// a deletion. Each call costs look-ups in maps, whatever the number of pairs.
+/// The settled pairs of a node with their contents, in the order in which they were settled. A pair without a value is
+/// a deletion. Each call costs look-ups in hash maps, whatever the number of pairs.
 #[derive(Drop)]
 pub struct Store {
     /// Each key with the place of the pair that it shows.
@@ -36,7 +36,7 @@ impl Store {
     ghost use Rattle.cops_store.specs.Store.{Stored, has_pair, with_settled, shown};
     ghost use Rattle.cops_store.specs.Settling.{shown_keys, settling};
 
-    /// A store with nothing settled. It takes no memory.
+    /// An empty store. It allocates no memory.
     pub fn new(alloc: Global) -> Self
         ensures { result.settled ≡ [] }
     {
@@ -56,8 +56,8 @@ impl Store {
         }
     }
 
-    /// What the key shows: the greatest version that was settled on it, with its value, or without one where that is a
-    /// deletion. None where nothing was settled on it.
+    /// What the key shows: the greatest version that was settled on it, with its value, or without a value where that
+    /// is a deletion. `None` where nothing was settled on it.
     pub fn get(&self, key: &Key) -> Option<(Option<&Value>, Version)>
         ensures { option_map (λ r. record { key = key.now; value = option_copied r.0; version = r.1 }) result ≡ shown self.now.settled key.now }
     {
@@ -66,21 +66,22 @@ impl Store {
         Some((value.as_ref(), place.version))
     }
 
-    /// How many keys show a value or a deletion.
+    /// The number of keys that show a value or a deletion.
     pub fn keys(&self) -> usize
         ensures { result ≡ length (shown_keys self.now.settled) }
     {
         self.keys.len()
     }
 
-    /// How many pairs were settled.
+    /// The number of settled pairs.
     pub fn settled(&self) -> usize
         ensures { result ≡ length self.now.settled }
     {
         self.pairs.len()
     }
 
-    /// Makes room for one more pair: the next `settle` takes no memory. A refusal changes nothing.
+    /// Makes room for one more pair, so that the next `settle` allocates no memory. An error, which is `Memory`,
+    /// changes nothing.
     pub fn reserve(&mut self) -> Result<(), Memory>
         ensures same { self.new.settled ≡ self.old.settled }
         ensures room { OnOk result (self.new.room ≡ true) }
@@ -91,8 +92,9 @@ impl Store {
         Ok(())
     }
 
-    /// Settles a pair, without a value a deletion. A pair that is settled already changes nothing, and takes no memory.
-    /// Another goes last, and its key shows it unless a greater version on the key is shown. A refusal changes nothing.
+    /// Settles a pair, which is a deletion where there is no value. Settling a pair again changes nothing, and
+    /// allocates no memory. A new pair is appended, and its key shows it unless it shows a greater version. An error,
+    /// which is `Memory`, changes nothing.
     pub fn settle(
         &mut self,
         key: Key,
@@ -129,7 +131,8 @@ impl Store {
     }
 }
 
-/// What settling a new pair answers, and the place of what its key shows then, from the place of what it shows now.
+/// The result of settling a new pair, and the place of the pair that its key shows afterwards, from the place of the
+/// pair that it shows now.
 fn chosen(
     pairs: &IndexMap<Place, Option<Value>>,
     shown: Option<usize>,

@@ -1,4 +1,4 @@
--- A trace and the same in format 2 are audited alike.
+-- A trace and the same trace in format 2 have the same audit.
 use Rattle.std.proofs.Common.{◌≡◌, ℕ, List, Option, Some, None, IfSome, Result, Ok, Err, IfOk, refl, sym, subst, inl, inr}
 use Rattle.cops_trace.specs.Text.{ATrace, text}
 use Rattle.cops_trace.specs.Converting.{Converts, IsConverted, SayOne, in_format_2}
@@ -20,7 +20,7 @@ audited_alike bytes t is one answer told says = elim says [
   | inr of_fault ↦ let not = one (Err of_fault.0) (Ok is.0) of_fault.1 is.1 in absurd cc
 ]
 
--- so what converts a trace's bytes writes what is audited as they are
+-- so converting a trace's bytes writes bytes with the same audit
 pub converts_alike : {E : Type 0} (r : Result ℕ E) (read old new : Option (List ℕ)) → IfOk r (λ count. IfSome read (λ bytes. Converts bytes count old new)) → IfOk r (λ _. IfSome read SayOne)
     → IfOk r (λ count. IfSome read (λ bytes. ConvertsAlike bytes count old new))
 converts_alike (Ok count) None old new h one = tt

@@ -1,4 +1,4 @@
--- The frames at the front of some bytes, one after the other, and what was written of their lines.
+-- The frames with which some bytes begin, one after the other, and what was written of their lines.
 use Rattle.std.proofs.Common.{◌≡◌, ℕ, ◌+◌, ◌-◌, ◌<◌, ◌≤◌, List, [], ◌∷◌, ◌++◌, length, drop, Option, Some, None, Result, Ok, Err, IfOk, IfSome, refl, sym, subst, ap, ◌∙◌, append_assoc, arith, inl, inr}
 use Rattle.std.specs.Io.KnownBytes.{Appends}
 use Rattle.std.proofs.lemmas.Grind.{flat_map-append}
@@ -46,7 +46,7 @@ more_lines ms m = flat_map-append line_of ms (m ∷ []) ∙ ap (λ (x : List ℕ
 
 -- ---- messages up to a place
 
--- these messages stand before the end, and their frames end at this place
+-- the frames of these messages end at or before the end, the last of them at this place
 pub record StandTo (format : Format) (bytes : List ℕ) (end at : ℕ) (ms : List Message) : Type 0 where
   pub stand : StandBefore format bytes end ms
   pub place : at ≡ length (frames_of ms)
@@ -58,7 +58,7 @@ rest_is : (format : Format) (bytes : List ℕ) (end at : ℕ) (ms : List Message
 rest_is format bytes end at ms h =
     ap (λ (n : ℕ). drop n bytes) h.place ∙ ap (λ (x : List ℕ). drop (length (frames_of ms)) x) h.stand.front ∙ drop-append_seam (frames_of ms) h.stand.rest
 
--- the message at the front of the rest stands behind them
+-- the message with which the rest begins follows them
 one_more : (format : Format) (bytes : List ℕ) (end at used : ℕ) (ms : List Message) (m : Message) → StandTo format bytes end at ms → StandBefore format (drop at bytes) (end - at) (m ∷ []) → used ≡ length (spelled m)
     → StandTo format bytes end (at + used) (ms ++ m ∷ [])
 one_more format bytes end at used ms m h n len =
@@ -73,7 +73,7 @@ one_more format bytes end at used ms m h n len =
       place = omega (arith, h.place, len, more_length ms m);
     }
 
--- where none stands there, they are all
+-- where the rest begins with no message, they are all
 no_more : (format : Format) (bytes : List ℕ) (end at : ℕ) (ms : List Message) → StandTo format bytes end at ms → ((m : Message) → StandBefore format (drop at bytes) (end - at) (m ∷ []) → ⊥) → AreAllBefore format bytes end ms
 no_more format bytes end at ms h none = record {
   stand = h.stand;
@@ -90,7 +90,7 @@ no_more format bytes end at ms h none = record {
 
 -- ---- what is written of them
 
--- Messages stand before the end, and their frames end at this place. Their lines are written, but for this text.
+-- The frames of some messages end at or before the end, the last of them at this place. Their lines are written, except for this text.
 pub record WrittenTo (format : Format) (bytes : List ℕ) (end at : ℕ) (old new : Option (List ℕ)) (text : List ℕ) : Type 0 where
   pub messages : List Message
   pub stand : StandTo format bytes end at messages
@@ -126,15 +126,15 @@ pub all_written : (format : Format) (bytes : List ℕ) (end at : ℕ) (old mid n
 all_written format bytes end at old mid new text more h none w =
     (h.messages, no_more format bytes end at h.messages h.stand none.1, appends_more old mid new h.front more (lines_of h.messages) h.wrote w (ap (λ (x : List ℕ). h.front ++ x) none.0 ∙ h.lines))
 
--- ---- the frame at the front
+-- ---- the first frame
 
--- a message that stands at the front of the bytes is what decoding answers of them
+-- a message whose frame the bytes begin with is what decoding them returns
 message_stands : (format : Format) (bytes : List ℕ) (end : ℕ) (m : Message) → StandBefore format bytes end (m ∷ []) → IsAnswer (grammar format) bytes (Ok (parts m, length (spelled m)))
 message_stands format bytes end m s =
     let same = sym (spelled_in format m s.legal.0) in
     record { message = s.legal.0; rest = s.rest; front = s.front ∙ ap (λ (x : List ℕ). x ++ s.rest) (one_frame m ∙ same); length_is = ap length same }
 
--- a fault that decoding answers is no message
+-- a fault that decoding returns is no message
 no_fault : (f : WireFault) (x : Parts × ℕ) → (f ≡ wire.Memory → ⊥) → Answers (Err f) (λ b. b ≡ Ok x) → ⊥
 no_fault wire.Memory x ne h = ne refl
 no_fault wire.Short x ne h = cc
@@ -152,14 +152,14 @@ same_used x y e =
     let same : x ≡ y = cc in
     ap (λ (p : Parts × ℕ). p.1) same
 
--- where the frame at the front ends behind the place, none stands there that ends before
+-- where the frame with which the bytes begin ends after the place, they begin with no message that ends before it
 pub too_long : (format : Format) (bytes : List ℕ) (end : ℕ) (d : Decoded) → end < d.used → ((a : Result (Parts × ℕ) WireFault) → IsAnswer (grammar format) bytes a → Answers (Ok d) (λ b. b ≡ a))
     → (m : Message) → StandBefore format bytes end (m ∷ []) → ⊥
 too_long format bytes end d long only m s =
     let used : d.used ≡ length (spelled m) = same_used (parts d.message, d.used) (parts m, length (spelled m)) (only (Ok (parts m, length (spelled m))) (message_stands format bytes end m s)) in
     absurd (omega (arith, s.ends, one_length m))
 
--- where it ends before, its message stands there
+-- where it ends before the place, they begin with its message
 pub it_stands : (format : Format) (bytes : List ℕ) (end : ℕ) (d : Decoded) (old new : List ℕ) → IsAnswer (grammar format) bytes (Ok (parts d.message, d.used)) → d.used ≤ end → new ≡ old ++ line_of d.message
     → AppendsNext format bytes end old new (Some d.used)
 it_stands format bytes end d old new a within lines = (
@@ -174,7 +174,7 @@ it_stands format bytes end d old new a within lines = (
   lines,
 )
 
--- so where the frame's line is appended unless it ends behind the place
+-- so where the frame's line is appended unless it ends after the place
 pub it_ends : (format : Format) (bytes : List ℕ) (end : ℕ) (d : Decoded) (old new : List ℕ) (r : Result (Option ℕ) Memory)
     → (r ≡ Ok None → (end < d.used) × (new ≡ old)) → IfOk r (λ next. IfSome next (λ used. (used ≡ d.used) × (d.used ≤ end) × (new ≡ old ++ line_of d.message)))
     → IsAnswer (grammar format) bytes (Ok (parts d.message, d.used)) → ((a : Result (Parts × ℕ) WireFault) → IsAnswer (grammar format) bytes a → Answers (Ok d) (λ b. b ≡ a))
@@ -185,7 +185,7 @@ it_ends format bytes end d old new (Ok (Some _)) _ line a _ = subst (λ used. Ap
 
 -- ---- the format that the head names
 
--- a head at the front is what decoding answers of the bytes
+-- a head with which the bytes begin is what decoding them returns
 head_answers : (bytes : List ℕ) (format : Format) (h : HasHead bytes format) → IsAnswer (grammar One) bytes (Ok (parts (TraceHead (number_of format) h.clients), length (spelled (TraceHead (number_of format) h.clients))))
 head_answers bytes format h =
     let m = TraceHead (number_of format) h.clients in
@@ -224,7 +224,7 @@ head_is bytes (TraceHead number clients) used format a names =
     }
 head_is bytes m used format a names = absurd cc
 
--- the format by what decoding answered
+-- the format, from what decoding returned
 pub read_in : (bytes : List ℕ) (d : Decoded) (o : Option Format) → IsAnswer (grammar One) bytes (Ok (parts d.message, d.used)) → ((a : Result (Parts × ℕ) WireFault) → IsAnswer (grammar One) bytes a → Answers (Ok d) (λ b. b ≡ a))
     → o ≡ named d.message → AreReadIn bytes (unwrap_or o One)
 read_in bytes d (Some format) a only is = inl (head_is bytes d.message d.used format a (sym is))

@@ -1,21 +1,20 @@
--- A text, and a front of one, is that of one trace.
+-- A text, and a prefix of one, is that of one trace.
 use Rattle.std.proofs.Common.{◌≡◌, [], drop, true, false, Option, Some, refl, sym, subst, ◌∙◌, arith}
 use Rattle.std.specs.Prelude.{IfSome}
 use Rattle.std.proofs.lemmas.List.{append-nil}
-use Rattle.cops_trace.specs.Text.{ATrace, IsTrace, text}
+use Rattle.cops_trace.specs.Text.{ATrace, IsTrace, text, end_text}
 use Rattle.cops_trace.specs.Answer.{front, progress_at}
 use Rattle.cops_trace.specs.declared.found.Item.{Item}
 use Rattle.cops_trace.specs.declared.found.Item.TheVariants.{End}
 use Rattle.cops_trace.specs.Parsing.{is_end}
-use Rattle.cops_trace.proofs.Ends.{end_text}
 use Rattle.cops_trace.proofs.Items.{one_item, stands_used, stood}
 use Rattle.cops_trace.proofs.Readings.{IsLast, end_legal, fronts_one, same_message}
 
--- no head and no record stands where nothing does
+-- no head and no record is decoded from no bytes
 nothing_last : (b : Option ATrace) → IsLast b []
 nothing_last b i used going stands = let bounds = stands_used (progress_at b) [] i used stands in absurd (omega (arith, bounds.0, bounds.1))
 
--- nor where the end does
+-- nor from the end of a text
 end_last : (t : ATrace) → IsTrace t → IsLast (Some t) (end_text t)
 end_last t h i used going stands =
     let st = stood (progress_at (Some t)) (end_text t) i used stands in

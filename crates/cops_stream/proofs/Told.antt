@@ -1,4 +1,4 @@
--- What is written, from what was read and told.
+-- What is written, for what was read and its answer.
 use Rattle.std.proofs.Common.{◌≡◌, ℕ, List, ◌++◌, take, drop, Option, Some, None, Result, Ok, Err, sym, ap, subst, ◌∙◌, inl, inr}
 use Rattle.std.specs.Prelude.{IfSome, IfOk, IsErrOf}
 use Rattle.std.specs.Io.KnownBytes.{Appends}
@@ -24,7 +24,7 @@ pub accepts : (v : Verdict) → answer_of v ≡ Accepted → Accepts v
 accepts (verdict.Accepted puts) is = tt
 accepts (verdict.Refused faults) is = absurd cc
 
--- what is said of the bytes is written, whole or a front of it
+-- the text for the bytes is written, whole or a prefix of it
 module _ (Agreeing : List ℕ → Type 0) (Saying : List ℕ → Answer → List ℕ → Type 0) where
   pub told_writes : (a : Option (List ℕ)) (answer : Answer) (told : List ℕ) (old new : Option (List ℕ)) → IfSome a Agreeing → ((bytes : List ℕ) → Agreeing bytes → Saying bytes answer told)
       → Appends old new told → IfSome a (λ bytes. (text : List ℕ) × Saying bytes answer text × Appends old new text)
@@ -40,7 +40,7 @@ module _ (Agreeing : List ℕ → Type 0) (Saying : List ℕ → Answer → List
 converges : (h : Sessions) (v : Verdict) → Accepted ≡ answer_of v → IsVerdict h v → IsCausallyConvergent h
 converges h v is w = convergent h v w (accepts v (sym is))
 
--- bytes of which an audit says accepted spell a history that is causally convergent
+-- bytes whose audit accepts decode to a history that is causally convergent
 pub accepted_is_convergent : (bytes told : List ℕ) → AuditSays bytes Accepted told → SpellsConvergent bytes
 accepted_is_convergent bytes told (inl (t, says, w)) = record {
   trace = t;
@@ -55,23 +55,23 @@ pub accepted_spells : (a : Option (List ℕ)) (answer : Answer) (told : List ℕ
 accepted_spells None answer told says is = tt
 accepted_spells (Some u) answer told says is = accepted_is_convergent u told (subst (λ (x : Answer). AuditSays u x told) is says)
 
--- what is told of what was read is told of the bytes
+-- the answer for what was read is the answer for the bytes
 pub told_of_bytes : {T E : Type 0} (Agreeing : List ℕ → Type 0) (Saying : List ℕ → T → Type 0) (a : Option (List ℕ)) (r : Result T E) → IfSome a Agreeing → ((bytes : List ℕ) → Agreeing bytes → IfOk r (Saying bytes))
     → IfOk r (λ told. IfSome a (λ bytes. Saying bytes told))
 told_of_bytes Agreeing Saying None (Ok x) agrees says = tt
 told_of_bytes Agreeing Saying (Some u) (Ok x) agrees says = says u agrees
 told_of_bytes Agreeing Saying a (Err e) agrees says = tt
 
--- a fault of the text is told by its line
+-- a fault of the text is reported by its line
 pub fault_told : (bytes : List ℕ) (e : TraceFault) → (e ≡ Memory → ⊥) → (e ≡ ReadFailed → ⊥) → Agrees bytes (Err e) → HasFault bytes e
 fault_told bytes e m r (inl h) = absurd (m h)
 fault_told bytes e m r (inr (inl h)) = absurd (r h)
 fault_told bytes e m r (inr (inr h)) = h
 
--- an answer is no error
+-- a result with an answer is no error
 pub answer_no_error : {T E : Type 0} (x : T) (e : E) → IsErrOf {T = T} {E = E} (Ok x) e → ⊥
 answer_no_error x e h = cc
 
--- an error is the same error of another answer's type
+-- an error is the same error for another type of answer
 pub error_again : {T U E : Type 0} (x e : E) → IsErrOf {T = T} {E = E} (Err x) e → IsErrOf {T = U} {E = E} (Err x) e
 error_again x e h = let same : x ≡ e = cc in ap (λ y. Err y) same

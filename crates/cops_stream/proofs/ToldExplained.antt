@@ -15,7 +15,7 @@ use Rattle.cops_stream.specs.declared.audit.Answer.{Answer}
 use Rattle.cops_stream.specs.declared.audit.Answer.TheVariants.{Accepted}
 use Rattle.cops_stream.proofs.Told.{accepted_is_convergent}
 
--- what is explained of a trace that is accepted is its report
+-- the explanation of an accepted trace is its report
 as_told : (t : ATrace) (v : Verdict) (asked : Selection) (told : List ℕ) → Accepted ≡ answer_of v → IsVerdict (sessions_of t) v → IsExplained (sessions_of t) v asked told → IsTold t Accepted told
 as_told t (verdict.Accepted puts) asked told is v e = record { verdict = verdict.Accepted puts; is_report = record { is_verdict = v; is_report = e }; answer_is = is }
 as_told t (verdict.Refused faults) asked told is v e = absurd cc
@@ -30,13 +30,13 @@ accepted_explained Agreeing asked None answer told agrees says is = tt
 accepted_explained Agreeing asked (Some u) answer told agrees says is =
     accepted_is_convergent u told (accepted_is_told asked u told (subst (λ (x : Answer). ExplainSays asked u x told) is (says u agrees)))
 
--- what is explained of a trace is explained of its text
+-- the explanation of a trace is the explanation of its text
 pub explained_says : {A E : Type 0} (asked : Selection) (bytes : List ℕ) (t : ATrace) (answer : A → Answer) (text : A → List ℕ) (r : Result A E) → Says bytes (Ok t)
     → IfOk r (λ told. IsExplanation t asked (answer told) (text told)) → IfOk r (λ told. ExplainSays asked bytes (answer told) (text told))
 explained_says asked bytes t answer text (Err e) says is = tt
 explained_says asked bytes t answer text (Ok told) says is = inl (t, says, is)
 
--- and what is drawn of it
+-- and so is its picture
 pub drawing_says : {A E : Type 0} (asked : Selection) (bytes : List ℕ) (t : ATrace) (picture : A → Option (Vec ℕ Global)) (r : Result A E) → Says bytes (Ok t)
     → IfOk r (λ told. IsDrawing t asked (picture told)) → IfOk r (λ told. PictureSays asked bytes (picture told))
 drawing_says asked bytes t picture (Err e) says is = tt

@@ -1,4 +1,4 @@
--- What answers mean of bytes that may be cut.
+-- What answers mean for bytes that may be cut.
 use Rattle.std.proofs.Common.{◌≡◌, ℕ, List, Vec, Global, Option, Some, None, Result, Ok, Err, subst, ap, inl, inr}
 use Rattle.std.specs.Prelude.{IfOk, IfSome}
 use Rattle.std.specs.Result.{result_or}
@@ -20,7 +20,7 @@ use Rattle.cops_stream.specs.Audit.{AuditSays, IsTold}
 use Rattle.cops_stream.specs.SoFar.{IsSoundSoFar, SaysSoFar, answer_so_far, cut_text}
 use Rattle.cops_stream.proofs.Told.{accepted_is_convergent}
 
--- what holds of an answer holds of it also where want of memory is told as another fault
+-- what holds of an answer also holds where out of memory is reported as another fault
 pub or_fault : {T D E : Type 0} (r : Result T D) (e : E) (P : T → Type 0) → IfOk r P → IfOk (result_or r (Err e)) P
 or_fault (Ok x) e P h = h
 or_fault (Err d) e P h = tt
@@ -40,7 +40,7 @@ pub accepted_sound : (a : Option (List ℕ)) (read : Result (Taken Fed) TraceFau
 accepted_sound None read answer told agrees says is = tt
 accepted_sound (Some u) read answer told agrees says is = accepted_is_sound u told (subst (λ (x : Answer). SaysSoFar u x told) is (says u agrees))
 
--- ---- what an auditor says that was fed what was read
+-- ---- the answer of an auditor for what was read
 
 -- the records before a cut
 pub told_cut : {E : Type 0} (bytes : List ℕ) (taken : Taken Fed) (offset : ℕ) (result : Result (Answer × Vec ℕ Global) E) → (takes : TakesFrom WasFed bytes taken) → taken.cut ≡ Some offset

@@ -1,4 +1,4 @@
--- Bytes have one answer and one text of an audit.
+-- For any bytes the audit has one answer and one text.
 use Rattle.std.proofs.Common.{◌≡◌, ℕ, List, [], ◌∷◌, ◌++◌, length, codes, Ok, Err, refl, sym, ap, ap₂, subst, ◌∙◌, inl, inr}
 use Rattle.std.specs.List.{flat_map}
 use Rattle.cops_types.specs.Histories.{Sessions}
@@ -51,7 +51,7 @@ same_refusal h (class.Stale a) (class.Doubled b) x y s p q = absurd s
 same_refusal h (class.Stale a) (class.NoSource b) x y s p q = absurd s
 same_refusal h (class.Stale a) (class.NotAbove b) x y s p q = absurd s
 
--- verdicts that say the same have one report, and make one answer
+-- equal verdicts have one report and one answer
 same_report : (h : Sessions) (v w : Verdict) (x y : List ℕ) → SameVerdict v w → IsReport h v x → IsReport h w y → (answer_of v ≡ answer_of w) × (x ≡ y)
 same_report h (Accepted a) (Accepted b) x y s p q = (refl, p ∙ sym q)
 same_report h (Refused a) (Refused b) x y s p q = (refl, same_refusal h a b x y s p q)

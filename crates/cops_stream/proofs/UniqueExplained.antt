@@ -1,4 +1,4 @@
--- Bytes have one answer and one text of what is explained.
+-- For any bytes the explanation has one answer and one text.
 use Rattle.std.proofs.Common.{◌≡◌, ◌∙◌, ℕ, List, Ok, Err, refl, sym, ap, subst, inl, inr}
 use Rattle.cops_audit.specs.Verdicts.{SameVerdict}
 use Rattle.cops_audit.specs.declared.verdict.Verdict.{Verdict}

@@ -1,4 +1,4 @@
--- Bytes that may be cut have one answer and one text.
+-- For any bytes that may be cut there is one answer and one text.
 use Rattle.std.proofs.Common.{◌≡◌, ℕ, List, [], ◌∷◌, length, take, Option, Ok, Err, refl, sym, ap, ap₂, subst, ◌∙◌, inl, inr, arith}
 use Rattle.std.specs.Prelude.{unwrap_or, ◌↔◌}
 use Rattle.std.proofs.lemmas.List.{take_at}
@@ -21,7 +21,7 @@ use Rattle.cops_types.specs.declared.format.Format.TheVariants.{One}
 use Rattle.cops_stream.proofs.OneText.{one_front}
 use Rattle.cops_stream.proofs.Unique.{same_told}
 
--- ---- what is said so far
+-- ---- the verdict so far
 
 some_waits : (h : Sessions) (n : ℕ) → IsSoFar h (Waiting n) → (name : OpName) × IsWaiting h name
 some_waits h n (_, some, [], _, count) = absurd (omega (arith, some, count))
@@ -84,7 +84,7 @@ one_audit_so_far bytes a b x y fits (inr (inr (e, no_cut, says, _, _))) (inl (m,
 one_audit_so_far bytes a b x y fits (inr (inl (t, says, _))) (inr (inr (f, _, others, _, _))) = absurd (let one = one_answer bytes (Ok t) (Err f) fits says others in cc)
 one_audit_so_far bytes a b x y fits (inr (inr (e, _, says, _, _))) (inr (inl (u, others, _))) = absurd (let one = one_answer bytes (Err e) (Ok u) fits says others in cc)
 
--- bytes that are not cut are answered as by an audit
+-- bytes that are not cut have the answer of the audit
 pub uncut : (bytes : List ℕ) → ((offset : ℕ) → ¬ HasFault bytes (Cut offset)) → (answer : Answer) (told : List ℕ) → SaysSoFar bytes answer told ↔ AuditSays bytes answer told
 uncut bytes none answer told = (there, back)
   where

@@ -13,24 +13,24 @@ use Rattle.cops_trace.specs.Lines.{fault_line}
 use Rattle.cops_stream.specs.declared.audit.Answer.{Answer}
 use Rattle.cops_stream.specs.declared.audit.Answer.TheVariants.{Accepted, Refused, Faulty}
 
--- the answer that a verdict makes
+-- the answer for a verdict
 abbrev pub answer_of : Verdict → Answer
 answer_of (verdict.Accepted puts) = Accepted
 answer_of (verdict.Refused faults) = Refused
 
--- the status that a command ends with on an answer
+-- the status with which a command ends for an answer
 abbrev pub answer_status : Answer → Status
 answer_status Accepted = status.Accepted
 answer_status Refused = status.Refused
 answer_status Faulty = status.Faulty
 
--- of a trace: the report of the verdict on its sessions
+-- for a trace: the report of the verdict on its sessions
 pub record IsTold (t : ATrace) (answer : Answer) (told : List ℕ) : Type 0 where
   pub verdict : Verdict
   pub is_report : IsReportOf (sessions_of t) verdict told
   pub answer_is : answer ≡ answer_of verdict
 
--- of bytes: the report, where they are a trace's text, else the line of their first fault
+-- for bytes: the report, where they are a trace's text, otherwise the line of their first fault
 abbrev pub AuditSays : List ℕ → Answer → List ℕ → Type 0
 AuditSays bytes answer told =
     ((t : ATrace) × Says bytes (Ok t) × IsTold t answer told)
@@ -40,6 +40,6 @@ AuditSays bytes answer told =
 abbrev pub Writes : List ℕ → Answer → Option (List ℕ) → Option (List ℕ) → Type 0
 Writes bytes answer old new = (told : List ℕ) × AuditSays bytes answer told × Appends old new told
 
--- the writer gained a front of the text
+-- the writer gained a prefix of the text
 abbrev pub WritesFront : List ℕ → Option (List ℕ) → Option (List ℕ) → Type 0
 WritesFront bytes old new = (answer : Answer) × (front : List ℕ) × (rest : List ℕ) × AuditSays bytes answer (front ++ rest) × Appends old new front

@@ -1,4 +1,4 @@
--- Bytes that spell one history, which is causally convergent.
+-- Bytes that decode to one history, which is causally convergent.
 use Rattle.std.specs.Prelude.{◌≡◌, ℕ, List}
 use Rattle.cops_types.specs.Convergence.{IsCausallyConvergent}
 use Rattle.cops_trace.specs.Text.{ATrace, IsTrace, sessions_of, text}

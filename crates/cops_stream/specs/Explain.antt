@@ -1,4 +1,4 @@
--- What is explained of bytes, and what is written.
+-- The explanation of bytes, and what is written.
 use Rattle.std.specs.Prelude.{◌≡◌, ◌⊎◌, ℕ, List, ◌++◌, Option, Some, None, Ok, Err}
 use Rattle.std.specs.Global.{Vec}
 use Rattle.std.specs.Io.KnownBytes.{Appends}
@@ -16,14 +16,14 @@ use Rattle.cops_stream.specs.declared.audit.Answer.{Answer}
 use Rattle.cops_stream.specs.declared.audit.Answer.TheVariants.{Faulty}
 use Rattle.cops_stream.specs.Audit.{answer_of}
 
--- of a trace: what is explained of the verdict on its sessions
+-- for a trace: the explanation of the verdict on its sessions
 pub record IsExplanation (t : ATrace) (asked : Selection) (answer : Answer) (told : List ℕ) : Type 0 where
   pub verdict : Verdict
   pub is_verdict : IsVerdict (sessions_of t) verdict
   pub is_explained : IsExplained (sessions_of t) verdict asked told
   pub answer_is : answer ≡ answer_of verdict
 
--- of bytes: that, where they are a trace's text, else the line of their first fault
+-- for bytes: the explanation, where they are a trace's text, otherwise the line of their first fault
 abbrev pub ExplainSays : Selection → List ℕ → Answer → List ℕ → Type 0
 ExplainSays asked bytes answer told =
     ((t : ATrace) × Says bytes (Ok t) × IsExplanation t asked answer told)
@@ -33,28 +33,28 @@ ExplainSays asked bytes answer told =
 abbrev pub WritesExplained : Selection → List ℕ → Answer → Option (List ℕ) → Option (List ℕ) → Type 0
 WritesExplained asked bytes answer old new = (told : List ℕ) × ExplainSays asked bytes answer told × Appends old new told
 
--- the writer gained a front of the text
+-- the writer gained a prefix of the text
 abbrev pub WritesFrontExplained : Selection → List ℕ → Option (List ℕ) → Option (List ℕ) → Type 0
 WritesFrontExplained asked bytes old new = (answer : Answer) × (front : List ℕ) × (rest : List ℕ) × ExplainSays asked bytes answer (front ++ rest) × Appends old new front
 
--- the number of the fault that is drawn: the one that is asked for, or else the first
+-- the number of the fault that is drawn: the one that is asked for, or the first
 abbrev pub drawn_number : Selection → ℕ
 drawn_number First = 1
 drawn_number All = 1
 drawn_number (One number) = number
 
--- the picture of the fault of a number, none where there is no such fault
+-- the picture of the fault with a number, none where there is no such fault
 abbrev pub IsDrawn : Verdict → ℕ → Option (Vec ℕ) → Type 0
 IsDrawn verdict number None = fault_at verdict number ≡ None
 IsDrawn verdict number (Some text) = IsPicture verdict number text.items
 
--- of a trace: the picture of that fault of the verdict on its sessions
+-- for a trace: the picture of that fault of the verdict on its sessions
 pub record IsDrawing (t : ATrace) (asked : Selection) (picture : Option (Vec ℕ)) : Type 0 where
   pub verdict : Verdict
   pub is_verdict : IsVerdict (sessions_of t) verdict
   pub is_drawn : IsDrawn verdict (drawn_number asked) picture
 
--- of bytes: that, where they are a trace's text, else none
+-- for bytes: the picture, where they are a trace's text, otherwise none
 abbrev pub PictureSays : Selection → List ℕ → Option (Vec ℕ) → Type 0
 PictureSays asked bytes picture =
     ((t : ATrace) × Says bytes (Ok t) × IsDrawing t asked picture) ⊎ ((e : TraceFault) × Says bytes (Err e) × (picture ≡ None))

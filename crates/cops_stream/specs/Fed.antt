@@ -1,8 +1,8 @@
--- An auditor that a trace is fed to.
+-- An auditor that takes a trace.
 use Rattle.std.specs.Prelude.{◌≡◌}
 use Rattle.cops_trace.specs.Text.{ATrace, sessions_of}
 use Rattle.cops_stream.specs.declared.fed.Fed.{Fed}
 
--- it was fed the sessions that the trace records
+-- it took the sessions that the trace records
 abbrev pub WasFed : Fed → ATrace → Type 0
 WasFed fed t = fed.online ≡ sessions_of t

@@ -1,4 +1,4 @@
--- What showing one message more appends, and the format that a head names.
+-- What showing one more message appends, and the format that a head names.
 use Rattle.std.specs.Prelude.{◌≡◌, ℕ, List, [], ◌∷◌, ◌++◌, length, Option, Some, None}
 use Rattle.cops_types.specs.declared.format.Format.{Format}
 use Rattle.cops_wire.specs.declared.message.Message.{Message}
@@ -7,8 +7,8 @@ use Rattle.cops_wire.specs.Message.{spelled}
 use Rattle.cops_types.specs.Format.{format_of_number}
 use Rattle.cops_stream.specs.Show.{StandBefore, line_of}
 
--- The line of the message whose frame stands at the front was appended, and this is the frame's length; or none stands
--- there that ends at or before this place.
+-- The line of the message whose frame the bytes begin with was appended, and this is the frame's length; or the bytes begin with no frame that ends
+-- at or before this place.
 abbrev pub AppendsNext : Format → List ℕ → ℕ → List ℕ → List ℕ → Option ℕ → Type 0
 AppendsNext format bytes end old new None = (new ≡ old) × ((m : Message) → StandBefore format bytes end (m ∷ []) → ⊥)
 AppendsNext format bytes end old new (Some used) = (m : Message) × StandBefore format bytes end (m ∷ []) × (used ≡ length (spelled m)) × (new ≡ old ++ line_of m)

@@ -1,4 +1,4 @@
--- What showing a trace's bytes answers, and what it writes.
+-- The status and the text of showing a trace's bytes.
 use Rattle.std.specs.Prelude.{◌≡◌, ℕ, ◌<◌, ◌≤◌, ◌^◌, ◌⊎◌, List, [], ◌∷◌, ◌++◌, length, codes, Option, Some, None, unwrap_or, Ok, Err}
 use Rattle.std.specs.List.{flat_map, AllByRecursion}
 use Rattle.std.specs.Io.KnownBytes.{Appends}
@@ -33,31 +33,30 @@ lines_of ms = flat_map line_of ms
 abbrev pub frames_of : List Message → List ℕ
 frames_of ms = flat_map spelled ms
 
--- a head that names the format stands at the front of the bytes
+-- the bytes begin with a head that names the format
 pub record HasHead (bytes : List ℕ) (format : Format) : Type 0 where
   pub clients : ℕ
   pub few : clients < 2 ^ 16
   pub rest : List ℕ
   pub front : bytes ≡ spelled (TraceHead (number_of format) clients) ++ rest
 
--- the format that the frames are read in: that which the head names, or format 1 where no head names one
+-- the format in which the frames are read: the one that the head names, or format 1 where no head names one
 abbrev pub AreReadIn : List ℕ → Format → Type 0
 AreReadIn bytes format = HasHead bytes format ⊎ ((format ≡ One) × ((other : Format) → HasHead bytes other → ⊥))
 
--- These messages are legal in the format, and their frames stand at the front of the bytes, one behind the other, and end
--- at or before this place.
+-- These messages are legal in the format, and the bytes begin with their frames, one after the other, which end at or before this place.
 pub record StandBefore (format : Format) (bytes : List ℕ) (end : ℕ) (ms : List Message) : Type 0 where
   pub legal : AllByRecursion (λ m. IsMessage (grammar format) (parts m)) ms
   pub rest : List ℕ
   pub front : bytes ≡ frames_of ms ++ rest
   pub ends : length (frames_of ms) ≤ end
 
--- they are all that do: with one more message this does not hold
+-- these are all such messages: with one more message this does not hold
 pub record AreAllBefore (format : Format) (bytes : List ℕ) (end : ℕ) (ms : List Message) : Type 0 where
   pub stand : StandBefore format bytes end ms
   pub all : (m : Message) → StandBefore format bytes end (ms ++ m ∷ []) → ⊥
 
--- they are all, in the format that the frames are read in
+-- these are all such messages, in the format in which the frames are read
 abbrev pub AreShown : List ℕ → ℕ → List Message → Type 0
 AreShown bytes end ms = (format : Format) × AreReadIn bytes format × AreAllBefore format bytes end ms
 
@@ -66,7 +65,7 @@ abbrev pub HasFirst : List ℕ → Option TraceFault → Type 0
 HasFirst bytes None = (t : ATrace) × Says bytes (Ok t)
 HasFirst bytes (Some e) = Says bytes (Err e)
 
--- the status of that, and the last line
+-- the status for the fault, and the last line
 abbrev pub status_of : Option TraceFault → Status
 status_of None = Accepted
 status_of (Some e) = Faulty
@@ -75,7 +74,7 @@ abbrev pub last_line : Option TraceFault → List ℕ
 last_line None = []
 last_line (Some e) = fault_line e
 
--- where showing ends: with the bytes, or at the fault's place
+-- the offset at which showing ends: the end of the bytes, or the fault's offset
 abbrev pub end_of : List ℕ → Option TraceFault → ℕ
 end_of bytes None = length bytes
 end_of bytes (Some e) = unwrap_or (offset_of e) (length bytes)

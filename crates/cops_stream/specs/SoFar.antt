@@ -1,4 +1,4 @@
--- What an audit says of bytes that may be cut, and what it writes.
+-- The audit of bytes that may be cut, and what it writes.
 use Rattle.std.specs.Prelude.{◌≡◌, ◌≢◌, ◌⊎◌, ℕ, List, ◌++◌, codes, decimal, Option, Ok, Err}
 use Rattle.std.specs.Io.KnownBytes.{Appends}
 use Rattle.cops_types.specs.Texts.{◌⧺◌}
@@ -15,34 +15,34 @@ use Rattle.cops_stream.specs.declared.audit.Answer.TheVariants.{Accepted, Refuse
 use Rattle.cops_stream.specs.Audit.{IsTold}
 use Rattle.cops_stream.specs.Convergent.{SpellsConvergent}
 
--- the answer that is made of what is said so far: a history that waits may still come to be accepted
+-- the answer for a verdict so far: a history with pending reads may still come to be accepted
 abbrev pub answer_so_far : SoFar → Answer
 answer_so_far said.Clean = Accepted
 answer_so_far (said.Waiting n) = Accepted
 answer_so_far said.Refused = Refused
 
--- where the bytes are cut, and in a line of its own what is said so far
+-- two lines: where the bytes are cut, and the verdict so far
 abbrev pub cut_text : ℕ → SoFar → List ℕ
 cut_text offset said.Clean = codes "cut at " ⧺ decimal offset ⧺ codes "\nso far: clean\n"
 cut_text offset (said.Waiting n) = codes "cut at " ⧺ decimal offset ⧺ codes "\nso far: waiting " ⧺ decimal n ⧺ codes "\n"
 cut_text offset said.Refused = codes "cut at " ⧺ decimal offset ⧺ codes "\nso far: refused\n"
 
--- the bytes are cut at this place, and this is said so far of the sessions that the whole records before it tell
+-- the bytes are cut at this place, and this is the verdict so far on the sessions that the whole records before it have
 pub record IsCutWith (bytes : List ℕ) (offset : ℕ) (so_far : SoFar) : Type 0 where
   pub trace : ATrace
   pub is_cut : IsCutAfter bytes trace offset
   pub is_so_far : IsSoFar (sessions_of trace) so_far
 
--- Of bytes that are cut: where, and what is said so far. Of all others what an audit says: the report, where they are a
--- trace's text, else the line of their first fault.
+-- For bytes that are cut: where, and the verdict so far. For all others what the audit says: the report, where they are a trace's text, otherwise the
+-- line of their first fault.
 abbrev pub SaysSoFar : List ℕ → Answer → List ℕ → Type 0
 SaysSoFar bytes answer told =
     ((offset : ℕ) × (so_far : SoFar) × IsCutWith bytes offset so_far × (answer ≡ answer_so_far so_far) × (told ≡ cut_text offset so_far))
     ⊎ ((t : ATrace) × Says bytes (Ok t) × IsTold t answer told)
     ⊎ ((e : TraceFault) × ((offset : ℕ) → e ≢ Cut offset) × Says bytes (Err e) × (answer ≡ Faulty) × (told ≡ fault_line e))
 
--- the bytes spell one history, which is causally convergent, or they are cut, and the whole records before that have no fault
--- that no further operation takes away
+-- the bytes decode to one history, which is causally convergent, or they are cut, and the whole records before the cut have no fault that no further
+-- operation removes
 abbrev pub IsSoundSoFar : List ℕ → Type 0
 IsSoundSoFar bytes = SpellsConvergent bytes ⊎ ((t : ATrace) × (offset : ℕ) × IsCutAfter bytes t offset × (¬ HasLastingFault (sessions_of t)))
 
@@ -50,6 +50,6 @@ IsSoundSoFar bytes = SpellsConvergent bytes ⊎ ((t : ATrace) × (offset : ℕ) 
 abbrev pub WritesSoFar : List ℕ → Answer → Option (List ℕ) → Option (List ℕ) → Type 0
 WritesSoFar bytes answer old new = (told : List ℕ) × SaysSoFar bytes answer told × Appends old new told
 
--- the writer gained a front of the text
+-- the writer gained a prefix of the text
 abbrev pub WritesFrontSoFar : List ℕ → Option (List ℕ) → Option (List ℕ) → Type 0
 WritesFrontSoFar bytes old new = (answer : Answer) × (front : List ℕ) × (rest : List ℕ) × SaysSoFar bytes answer (front ++ rest) × Appends old new front

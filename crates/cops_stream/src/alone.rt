@@ -1,4 +1,4 @@
-//! The audit of a trace's bytes by one worker, an auditor that is fed them as they come.
+//! The audit of a trace's bytes by one worker, an auditor that takes them as they are read.
 ghost use Rattle.std.specs.Prelude.{◌≡◌, ◌⊎◌, IfErr, IfOk, IsErrOf};
 ghost use Rattle.cops_trace.specs.Text.{ATrace};
 ghost use Rattle.cops_batch.specs.Pieces.{MayHoldPiece};
@@ -12,7 +12,7 @@ use cops_types::{Gate, Memory, Point};
 use std::alloc::Global;
 use std::sync::Wait;
 
-/// The answer for a whole trace, with its report, by an auditor that was fed it.
+/// The answer for a whole trace, with its report, by an auditor that took it.
 pub(crate) fn whole(alloc: Global, fed: Fed) -> Result<(Answer, Vec<u8>), Memory>
     ensures { (t : ATrace) → WasFed fed t → IfOk result (λ told. IsTold t told.0 told.1.items) }
 {
@@ -21,8 +21,8 @@ pub(crate) fn whole(alloc: Global, fed: Fed) -> Result<(Answer, Vec<u8>), Memory
     Ok((answer_of(judged.verdict()), text))
 }
 
-/// The answer of a worker whose one piece is all that was fed, and which passes the gate before and after its work,
-/// also where that ran out of memory: `Held` where the gate held it.
+/// The answer of a single worker whose piece is the whole history. It passes the gate before and after its work, even
+/// where memory ran out. The errors are `Held`, where the gate held it, and otherwise `Memory`.
 pub(crate) fn judged_alone<T: Wait, G: Gate>(
     rt: &T,
     alloc: Global,

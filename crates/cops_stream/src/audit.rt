@@ -30,11 +30,11 @@ use thiserror::Error;
 /// What an audit says of a trace's bytes.
 #[derive(Clone, Copy, Debug, PartialEq, Eq)]
 pub enum Answer {
-    /// The bytes spell one history, and it is causally convergent.
+    /// The bytes decode to one history, and it is causally convergent.
     Accepted,
-    /// The bytes spell one history, and it has faults.
+    /// The bytes decode to one history, and it has faults.
     Refused,
-    /// The bytes spell no history.
+    /// The bytes decode to no history.
     Faulty,
 }
 
@@ -42,7 +42,7 @@ impl Answer {
     ghost use Rattle.std.specs.Prelude.{◌≡◌};
     ghost use Rattle.cops_stream.specs.Audit.{answer_status};
 
-    /// The status that a command ends with on this answer.
+    /// The status with which a command ends for this answer.
     pub fn status(self) -> Status
         ensures { result ≡ answer_status self }
     {
@@ -74,7 +74,7 @@ pub enum StreamFault {
     WriteFailed,
 }
 
-/// The answer that a verdict makes.
+/// The answer for a verdict.
 pub(crate) fn answer_of(verdict: &Verdict) -> Answer
     ensures { result ≡ answer_of verdict.now }
 {
@@ -84,7 +84,7 @@ pub(crate) fn answer_of(verdict: &Verdict) -> Answer
     }
 }
 
-/// The answer that a verdict on a history makes, with its report.
+/// The answer for a verdict on a history, with its report.
 fn reported(
     alloc: Global,
     history: &History,
@@ -97,7 +97,7 @@ fn reported(
     Ok((answer_of(verdict), text))
 }
 
-/// The answer for what was fed, with its report, by so many workers.
+/// The answer for what the auditor took, with its report, by `workers` workers.
 fn judged<T: Threads + Wait + Sync, G: Gate>(
     rt: &T,
     alloc: Global,
@@ -134,7 +134,7 @@ pub(crate) fn faulty(alloc: Global, fault: &TraceFault) -> Result<(Answer, Vec<u
     Ok((Answer::Faulty, text))
 }
 
-/// The answer for a trace, or for one that is cut, with its text.
+/// The answer for a trace that is whole or cut, with its text.
 fn told_of<T: Threads + Wait + Sync, G: Gate>(
     rt: &T,
     alloc: Global,
@@ -179,7 +179,7 @@ fn told<T: Threads + Wait + Sync, G: Gate>(
     }
 }
 
-/// The answer for what a reader gives, with its text, by so many workers.
+/// The answer for what a reader gives, with its text, by `workers` workers.
 fn read_and_told<T: Threads + Wait + Sync, R: Read, G: Gate>(
     rt: &T,
     alloc: Global,
@@ -198,10 +198,11 @@ fn read_and_told<T: Threads + Wait + Sync, R: Read, G: Gate>(
 }
 
 /// Reads a trace to its end or its first fault, judges it by `workers` workers, 1 to 64, and writes the report or the
-/// fault's line, and nothing else. `BadWorkers` exactly unless there are 1 to 64, and then nothing is read. `Held`
-/// where the gate held a worker at a point of its piece. `ReadFailed` where a read failed, and `WriteFailed` where a
-/// write failed: neither is tried again. Nothing is written before the input's end. Where memory is refused nothing is
-/// written.
+/// fault's line, and nothing else. Nothing is written before the input's end.
+///
+/// The errors: `BadWorkers` exactly where `workers` is not 1 to 64, and then nothing is read; `Held` where the gate
+/// held a worker at a point of its piece; `ReadFailed` where a read failed, and `WriteFailed` where a write failed,
+/// neither of which is tried again; `Memory` where memory runs out, and then nothing is written.
 pub fn audit_stream<T: Threads + Wait + Sync, R: Read, W: Write, G: Gate>(
     rt: &T,
     alloc: Global,
@@ -214,21 +215,22 @@ pub fn audit_stream<T: Threads + Wait + Sync, R: Read, W: Write, G: Gate>(
     ensures ok { IfOk result (λ answer. IfSome (R.remaining (inner reader.old)) (λ bytes.
         Writes bytes answer (W.contents (inner writer.old)) (W.contents (inner writer.new)))) }
 
-    // Where it accepts, the bytes spell one history, and it is causally convergent.
+    // Where the answer is accepted, the bytes decode to one history, and it is causally convergent.
     ensures accepted { IfOk result (λ answer. answer ≡ Answer.Accepted → IfSome (R.remaining (inner reader.old)) SpellsConvergent) }
 
-    // A front of the text, where a write failed; else a fault writes nothing.
+    // Where a write failed, a prefix of the text is written; on any other error nothing is.
     ensures write_failed { IsErrOf result StreamFault.WriteFailed → IfSome (R.remaining (inner reader.old)) (λ bytes.
         WritesFront bytes (W.contents (inner writer.old)) (W.contents (inner writer.new))) }
     ensures nothing { (IsErrOf result StreamFault.ReadFailed ⊎ IsErrOf result StreamFault.Memory ⊎ IsErrOf result StreamFault.BadWorkers ⊎ IsErrOf result StreamFault.Held)
         → Keeps (W.contents (inner writer.old)) (W.contents (inner writer.new)) }
 
-    // The workers' number is told exactly where it is bad, before anything is read; a worker is held only by the gate.
+    // A bad number of workers is reported exactly where it is bad, before anything is read; a worker is held only by
+    // the gate.
     ensures bad { IsErrOf result StreamFault.BadWorkers ↔ ((workers ≡ 0) ⊎ (MAX_WORKERS < workers)) }
     ensures unread { IsErrOf result StreamFault.BadWorkers → reader.new ≡ reader.old }
     ensures held { IsErrOf result StreamFault.Held → (i : ℕ) × (i < workers) × MayHoldPiece (G.may_hold gate.now) i }
 
-    // The devices' faults are told exactly where they were met.
+    // The devices' faults are reported exactly where they were met.
     ensures write_count { IsErrOf result StreamFault.WriteFailed → Failed (failures writer.old) (failures writer.new) }
     ensures read_count { IsErrOf result StreamFault.ReadFailed → Failed (failures reader.old) (failures reader.new) }
     ensures write_heard { IsErrOf result StreamFault.WriteFailed ⊎ (failures writer.new ≡ failures writer.old) }

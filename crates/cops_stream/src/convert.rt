@@ -10,7 +10,8 @@ use cops_types::Counted;
 use std::alloc::{AllocError, Global};
 use std::io::{Read, Write};
 
-/// Converts as `cops_trace::convert` does. An audit says of the new trace what it says of the one that was read.
+/// Converts as `cops_trace::convert` does, with its errors. The audit of the new trace has the same answer and text as
+/// that of the one that was read.
 pub fn convert_stream<R: Read, W: Write>(
     alloc: Global,
     reader: &mut Counted<R>,
@@ -28,7 +29,7 @@ pub fn convert_stream<R: Read, W: Write>(
     convert(alloc, reader, writer)
 }
 
-/// The line that tells how many operations were converted.
+/// The line that says how many operations were converted. The only error is `AllocError`, where memory runs out.
 pub fn converted_line(alloc: Global, operations: u32) -> Result<String, AllocError>
     ensures { IfOk result (λ line. string_bytes line ≡ converted_line operations) }
 {

@@ -1,4 +1,4 @@
-//! What is explained of a trace's bytes.
+//! The explanation of a trace's bytes.
 ghost use Rattle.std.specs.Prelude.{◌≡◌, ◌⊎◌, ℕ, List, Err, None, IfErr, IfOk, IfSome, IsErrOf, false, true};
 ghost use Rattle.std.specs.Io.KnownBytes.{Keeps};
 ghost use Rattle.cops_types.specs.Counted.{failures, inner};
@@ -17,21 +17,21 @@ use cops_types::{Counted, History, Memory, Selection, write_text};
 use std::alloc::Global;
 use std::io::{Read, Write};
 
-/// What was explained: the audit's answer, and the picture that was asked for, where there is one.
+/// The result of an explanation: the audit's answer, and the picture that was asked for, where there is one.
 #[derive(Debug, Drop)]
 pub struct Explained {
     pub answer: Answer,
     pub picture: Option<Vec<u8>>,
 }
 
-/// What is told of a trace, and what is drawn.
+/// The text about a trace, and the result with the picture.
 #[derive(Drop)]
 struct Told {
     explained: Explained,
     text: Vec<u8>,
 }
 
-/// The number of the fault that is drawn: the one that is asked for, or else the first.
+/// The number of the fault that is drawn: the one that is asked for, or the first.
 fn drawn_number(asked: Selection) -> u32
     ensures { result ≡ drawn_number asked }
 {
@@ -60,7 +60,7 @@ fn drawn(
     }
 }
 
-/// The answer for a trace, with what is explained of it.
+/// The answer for a trace, with the text and the picture that explain it.
 fn explanation(
     alloc: Global,
     trace: &Trace,
@@ -82,7 +82,7 @@ fn explanation(
     })
 }
 
-/// What is told and drawn of what was read.
+/// The answer, the text and the picture for what was read.
 fn answered(
     alloc: Global,
     read: Result<Trace, TraceFault>,
@@ -104,7 +104,7 @@ fn answered(
     }
 }
 
-/// The line of a fault, of which nothing is drawn.
+/// The line of a fault in the bytes, without a picture.
 fn told_faulty(alloc: Global, fault: &TraceFault) -> Result<Told, StreamFault>
     ensures told { IfOk result (λ told. (told.explained.answer ≡ Answer.Faulty) × (told.text.items ≡ fault_line fault.now) × (told.explained.picture ≡ None)) }
     ensures memory { IfErr result (λ e. e ≡ StreamFault.Memory) }
@@ -119,11 +119,13 @@ fn told_faulty(alloc: Global, fault: &TraceFault) -> Result<Told, StreamFault>
     })
 }
 
-/// Reads a trace to its end or its first fault, judges it by one worker, and answers as `audit_stream` does. It writes
-/// the text of `explain` for the faults that are asked for, or the fault's line, and nothing else. Where it is to be
-/// drawn too, the picture of the one fault that is asked for, or else of the first, comes back, if there is such a
-/// fault. `ReadFailed` where a read failed, and `WriteFailed` where a write failed: neither is tried again. Nothing is
-/// written before the input's end. Where memory is refused nothing is written.
+/// Reads a trace to its end or its first fault, judges it by one worker, and returns the answer of `audit_stream`. It
+/// writes the text of `explain` for the faults that are asked for, or the fault's line, and nothing else. Where
+/// `is_drawn` says so, it also returns the picture of the one fault that is asked for, or of the first, if there is
+/// such a fault. Nothing is written before the input's end.
+///
+/// The errors: `ReadFailed` where a read failed, and `WriteFailed` where a write failed, neither of which is tried
+/// again; `Memory` where memory runs out, and then nothing is written.
 pub fn explain_stream<R: Read, W: Write>(
     alloc: Global,
     reader: &mut Counted<R>,
@@ -131,25 +133,26 @@ pub fn explain_stream<R: Read, W: Write>(
     asked: Selection,
     is_drawn: bool,
 ) -> Result<Explained, StreamFault>
-    // What is written is what is explained of the reader's bytes, and the answer is the audit's.
+    // What is written is the explanation of the reader's bytes, and the answer is the audit's.
     ensures ok { IfOk result (λ explained. IfSome (R.remaining (inner reader.old)) (λ bytes.
         WritesExplained asked bytes explained.answer (W.contents (inner writer.old)) (W.contents (inner writer.new)))) }
 
-    // Where it accepts, the bytes spell one history, and it is causally convergent.
+    // Where the answer is accepted, the bytes decode to one history, and it is causally convergent.
     ensures accepted { IfOk result (λ explained. explained.answer ≡ Answer.Accepted → IfSome (R.remaining (inner reader.old)) SpellsConvergent) }
 
     // What is drawn is the picture of that fault, where it is to be drawn.
     ensures drawn { is_drawn ≡ true → IfOk result (λ explained. IfSome (R.remaining (inner reader.old)) (λ bytes. PictureSays asked bytes explained.picture)) }
     ensures none { is_drawn ≡ false → IfOk result (λ explained. explained.picture ≡ None) }
 
-    // There are no other faults than these. Where a write failed, a front of the text was written, and else nothing.
+    // There are no other errors than these. Where a write failed, a prefix of the text is written; on any other error
+    // nothing is.
     ensures faults { IfErr result (λ e. (e ≡ StreamFault.Memory) ⊎ (e ≡ StreamFault.ReadFailed) ⊎ (e ≡ StreamFault.WriteFailed)) }
     ensures nothing { (IsErrOf result StreamFault.ReadFailed ⊎ IsErrOf result StreamFault.Memory)
         → Keeps (W.contents (inner writer.old)) (W.contents (inner writer.new)) }
     ensures write_failed { IsErrOf result StreamFault.WriteFailed → IfSome (R.remaining (inner reader.old)) (λ bytes.
         WritesFrontExplained asked bytes (W.contents (inner writer.old)) (W.contents (inner writer.new))) }
 
-    // A device's fault is told exactly where it was met, the reader's and the writer's.
+    // A device's fault is reported exactly where it was met, the reader's and the writer's.
     ensures read_count { IsErrOf result StreamFault.ReadFailed → Failed (failures reader.old) (failures reader.new) }
     ensures read_heard { IsErrOf result StreamFault.ReadFailed ⊎ (failures reader.new ≡ failures reader.old) }
     ensures write_count { IsErrOf result StreamFault.WriteFailed → Failed (failures writer.old) (failures writer.new) }

@@ -1,4 +1,4 @@
-//! An auditor that a trace is fed to while it is read.
+//! An auditor that takes a trace while it is read.
 ghost use Rattle.std.specs.Prelude.{◌≡◌};
 
 use cops_audit::Online;
@@ -39,8 +39,8 @@ impl Sink for Fed {
     fn take(&mut self, client: u16, op: &OpView<'_>) -> Result<(), Memory> {
         match self.online.feed_seen(client, op) {
             Ok(()) => Ok(()),
-            // An auditor takes as many operations as a trace has, so that memory alone is refused, though not proved
-            // so.
+            // The auditor takes as many operations as a trace has, so the only error is out of memory, though this is
+            // not proved.
             Err(_) => Err(Memory),
         }
     }

@@ -8,14 +8,14 @@ ghost use Rattle.cops_stream.specs.Explain.{ExplainSays};
 ghost use Rattle.cops_stream.specs.SoFar.{SaysSoFar};
 ghost use Rattle.cops_stream.specs.declared.audit.Answer.{Answer};
 
-/// A law of the definitions: bytes have one answer and one text of an audit.
+/// A law of the definitions: for any bytes the audit has one answer and one text.
 pub fn one_audit()
     ensures { (bytes : List ℕ) → IsBytes bytes → (answer other : Answer) (told text : List ℕ) →
         AuditSays bytes answer told → AuditSays bytes other text → (answer ≡ other) × (told ≡ text) }
 {}
 
-/// A law of the definitions: bytes have one answer and one text also where they may be cut, and where they are not cut
-/// it is that of an audit.
+/// A law of the definitions: for any bytes the audit that allows a cut has one answer and one text, and where the bytes
+/// are not cut these are the ones of `audit_stream`.
 pub fn one_audit_so_far()
     ensures one { (bytes : List ℕ) → IsBytes bytes → (answer other : Answer) (told text : List ℕ) →
         SaysSoFar bytes answer told → SaysSoFar bytes other text → (answer ≡ other) × (told ≡ text) }
@@ -23,8 +23,8 @@ pub fn one_audit_so_far()
         SaysSoFar bytes answer told ↔ AuditSays bytes answer told }
 {}
 
-/// A law of the definitions: bytes have one answer and one text of what is explained for what is asked, and the answer
-/// is that of an audit.
+/// A law of the definitions: for any bytes and any selection of faults the explanation has one answer and one text, and
+/// the answer is that of the audit.
 pub fn one_explanation()
     ensures one { (bytes : List ℕ) → IsBytes bytes → (asked : ASelection) (answer other : Answer) (told text : List ℕ) →
         ExplainSays asked bytes answer told → ExplainSays asked bytes other text → (answer ≡ other) × (told ≡ text) }

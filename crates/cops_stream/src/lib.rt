@@ -1,7 +1,7 @@
-//! The program's commands on traces over readers and writers: the audit of a trace's bytes, also of bytes that are cut,
-//! what is explained of its faults, a trace's frames as text, and its conversion to format 2. Stands on the trace, the audit, the report and
-//! explanations. The program uses that what is written is a stated function of the bytes read, and that a trace is
-//! accepted only where its bytes spell one history and that is causally convergent.
+//! The program's commands on traces over readers and writers: the audit of a trace's bytes, which may be cut; the
+//! explanation of its faults; a trace's frames as text; and its conversion to format 2. The crate depends on the trace,
+//! the audit, the report and explanations. The program uses that what is written is a stated function of the bytes
+//! read, and that a trace is accepted only where its bytes decode to one history that is causally convergent.
 #![tactic(auto)]
 
 mod alone;

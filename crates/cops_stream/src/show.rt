@@ -21,9 +21,9 @@ use std::io::{Read, Write};
 /// How much text is gathered before it is written.
 const GATHERED: usize = 4 * PIECE;
 
-/// Writes a line for each frame of a trace that ends at or before the trace's first fault, or for all, and then the
-/// fault's line where there is one. The answer is the status: 0 for a whole trace, 2 for a fault, and 4 where a read or
-/// a write failed, which a line on `errors` tells.
+/// Writes a line for each frame of a trace that ends at or before the trace's first fault, or for all frames, and then
+/// the fault's line where there is one. It returns the status: 0 for a whole trace, 2 for a fault, and 4 where a read
+/// or a write failed, which is reported by a line on `errors`. The only error is `Memory`, where memory runs out.
 pub fn show_stream<R: Read, W: Write, E: Write>(
     alloc: Global,
     reader: &mut Counted<R>,
@@ -35,7 +35,7 @@ pub fn show_stream<R: Read, W: Write, E: Write>(
     ensures shown { IfOk result (λ status. (status ≡ number EndsFailed) ⊎ IfSome (R.remaining (inner reader.old)) (λ bytes.
         Shows bytes status (W.contents (inner out.old)) (W.contents (inner out.new)))) }
 
-    // The devices' faults are told exactly where they were met.
+    // The devices' faults are reported exactly where they were met.
     ensures failed { result ≡ Ok (number EndsFailed) → Failed (failures reader.old) (failures reader.new) ⊎ Failed (failures out.old) (failures out.new) }
     ensures heard { (result ≡ Ok (number EndsFailed)) ⊎ ((failures reader.new ≡ failures reader.old) × (failures out.new ≡ failures out.old)) }
 {
@@ -56,14 +56,14 @@ pub fn show_stream<R: Read, W: Write, E: Write>(
     Ok(print(&text, Status::Faulty, out, errors))
 }
 
-/// The first fault of these bytes, or none where they are a trace's text.
+/// The first fault of these bytes, or `None` where they are a trace's text.
 fn first_fault(alloc: Global, bytes: &[u8]) -> Result<Option<TraceFault>, Memory>
     ensures { IfOk result (HasFirst bytes.now) }
 {
     fault_in(read_trace(alloc, &mut Counted::new(bytes)))
 }
 
-/// The fault of what was read, or none of a trace.
+/// The fault of what was read, or `None` where a trace was read.
 fn fault_in(read: Result<Trace, TraceFault>) -> Result<Option<TraceFault>, Memory>
     ensures { (bytes : List ℕ) → Agrees bytes read → IfOk result (HasFirst bytes) }
 {
@@ -74,7 +74,7 @@ fn fault_in(read: Result<Trace, TraceFault>) -> Result<Option<TraceFault>, Memor
     }
 }
 
-/// Where showing ends: with the bytes, or at the fault's place.
+/// The offset at which showing ends: the end of the bytes, or the fault's offset.
 fn end_of(bytes: &[u8], fault: Option<TraceFault>) -> Result<u64, Memory>
     ensures { IfOk result (λ end. end ≡ end_of bytes.now fault) }
 {
@@ -87,7 +87,7 @@ fn end_of(bytes: &[u8], fault: Option<TraceFault>) -> Result<u64, Memory>
     }
 }
 
-/// Writes the lines of the frames that end at or before this place, and says whether all were written.
+/// Writes the lines of the frames that end at or before `end`, and returns whether all were written.
 fn show_frames<W: Write>(
     alloc: Global,
     bytes: &[u8],
@@ -102,7 +102,7 @@ fn show_frames<W: Write>(
     show_frames_in(format, alloc, bytes, end, out)
 }
 
-/// The format that the frames are read in: that which the head names, or format 1 where no head names one.
+/// The format in which the frames are read: the one that the head names, or format 1 where no head names one.
 fn format_of(alloc: Global, bytes: &[u8]) -> Result<Format, Memory>
     ensures { IfOk result (AreReadIn bytes.now) }
 {
@@ -155,8 +155,8 @@ fn show_frames_in<W: Write>(
     }
 }
 
-/// Appends the line of the frame of a format at the front and tells the frame's length, where a whole one stands there
-/// that ends at or before this place.
+/// If the bytes begin with a whole frame of the format that ends at or before `end`, appends its line and returns its
+/// length.
 fn append_next(
     format: Format,
     alloc: Global,
@@ -176,7 +176,7 @@ fn append_next(
     }
 }
 
-/// Appends the line of a frame that ends at or before this place, and tells its length.
+/// Appends the line of a frame that ends at or before `end`, and returns its length.
 fn append_ending(
     alloc: Global,
     frame: &Decoded,
@@ -203,7 +203,7 @@ fn append_line(alloc: Global, message: &Message, text: &mut Vec<u8>) -> Result<(
     Ok(())
 }
 
-/// Writes a text and empties it where enough is gathered, and says whether no write failed.
+/// Writes a text and empties it where enough is gathered, and returns whether no write failed.
 fn write_long<W: Write>(out: &mut Counted<W>, text: &mut Vec<u8>) -> bool
     ensures written { result ≡ true → (front : List ℕ) × (text.old.items ≡ front ++ text.new.items) × Appends (W.contents (inner out.old)) (W.contents (inner out.new)) front }
     ensures short { result ≡ true → length text.new.items < GATHERED }

@@ -1,4 +1,4 @@
-//! The audit of a trace's bytes that may be cut.
+//! The audit of a trace's bytes, which may be cut.
 ghost use Rattle.std.specs.Prelude.{◌≡◌, ◌⊎◌, ℕ, List, Err, IfErr, IfOk, IfSome, IsErrOf};
 ghost use Rattle.std.specs.Io.KnownBytes.{Keeps};
 ghost use Rattle.cops_types.specs.Counted.{failures, inner};
@@ -19,7 +19,7 @@ use cops_types::{Counted, Memory, write_text};
 use std::alloc::Global;
 use std::io::{Read, Write};
 
-/// The answer that is made of what is said so far.
+/// The answer for a verdict so far.
 fn answer_so_far(so_far: SoFar) -> Answer
     ensures { result ≡ answer_so_far so_far }
 {
@@ -29,7 +29,7 @@ fn answer_so_far(so_far: SoFar) -> Answer
     }
 }
 
-/// Where the bytes are cut, and in a line of its own what is said so far.
+/// Two lines: where the bytes are cut, and the verdict so far.
 fn cut_text(alloc: Global, offset: u64, so_far: SoFar) -> Result<Vec<u8>, Memory>
     ensures { IfOk result (λ text. text.items ≡ cut_text offset so_far) }
 {
@@ -41,7 +41,7 @@ fn cut_text(alloc: Global, offset: u64, so_far: SoFar) -> Result<Vec<u8>, Memory
     Ok(text.into_bytes())
 }
 
-/// The answer for the whole records before a cut, with its text, by an auditor that was fed them.
+/// The answer for the whole records before a cut, with its text, by an auditor that took them.
 fn cut(alloc: Global, fed: Fed, offset: u64) -> Result<(Answer, Vec<u8>), Memory>
     ensures { (t : ATrace) → WasFed fed t → IfOk result (λ told. (so_far : ASoFar) × IsSoFar (sessions_of t) so_far
         × (told.0 ≡ answer_so_far so_far) × (told.1.items ≡ cut_text offset so_far)) }
@@ -52,7 +52,7 @@ fn cut(alloc: Global, fed: Fed, offset: u64) -> Result<(Answer, Vec<u8>), Memory
     Ok((answer_so_far(so_far), text))
 }
 
-/// The answer for a trace, whole or up to a cut, with its text.
+/// The answer for a trace that is whole or cut, with its text.
 fn told_of(alloc: Global, taken: Taken<Fed>) -> Result<(Answer, Vec<u8>), Memory>
     ensures { (bytes : List ℕ) → TakesFrom WasFed bytes taken → IfOk result (λ told. SaysSoFar bytes told.0 told.1.items) }
 {
@@ -81,32 +81,35 @@ fn told(
     }
 }
 
-/// Reads a trace to its end or its first fault, and answers and writes what `audit_stream` does of it, by one worker,
-/// unless it is cut. Then two lines are written: `cut at OFFSET`, and what is said so far of the whole records before
-/// that, `so far: clean`, `so far: waiting N` or `so far: refused`. The last is refused, and the others are accepted.
-/// `ReadFailed` where a read failed, and `WriteFailed` where a write failed: neither is tried again. Nothing is written
-/// before the input's end. Where memory is refused nothing is written.
+/// Reads a trace to its end or its first fault, and does the same as `audit_stream` with one worker, unless the trace
+/// is cut. For a cut trace it writes two lines: `cut at OFFSET`, and the verdict so far on the whole records before the
+/// cut, which is `so far: clean`, `so far: waiting N` or `so far: refused`. For the last the answer is refused, for the
+/// others accepted. Nothing is written before the input's end.
+///
+/// The errors: `ReadFailed` where a read failed, and `WriteFailed` where a write failed, neither of which is tried
+/// again; `Memory` where memory runs out, and then nothing is written.
 pub fn audit_so_far<R: Read, W: Write>(
     alloc: Global,
     reader: &mut Counted<R>,
     writer: &mut Counted<W>,
 ) -> Result<Answer, StreamFault>
-    // What is written is the text of what is said of the reader's bytes, and the answer is made of that.
+    // What is written is the text for the reader's bytes, and the answer is the one for that text.
     ensures ok { IfOk result (λ answer. IfSome (R.remaining (inner reader.old)) (λ bytes.
         WritesSoFar bytes answer (W.contents (inner writer.old)) (W.contents (inner writer.new)))) }
 
-    // Where it accepts, the bytes spell one history, which is causally convergent, or are cut after records without a
-    // lasting fault.
+    // Where the answer is accepted, the bytes decode to one history, which is causally convergent, or they are cut
+    // after records without a lasting fault.
     ensures accepted { IfOk result (λ answer. answer ≡ Answer.Accepted → IfSome (R.remaining (inner reader.old)) IsSoundSoFar) }
 
-    // There are no other faults than these. Where a write failed, a front of the text was written, and else nothing.
+    // There are no other errors than these. Where a write failed, a prefix of the text is written; on any other error
+    // nothing is.
     ensures faults { IfErr result (λ e. (e ≡ StreamFault.Memory) ⊎ (e ≡ StreamFault.ReadFailed) ⊎ (e ≡ StreamFault.WriteFailed)) }
     ensures nothing { (IsErrOf result StreamFault.ReadFailed ⊎ IsErrOf result StreamFault.Memory)
         → Keeps (W.contents (inner writer.old)) (W.contents (inner writer.new)) }
     ensures write_failed { IsErrOf result StreamFault.WriteFailed → IfSome (R.remaining (inner reader.old)) (λ bytes.
         WritesFrontSoFar bytes (W.contents (inner writer.old)) (W.contents (inner writer.new))) }
 
-    // A device's fault is told exactly where it was met, the reader's and the writer's.
+    // A device's fault is reported exactly where it was met, the reader's and the writer's.
     ensures read_count { IsErrOf result StreamFault.ReadFailed → Failed (failures reader.old) (failures reader.new) }
     ensures read_heard { IsErrOf result StreamFault.ReadFailed ⊎ (failures reader.new ≡ failures reader.old) }
     ensures write_count { IsErrOf result StreamFault.WriteFailed → Failed (failures writer.old) (failures writer.new) }

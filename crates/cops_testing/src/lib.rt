@@ -1,5 +1,5 @@
-//! What the tests of several crates share: gates by which two calls meet and by which a call is held, and keys with
-//! values. Stands on `cops_types` alone. No program uses it.
+//! What the tests of several crates share: gates at which two calls meet or a call is held, and keys with values. The
+//! crate depends on `cops_types` alone, and no program uses it.
 #![tactic(auto)]
 
 mod holding;

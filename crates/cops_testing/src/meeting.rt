@@ -1,13 +1,13 @@
-//! A gate by which two calls meet.
+//! A gate at which two calls meet.
 use cops_types::{Gate, GateHeld, Point};
 use std::sync::Wait;
 use std::sync::atomic::{AtomicBool, Ordering};
 use std::thread;
 
-/// How many turns a test waits for what has to come.
+/// How many turns a test waits for an event.
 pub const TURNS: u32 = 10_000_000;
 
-/// Two points of calls, each of which is held until the other was reached.
+/// A gate with two points. A call that reaches one of them is held until the other one is reached.
 #[derive(Drop)]
 pub struct Meeting {
     first: Point,
@@ -19,7 +19,7 @@ pub struct Meeting {
 impl Meeting {
     ghost use Rattle.std.specs.Prelude.{◌≡◌};
 
-    /// The gate of these two points, neither of which was reached.
+    /// The gate with these two points, neither of which is reached yet.
     pub fn new(first: Point, second: Point) -> Meeting
         ensures first { result.first ≡ first }
         ensures second { result.second ≡ second }
@@ -33,7 +33,8 @@ impl Meeting {
     }
 }
 
-/// Waits until the flag stands, and gives up after `TURNS` turns, in each of which other threads may run.
+/// Waits until the flag is set, and gives up with `GateHeld` after `TURNS` turns, in each of which other threads may
+/// run.
 pub fn waits_for(flag: &AtomicBool) -> Result<(), GateHeld> {
     for _ in 0..TURNS {
         if flag.load(Ordering::SeqCst) {

@@ -1,4 +1,4 @@
--- The entries of one book more, and of entries that were put in order.
+-- Adding the entries of one book, and sorting entries.
 use Rattle.std.proofs.Common.{◌≡◌, ℕ, ◌+◌, ◌/◌, ◌%◌, ◌<◌, ◌≤◌, List, [], ◌∷◌, ◌++◌, All, AllPairs, length, map, sym, ap, subst, ◌∙◌, arith}
 use Rattle.std.proofs.lemmas.List.{append_assoc, append-nil, get_or-map, length-map}
 use Rattle.std.proofs.lemmas.List.Elements.{All-get_or}
@@ -19,7 +19,7 @@ placed_more nodes k (b ∷ books) book =
     ∙ sym (append_assoc (at_node nodes k b) (placed nodes (k + 1) books) (at_node nodes (k + 1 + length books) book))
     ∙ ap (λ n. (at_node nodes k b ++ placed nodes (k + 1) books) ++ at_node nodes n book) (let e : k + 1 + length books ≡ k + length (b ∷ books) = omega arith in e)
 
--- what is in order of the tickets beside the entries is in order of the entries' own
+-- sorted by the copied tickets is sorted by the entries' own
 by_entries : (order : List Ticketed) → All HasItsTicket order → IsNonDecreasingBy (λ (t : Ticketed). t.ticket) order → IsNonDecreasingBy (λ (t : Ticketed). t.entry.now.ticket) order
 by_entries order all h i j x less inside =
     omega (arith, h i j x less inside, All-get_or HasItsTicket order i x (omega (arith, less, inside)) all, All-get_or HasItsTicket order j x inside all)

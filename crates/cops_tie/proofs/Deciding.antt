@@ -1,4 +1,4 @@
--- A run goes on in one way, so entries that stop somewhere lead nowhere.
+-- The world's steps are deterministic, so entries that stop at a ticket lead to no end.
 use Rattle.std.proofs.Common.{◌≡◌, ℕ, zero, suc, inl, inr, List, [], ◌∷◌, sym, ap, subst, ◌∙◌, arith}
 use Rattle.cops_types.specs.declared.refusal.Refusal.{Refusal}
 use Rattle.cops_types.specs.declared.refusal.Refusal.TheVariants.{Memory}
@@ -50,7 +50,7 @@ never_tied law s books sessions t events u (end, tied) =
           differ (ap (λ (w : World). w.sessions) (follows_once law s (opening s) tied.order other end (subst (λ (ps : List Placed). Follows s (opening s) ps other) one follows) tied.follows) ∙ tied.saw)
     ]
 
--- orders in which tickets rise are orders in which they never fall
+-- a list in which tickets rise is one in which they never fall
 rises_never_falls : (ps : List Placed) → Rises ps → NeverFalls ps
 rises_never_falls [] r i j d less inside = absurd (omega (arith, inside, less))
 rises_never_falls (p ∷ ps) r zero zero d less inside = absurd (omega (arith, less))

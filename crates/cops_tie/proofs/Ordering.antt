@@ -1,4 +1,4 @@
--- Entries whose tickets rise have no other order in which tickets never fall.
+-- A list of entries whose tickets rise is the only order of these entries in which tickets never fall.
 use Rattle.std.proofs.Common.{◌≡◌, ◌≢◌, ℕ, suc, ◌<◌, ◌≤◌, ◌⊎◌, inl, inr, List, [], ◌∷◌, Bool, true, false, length, Contains, AllPairs, refl, sym, ap, ap₂, subst, ◌∙◌, arith, eqb}
 use Rattle.std.specs.List.{sum_by}
 use Rattle.std.specs.List.Sorted.{IsPermutation}
@@ -40,7 +40,7 @@ abbrev one_if : Bool → ℕ
 one_if true = 1
 one_if false = 0
 
--- one where it is the ticket
+-- 1 if the entry has this ticket, and 0 otherwise
 abbrev is_at : ℕ → Placed → ℕ
 is_at t p = one_if (eqb (ticket p) t)
 
@@ -69,13 +69,13 @@ some_at (p ∷ ps) q at = elim (contains_cases p ps q at) [
   | inr b ↦ omega (arith, sum_by-cons (is_at (ticket q)) p ps, some_at ps q b)
 ]
 
--- what the second has of the first, as a permutation does
+-- what the second list shares with the first, if it is a permutation of it
 record Same (xs ys : List Placed) : Type 0 where
   within : (z : Placed) → Contains ys z → Contains xs z
   counts : (t : ℕ) → sum_by (is_at t) ys ≡ sum_by (is_at t) xs
   long : length ys ≡ length xs
 
--- the first entries are the same, and so are the rests
+-- the first entries are equal, and the rests are related in the same way
 same_head : (x : Placed) (xs : List Placed) (y : Placed) (ys : List Placed) → Rises (x ∷ xs) → NeverFalls (y ∷ ys) → Same (x ∷ xs) (y ∷ ys) → y ≡ x
 same_head x xs y ys r n s = elim (contains_cases x xs y (s.within y (contains_head y ys))) [
   | inl e ↦ sym e
@@ -110,7 +110,7 @@ only_order (x ∷ xs) (y ∷ ys) r n s =
     let e : y ≡ x = same_head x xs y ys r n s in
     ap₂ (λ (p : Placed) (ps : List Placed). p ∷ ps) e (only_order xs ys r.1 (tail_never_falls y ys n) (same_rest x xs ys r (subst (λ (p : Placed). Same (x ∷ xs) (p ∷ ys)) e s)))
 
--- two orders of the same entries, one of which rises while the other never falls, are one
+-- two orders of the same entries are equal, if tickets rise in one and never fall in the other
 pub one_order : (all xs ys : List Placed) → IsPermutation all xs → IsPermutation all ys → Rises xs → NeverFalls ys → ys ≡ xs
 one_order all xs ys f g r n = only_order xs ys r n (record {
   within = λ z at. Contains-permutation all xs z f (Contains-permutation ys all z (IsPermutation-sym all ys g) at);

@@ -1,4 +1,4 @@
--- The entries from one on, and the tickets after it.
+-- The entries from one of them on, and the tickets after it.
 use Rattle.std.proofs.Common.{◌≡◌, ◌≢◌, ℕ, zero, suc, ◌+◌, ◌<◌, ◌≤◌, List, [], ◌∷◌, ◌++◌, AllPairs, length, map, take, drop, slice_index_or, sym, ap, subst, ◌∙◌, arith}
 use Rattle.std.proofs.lemmas.List.{take_more, get_or-drop, get_or-map, length-drop, length-map}
 use Rattle.std.proofs.Math.Seq.{drop-cons}

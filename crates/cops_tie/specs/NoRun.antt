@@ -1,4 +1,4 @@
--- What is no run of scripted clients.
+-- When something is not a run of scripted clients.
 use Rattle.std.specs.Prelude.{ℕ, ◌⊎◌, List}
 use Rattle.cops_types.specs.Histories.{Sessions}
 use Rattle.cops_core.specs.declared.event.Event.{Event}
@@ -11,18 +11,18 @@ use Rattle.cops_tie.specs.declared.fault.CheckFault.TheVariants.{Memory, Untied}
 use Rattle.cops_tie.specs.declared.outcome.ClientOutcome.{ClientOutcome}
 use Rattle.cops_tie.specs.Runs.{EndsWell}
 
--- the books are one run of the world, which does not end well; the ticket is the one above the greatest
+-- the books are one run of the world, which does not end well; the ticket is one more than the greatest
 pub record FailsAtEnd (s : Setting) (clients : List ScriptedClient) (books : List (List Entry)) (sessions : Sessions) (outcomes : List ClientOutcome) (ticket : ℕ) : Type 0 where
   pub events : List Event
   pub end : World
   pub tied : IsTiedBefore s books sessions events end ticket
   pub fails : EndsWell s clients end sessions outcomes → ⊥
 
--- no run: the books are not tied, with the ticket of that, or the run does not end well
+-- not a run: the books are not tied, with the ticket of that, or the run does not end well
 abbrev pub IsNoRun : Setting → List ScriptedClient → List (List Entry) → Sessions → List ClientOutcome → ℕ → Type 0
 IsNoRun s clients books sessions outcomes ticket = IsUntied s books sessions ticket ⊎ FailsAtEnd s clients books sessions outcomes ticket
 
--- an answer Untied has such a ticket
+-- the ticket of an `Untied` satisfies the predicate
 abbrev pub WhereNoRun : (ℕ → Type 0) → CheckFault → Type 0
 WhereNoRun P Memory = Unit {0}
 WhereNoRun P (Untied ticket) = P ticket

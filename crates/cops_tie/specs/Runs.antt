@@ -12,15 +12,15 @@ use Rattle.cops_tie.specs.Tie.{IsTiedTo}
 use Rattle.cops_tie.specs.declared.outcome.ClientOutcome.{ClientOutcome}
 use Rattle.cops_tie.specs.Outcomes.{AreOutcomes}
 
--- each data centre has settled the put, as a pair
+-- each data centre has settled the put's pair
 abbrev pub IsEverywhere : Setting → World → PutRecord → Type 0
 IsEverywhere s w put = (dc : ℕ) → dc < s.place.dcs → has_pair (settled_in w dc) (put_pair put) ≡ true
 
--- each data centre has settled each issued put, so that a get of a key answers alike in all of them
+-- each data centre has settled each issued put, so that a get of a key has the same answer in all of them
 abbrev pub IsConverged : Setting → World → Type 0
 IsConverged s w = All (IsEverywhere s w) w.issued
 
--- where the run ends in this world: each client's outcome is one of its session, and the data centres have converged
+-- a run that ends in this world ends well: each client's outcome fits its session, and the data centres have converged
 abbrev pub EndsWell : Setting → List ScriptedClient → World → Sessions → List ClientOutcome → Type 0
 EndsWell s clients w sessions outcomes = AreOutcomes s w clients sessions outcomes × IsConverged s w
 

@@ -19,12 +19,12 @@ pub record Placed : Type 0 where
 abbrev pub ticket : Placed → ℕ
 ticket p = p.entry.ticket
 
--- the entries of books, one for each node from the nth on, where each data centre has so many nodes
+-- the entries of books, the first of which is the nth node's, where each data centre has `nodes` nodes
 abbrev pub placed : ℕ → ℕ → List (List Entry) → List Placed
 placed nodes n [] = []
 placed nodes n (book ∷ books) = map (λ e. record { dc = n / nodes; place = n % nodes; entry = e }) book ++ placed nodes (n + 1) books
 
--- the world's event that a node's event is
+-- the world's event for a node's event
 abbrev pub event_at : ℕ → NodeEvent → Event
 event_at dc (Put client key value deps) = PutBy client key value
 event_at dc (Del client key deps) = DelBy client key
@@ -47,11 +47,12 @@ place_asked s (Ask key version) = primary s key
 place_asked s (Mark version dep) = place_of version
 place_asked s (Settle version) = place_of version
 
--- the data centre is that client's
+-- `dc` is that client's data centre
 abbrev pub IsHomeOf : Setting → ℕ → ℕ → Type 0
 IsHomeOf s dc client = (client < length s.homes) × (home s client ≡ dc)
 
--- what the node was told is what the world has: the dependencies of a put or a deletion are its client's context, and a delivered put is the issued one
+-- the event's arguments are those that the world has: the dependencies of a put or a deletion are its client's context, and a delivered put is the
+-- issued one
 abbrev pub IsFrom : Setting → World → ℕ → NodeEvent → Type 0
 IsFrom s w dc (Put client key value deps) = IsHomeOf s dc client × (deps ≡ context_in w client)
 IsFrom s w dc (Del client key deps) = IsHomeOf s dc client × (deps ≡ context_in w client)
@@ -65,7 +66,7 @@ pub record Continues (s : Setting) (w : World) (p : Placed) (next : World) : Typ
   pub from : IsFrom s w p.dc p.entry.event
   pub happens : Happens s w (act_of (event_of p)) p.entry.outcome next
 
--- the ticket does not come again
+-- the ticket is below those of all entries that follow
 abbrev pub IsBelow : Placed → List Placed → Type 0
 IsBelow p ps = All (λ q. ticket p < ticket q) ps
 

@@ -1,4 +1,4 @@
--- Where books are a run of the world that ends somewhere, and where they are none.
+-- When books are a run of the world, and when they are not.
 use Rattle.std.specs.Prelude.{◌≡◌, ◌⊎◌, ℕ, ◌+◌, ◌≤◌, min, List, [], ◌∷◌, AllPairs}
 use Rattle.cops_types.specs.Histories.{Sessions}
 use Rattle.cops_core.specs.declared.event.Event.{Event}
@@ -10,25 +10,25 @@ use Rattle.cops_tie.specs.Tie.{Placed, ticket, Continues, IsBelow, Follows, IsOr
 abbrev pub IsTied : Setting → List (List Entry) → Sessions → List Event → Type 0
 IsTied s books sessions events = (end : World) × IsTiedTo s books sessions events end
 
--- the first entry that does not continue the run has this ticket: the ticket comes again, or the world has no such step
+-- the first entry that does not continue the run has this ticket: the ticket is not below all that follow, or the world has no such step
 abbrev pub StopsAt : Setting → World → List Placed → ℕ → Type 0
 StopsAt s w [] t = ⊥
 StopsAt s w (p ∷ ps) t =
     ((t ≡ ticket p) × ((IsBelow p ps → ⊥) ⊎ ((mid : World) → Continues s w p mid → ⊥)))
     ⊎ ((mid : World) × (IsBelow p ps × (Continues s w p mid × StopsAt s mid ps t)))
 
--- the ticket above the greatest
+-- one more than the greatest ticket, or 0 where there is no entry, capped at the greatest number of 64 bits
 abbrev pub ticket_after : List Placed → ℕ
 ticket_after [] = 0
 ticket_after (p ∷ []) = min (ticket p + 1) 18446744073709551615
 ticket_after (p ∷ q ∷ ps) = ticket_after (q ∷ ps)
 
--- the same up to this end, and this ticket is above the greatest
+-- `IsTiedTo` up to this end, and this ticket is one more than the greatest
 abbrev pub IsTiedBefore : Setting → List (List Entry) → Sessions → List Event → World → ℕ → Type 0
 IsTiedBefore s books sessions events end ticket = (tied : IsTiedTo s books sessions events end) × (ticket ≡ ticket_after tied.order)
 
--- Where the books are no such run: the least ticket whose entry does not continue it, or the one above the greatest where
--- the sessions alone differ.
+-- The books are not such a run, at the least ticket whose entry does not continue it, or at one more than the greatest where only the sessions
+-- differ.
 pub record IsUntied (s : Setting) (books : List (List Entry)) (sessions : Sessions) (t : ℕ) : Type 0 where
   pub order : List Placed
   pub all : IsOrder s books order

@@ -15,10 +15,12 @@ use cops_trace::Trace;
 use cops_types::{History, Memory};
 use std::alloc::Global;
 
-/// The world's events of a run of these clients whose entries these are, a list for each node: `Untied` where they are
-/// no run of the world in which the clients saw what the trace says, where a client's outcome is not one of its
-/// session, or where a data centre has not settled each put. What the clients of a run saw is accepted. The condition:
-/// there is one list for each node, in order of node numbers.
+/// The world's events of a run of these clients whose log entries are `entries`, one list for each node in order of
+/// node numbers, which is required. The verdict on what the clients of a run saw is accepted.
+///
+/// Errors: `Untied` where the entries are not a run of the world in which the clients saw what the trace says, where a
+/// client's outcome does not fit its session, or where a data centre has not settled each put; `Memory` when memory
+/// runs out.
 pub fn checked(
     alloc: Global,
     setting: &Setting,
@@ -57,7 +59,8 @@ pub fn checked(
     }
 }
 
-/// Whether a run that ends in this world ends well. The world is of no use afterwards.
+/// Whether a run that ends in this world ends well: the data centres have converged, and the outcomes fit the sessions.
+/// The world may have changed afterwards. Returns `Memory` when memory runs out.
 fn ends_well(
     clients: &[ScriptedClient],
     world: &mut World,

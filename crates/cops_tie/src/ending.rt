@@ -1,4 +1,4 @@
-//! Whether clients ended as their sessions and the world at the end of a run say.
+//! Whether the clients' outcomes fit their sessions and the world in which a run ends.
 ghost use Rattle.std.specs.Prelude.{◌≡◌, ◌≢◌, ◌≤◌, ◌↔◌, IfOk, IsTrue, length, slice_get, slice_index_or, [], option_copied};
 ghost use Rattle.cops_types.specs.declared.refusal.Refusal.TheVariants.{Memory as OutOfMemory};
 ghost use Rattle.cops_types.specs.OpRefs.{seen as seen_op};
@@ -12,7 +12,8 @@ use cops_node::Outcome;
 use cops_types::{History, Memory, OpName, OpRef, Refusal};
 use std::alloc::AllocError;
 
-/// Whether there are a session and an outcome for each client, and each outcome is one of its session.
+/// Whether there are a session and an outcome for each client, and each outcome fits its session. Returns `Memory` when
+/// memory runs out.
 pub fn are_outcomes(
     world: &mut World,
     clients: &[ScriptedClient],
@@ -32,7 +33,7 @@ pub fn are_outcomes(
     Ok(true)
 }
 
-/// Whether a client's outcome is one of its session. Where it is, the world is as it was.
+/// Whether a client's outcome fits its session. If it does, the world is unchanged.
 fn is_outcome(
     world: &mut World,
     client: u16,
@@ -53,7 +54,8 @@ fn is_outcome(
     }
 }
 
-/// Whether the client's session has one operation for each of a front of the script, each seen so.
+/// Whether the client's session matches a prefix of its script: its nth operation is one that the client may have seen
+/// for the nth of the script.
 fn is_front_of(script: &[ScriptOp], history: &History, client: u16) -> bool
     ensures { IsTrue result ↔ IsFrontOf script.now (slice_index_or history.now.sessions client []) }
 {
@@ -74,7 +76,7 @@ fn is_front_of(script: &[ScriptOp], history: &History, client: u16) -> bool
     true
 }
 
-/// Whether an operation of a script was seen so.
+/// Whether `seen` is an operation that a client may have seen for `op` of its script.
 fn is_seen_as(op: &ScriptOp, seen: &OpRef<'_>) -> bool
     ensures { IsTrue result ↔ IsSeenAs op.now (seen_op seen.now) }
 {
@@ -101,8 +103,8 @@ fn is_seen_as(op: &ScriptOp, seen: &OpRef<'_>) -> bool
     }
 }
 
-/// Whether a client may have stopped for this reason before the operation that is next in its script. Where it may, the
-/// world is as it was.
+/// Whether a client may have stopped for this reason before the next operation of its script. If it may, the world is
+/// unchanged.
 fn is_stop(
     world: &mut World,
     client: u16,
@@ -124,7 +126,7 @@ fn is_stop(
     }
 }
 
-/// Whether the world refuses a client's operation so. Where it does, it is as it was.
+/// Whether the world refuses a client's operation for this reason. If it does, it is unchanged.
 fn is_refused(
     world: &mut World,
     client: u16,
@@ -139,7 +141,7 @@ fn is_refused(
     is_event_refused(world, &event, refused)
 }
 
-/// The same of an event.
+/// Whether the world refuses an event for this reason. If it does, it is unchanged.
 fn is_event_refused(world: &mut World, event: &Event, refused: Refusal) -> Result<bool, Memory>
     requires { refused ≢ OutOfMemory }
     ensures is { IfOk result (λ is. IsTrue is ↔ ((happens world.old.setting world.old.world (act_of event.now)).0 ≡ Refused refused)) }
@@ -156,7 +158,7 @@ fn is_event_refused(world: &mut World, event: &Event, refused: Refusal) -> Resul
     }
 }
 
-/// The world's event that a client's operation is.
+/// The world's event for a client's operation.
 fn event_for(client: u16, op: &ScriptOp) -> Result<Event, AllocError>
     ensures { IfOk result (λ event. event ≡ event_for client op.now) }
 {

@@ -1,4 +1,4 @@
-//! Why books and a trace are not tied, and why a run did not pass.
+//! Why books and a trace are not tied, and why a run failed the check.
 ghost use Rattle.std.specs.Prelude.{◌≡◌};
 ghost use Rattle.cops_tie.specs.declared.fault.TieFault.TheVariants.{Memory as OutOfMemory};
 
@@ -6,15 +6,15 @@ use cops_types::Memory;
 use std::alloc::{AllocError, AllocFailed};
 use thiserror::Error;
 
-/// Why the books and a trace are not tied.
+/// Why the books and a trace are not tied. The numbers are the faults' codes.
 #[derive(Clone, Copy, Debug, PartialEq, Eq, Error)]
 pub enum TieFault {
     /// 0: out of memory.
     #[error("out of memory")]
     Memory,
-    /// 1: the books are no run of the world in which the clients saw what the trace says. The ticket is the least one
-    /// whose entry does not continue the run; where the sessions alone differ from the trace's, the one above the
-    /// greatest: 0 where there is no entry, and the greatest `u64` where that is a ticket.
+    /// 1: the books are not a run of the world in which the clients saw what the trace says. `ticket` is the least
+    /// one whose entry does not continue the run. Where only the sessions differ from the trace's, it is one more than
+    /// the greatest ticket: 0 where there is no entry, and the greatest `u64` where that is a ticket.
     #[error("untied at ticket {ticket}")]
     Untied { ticket: u64 },
 }
@@ -43,16 +43,16 @@ impl<T: Drop> From<AllocFailed<T>> for TieFault {
     }
 }
 
-/// Why a run did not pass.
+/// Why a run failed the check.
 #[derive(Clone, Copy, Debug, Error)]
 pub enum CheckFault {
-    /// Memory was refused.
+    /// Out of memory.
     #[error("out of memory")]
     Memory,
-    /// The books are no such run. The ticket is the least one whose entry does not continue the world's run; where only
-    /// the sessions differ from the trace's, a client's outcome is not one of its session, or a data centre has not
-    /// settled a put, the one above the greatest: 0 where there is no entry, and the greatest `u64` where that is a
-    /// ticket.
+    /// The books are not such a run. `ticket` is the least one whose entry does not continue the world's run. Where
+    /// only the sessions differ from the trace's, a client's outcome does not fit its session, or a data centre has not
+    /// settled a put, it is one more than the greatest ticket: 0 where there is no entry, and the greatest `u64` where
+    /// that is a ticket.
     #[error("untied at ticket {ticket}")]
     Untied { ticket: u64 },
 }

@@ -12,8 +12,8 @@ ghost use Rattle.cops_tie.specs.declared.outcome.ClientOutcome.{ClientOutcome};
 
 use cops_core::every_interleaving_is_accepted;
 
-/// A law of the definitions: books that stop somewhere, or whose run shows the clients something else, are no run of
-/// the world with these sessions. So the books and a trace have one of the two answers, and not both.
+/// A law of the definitions: books that stop at a ticket, or whose run shows the clients something else, are not a run
+/// of the world with these sessions. So the two answers exclude each other.
 pub fn untied_is_not_tied()
     ensures { (s : Setting) (books : List (List Entry)) (sessions : Sessions) (ticket : ℕ) (events : List Event) →
         IsUntied s books sessions ticket → IsTied s books sessions events → ⊥ }
@@ -21,7 +21,7 @@ pub fn untied_is_not_tied()
     every_interleaving_is_accepted();
 }
 
-/// A law of the definitions: books are one run of the world with these sessions up to one end alone.
+/// A law of the definitions: books that are a run of the world with these sessions have exactly one end.
 pub fn tied_books_have_one_end()
     ensures { (s : Setting) (books : List (List Entry)) (sessions : Sessions) (events others : List Event) (end other : World) →
         IsTiedTo s books sessions events end → IsTiedTo s books sessions others other → end ≡ other }
@@ -29,8 +29,8 @@ pub fn tied_books_have_one_end()
     every_interleaving_is_accepted();
 }
 
-/// A law of the definitions: what is no run is none, with whatever events. So a run has one of the two answers, and not
-/// both.
+/// A law of the definitions: what `IsNoRun` describes is not a run, with whatever events. So the two answers exclude
+/// each other.
 pub fn no_run_is_not_run()
     ensures { (s : Setting) (clients : List ScriptedClient) (books : List (List Entry)) (sessions : Sessions) (outcomes : List ClientOutcome) (ticket : ℕ) (events : List Event) →
         IsNoRun s clients books sessions outcomes ticket → IsRun s clients books sessions events outcomes → ⊥ }

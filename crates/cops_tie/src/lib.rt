@@ -1,8 +1,10 @@
-//! What it is for books to be one run of the world, and what a run of scripted clients has to be, decided on plain
-//! values: the books are one run of the world, its clients saw what the trace says, each client ended as its session
-//! and the world at the end of the run say, and each data centre has settled each put. Stands on the books of nodes and
-//! on the world and its readers. The layer above uses that a run passes exactly where this holds, and that what its
-//! clients saw is accepted.
+//! The tie check: it decides whether the logs that a cluster on threads left are one run of the world, and whether they
+//! are a run of scripted clients. They are if the nodes' books are one run of the world, its clients saw what the trace
+//! says, each client's outcome fits its session and the world at the end of the run, and each data centre has settled
+//! each put. The check works on plain values, without threads.
+//!
+//! It builds on the nodes' books and on the world and its readers. The layer above relies on this: a run passes exactly
+//! where this holds, and the verdict on what its clients saw is accepted.
 #![tactic(auto)]
 
 mod checking;

@@ -7,8 +7,8 @@ ghost use Rattle.cops_tie.specs.Ticketed.{HasItsTicket, shown};
 use cops_book::Entry;
 use std::alloc::{AllocError, Global};
 
-/// An entry, in the book of the node at a place of a data centre, with its ticket, by which it is sorted without a look
-/// at it.
+/// An entry of the book of the node at a place of a data centre, with its ticket, so that sorting need not look into
+/// the entry.
 #[derive(Clone, Copy)]
 pub struct Ticketed<'a> {
     pub dc: u8,
@@ -17,7 +17,8 @@ pub struct Ticketed<'a> {
     pub entry: &'a Entry,
 }
 
-/// The entries of books, which are one for each node in order of node numbers, by their tickets.
+/// The entries of books, sorted by ticket. There is one book for each node, in order of node numbers. Returns
+/// `AllocError` when memory runs out.
 pub fn in_order<'a>(
     alloc: Global,
     dcs: u8,
@@ -34,7 +35,7 @@ pub fn in_order<'a>(
     Ok(order)
 }
 
-/// The same, book by book.
+/// The entries of books, book by book.
 fn unordered<'a>(
     alloc: Global,
     dcs: u8,
@@ -55,7 +56,7 @@ fn unordered<'a>(
     Ok(entries)
 }
 
-/// The entries of one book more.
+/// Adds the entries of one book.
 fn add_book<'a>(
     entries: &mut Vec<Ticketed<'a>>,
     dc: u8,

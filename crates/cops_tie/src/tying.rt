@@ -17,8 +17,8 @@ use cops_trace::Trace;
 use cops_types::{Deps, History, Memory, OpName, PutRecord};
 use std::alloc::{AllocError, Global};
 
-/// A run of the world that books are: its events, the world in which it ends, and the ticket above the greatest: 0
-/// where there is no entry, and the greatest `u64` where that is a ticket.
+/// The run of the world that books are: its events, the world in which it ends, and one more than the greatest ticket:
+/// 0 where there is no entry, and the greatest `u64` where that is a ticket.
 #[derive(Drop)]
 pub struct TiedRun {
     pub events: Vec<Event>,
@@ -26,11 +26,12 @@ pub struct TiedRun {
     pub next: u64,
 }
 
-/// The world's events of a run whose books these are: `Untied` where the entries of all books, in order of their
-/// tickets, are no run of a world of this setting, or one whose clients saw something else than the trace says. Each
-/// entry of a put or a deletion has to have its client's context, each delivered put has to be the issued one, and each
-/// entry has to stand with the node that the world asks. The condition: there is one book for each node, in order of
-/// node numbers.
+/// The world's events of the run that these books are. There must be one book for each node, in order of node numbers.
+/// Each entry of a put or a deletion has to have its client's context, each delivered put has to be the issued one, and
+/// each entry has to be in the book of the node that the world asks.
+///
+/// Errors: `Untied` where the entries of all books, in order of their tickets, are not a run of a world of this
+/// setting, or the clients of that run saw something else than the trace says; `Memory` when memory runs out.
 pub fn tie(
     alloc: Global,
     setting: &Setting,
@@ -47,7 +48,7 @@ pub fn tie(
     }
 }
 
-/// The events of a run, for whom its world is no longer of use.
+/// The events of a run. Drops its world.
 fn events_of(run: TiedRun) -> Vec<Event>
     ensures { result.items ≡ run.events.items }
 {
@@ -60,7 +61,8 @@ fn events_of(run: TiedRun) -> Vec<Event>
     events
 }
 
-/// The same, with the world that the run ends in. What the clients of a tied run saw is accepted.
+/// Like `tie`, but also returns the world in which the run ends. The verdict on what the clients of a tied run saw is
+/// accepted. The errors are those of `tie`.
 pub fn tied_run(
     alloc: Global,
     setting: &Setting,
@@ -83,7 +85,7 @@ pub fn tied_run(
     Err(TieFault::Untied { ticket })
 }
 
-/// The run that the entries are, whatever the clients saw.
+/// The run that the entries are, without looking at what the clients saw.
 fn run_of(alloc: Global, setting: &Setting, order: &[Ticketed<'_>]) -> Result<TiedRun, TieFault>
     requires { AllPairs (λ p q. ticket p ≤ ticket q) (map shown order.now) }
     ensures setting { IfOk result (λ run. run.world.setting ≡ setting.now) }
@@ -106,14 +108,15 @@ fn run_of(alloc: Global, setting: &Setting, order: &[Ticketed<'_>]) -> Result<Ti
     }
 }
 
-/// The opened world of a setting.
+/// A new world of a setting.
 fn opened(alloc: Global, setting: &Setting) -> Result<World, Memory>
     ensures { IfOk result (λ world. world ≡ record { setting = setting.now; world = opening setting.now }) }
 {
     World::of(alloc, setting.clone()?)
 }
 
-/// Follows the entries, and gives the world's events.
+/// Applies the entries to the world in order, and returns the world's events. `Untied` at the first entry that does not
+/// continue the run.
 fn followed(
     alloc: Global,
     setting: &Setting,
@@ -141,7 +144,7 @@ fn followed(
     Ok(events)
 }
 
-/// Whether the next ticket is the same as that of an entry.
+/// Whether the next entry has the same ticket as the ith.
 fn comes_again(order: &[Ticketed<'_>], i: usize) -> bool
     requires inside { i < length order.now }
     ensures again { IsTrue result → (p : Placed) (rest : List Placed) → drop i (map shown order.now) ≡ p ∷ rest → IsBelow p rest → ⊥ }
@@ -153,7 +156,8 @@ fn comes_again(order: &[Ticketed<'_>], i: usize) -> bool
     order[i + 1].entry.ticket == order[i].entry.ticket
 }
 
-/// The world's event that the entry is, which the world then has met: none where the entry does not continue the run.
+/// Applies an entry to the world, and returns the world's event for it; `None` where the entry does not continue the
+/// run.
 fn continued(
     setting: &Setting,
     world: &mut World,
@@ -181,7 +185,7 @@ fn continued(
     }
 }
 
-/// Whether the world answers the event so, which it then has met.
+/// Whether the world answers the event with this outcome. The event is applied to the world.
 fn is_answered(world: &mut World, event: &Event, answer: &Outcome) -> Result<bool, Memory>
     ensures setting { world.new.setting ≡ world.old.setting }
     ensures yes { IfOk result (λ is. IsTrue is → Happens world.old.setting world.old.world (act_of event.now) answer.now world.new.world) }
@@ -197,7 +201,8 @@ fn is_answered(world: &mut World, event: &Event, answer: &Outcome) -> Result<boo
     Ok(outcome == *answer)
 }
 
-/// Whether the entry stands with the node that its event belongs to, and the node was told what the world has.
+/// Whether the entry is in the book of the node that its event belongs to, and its arguments are those that the world
+/// has.
 fn is_from(setting: &Setting, world: &World, ticketed: &Ticketed<'_>) -> Result<bool, Memory>
     ensures { IfOk result (λ is. IsTrue is ↔ StandsRight setting.now world.now.world (shown ticketed.now)) }
 {
@@ -222,7 +227,7 @@ fn place_of_event(setting: &Setting, event: &NodeEvent) -> u8
     }
 }
 
-/// Whether the node was told what the world has.
+/// Whether the event's arguments are those that the world has.
 fn is_told(setting: &Setting, world: &World, dc: u8, event: &NodeEvent) -> Result<bool, Memory>
     ensures { IfOk result (λ is. IsTrue is ↔ IsFrom setting.now world.now.world dc event.now) }
 {
@@ -235,7 +240,7 @@ fn is_told(setting: &Setting, world: &World, dc: u8, event: &NodeEvent) -> Resul
     }
 }
 
-/// Whether it is the client's data centre, and these are the pairs of its context.
+/// Whether `dc` is the client's data centre, and these are the pairs of the client's context.
 fn is_own(
     setting: &Setting,
     world: &World,
@@ -251,7 +256,7 @@ fn is_own(
     has_context(world, client, deps)
 }
 
-/// Whether it is the client's data centre.
+/// Whether `dc` is the client's data centre.
 fn is_home(setting: &Setting, dc: u8, client: u16) -> bool
     ensures { IsTrue result ↔ IsHomeOf setting.now dc client }
 {
@@ -269,7 +274,7 @@ fn has_context(world: &World, client: u16, deps: &Deps) -> Result<bool, Memory>
     Ok(context.as_slice() == deps.as_slice())
 }
 
-/// Whether the put was issued as it is.
+/// Whether the put is equal to the one that was issued at its version.
 fn is_sent(world: &World, put: &PutRecord) -> bool
     ensures { IsTrue result ↔ (sent world.now.world.issued put.now.version ≡ Some put.now) }
 {
@@ -279,7 +284,7 @@ fn is_sent(world: &World, put: &PutRecord) -> bool
     }
 }
 
-/// The world's event that a node's event is.
+/// The world's event for a node's event.
 fn world_event(dc: u8, event: &NodeEvent) -> Result<Event, AllocError>
     ensures { IfOk result (λ e. e ≡ event_at dc event.now) }
 {
@@ -323,7 +328,7 @@ fn world_event(dc: u8, event: &NodeEvent) -> Result<Event, AllocError>
     })
 }
 
-/// Whether the clients of both histories saw the same.
+/// Whether the clients saw the same operations in both histories.
 fn is_same(one: &History, other: &History) -> bool
     ensures { IsTrue result ↔ (one.now.sessions ≡ other.now.sessions) }
 {
@@ -338,7 +343,7 @@ fn is_same(one: &History, other: &History) -> bool
     true
 }
 
-/// Whether a client saw the same in both.
+/// Whether a client saw the same operations in both histories.
 fn is_same_session(one: &History, other: &History, client: u16) -> bool
     ensures { IsTrue result ↔ (slice_index_or one.now.sessions client [] ≡ slice_index_or other.now.sessions client []) }
 {
@@ -355,7 +360,7 @@ fn is_same_session(one: &History, other: &History, client: u16) -> bool
     true
 }
 
-/// Whether there is the same operation of that name in both, or none in either.
+/// Whether both histories have the same operation of that name, or neither has one.
 fn is_same_op(one: &History, other: &History, name: OpName) -> bool
     ensures { IsTrue result ↔ (op_at one.now.sessions name ≡ op_at other.now.sessions name) }
 {
@@ -366,7 +371,7 @@ fn is_same_op(one: &History, other: &History, name: OpName) -> bool
     }
 }
 
-/// The ticket above the greatest: 0 where there is no entry, and the greatest `u64` where that is a ticket.
+/// One more than the greatest ticket: 0 where there is no entry, and the greatest `u64` where that is a ticket.
 fn next_ticket(order: &[Ticketed<'_>]) -> u64
     ensures { result ≡ ticket_after (map shown order.now) }
 {

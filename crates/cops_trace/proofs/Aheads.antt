@@ -1,4 +1,4 @@
--- Records that are seen ahead, as they are taken one after the other.
+-- Records that are read ahead, as they are taken one after the other.
 use Rattle.std.proofs.Common.{◌≡◌, ◌<◌, ◌≤◌, ◌+◌, ◌-◌, ℕ, take, zero, suc, List, [], ◌∷◌, ◌++◌, length, drop, get_or, Bool, Option, Some, Result, Ok, Err, false, true, refl, sym, ap, subst, ◌∙◌, arith, inl, inr}
 use Rattle.std.specs.Prelude.{IfOk, IfErr, IsTrue}
 use Rattle.std.proofs.Math.Nat.{eq-or-lt_of_le}
@@ -21,7 +21,7 @@ use Rattle.cops_trace.proofs.Founds.{item_turn, seen_stands}
 use Rattle.cops_trace.proofs.Items.{given, stands_used}
 use Rattle.cops_trace.proofs.Underway.{into_fails, into_less, into_next, into_ready, into_takes, into_waits, next_given, reach_after, step_begun, step_room, step_took}
 
--- ---- what was seen
+-- ---- reading ahead
 
 take_whole : {A : Type 0} (xs : List A) (n : ℕ) → length xs ≡ n → take n xs ≡ xs
 take_whole [] zero same = refl
@@ -29,7 +29,7 @@ take_whole [] (suc n) same = refl
 take_whole (x ∷ xs) zero same = absurd (omega (arith, same))
 take_whole {A = A} (x ∷ xs) (suc n) same = ap (λ (l : List A). x ∷ l) (take_whole xs n (omega (arith, same)))
 
--- the bytes from a place on
+-- the bytes from an offset on
 pub from_place : (bytes : List ℕ) (at : ℕ) → take (length bytes - at) (drop at bytes) ≡ drop at bytes
 from_place bytes at = take_whole (drop at bytes) (length bytes - at) (length-drop at bytes)
 
@@ -66,7 +66,7 @@ seen_next format bytes places ops place op same seen here = record {
   ];
 }
 
--- ---- one more is taken
+-- ---- taking one more record
 
 module _ {S : Type 0} (took : S → ATrace → Type 0) where
   pub goes_still : (begun : Option S) (r : Reading) → IsUnderway took begun r → GoesOn took begun r begun r
@@ -88,11 +88,11 @@ module _ {S : Type 0} (took : S → ATrace → Type 0) where
         fed = λ fed h. into_takes took fed r new begun to (on.fed fed h) steps;
       }
 
-  -- so it does from what got ready
+  -- a sink that prepared took the same as before
   pub goes_ready : (from ready to : Option S) (old new : Reading) → ((t : Option ATrace) → IsTakenAs took from t → IsTakenAs took ready t) → GoesOn took ready old to new → GoesOn took from old to new
   goes_ready from ready to old new getting on = record { underway = on.underway; fed = λ fed h. on.fed fed (into_ready took fed from ready old old refl getting h) }
 
-  -- what may be given to what was begun
+  -- the sink may take the record that comes next
   pub room_next : (begun : Option S) (c : ACounts) (at used : ℕ) (rest : List ℕ) (client : ℕ) (op : Op) → IsUnderway took begun (reading_at c at rest) → Stands (Some (progress_from at c)) rest (Gives (Entry client op) used)
       → (t : Option ATrace) × IsTakenAs took begun t × ItemHasRoom (Entry client op) t
   room_next begun c at used rest client op u stands =
@@ -100,25 +100,25 @@ module _ {S : Type 0} (took : S → ATrace → Type 0) where
       let r = reading_at c at rest in
       (u.trace, u.taken, step_room u.trace r (past item used r) item u.counts (next_given r item used (record { fine = refl; going = refl; stands = stands })))
 
--- its client may have one more
+-- the record's client may have one more
 pub turn_next : (c : ACounts) (at used : ℕ) (rest : List ℕ) (client : ℕ) (op : Op) → Stands (Some (progress_from at c)) rest (Gives (Entry client op) used) → HasTurn c client
 turn_next c at used rest client op stands = item_turn at (Some c) rest (Entry client op) used stands
 
--- and the place stays within reach
+-- the offset stays within reach
 pub reach_next : (c : ACounts) (at used : ℕ) (rest : List ℕ) (client : ℕ) (op : Op) → Stands (Some (progress_from at c)) rest (Gives (Entry client op) used) → IsWithinReach (Some c) false at → IsWithinReach (Some (counted c client)) false (at + used)
 reach_next c at used rest client op stands reach =
     let item = Entry client op in
     let allowed = (given (Some (progress_from at c)) stands.frame item used stands.found_is).0 in
     reach_after at used (Some c) item allowed reach (stands_used (Some (progress_from at c)) rest item used stands).2
 
--- the record that was seen stands there
+-- the record that was read ahead comes next
 pub seen_there : (c : ACounts) (at : ℕ) (bytes : List ℕ) (place : RecordPlace) (op : OpView) → IsSeenAt c.format bytes place op
     → record_found (progress_from at c) (record { client = place.client; index = place.index; op = op_viewed op }) place.used ≡ Gives (Entry place.client (op_viewed op)) place.used
     → Stands (Some (progress_from at c)) (drop place.at bytes) (Gives (Entry place.client (op_viewed op)) place.used)
 seen_there c at bytes place op seen found =
     seen_stands (progress_from at c) (drop place.at bytes) (record { client = place.client; index = place.index; op = op; used = place.used }) seen found
 
--- what was seen at the place that is come to
+-- the record that was read ahead at the current offset
 module _ (c : ACounts) (at used : ℕ) (bytes : List ℕ) (places : List RecordPlace) (ops : List OpView) (seen : AreSeen c.format bytes places ops) (k : ℕ) (less : k < length places) (place : RecordPlace) (is_place : place ≡ get_or places k place)
     (op : OpView) (is_op : op ≡ get_or ops k op) (come : place.at ≡ used)
     (found : (o : Op) (n : ℕ) → record_found (progress_from (at + used) c) (record { client = place.client; index = place.index; op = o }) n ≡ Gives (Entry place.client o) n) where
@@ -147,7 +147,7 @@ module _ (c : ACounts) (at used : ℕ) (bytes : List ℕ) (places : List RecordP
       subst (λ (n : ℕ). GoesOn took from old to (reading_at (counted c place.client) n (drop (used + place.used) bytes))) sum
       (subst (λ (l : List ℕ). GoesOn took from old to (reading_at (counted c place.client) ((at + used) + place.used) l)) (drop-drop place.used used bytes) next)
 
--- ---- an item behind them
+-- ---- the item after them
 
 module _ {S : Type 0} (took : S → ATrace → Type 0) (from mid to : Option S) (old now new : Reading) (on : GoesOn took from old mid now) where
   pub item_on : (result : Result Bool TraceFault) → ((t : Option ATrace) → IsTakenAs took mid t → IsBegunAs t now.counts → StepsInto took (stage_of t now) result to new) → IfOk result (λ went. IsTrue went → GoesOn took from old to new)

@@ -1,5 +1,5 @@
--- A trace's text that is written while the trace grows, up to a frame or in the middle of one.
-use Rattle.std.proofs.Common.{◌≡◌, ℕ, ◌+◌, ◌^◌, ◌<◌, suc, List, [], ◌∷◌, ◌++◌, length, take, drop, Option, Some, None, Bor, true, eqb, refl, sym, ap, subst, ◌∙◌, append_assoc, arith}
+-- Writing a trace's text while the trace grows, up to a frame or to the middle of one.
+use Rattle.std.proofs.Common.{◌≡◌, ℕ, ◌+◌, ◌^◌, ◌<◌, List, [], ◌∷◌, ◌++◌, length, take, drop, Option, Some, None, Bor, true, eqb, refl, sym, ap, subst, ◌∙◌, append_assoc, arith}
 use Rattle.std.specs.Io.KnownBytes.{Appends, Keeps}
 use Rattle.std.specs.Cmp.Lexicographic.{pointwise}
 use Rattle.std.proofs.lemmas.Bool.Decides.{Decides-eqb}
@@ -15,18 +15,18 @@ use Rattle.cops_wire.specs.declared.message.Message.TheVariants.{TraceEnd}
 use Rattle.cops_trace.specs.Counts.{ACounts, AreCountsOf, HasTurn, counted, nothing}
 use Rattle.cops_trace.specs.Kept.{grown}
 use Rattle.cops_trace.specs.Live.{Gains, HasBegun, IsCutBy, IsCutShort}
-use Rattle.cops_trace.specs.Text.{ARecord, ATrace, IsOp, IsTrace, beginning, record_text, text}
+use Rattle.cops_trace.specs.Text.{ARecord, ATrace, IsOp, IsTrace, beginning, record_text, text, end_text}
 use Rattle.cops_trace.specs.Writing.{IsUnwritten, head_frame, more_written, record_frame}
 use Rattle.cops_trace.specs.declared.fault.WriteFault.{WriteFault}
 use Rattle.cops_trace.specs.declared.fault.WriteFault.TheVariants.{Memory, WriteFailed}
 use Rattle.cops_trace.specs.declared.live.LiveTrace.{LiveTrace}
-use Rattle.cops_trace.proofs.Ends.{end_text}
 use Rattle.cops_trace.proofs.Growth.{IsTrace-grown, IsTrace-none, beginning-grown, beginning-none, with_records}
 use Rattle.cops_trace.proofs.Items.{spelled_len}
+use Rattle.cops_trace.proofs.Lists.{take_past}
 use Rattle.cops_trace.proofs.Readings.{end_legal, front_len, text_len}
 use Rattle.cops_trace.proofs.Underway.{counts_grown, counts_none}
 
--- ---- what a writer gained
+-- ---- the bytes that a writer took
 
 kept_none : (old new : Option (List ℕ)) → Keeps old new → Appends old new []
 kept_none None new k = tt
@@ -36,22 +36,16 @@ kept_none (Some o) (Some n) k = k ∙ sym (append-nil o)
 appends_kept : (old mid new : Option (List ℕ)) (xs : List ℕ) → Appends old mid xs → Keeps mid new → Appends old new xs
 appends_kept old mid new xs a k = appends_more old mid new xs [] xs a (kept_none mid new k) (append-nil xs)
 
-appends_none : (old : Option (List ℕ)) → Appends old old []
+pub appends_none : (old : Option (List ℕ)) → Appends old old []
 appends_none None = tt
 appends_none (Some o) = sym (append-nil o)
 
-take_past : (xs ys : List ℕ) (n : ℕ) → take (length xs + n) (xs ++ ys) ≡ xs ++ take n ys
-take_past [] ys n = let e : 0 + n ≡ n = omega arith in ap (λ (m : ℕ). take m ys) e
-take_past (x ∷ xs) ys n =
-    let e : suc (length xs) + n ≡ suc (length xs + n) = omega arith in
-    ap (λ (m : ℕ). take m (x ∷ (xs ++ ys))) e ∙ ap (λ (l : List ℕ). x ∷ l) (take_past xs ys n)
-
--- ---- a text that is cut
+-- ---- a cut text
 
 end_there : (t : ATrace) → IsTrace t → 0 < length (end_text t)
 end_there t h = omega (arith, (spelled_len t.format (TraceEnd (length t.records)) (end_legal t h)).0)
 
--- some first bytes of a frame that comes after these went out, fewer than all
+-- a proper prefix of the next frame was written after these bytes
 pub cut_in : (old mid new : Option (List ℕ)) (t : ATrace) (bytes frame rest : List ℕ) (count : ℕ) → IsTrace t → text t ≡ bytes ++ (frame ++ rest) → Appends old mid bytes
     → Appends mid new (take count frame) → count < length frame → IsCutShort old new (length bytes + count)
 cut_in old mid new t bytes frame rest count h is first more fewer =
@@ -64,7 +58,7 @@ cut_in old mid new t bytes frame rest count h is first more fewer =
           (sym (ap (take (length bytes + count)) is ∙ take_past bytes (frame ++ rest) count ∙ ap (λ (l : List ℕ). bytes ++ l) part));
     }
 
--- all but the end went out
+-- everything but the end was written
 pub cut_here : (old new : Option (List ℕ)) (t : ATrace) → IsTrace t → Appends old new (beginning t) → IsCutShort old new (length (beginning t))
 cut_here old new t h first = record {
   trace = t;
@@ -80,7 +74,7 @@ pub cut_kept : (old mid new : Option (List ℕ)) (bytes : List ℕ) (c : ACounts
 cut_kept old mid new bytes c written b k =
     (length (beginning b.trace), cut_here old new b.trace b.is_trace (appends_kept old mid new (beginning b.trace) (subst (Appends old mid) b.bytes_are b.appends) k))
 
--- so many bytes more are no more than a number of 64 bits tells
+-- adding `count` bytes to a cut text does not overflow 64 bits
 told : (old new : Option (List ℕ)) (before count : ℕ) → IsCutShort old new (before + count) → before + count ≡ more_written before count
 told old new before count cut = let long = text_len cut.trace cut.is_trace in omega (arith, cut.fewer, long)
 
@@ -103,7 +97,7 @@ new_begun old new format clients few first =
       appends = first;
     }
 
--- nothing went out
+-- nothing was written
 pub cut_none : (old : Option (List ℕ)) → IsCutShort old old 0
 cut_none old =
     let t = with_records One 0 [] in
@@ -169,7 +163,7 @@ add_cut old mid new bytes c written client op (WriteFailed all) b turn is u =
 
 -- ---- the rest
 
--- what `strip_prefix` leaves of a text
+-- the rest that `strip_prefix` returns
 pub left_is : (s p whole bytes : List ℕ) (rest : Bor (List ℕ)) → (pointwise eqb (take (length p) s) p ≡ true) × (rest.now ≡ drop (length p) s) × (length rest.now + length p ≡ length s)
     → s ≡ whole → p ≡ bytes → whole ≡ bytes ++ rest.now
 left_is s p whole bytes rest cases is first = sym is ∙ strip_prefix_is Decides-eqb s p (Some rest) cases ∙ ap (λ (l : List ℕ). l ++ rest.now) first

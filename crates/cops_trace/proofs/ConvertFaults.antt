@@ -1,4 +1,4 @@
--- Why a trace was not converted, and what is left then.
+-- The faults of a conversion, and what they leave.
 use Rattle.std.proofs.Common.{◌≡◌, ℕ, List, Option, Err, IfSome, subst, sym, inl, inr}
 use Rattle.cops_trace.specs.declared.fault.TraceFault.{TraceFault}
 use Rattle.cops_trace.specs.declared.fault.TraceFault.TheVariants.{Memory, ReadFailed}
@@ -17,11 +17,11 @@ read_fault bytes fault h = elim h [
   | inr more ↦ elim more [ inl p ↦ absurd cc | inr has ↦ has ]
 ]
 
--- a fault of what was read is one of the bytes
+-- a fault of reading is a fault of the bytes
 pub is_fault_of : (bytes : List ℕ) (fault : TraceFault) (e : ConvertFault) → Agrees bytes (Err fault) → e ≡ fault_of_reading fault → IsFaultOf bytes e
 is_fault_of bytes fault e h is = subst (IsFaultOf bytes) (sym is) (read_fault bytes fault h)
 
--- what is left is of the text of the converted trace
+-- a failed conversion leaves a prefix of the converted trace's text
 pub left_at : (read : Option (List ℕ)) (t : ATrace) (e : ConvertFault) (old new : Option (List ℕ)) → IfSome read (λ bytes. IsConverted bytes t) → IsUnwrittenAt t e old new
     → IsLeftAt read e old new
 left_at read t converting.Memory old new is left = left

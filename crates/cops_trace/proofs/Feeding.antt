@@ -1,4 +1,4 @@
--- A text that comes in pieces: what holds of the bytes so far.
+-- A text that comes in pieces: what holds for the bytes so far.
 use Rattle.std.proofs.Common.{◌≡◌, ◌≢◌, ℕ, zero, suc, ◌+◌, ◌<◌, Bool, true, false, List, [], ◌∷◌, ◌++◌, length, drop, Option, Some, None, Result, Ok, Err, refl, sym, ap, subst, ◌∙◌, append_assoc, arith, inl, inr}
 use Rattle.std.specs.Prelude.{◌⊎◌, IfSome, unwrap_or}
 use Rattle.std.specs.Io.KnownBytes.{Consumes, IsAtEnd}
@@ -13,8 +13,7 @@ use Rattle.cops_trace.specs.declared.found.Item.{Item}
 use Rattle.cops_trace.specs.declared.found.Item.TheVariants.{Head, Op as Entry, End}
 use Rattle.cops_trace.specs.declared.found.Found.{Found}
 use Rattle.cops_trace.specs.declared.found.Found.TheVariants.{Gives, Waits, Fails}
-use Rattle.cops_trace.specs.Text.{ATrace, IsTrace, beginning, text}
-use Rattle.cops_trace.proofs.Ends.{end_text}
+use Rattle.cops_trace.specs.Text.{ATrace, IsTrace, beginning, text, end_text}
 use Rattle.cops_trace.specs.Next.{Progress, Stands}
 use Rattle.cops_trace.specs.Answer.{progress_of, progress_at, front, Begins, HasFault, Says, IsCutAfter, BeginsAs, Agrees, TakesFrom}
 use Rattle.cops_trace.specs.Answer as answer
@@ -30,7 +29,7 @@ IsBytes-append [] ys h k i = k i
 IsBytes-append (x ∷ xs) ys h k zero = h 0
 IsBytes-append (x ∷ xs) ys h k (suc i) = IsBytes-append xs ys (λ j. h (suc j)) k i
 
--- ---- a stage and its place
+-- ---- a state and its offset
 
 progress_is : (s : Stage) → s.at ≡ length (front s.begun) → progress_in s ≡ progress_at s.begun
 progress_is s e = go s.begun s.at e
@@ -39,7 +38,7 @@ progress_is s e = go s.begun s.at e
     go None at e = refl
     go (Some t) at e = ap (λ (n : ℕ). Some (progress_with n t)) e
 
--- before the end
+-- the state before the end
 record Open (fed : List ℕ) (s : Stage) : Type 0 where
   begins : Begins fed s.begun s.rest
   place : s.at ≡ length (front s.begun)
@@ -60,7 +59,7 @@ fed_more fed piece s fits h = record { fits = IsBytes-append fed piece h.fits fi
     go false o = (record { is_trace = o.0.is_trace; parts = ap (λ (x : List ℕ). x ++ piece) o.0.parts ∙ append_assoc (front s.begun) s.rest piece }, o.1)
     go true o = (o.0, o.1, o.2, ap (λ (x : List ℕ). x ++ piece) o.3 ∙ append_assoc (text o.0) s.rest piece, o.4)
 
--- ---- an item that is taken
+-- ---- taking an item
 
 item_taken : (fed : List ℕ) (s : Stage) (i : Item) (used : ℕ) (e : Bool) → is_end i ≡ e → Open fed s → Stood (progress_at s.begun) s.rest i used
     → FedTo fed (record { begun = with_item i s.begun; at = s.at + used; ended = e; rest = drop used s.rest }) e
@@ -123,7 +122,7 @@ fed_after_end fed s more h ended some =
 pub more_fails : (fed : List ℕ) (s : Stage) → Fed fed s → s.ended ≡ true → s.rest ≢ [] → HasFailed fed (BytesAfterEnd s.at)
 more_fails fed s h ended some = record { no_cut = λ offset q. cc; device = λ q. cc; stays = λ more. fed_after_end fed s more h ended some }
 
--- the head and the records before a cut
+-- before the end, the trace so far has the head and the records before a cut
 pub fed_so_far : (fed : List ℕ) (s : Stage) → Fed fed s → s.ended ≡ false → IsSettled s → IsCutAfter fed (unwrap_or s.begun (record { format = One; clients = 0; records = [] })) s.at
 fed_so_far fed s h going settled =
     let o = open_of fed s h going in
@@ -139,7 +138,7 @@ fed_whole fed s t h ended begun settled =
     let whole : fed ≡ text o.0 = o.3 ∙ ap (λ (x : List ℕ). text o.0 ++ x) none ∙ append-nil (text o.0) in
     (subst IsTrace same o.2, whole ∙ ap text same)
 
--- where there is no trace, no end came
+-- without a trace no end came
 pub not_ended : (fed : List ℕ) (s : Stage) → Fed fed s → s.begun ≡ None → s.ended ≡ false
 not_ended fed s h none = go s.ended h.stage
   where
@@ -147,7 +146,7 @@ not_ended fed s h none = go s.ended h.stage
     go false o = refl
     go true o = let bad : Some o.0 ≡ None = sym o.1 ∙ none in absurd cc
 
--- ---- a step, and all of them
+-- ---- one step, and all steps
 
 pub step_fails : (fed : List ℕ) (s : Stage) (e : TraceFault) → Fed fed s → (e ≡ Memory) ⊎ FailsAt s.ended s e → Stops fed e
 step_fails fed s e h (inl m) = inl m
@@ -169,14 +168,14 @@ step_waits fed s new h st = subst (λ (x : Stage). Fed fed x × IsSettled x) (sy
 pub step_takes : (fed : List ℕ) (s new : Stage) → Fed fed s → StepGives s (Ok true) new → Fed fed new
 step_takes fed s new h st = subst (Fed fed) (sym st.1.3) (fed_item fed s st.1.0 st.1.1 h st.0 st.1.2)
 
--- an item takes some bytes
+-- an item has at least one byte
 pub step_less : (s new : Stage) → StepGives s (Ok true) new → length new.rest < length s.rest
 step_less s new st =
     let used = stands_used (progress_in s) s.rest st.1.0 st.1.1 st.1.2 in
     let less : length (drop st.1.1 s.rest) < length s.rest = omega (arith, length-drop st.1.1 s.rest, used.0, used.1) in
     subst (λ (x : Stage). length x.rest < length s.rest) (sym st.1.3) less
 
--- ---- how many bytes there may be
+-- ---- the greatest number of bytes
 
 pub fed_len : (fed : List ℕ) (s : Stage) → Fed fed s → s.at + length s.rest ≡ length fed
 fed_len fed s h = go s.ended h.stage
@@ -185,7 +184,7 @@ fed_len fed s h = go s.ended h.stage
     go false o = omega (arith, o.1, ap length o.0.parts, length-append (front s.begun) s.rest)
     go true o = omega (arith, o.4, ap length o.3, length-append (text o.0) s.rest)
 
--- where no whole item is left, there are fewer bytes than the most reads
+-- if the rest has no whole item, there are fewer bytes than the most reads
 pub settled_len : (fed : List ℕ) (s : Stage) → Fed fed s → IsSettled s → length fed < 2199023255552
 settled_len fed s h settled = go s.ended h.stage settled
   where
@@ -206,9 +205,9 @@ pub stops_no_cut : (fed : List ℕ) (e : TraceFault) (offset : ℕ) → Stops fe
 stops_no_cut fed e offset (inl m) r = let both : Memory ≡ Cut offset = sym m ∙ r in cc
 stops_no_cut fed e offset (inr h) r = h.no_cut offset r
 
--- ---- what a reader has left
+-- ---- the bytes of a device
 
--- what holds of all that was read before the end holds of all there was
+-- what holds for all that was read before the end holds for all bytes of the device
 pub all_read : (P : List ℕ → Type 0) (a b c : Option (List ℕ)) (fed : List ℕ) → Consumes a b fed → Consumes b c [] → IsAtEnd c → P fed → IfSome a P
 all_read P None b c fed p q r h = tt
 all_read P (Some u) None c fed p q r h = absurd p
@@ -217,16 +216,16 @@ all_read P (Some u) (Some v) (Some w) fed p q r h =
     let whole : fed ≡ u = sym (p ∙ ap (λ (t : List ℕ). fed ++ t) (q ∙ r) ∙ append-nil fed) in
     subst P whole h
 
--- a fault of what was read is a fault of all there is
+-- a fault of what was read is a fault of all bytes of the device
 pub fault_read : (a b : Option (List ℕ)) (fed : List ℕ) (e : TraceFault) → Consumes a b fed → Stops fed e → (e ≡ Memory) ⊎ (e ≡ ReadFailed) ⊎ IfSome a (λ bytes. HasFault bytes e)
 fault_read a b fed e p (inl m) = inl m
 fault_read None b fed e p (inr h) = inr (inr tt)
 fault_read (Some u) None fed e p (inr h) = absurd p
 fault_read (Some u) (Some v) fed e p (inr h) = inr (inr (subst (λ (x : List ℕ). HasFault x e) (sym p) (h.stays v)))
 
--- ---- the answer
+-- ---- the result
 
--- what holds of bytes holds of the bytes that there were
+-- weakening a property of the device's bytes
 pub of_bytes : (P Q : List ℕ → Type 0) (a : Option (List ℕ)) → IfSome a P → ((bytes : List ℕ) → P bytes → Q bytes) → IfSome a Q
 of_bytes P Q None h q = tt
 of_bytes P Q (Some u) h q = q u h
@@ -243,7 +242,7 @@ into_fault (Some u) e (inr (inr w)) k = inr (inr (w, k))
 cut_fault : (bytes : List ℕ) (t : ATrace) (offset : ℕ) → IsCutAfter bytes t offset → HasFault bytes (Cut offset)
 cut_fault bytes t offset h = inr (inl (record { begun = h.begun; rest = h.rest; begins = h.begins; stands = h.stands; fault_is = ap (λ (n : ℕ). Cut n) h.place }))
 
--- what a trace was taken from is its text, or is cut
+-- the bytes from which a trace was taken without a cut are its text
 pub whole_says : (bytes : List ℕ) (taken : Taken ATrace) → TakesFrom (λ trace t. trace ≡ t) bytes taken → taken.cut ≡ None → IsBytes bytes × Says bytes (Ok taken.sink)
 whole_says bytes taken h none = (h.bytes_fit, subst (λ (t : ATrace). Says bytes (Ok t)) (sym h.took_it) (subst (BeginsAs bytes h.trace) none h.begins))
 
@@ -253,7 +252,7 @@ cut_says bytes taken offset h cut = (h.bytes_fit, cut_fault bytes h.trace offset
 pub begins_as : (bytes : List ℕ) (taken : Taken ATrace) → TakesFrom (λ trace t. trace ≡ t) bytes taken → BeginsAs bytes taken.sink taken.cut
 begins_as bytes taken h = subst (λ (t : ATrace). BeginsAs bytes t taken.cut) (sym h.took_it) h.begins
 
--- each fault that is told of what was taken is one of a text that has to be whole
+-- each fault of reading into a sink is a fault of a text that has to be whole
 pub fault_agrees : (bytes : List ℕ) (e : TraceFault) → (e ≡ Memory) ⊎ (e ≡ ReadFailed) ⊎ (HasFault bytes e × ((offset : ℕ) → e ≢ Cut offset)) → Agrees bytes (Err e)
 fault_agrees bytes e (inl m) = inl m
 fault_agrees bytes e (inr (inl f)) = inr (inl f)

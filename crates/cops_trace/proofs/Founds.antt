@@ -1,4 +1,4 @@
--- What the code finds stands there.
+-- What the code finds is what the definitions say.
 use Rattle.std.proofs.Common.{◌≡◌, ◌≢◌, ℕ, List, Option, Some, None, Result, Ok, Err, refl, sym, ap, subst, ◌∙◌}
 use Rattle.std.specs.Prelude.{IfOk, OnErr, option_map}
 use Rattle.cops_types.specs.declared.fault.Memory.{Memory}
@@ -11,7 +11,7 @@ use Rattle.cops_wire.specs.declared.decoding.Decoded.{Decoded}
 use Rattle.cops_types.specs.OpViews.{op_viewed}
 use Rattle.cops_wire.specs.Message.{parts}
 use Rattle.cops_wire.specs.Records.{record_of_message, seen_message}
-use Rattle.cops_wire.proofs.Records.{record_again}
+use Rattle.cops_wire.proofs.Records.{seen_again}
 use Rattle.cops_wire.specs.declared.record.TraceRecord.{TraceRecord}
 use Rattle.cops_wire.specs.declared.record_view.RecordView.{RecordView}
 use Rattle.cops_wire.specs.declared.message.Message.{Message}
@@ -37,21 +37,21 @@ fault_answer wire.UnknownKind P ne h = h
 fault_answer (wire.BadField offset) P ne h = h
 fault_answer wire.TrailingBytes P ne h = h
 
--- a frame's fault
+-- the fault of a frame
 pub unread_stands : (p : Option Progress) (at : ℕ) (rest : List ℕ) (f : WireFault) (r : Result Found Memory) → found_in p (Err f) ≡ unread at f → Answers (Err f) (IsAnswer (grammar (format_next p)) rest)
     → IfOk r (λ found. (f ≢ wire.Memory) × (found ≡ unread at f)) → IfOk r (Stands p rest)
 unread_stands p at rest f (Ok found) is answer h = record { frame = Err f; frame_is = fault_answer f (IsAnswer (grammar (format_next p)) rest) h.0 answer; found_is = is ∙ sym h.1 }
 unread_stands p at rest f (Err e) is answer h = tt
 
--- a frame that is not read for want of memory takes some
+-- reading a frame runs out of memory only if it allocates
 pub takes_memory : (format : Format) (rest : List ℕ) (f : WireFault) (r : Result Found Memory) → OnErr r (f ≡ wire.Memory) → (◌≡◌ {A = Result Decoded WireFault} (Err f) (Err wire.Memory) → BeginsWithTaking (grammar format) rest)
     → OnErr r (BeginsWithTaking (grammar format) rest)
 takes_memory format rest f (Ok found) h takes = tt
 takes_memory format rest f (Err e) h takes = takes (ap (λ (x : WireFault). Err x) h)
 
--- ---- counts in place of the trace
+-- ---- the counts instead of the trace
 
--- what a frame means after a trace is what it means after its counts
+-- a frame means the same after a trace and after the trace's counts
 same_record : (at : ℕ) (t : ATrace) (c : ACounts) (r : TraceRecord) (used : ℕ) → AreCountsOf t c → record_found (progress_from at c) r used ≡ record_found (progress_with at t) r used
 same_record at t c r used h = rw (h.clients, h.next r.client, h.total) refl
 
@@ -70,7 +70,7 @@ same_found at t c (Err e) h = unread_same at t c e
     unread_same : (at : ℕ) (t : ATrace) (c : ACounts) (e : WireFault) → found_in (Some (progress_from at c)) (Err e) ≡ found_in (Some (progress_with at t)) (Err e)
     unread_same at t c e = refl
 
--- what stands after the counts stands after the trace
+-- what comes next after the counts comes next after the trace
 pub stands_after : (at : ℕ) (b : Option ATrace) (c : Option ACounts) (rest : List ℕ) (found : Found) → IsBegunAs b c
     → Stands (option_map (progress_from at) c) rest found → Stands (option_map (progress_with at) b) rest found
 stands_after at None None rest found h s = s
@@ -78,7 +78,7 @@ stands_after at (Some t) (Some c) rest found h s = record { frame = s.frame; fra
 stands_after at None (Some c) rest found h s = absurd h
 stands_after at (Some t) None rest found h s = absurd h
 
--- there is room for an item that stands there
+-- there is room for the item that comes next
 pub item_room : (at : ℕ) (b : Option ATrace) (rest : List ℕ) (i : Item) (used : ℕ) → Stands (option_map (progress_with at) b) rest (Gives i used) → ItemHasRoom i b
 item_room at b rest (Head format clients) used s = tt
 item_room at None rest (Entry client op) used s = (given None s.frame (Entry client op) used s.found_is).0
@@ -93,11 +93,11 @@ item_turn at None rest (Entry client op) used s = (given None s.frame (Entry cli
 item_turn at (Some c) rest (Entry client op) used s = (given (Some (progress_from at c)) s.frame (Entry client op) used s.found_is).0
 item_turn at b rest End used s = tt
 
--- a record that is seen stands there, where it is found
+-- a borrowed record at the front of the rest comes next
 pub seen_stands : (p : Progress) (rest : List ℕ) (r : RecordView) → IsAnswer (grammar p.format) rest (Ok (parts (seen_message r), r.used))
     → record_found p (record { client = r.client; index = r.index; op = op_viewed r.op }) r.used ≡ Gives (Entry r.client (op_viewed r.op)) r.used → Stands (Some p) rest (Gives (Entry r.client (op_viewed r.op)) r.used)
 seen_stands p rest r is found = record {
   frame = Ok (seen_message r, r.used);
   frame_is = is;
-  found_is = record_means p (seen_message r) (record { client = r.client; index = r.index; op = op_viewed r.op }) r.used (record_again r.client r.index (op_viewed r.op)) ∙ found;
+  found_is = record_means p (seen_message r) (record { client = r.client; index = r.index; op = op_viewed r.op }) r.used (seen_again r.client r.index r.op) ∙ found;
 }

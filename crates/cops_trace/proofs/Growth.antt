@@ -1,8 +1,7 @@
--- A trace that grows by a record, and the beginnings of a trace.
-use Rattle.std.proofs.Common.{◌≡◌, ℕ, ◌^◌, ◌<◌, ◌≤◌, List, [], ◌∷◌, ◌++◌, length, sym, ap, subst, ◌∙◌, append_assoc, arith, inl, inr, Option, Some, None}
+-- Adding a record to a trace, and the prefixes of a trace.
+use Rattle.std.proofs.Common.{◌≡◌, ℕ, ◌^◌, ◌<◌, ◌≤◌, List, [], ◌∷◌, ◌++◌, length, sym, ap, subst, ◌∙◌, append_assoc, arith, inl, inr}
 use Rattle.std.proofs.lemmas.List.{length-append, append-nil}
 use Rattle.cops_types.specs.declared.format.Format.{Format}
-use Rattle.cops_types.specs.declared.format.Format.TheVariants.{One, Two}
 use Rattle.cops_types.specs.Histories.{Operation, write, read, missed}
 use Rattle.cops_types.specs.Format.{IsInFormat}
 use Rattle.cops_types.specs.declared.limits.TheConstants.{MAX_CLIENT_OPS, MAX_OPS}
@@ -37,13 +36,13 @@ IsTrace-front format c xs ys h = record {
   all = omega (arith, length-append xs ys, h.all);
 }
 
--- what has an encoding in a format is of it
+-- an operation with an encoding in a format is of that format
 pub op_in_format : (format : Format) (op : Operation) → IsOp format op → IsInFormat format op
 op_in_format format (write key content version) h = h.1
 op_in_format format (read key content version) h = h.1
 op_in_format format (missed key) h = tt
 
--- the texts of records, the last one apart
+-- the encodings of records with one more at the end
 pub records_text-push : (earlier rs : List ARecord) (r : ARecord) → records_text earlier (rs ++ r ∷ []) ≡ records_text earlier rs ++ record_text (earlier ++ rs) r
 records_text-push earlier [] r = append-nil (record_text earlier r) ∙ ap (λ (e : List ARecord). record_text e r) (sym (append-nil earlier))
 records_text-push earlier (q ∷ rs) r =

@@ -1,4 +1,4 @@
--- The items of a text: the message of each, and what stands where one does.
+-- The items of a text: the message of each, and what comes next after an item.
 use Rattle.std.proofs.Common.{◌≡◌, ◌≢◌, ℕ, ◌+◌, ◌^◌, ◌<◌, ◌≤◌, Bool, true, false, cond, ltb, eqb, List, [], ◌++◌, length, drop, Option, Some, None, Result, Ok, Err, refl, sym, ap, subst, ◌∙◌, arith, inl, inr, eq-eqb}
 use Rattle.std.specs.Prelude.{◌&&◌, IfSome}
 use Rattle.std.proofs.lemmas.Bool.{ltb-true, lt-ltb, eqb-true}
@@ -36,7 +36,7 @@ use Rattle.cops_trace.specs.Answer.{front, progress_at}
 use Rattle.cops_trace.specs.Parsing.{with_item, is_end}
 use Rattle.cops_trace.proofs.Growth.{beginning-none, beginning-grown, IsTrace-none, IsTrace-grown}
 
--- ---- tests that went one way
+-- ---- tests with a known outcome
 
 then_is : {X : Type 0} (b : Bool) (x y z : X) → (y ≡ z → ⊥) → cond b x y ≡ z → (b ≡ true) × (x ≡ z)
 then_is true x y z apart e = (refl, e)
@@ -55,7 +55,7 @@ item_message (Some p) (Entry client op) = record_message client (p.turn client) 
 item_message (Some p) End = TraceEnd p.total
 item_message _ _ = ByeOk
 
--- the item may stand there
+-- the item may come next
 abbrev pub Allows : Option Progress → Item → Type 0
 Allows None (Head format clients) = Unit {0}
 Allows (Some p) (Entry client op) = (client < p.clients) × (p.turn client < MAX_CLIENT_OPS) × (p.total < MAX_OPS)
@@ -70,14 +70,14 @@ unread_gives at wire.UnknownKind i used e = cc
 unread_gives at (wire.BadField offset) i used e = cc
 unread_gives at wire.TrailingBytes i used e = cc
 
--- what is said of one item and its length is said of what equals them
+-- a property of an item and its length holds for equal ones
 moved : (P : Item → ℕ → Type 0) (i j : Item) (n used : ℕ) → Gives i n ≡ Gives j used → P i n → P j used
 moved P i j n used e h =
     let item : i ≡ j = cc in
     let len : n ≡ used = cc in
     subst (λ (x : Item). P x used) item (subst (P i) len h)
 
--- the frame is the item's, which may stand there
+-- the frame is that of the item, which may come next
 abbrev pub IsItem : Option Progress → Result (Message × ℕ) WireFault → Item → ℕ → Type 0
 IsItem p d i used = Allows p i × (d ≡ Ok (item_message p i, used))
 
@@ -119,12 +119,12 @@ given None (Err x) i used e = absurd (unread_gives 0 x i used e)
 given (Some p) (Ok frame) i used e = later_given p frame.0 frame.1 i used e
 given (Some p) (Err x) i used e = absurd (unread_gives p.at x i used e)
 
--- what a message means that is a record
+-- the meaning of a message that is a record
 pub record_means : (p : Progress) (m : Message) (r : TraceRecord) (n : ℕ) → record_of_message m ≡ Some r → later_message p m n ≡ record_found p r n
 record_means p (TraceEnd ops) r n is = absurd cc
 record_means p m r n is = ap (λ (o : Option TraceRecord). found_among p o n) is
 
--- an item that may stand there does where its message's frame stands
+-- an item that may come next is what its message's frame means
 pub again : (p : Option Progress) (i : Item) (n : ℕ) → Allows p i → found_in p (Ok (item_message p i, n)) ≡ Gives i n
 again None (Head format clients) n h = ap (λ (o : Option Format). head_found o clients n) (number_again format)
 again (Some p) (Entry client op) n h =
@@ -133,25 +133,25 @@ again (Some p) (Entry client op) n h =
 again (Some p) End n h = rw (eq-eqb p.total p.total refl) refl
 again _ _ n h = absurd h
 
--- an item has one message, and the message one item
+-- an item has only one message, and the message only one item
 pub one_item : (p : Option Progress) (i j : Item) → Allows p i → Allows p j → item_message p i ≡ item_message p j → i ≡ j
 one_item p i j h k e =
     let both : Gives i 0 ≡ Gives j 0 = sym (again p i 0 h) ∙ ap (λ (m : Message). found_in p (Ok (m, 0))) e ∙ again p j 0 k in
     cc
 
--- ---- from what stands to the bytes, and back
+-- ---- from what comes next to the bytes, and back
 
--- an encoding in a format is the one encoding of its message
+-- a message's encoding in a format is its only encoding
 pub spelled_in : (format : Format) (m : Message) → IsMessage (grammar format) (parts m) → spelling (grammar format) (parts m) ≡ spelled m
 unfolding spelled
 spelled_in One m legal = sym (first-in-second m legal).1
 spelled_in Two m legal = refl
 
--- the item's message is legal in the format that is read next
+-- the item's message is legal in the format of the next frame
 abbrev pub IsLegalItem : Option Progress → Item → Type 0
 IsLegalItem p i = IsMessage (grammar (format_next p)) (parts (item_message p i))
 
--- the item may stand there, and its message's bytes do
+-- the item may come next, and the bytes begin with its message's encoding
 pub record Stood (p : Option Progress) (rest : List ℕ) (i : Item) (used : ℕ) : Type 0 where
   pub allowed : Allows p i
   pub legal : IsLegalItem p i
@@ -192,7 +192,7 @@ same_frame format rest (Ok d) (Err e) fits h k = absurd (ok_or_err (parts d.0, d
 same_frame format rest (Err d) (Ok e) fits h k = absurd (ok_or_err (parts e.0, e.1) d (sym (same_answer format rest fits (Err d) (Ok (parts e.0, e.1)) h k)))
 same_frame format rest (Err d) (Err e) fits h k = ap (λ (x : WireFault). Err x) (err_is d e (same_answer format rest fits (Err d) (Err e) h k))
 
--- one thing stands there
+-- what comes next is unique
 pub one_stands : (p : Option Progress) (rest : List ℕ) (a b : Found) → IsBytes rest → Stands p rest a → Stands p rest b → a ≡ b
 one_stands p rest a b fits s t = sym s.found_is ∙ ap (found_in p) (same_frame (format_next p) rest s.frame t.frame fits s.frame_is t.frame_is) ∙ t.found_is
 
@@ -204,7 +204,7 @@ frame_stays : (format : Format) (rest more : List ℕ) (d : Result (Message × �
 frame_stays format rest more (Ok d) long h = answer_stays (grammar format) rest more (Ok (parts d.0, d.1)) (λ e. cc) h
 frame_stays format rest more (Err e) long h = answer_stays (grammar format) rest more (Err e) (λ q. let s : e ≡ wire.Short = cc in long (ap (λ (x : WireFault). Err x) s)) h
 
--- what stands there stays, whatever follows, where it is not waited for
+-- what comes next stays whatever follows, unless it is incomplete
 pub stands_still : (p : Option Progress) (rest more : List ℕ) (found : Found) → found ≢ Waits → Stands p rest found → Stands p (rest ++ more) found
 stands_still p rest more found long s = record {
   frame = s.frame;
@@ -212,7 +212,7 @@ stands_still p rest more found long s = record {
   found_is = s.found_is;
 }
 
--- ---- what is waited for
+-- ---- incomplete frames
 
 neither : {X : Type 0} (b : Bool) (x y z : X) → x ≢ z → y ≢ z → cond b x y ≢ z
 neither true x y z p q = p
@@ -264,15 +264,15 @@ short_len : (format : Format) (rest : List ℕ) → IsShort (grammar format) res
 short_len format rest (inl h) = omega arith
 short_len format rest (inr h) = omega (arith, h.1, h.2, frame_most format)
 
--- what is waited for is less than a frame
+-- an incomplete frame has at most as many bytes as the longest frame
 pub waits_len : (p : Option Progress) (rest : List ℕ) → Stands p rest Waits → length rest ≤ 131076
 waits_len p rest s = short_len (format_next p) rest (subst (FrameIs (format_next p) rest) (waits_short p s.frame s.found_is) s.frame_is)
 
--- nothing is waited for
+-- no bytes are an incomplete frame
 pub nothing_waits : Stands None [] Waits
 nothing_waits = record { frame = Err wire.Short; frame_is = inl (omega arith); found_is = refl }
 
--- an item takes some of the bytes
+-- an item has at least one byte, and at most those of the longest frame
 pub stands_used : (p : Option Progress) (rest : List ℕ) (i : Item) (used : ℕ) → Stands p rest (Gives i used) → (0 < used) × (used ≤ length rest) × (used ≤ 4 + longest_body (format_next p))
 stands_used p rest i used s =
     let st = stood p rest i used s in
@@ -289,7 +289,7 @@ spelled_len format m legal =
 
 -- ---- the faults of frames
 
--- a fault of a frame that is there: not want of memory, a failed read, a cut, or bytes after the end
+-- a fault of a whole frame: not `Memory`, `ReadFailed`, `Cut` or `BytesAfterEnd`
 abbrev pub is_of_frame : TraceFault → Bool
 is_of_frame fault.Memory = false
 is_of_frame fault.ReadFailed = false
@@ -341,14 +341,14 @@ unread_fails at wire.UnknownKind = fails_so (fault.Frame wire.UnknownKind at) re
 unread_fails at (wire.BadField offset) = fails_so (fault.Frame (wire.BadField offset) (at + offset)) refl
 unread_fails at wire.TrailingBytes = fails_so (fault.Frame wire.TrailingBytes at) refl
 
--- what fails is a frame that is there
+-- a fault found next is that of a whole frame
 pub frame_fails : (p : Option Progress) (d : Result (Message × ℕ) WireFault) (e : TraceFault) → found_in p d ≡ Fails e → is_of_frame e ≡ true
 frame_fails None (Ok frame) = first_fails frame.0 frame.1
 frame_fails None (Err x) = unread_fails 0 x
 frame_fails (Some p) (Ok frame) = later_fails p frame.0 frame.1
 frame_fails (Some p) (Err x) = unread_fails p.at x
 
--- ---- a front of a text that grows by an item
+-- ---- a prefix of a text that grows by an item
 
 pub op_fits : (format : Format) (c i : ℕ) (op : Operation) → IsMessage (grammar format) (parts (record_message c i op)) → IsOp format op
 op_fits format c i (write key (Some value) version) h = ((omega (arith, h.1.1.0.1), h.1.1.0.2), h.1.1.1.0.2, h.1.1.1.1.0)

@@ -1,4 +1,4 @@
--- A trace that is kept as sessions and arrivals.
+-- A trace stored as sessions and arrivals.
 use Rattle.std.proofs.Common.{◌≡◌, ◌≢◌, ℕ, zero, suc, ◌+◌, ◌^◌, ◌<◌, ◌≤◌, ◌↔◌, cond, eqb, List, [], ◌∷◌, ◌++◌, length, get_or, refl, sym, ap, subst, ◌∙◌, append_assoc, arith, inl, inr, replicate, get_or-set_same, get_or-set_other, Option, Some, None}
 use Rattle.std.specs.List.{AllByRecursion}
 use Rattle.std.proofs.Math.ListN.{set, length-set}
@@ -20,7 +20,7 @@ use Rattle.cops_trace.proofs.Growth.{IsTrace-grown, IsTrace-none, with_records}
 
 -- ---- the sessions that records make
 
--- each record's client is one of so many
+-- each record's client is below the number of clients
 abbrev AreNamed : Format → ℕ → List ARecord → Type 0
 AreNamed format n rs = AllByRecursion (λ r. (r.client < n) × IsOp format r.op) rs
 
@@ -69,7 +69,7 @@ session_turn t c h =
 pub sessions_count : (t : ATrace) → IsTrace t → count_of (sessions_of t) ≡ length t.records
 sessions_count t h = omega (arith, after_count t.format t.clients (replicate t.clients []) t.records (length-replicate t.clients []) h.named, count-none t.clients)
 
--- ---- the records that are kept
+-- ---- the stored records
 
 pub length-records_from : (h : Sessions) (earlier cs : List ℕ) → length (records_from h earlier cs) ≡ length cs
 length-records_from h earlier [] = refl
@@ -98,7 +98,7 @@ read_last : (s : List Operation) (op : Operation) → get_or (s ++ op ∷ []) (l
 read_last [] op = refl
 read_last (x ∷ s) op = read_last s op
 
--- what was there is there
+-- adding an operation keeps the others
 op_stays : (h : Sessions) (c d i : ℕ) (op : Operation) → c < length h → i < length (get_or h d []) → op_in (with_op h c op) d i ≡ op_in h d i
 op_stays h c d i op inside there =
     let s = get_or h c [] in
@@ -123,13 +123,13 @@ records_stay h c op earlier (d ∷ cs) inside bound =
     let made : Operation → List ARecord → List ARecord = λ o rs. record { client = d; op = o } ∷ rs in
     ap (λ (o : Operation). made o (records_from (with_op h c op) (earlier ++ d ∷ []) cs)) first ∙ ap (made (op_in h d (times d earlier))) later
 
--- ---- the whole
+-- ---- the stored trace
 
 pub kept_len : (format : Format) (h : Sessions) (cs : List ℕ) (c : ℕ) → IsKept format h cs → length (get_or h c []) ≡ times c cs
 kept_len format h cs c k =
     ap (λ (g : Sessions). length (get_or g c [])) k.sessions ∙ session_turn (trace_of format h cs) c k.is_trace ∙ turn-records_from h c [] cs
 
--- one operation more
+-- adding one operation
 pub trace_grown : (format : Format) (h : Sessions) (cs : List ℕ) (c : ℕ) (op : Operation) → IsKept format h cs → c < length h → trace_of format (with_op h c op) (cs ++ c ∷ []) ≡ grown (trace_of format h cs) (record { client = c; op = op })
 trace_grown format h cs c op k inside =
     let g = with_op h c op in
@@ -175,13 +175,13 @@ kept_full format h cs c k =
     let all = kept_count format h cs k in
     (λ full room. full (omega (arith, turns, room.0), omega (arith, all, room.1)), λ full room. full (omega (arith, turns, room.0), omega (arith, all, room.1)))
 
--- the same of a client that is there
+-- the limits of a client that is there
 pub kept_refused : (format : Format) (h : Sessions) (cs : List ℕ) (c : ℕ) (P : Type 0) → IsKept format h cs → P ↔ ((c < length h) × types.IsFull h c) → P ↔ ((c < (trace_of format h cs).clients) × IsFull (trace_of format h cs) c)
 kept_refused format h cs c P k both =
     let full = kept_full format h cs c k in
     (λ p. let q = both.0 p in (q.0, full.0 q.1), λ q. both.1 (q.0, full.1 q.1))
 
--- what fits a format fits format 2
+-- a content that fits a format fits format 2
 content_in_2 : (format : Format) (content : Option (List ℕ)) → Fits format content → Fits Two content
 content_in_2 One (Some value) h = omega (arith, h)
 content_in_2 One None h = absurd h
@@ -196,10 +196,10 @@ named_in_2 : (format : Format) (n : ℕ) (rs : List ARecord) → AreNamed format
 named_in_2 format n [] h = tt
 named_in_2 format n (r ∷ rs) h = ((h.0.0, op_in_2 format r.op h.0.1), named_in_2 format n rs h.1)
 
--- so the same clients and records in format 2 are a trace
+-- the same clients and records in format 2 are a trace
 pub trace_in_2 : (t : ATrace) → IsTrace t → IsTrace (in_format_2 t)
 trace_in_2 t h = record { clients = h.clients; named = named_in_2 t.format t.clients t.records h.named; each = h.each; all = h.all }
 
--- and what is kept of it is kept of the same in format 2
+-- the stored form of a trace is that of the same trace in format 2
 pub kept_in_2 : (format : Format) (h : Sessions) (cs : List ℕ) → IsKept format h cs → IsKept Two h cs
 kept_in_2 format h cs kept = record { is_trace = trace_in_2 (trace_of format h cs) kept.is_trace; sessions = kept.sessions }

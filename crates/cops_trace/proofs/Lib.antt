@@ -1,8 +1,7 @@
 pub mod Lists
-pub mod Ends
 pub mod Growth
 pub mod Keeping
-pub mod Spellings
+pub mod Prefixes
 pub mod Items
 pub mod Founds
 pub mod Readings

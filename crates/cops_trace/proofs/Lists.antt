@@ -1,5 +1,5 @@
--- Facts of all elements, and counts.
-use Rattle.std.proofs.Common.{◌≡◌, ◌≢◌, ℕ, ◌+◌, ◌<◌, Bool, true, false, cond, eqb, List, [], ◌∷◌, ◌++◌, refl, ◌∙◌, arith, inl, inr, eq-eqb}
+-- Facts about all elements of a list, about its first elements, and about counts.
+use Rattle.std.proofs.Common.{◌≡◌, ◌≢◌, ℕ, suc, ◌+◌, ◌<◌, Bool, true, false, cond, eqb, List, [], ◌∷◌, ◌++◌, length, take, refl, ap, ◌∙◌, arith, inl, inr, eq-eqb}
 use Rattle.std.specs.Prelude.{count_by, ◌⊎◌}
 use Rattle.std.specs.List.{AllByRecursion}
 use Rattle.std.proofs.lemmas.Bool.{cases_Bool, cases_lt, eqb-true}
@@ -18,7 +18,13 @@ pub all_back : {X : Type 0} (P : X → Type 0) (xs ys : List X) → AllByRecursi
 all_back P [] ys h = h
 all_back P (x ∷ xs) ys h = all_back P xs ys h.1
 
--- two numbers are one, or not
+pub take_past : (xs ys : List ℕ) (n : ℕ) → take (length xs + n) (xs ++ ys) ≡ xs ++ take n ys
+take_past [] ys n = let e : 0 + n ≡ n = omega arith in ap (λ (m : ℕ). take m ys) e
+take_past (x ∷ xs) ys n =
+    let e : suc (length xs) + n ≡ suc (length xs + n) = omega arith in
+    ap (λ (m : ℕ). take m (x ∷ (xs ++ ys))) e ∙ ap (λ (l : List ℕ). x ∷ l) (take_past xs ys n)
+
+-- two numbers are equal, or not
 pub same_or_other : (a b : ℕ) → (a ≡ b) ⊎ (eqb a b ≡ false)
 same_or_other a b = elim (cases_Bool (eqb a b)) [ inl p ↦ inl (eqb-true _ _ p) | inr p ↦ inr p ]
 
@@ -28,7 +34,7 @@ turn-append c xs ys = sum_by-append (λ (r : ARecord). cond (eqb r.client c) 1 0
 pub turn-cons : (c : ℕ) (r : ARecord) (rs : List ARecord) → turn c (r ∷ rs) ≡ cond (eqb r.client c) 1 0 + turn c rs
 turn-cons c r rs = sum_by-cons (λ (r : ARecord). cond (eqb r.client c) 1 0) r rs
 
--- the client's turn is one more, and each other's stays
+-- a record raises its client's turn by one, and leaves the others
 pub turn-same : (rs : List ARecord) (r : ARecord) → turn r.client (rs ++ r ∷ []) ≡ turn r.client rs + 1
 turn-same rs r = turn-append r.client rs (r ∷ []) ∙ omega (arith, one r)
   where
@@ -38,7 +44,7 @@ turn-same rs r = turn-append r.client rs (r ∷ []) ∙ omega (arith, one r)
 pub turn-other : (rs : List ARecord) (r : ARecord) (c : ℕ) → eqb r.client c ≡ false → turn c (rs ++ r ∷ []) ≡ turn c rs
 turn-other rs r c h = turn-append c rs (r ∷ []) ∙ rw h (omega arith)
 
--- the same of numbers
+-- like `turn`, for a list of numbers
 abbrev pub times : ℕ → List ℕ → ℕ
 times c cs = count_by (λ d. eqb d c) cs
 
@@ -54,7 +60,7 @@ one_if b h = rw h refl
 pub times-same : (c : ℕ) (cs : List ℕ) → times c (c ∷ cs) ≡ times c cs + 1
 times-same c cs = times-cons c c cs ∙ omega (arith, one_if (eqb c c) (eq-eqb c c refl))
 
--- a room that is not refused is there
+-- if the limits are not reached, there is room
 pub not_refused : (a b m n : ℕ) → (((a < m) × (b < n) → ⊥) → ⊥) → (a < m) × (b < n)
 not_refused a b m n h =
     elim (cases_lt a m) [
@@ -62,7 +68,7 @@ not_refused a b m n h =
       | inr p ↦ absurd (h (λ r. let below = r.0 in absurd (omega arith)))
     ]
 
--- a list that is not empty is none with more behind it
+-- a list that is not empty stays so with more at its end
 pub nothing_before : (xs ys : List ℕ) → xs ≢ [] → xs ++ ys ≢ []
 nothing_before [] ys some e = some refl
 nothing_before (x ∷ xs) ys some e = cc

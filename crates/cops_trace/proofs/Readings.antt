@@ -1,4 +1,4 @@
--- Bytes are one text, or have one first fault.
+-- Bytes are the text of only one trace, or have only one first fault.
 use Rattle.std.proofs.Common.{◌≡◌, ◌≢◌, ℕ, suc, ◌+◌, ◌*◌, ◌^◌, ◌<◌, ◌≤◌, false, cond, eqb, List, [], ◌∷◌, ◌++◌, length, Option, Some, None, Result, Ok, Err, refl, sym, ap, subst, ◌∙◌, append_assoc, arith, inl, inr, eq-eqb}
 use Rattle.std.specs.Prelude.{IfSome}
 use Rattle.std.proofs.lemmas.Bool.{ne_eqb}
@@ -9,6 +9,7 @@ use Rattle.cops_types.specs.declared.op.Op.TheVariants.{Put, Del, Got, Gone, Mis
 use Rattle.cops_types.specs.Histories.{Operation, write, read, missed}
 use Rattle.cops_types.specs.Operations.{operation_of}
 use Rattle.cops_types.specs.declared.limits.TheConstants.{MAX_CLIENT_OPS, MAX_OPS}
+use Rattle.cops_types.specs.Format.{number_of}
 use Rattle.cops_types.specs.declared.format.Format.{Format}
 use Rattle.cops_types.specs.declared.format.Format.TheVariants.{One, Two}
 use Rattle.cops_wire.specs.Grammar.{grammar}
@@ -25,9 +26,9 @@ use Rattle.cops_trace.specs.declared.found.Item.TheVariants.{Head, Op as Entry, 
 use Rattle.cops_trace.specs.declared.found.Found.{Found}
 use Rattle.cops_trace.specs.declared.found.Found.TheVariants.{Gives, Waits, Fails}
 use Rattle.cops_wire.specs.Message.{parts, spelled}
+use Rattle.cops_wire.specs.declared.message.Message.TheVariants.{TraceHead}
 use Rattle.cops_wire.specs.Records.{record_message}
-use Rattle.cops_trace.specs.Text.{ARecord, ATrace, IsTrace, IsOp, turn, record_text, records_text, beginning, text}
-use Rattle.cops_trace.proofs.Ends.{end_text}
+use Rattle.cops_trace.specs.Text.{ARecord, ATrace, IsTrace, IsOp, turn, record_text, records_text, beginning, text, end_text}
 use Rattle.cops_trace.specs.Next.{Stands, format_next}
 use Rattle.cops_trace.specs.Writing.{head_frame}
 use Rattle.cops_trace.specs.Answer.{progress_of, progress_at, front, Begins, HasWrongFrame, IsCut, HasMore, HasFault, Says, Agrees}
@@ -43,7 +44,7 @@ abbrev items_text : Option ATrace → List Item → List ℕ
 items_text b [] = []
 items_text b (i ∷ is) = spelled (item_message (progress_at b) i) ++ items_text (with_item i b) is
 
--- each may stand after those before it, and none is the end
+-- each item may come after those before it, and none is the end
 abbrev AllStand : Option ATrace → List Item → Type 0
 AllStand b [] = Unit {0}
 AllStand b (i ∷ is) = Allows (progress_at b) i × IsLegalItem (progress_at b) i × (is_end i ≡ false) × AllStand (with_item i b) is
@@ -52,7 +53,7 @@ abbrev after_items : Option ATrace → List Item → Option ATrace
 after_items b [] = b
 after_items b (i ∷ is) = after_items (with_item i b) is
 
--- no head and no record stands there
+-- the bytes begin with no head and no record
 abbrev pub IsLast : Option ATrace → List ℕ → Type 0
 IsLast b rest = (i : Item) (used : ℕ) → is_end i ≡ false → Stands (progress_at b) rest (Gives i used) → ⊥
 
@@ -67,7 +68,7 @@ pub same_message : (format : Format) (m n : Message) (x y : List ℕ) → IsMess
 same_message format m n x y legal_m legal_n e =
     one_message format m n x y legal_m legal_n (ap (λ (l : List ℕ). l ++ x) (spelled_in format m legal_m) ∙ e ∙ ap (λ (l : List ℕ). l ++ y) (sym (spelled_in format n legal_n)))
 
--- two ways to go on are one
+-- two lists of items for the same bytes are equal
 same_items : (b : Option ATrace) (is js : List Item) (x y : List ℕ) → AllStand b is → AllStand b js → IsLast (after_items b is) x → IsLast (after_items b js) y
     → items_text b is ++ x ≡ items_text b js ++ y → (is ≡ js) × (x ≡ y)
 same_items b [] [] x y h k s t e = (refl, e)
@@ -89,9 +90,9 @@ same_items b (i ∷ is) (j ∷ js) x y h k s t e =
     last_at : (b : Option ATrace) (i j : Item) (js : List Item) (y : List ℕ) → i ≡ j → IsLast (after_items (with_item j b) js) y → IsLast (after_items (with_item i b) js) y
     last_at b i j js y item t = subst (λ (o : Item). IsLast (after_items (with_item o b) js) y) (sym item) t
 
--- ---- the items of a front
+-- ---- the items of a prefix
 
--- an operation that has a spelling is what some `Op` is
+-- an operation with an encoding is that of some `Op`
 op_of : Operation → Op
 op_of (write key (Some value) version) = Put key value version
 op_of (read key (Some value) version) = Got key value version
@@ -149,10 +150,14 @@ head_legal : (format : Format) (clients : ℕ) → clients < 2 ^ 16 → IsLegalI
 head_legal One clients few = (omega arith, (few, tt))
 head_legal Two clients few = (omega arith, (few, tt))
 
+-- the head is no longer than a frame may be
+pub head_few : (format : Format) (clients : ℕ) → clients < 2 ^ 16 → length (spelled (TraceHead (number_of format) clients)) ≤ 131076
+head_few format clients few = (spelled_len One (TraceHead (number_of format) clients) (head_legal format clients few)).1
+
 pub end_legal : (t : ATrace) → IsTrace t → IsLegalItem (Some (progress_of t)) End
 end_legal t h = (omega (arith, h.all), tt)
 
--- the items of a front stand, are its text, and lead to it
+-- the items of a prefix may come one after the other, make up its text, and lead to it
 record Unfolds (b : Option ATrace) : Type 0 where
   all : AllStand None (items_of b)
   text_is : front b ≡ items_text None (items_of b)
@@ -167,7 +172,7 @@ unfolds (Some t) h = record {
   after_is = entries_after t.format t.clients [] t.records h.named;
 }
 
--- ---- how long a text is
+-- ---- the length of a text
 
 items_len : (b : Option ATrace) (is : List Item) → AllStand b is → length (items_text b is) ≤ 131076 * length is
 items_len b [] h = omega arith
@@ -191,7 +196,7 @@ front_len b h =
 pub text_len : (t : ATrace) → IsTrace t → length (text t) ≤ 2097216262152
 text_len t h = omega (arith, length-append (beginning t) (end_text t), front_len (Some t) h, (spelled_len t.format (TraceEnd (length t.records)) (end_legal t h)).1)
 
--- two fronts of the same bytes, after which no head and no record stands, are one
+-- two prefixes of the same bytes, after which no head and no record comes, are equal
 pub fronts_one : (bytes : List ℕ) (b c : Option ATrace) (x y : List ℕ) → Begins bytes b x → Begins bytes c y → IsLast b x → IsLast c y → (b ≡ c) × (x ≡ y)
 fronts_one bytes b c x y h k s t =
     let ub = unfolds b h.is_trace in
@@ -206,9 +211,9 @@ fronts_one bytes b c x y h k s t =
     at : (d e : Option ATrace) (z : List ℕ) → d ≡ e → IsLast e z → IsLast d z
     at d e z p l = subst (λ (o : Option ATrace). IsLast o z) (sym p) l
 
--- ---- the answer that bytes have
+-- ---- the result that bytes have
 
--- the answer of what stands after a front
+-- the result for what comes after a prefix
 abbrev outcome : Option ATrace → List ℕ → Found → Result ATrace TraceFault
 outcome b rest (Fails e) = Err e
 outcome b rest Waits = Err (Cut (length (front b)))
@@ -224,7 +229,7 @@ record Settles (bytes : List ℕ) (a : Result ATrace TraceFault) : Type 0 where
   last : IsLast begun rest
   answer_is : a ≡ outcome begun rest found
 
--- what stands is neither a head nor a record
+-- what comes next is neither a head nor a record
 last_where : (b : Option ATrace) (rest : List ℕ) (found : Found) → IsBytes rest → Stands (progress_at b) rest found → ((i : Item) (used : ℕ) → is_end i ≡ false → found ≢ Gives i used) → IsLast b rest
 last_where b rest found fits s none i used not_end t = none i used not_end (one_stands (progress_at b) rest found (Gives i used) fits s t)
 
@@ -300,11 +305,11 @@ one_settled bytes a b fits h k =
     let found = one_stands (progress_at k.begun) k.rest h.found k.found (rest_fits bytes k.begun k.rest fits k.begins) moved k.stands in
     h.answer_is ∙ ap (λ (o : Option ATrace). outcome o h.rest h.found) one.0 ∙ ap (λ (x : List ℕ). outcome k.begun x h.found) one.1 ∙ ap (outcome k.begun k.rest) found ∙ sym k.answer_is
 
--- bytes are one text, or have one first fault
+-- two results for the same bytes are equal
 pub one_answer : (bytes : List ℕ) (a b : Result ATrace TraceFault) → IsBytes bytes → Says bytes a → Says bytes b → a ≡ b
 one_answer bytes a b fits h k = one_settled bytes a b fits (settles bytes a fits h) (settles bytes b fits k)
 
--- the only answer
+-- the result of a reader is the only one
 pub only_answer : (bytes : List ℕ) (r : Result ATrace TraceFault) → IsBytes bytes → Agrees bytes r → (a : Result ATrace TraceFault) → Says bytes a → answer.Gives a r
 only_answer bytes (Ok t) fits h a k = one_answer bytes a (Ok t) fits k h
 only_answer bytes (Err e) fits (inl h) a k = inl h

@@ -1,4 +1,4 @@
--- What a reader of a trace's text keeps.
+-- The state of a reader of a trace's text.
 use Rattle.std.proofs.Common.{◌≡◌, ℕ, zero, suc, ◌+◌, ◌*◌, ◌<◌, ◌≤◌, Bool, true, false, List, [], ◌∷◌, ◌++◌, length, Option, Some, None, Ok, Err, refl, sym, ap, subst, ◌∙◌, arith, inl, inr, eq-eqb, get_or-set_same, get_or-set_other}
 use Rattle.std.specs.Prelude.{◌⊎◌, option_map, unwrap_or}
 use Rattle.std.proofs.lemmas.List.{length-append, length-replicate, length-set}
@@ -26,7 +26,7 @@ use Rattle.cops_trace.proofs.Growth.{with_records}
 use Rattle.cops_trace.proofs.Items.{Allows, stands_still}
 use Rattle.cops_trace.proofs.Lists.{nothing_before, same_or_other, turn-other, turn-same}
 
--- a fault that stands at the front of the rest stays, whatever follows
+-- a fault at the front of the rest stays, whatever follows
 pub stopped_more : (r : Reading) (piece : List ℕ) (f : Option TraceFault) → IsStoppedBy r f → IsStoppedBy (record r { rest = r.rest ++ piece }) f
 stopped_more r piece None h = tt
 stopped_more r piece (Some e) h = go r.ended h
@@ -35,7 +35,7 @@ stopped_more r piece (Some e) h = go r.ended h
     go false st = stands_still (progress_so_far r) r.rest piece (Fails e) (λ q. cc) st
     go true f = (nothing_before r.rest piece f.0, f.1)
 
--- so many frames of a format are far fewer bytes than the greatest number
+-- the length of `frames` frames of a format is far below the greatest number
 frames_most : (format : Format) (frames at : ℕ) → frames ≤ MAX_OPS + 2 → at ≤ (4 + longest_body format) * frames → at ≤ 2097216262152
 frames_most One frames at few h = omega (arith, few, h)
 frames_most Two frames at few h = omega (arith, few, h)
@@ -44,13 +44,13 @@ frames_more : (format : Format) (frames next at used : ℕ) → next ≡ frames 
 frames_more One frames next at used one h fits = omega (arith, one, h, fits)
 frames_more Two frames next at used one h fits = omega (arith, one, h, fits)
 
--- the place stays far below the greatest number
+-- the offset stays far below the greatest number
 pub within_reach : (c : Option ACounts) (e : Bool) (at : ℕ) → IsWithinReach c e at → at ≤ 2097216262152
 within_reach None e at h = omega (arith, h.0)
 within_reach (Some c) false at h = frames_most c.format (c.total + 1) at (omega (arith, h.0)) h.1
 within_reach (Some c) true at h = frames_most c.format (c.total + 2) at (omega (arith, h.0)) h.1
 
--- and is within reach after an item
+-- the offset is within reach after an item
 pub reach_after : (at used : ℕ) (c : Option ACounts) (i : Item) → let p = option_map (progress_from at) c in Allows p i → IsWithinReach c false at → used ≤ 4 + longest_body (format_next p) → IsWithinReach (counts_with i c) (is_end i) (at + used)
 reach_after at used None (Head One clients) allowed h fits = (omega arith, omega (arith, h.0, fits))
 reach_after at used None (Head Two clients) allowed h fits = (omega arith, omega (arith, h.0, fits))
@@ -60,16 +60,16 @@ reach_after at used (Some c) (Head format clients) allowed h fits = absurd allow
 reach_after at used (Some c) (Entry client op) allowed h fits = (omega (arith, allowed.2), frames_more c.format (c.total + 1) (c.total + 1 + 1) at used refl h.1 fits)
 reach_after at used (Some c) End allowed h fits = (h.0, frames_more c.format (c.total + 1) (c.total + 2) at used (omega arith) h.1 fits)
 
--- what stands in a reading stands in the same one
+-- equal states have the same item next
 pub stands_too : (r old : Reading) (i : Item) (used : ℕ) → r ≡ old → Stands (progress_so_far old) old.rest (Gives i used) → Stands (progress_so_far r) r.rest (Gives i used)
 stands_too r old i used same s = subst (λ (x : Reading). Stands (progress_so_far x) x.rest (Gives i used)) (sym same) s
 
--- a fault that stands at the front of the rest is kept
+-- a fault at the front of the rest is kept
 pub stopped_here : (r old : Reading) (kept : Option TraceFault) (e : TraceFault) → r ≡ old → r.ended ≡ false → Stands (progress_so_far old) old.rest (Fails e) → FailsIn r.ended (record r { fault = kept }) e
 stopped_here r old kept e same going s =
     subst (λ (b : Bool). FailsIn b (record r { fault = kept }) e) (sym going) (subst (λ (x : Reading). Stands (progress_so_far x) x.rest (Fails e)) (sym same) s)
 
--- where no fault was answered none has to stand there
+-- without a returned fault there is nothing to show
 pub stopped_none : (r : Reading) (f : Option TraceFault) → f ≡ None → IsStoppedBy r f
 stopped_none r f none = subst (λ (x : Option TraceFault). IsStoppedBy r x) (sym none) tt
 
@@ -95,7 +95,7 @@ counts_grown t c r h inside = record {
   total = omega (arith, h.total, length-append t.records (r ∷ []));
 }
 
--- after an item the counts are still the trace's
+-- after an item the counts are still those of the trace
 pub begun_after : (b : Option ATrace) (c : Option ACounts) (i : Item) → IsBegunAs b c → ItemHasTurn i c → IsBegunAs (with_item i b) (counts_with i c)
 begun_after b c (Head format clients) h turn = counts_none format clients
 begun_after None None (Entry client op) h turn = absurd turn
@@ -104,7 +104,7 @@ begun_after None (Some c) (Entry client op) h turn = absurd h
 begun_after (Some t) None (Entry client op) h turn = absurd h
 begun_after b c End h turn = h
 
--- ---- a reading and the stage with the trace
+-- ---- the state of a reader and that of parsing with the trace
 
 fails_too : (b : Option ATrace) (r : Reading) (e : TraceFault) → IsBegunAs b r.counts → FailsIn r.ended r e → FailsAt r.ended (stage_of b r) e
 fails_too b r e h f = go r.ended f
@@ -120,16 +120,16 @@ waits_too b r h w = go r.ended w
     go false s = stands_after r.at b r.counts r.rest Waits h s
     go true none = none
 
--- a step, by what the reader gives: a fault
+-- a step where the reader returns a fault
 pub step_err : (b : Option ATrace) (old new : Reading) (e : TraceFault) → IsBegunAs b old.counts → GivesNext old (Err e) new → (e ≡ Memory) ⊎ FailsAt old.ended (stage_of b old) e
 step_err b old new e h (inl m) = inl m.0
 step_err b old new e h (inr f) = inr (fails_too b old e h f.0)
 
--- no whole item
+-- a step where the reader returns nothing
 pub step_waited : (b : Option ATrace) (old new : Reading) → IsBegunAs b old.counts → GivesNext old (Ok None) new → IsBegunAs b new.counts × StepGives (stage_of b old) (Ok false) (stage_of b new)
 step_waited b old new h (fine, waits, same) = (subst (λ (r : Reading). IsBegunAs b r.counts) (sym same) h, (waits_too b old h waits, ap (stage_of b) same))
 
--- an item
+-- a step where the reader returns an item
 pub step_room : (b : Option ATrace) (old new : Reading) (i : Item) → IsBegunAs b old.counts → GivesNext old (Ok (Some i)) new → ItemHasRoom i b
 step_room b old new i h (fine, going, (used, stands, same)) = item_room old.at b old.rest i used (stands_after old.at b old.counts old.rest (Gives i used) h stands)
 
@@ -140,20 +140,20 @@ step_begun b old new i h (fine, going, (used, stands, same)) =
 pub step_took : (b : Option ATrace) (old new : Reading) (i : Item) → IsBegunAs b old.counts → GivesNext old (Ok (Some i)) new → StepGives (stage_of b old) (Ok true) (stage_of (with_item i b) new)
 step_took b old new i h (fine, going, (used, stands, same)) = (going, (i, used, stands_after old.at b old.counts old.rest (Gives i used) h stands, ap (stage_of (with_item i b)) same))
 
--- the item of so many bytes stands at the front of the rest, before the end, where no fault was answered
+-- the rest begins with an item of `used` bytes, before the end, and no fault was returned
 pub record IsNextIn (r : Reading) (item : Item) (used : ℕ) : Type 0 where
   pub fine : r.fault ≡ None
   pub going : r.ended ≡ false
   pub stands : Stands (progress_so_far r) r.rest (Gives item used)
 
--- what stands next is given next
+-- the item that comes next is returned next
 pub next_given : (r : Reading) (i : Item) (used : ℕ) → IsNextIn r i used → GivesNext r (Ok (Some i)) (past i used r)
 next_given r i used n = (n.fine, n.going, (used, n.stands, refl))
 
 -- ---- a sink
 
 module _ {S : Type 0} (took : S → ATrace → Type 0) where
-  -- what a sink took that stands for the one that was begun
+  -- what the sink took is the trace so far
   pub taken_as : (begun : Option S) (sink : S) (b : Option ATrace) → begun ≡ Some sink → IsTakenAs took begun b → (t : ATrace) × (b ≡ Some t) × took sink t
   taken_as begun sink b same h = go b (subst (λ (o : Option S). IsTakenAs took o b) same h)
     where
@@ -175,7 +175,7 @@ module _ {S : Type 0} (took : S → ATrace → Type 0) where
       (subst (λ (x : Reading). SettledInto took [] None x) (sym fresh)
       (record { into = record { underway = record { trace = None; taken = tt; counts = tt }; stage = fed_none }; settled = none_settled }))
 
-  -- with a piece more
+  -- after one more piece
   pub underway_more : (begun : Option S) (old new : Reading) (piece : List ℕ) → new ≡ record old { rest = old.rest ++ piece } → IsUnderway took begun old → IsUnderway took begun new
   underway_more begun old new piece same h =
       subst (IsUnderway took begun) (sym same) (record { trace = h.trace; taken = h.taken; counts = h.counts })
@@ -187,7 +187,7 @@ module _ {S : Type 0} (took : S → ATrace → Type 0) where
         stage = fed_more fed piece (stage_of h.underway.trace old) fits h.stage;
       })
 
-  -- with a sink that got ready
+  -- after the sink prepared for coming operations
   pub underway_ready : (from to : Option S) (old new : Reading) → new ≡ old → ((t : Option ATrace) → IsTakenAs took from t → IsTakenAs took to t) → IsUnderway took from old → IsUnderway took to new
   underway_ready from to old new same ready h =
       subst (IsUnderway took to) (sym same) (record { trace = h.trace; taken = ready h.trace h.taken; counts = h.counts })
@@ -225,7 +225,7 @@ module _ {S : Type 0} (took : S → ATrace → Type 0) where
       → Stops fed e
   into_fails fed old new from to e h steps = let u = h.underway in step_fails fed (stage_of u.trace old) e h.stage (steps u.trace u.taken u.counts)
 
-  -- ---- where nothing more comes
+  -- ---- when no more bytes come
 
   -- the sink took a whole trace
   pub closed_whole : (fed : List ℕ) (begun : Option S) (r : Reading) (sink : S) → begun ≡ Some sink → r.ended ≡ true → SettledInto took fed begun r → TakesFrom took fed (record { sink = sink; cut = None })
@@ -234,7 +234,7 @@ module _ {S : Type 0} (took : S → ATrace → Type 0) where
       let t = taken_as begun sink u.trace same u.taken in
       record { bytes_fit = h.into.stage.fits; trace = t.0; took_it = t.2; begins = fed_whole fed (stage_of u.trace r) t.0 h.into.stage ended t.1 h.settled }
 
-  -- or the records before a cut
+  -- the sink took the records before a cut
   pub closed_cut : (fed : List ℕ) (begun : Option S) (r : Reading) (sink : S) → begun ≡ Some sink → r.ended ≡ false → SettledInto took fed begun r → TakesFrom took fed (record { sink = sink; cut = Some r.at })
   closed_cut fed begun r sink same going h =
       let u = h.into.underway in
@@ -242,7 +242,7 @@ module _ {S : Type 0} (took : S → ATrace → Type 0) where
       let cut = fed_so_far fed (stage_of u.trace r) h.into.stage going h.settled in
       record { bytes_fit = h.into.stage.fits; trace = t.0; took_it = t.2; begins = subst (λ (b : Option ATrace). IsCutAfter fed (unwrap_or b (record { format = One; clients = 0; records = [] })) r.at) t.1 cut }
 
-  -- or nothing, where the head was cut
+  -- the sink took nothing, since the head was cut
   pub closed_none : (fed : List ℕ) (begun : Option S) (r : Reading) (sink : S) → begun ≡ None → took sink (record { format = One; clients = 0; records = [] }) → SettledInto took fed begun r → TakesFrom took fed (record { sink = sink; cut = Some r.at })
   closed_none fed begun r sink none fresh h =
       let u = h.into.underway in

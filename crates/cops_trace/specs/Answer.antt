@@ -1,4 +1,4 @@
--- What a trace's bytes are: the text of a trace, or a text with a first fault.
+-- What bytes are: the text of a trace, or a text with a first fault.
 use Rattle.std.specs.Prelude.{◌≡◌, ◌≢◌, ℕ, ◌⊎◌, List, [], ◌++◌, length, Option, Some, None, IfSome, Result, Ok, Err, option_map, unwrap_or}
 use Rattle.cops_types.specs.declared.format.Format.TheVariants.{One}
 use Rattle.cops_trace.specs.declared.fault.TraceFault.{TraceFault}
@@ -10,7 +10,7 @@ use Rattle.cops_wire.specs.Answer.{IsBytes}
 use Rattle.cops_trace.specs.Text.{ATrace, IsTrace, turn, beginning, text}
 use Rattle.cops_trace.specs.Next.{Progress, Stands}
 
--- how far a text has come with the head and the records of a trace
+-- the progress of a text after the head and the records of a trace
 abbrev pub progress_of : ATrace → Progress
 progress_of t = record {
   format = t.format;
@@ -20,28 +20,28 @@ progress_of t = record {
   at = length (beginning t);
 }
 
--- a front of a text: nothing, or the head and the records of a trace
+-- a prefix of a text: nothing, or the head and the records of a trace
 abbrev pub front : Option ATrace → List ℕ
 front None = []
 front (Some t) = beginning t
 
--- how far a text has come with that
+-- the progress of a text after that prefix
 abbrev pub progress_at : Option ATrace → Option Progress
 progress_at = option_map progress_of
 
--- the bytes begin so, and this is the rest of them
+-- the bytes are such a prefix and then this rest
 pub record Begins (bytes : List ℕ) (begun : Option ATrace) (rest : List ℕ) : Type 0 where
   pub is_trace : IfSome begun IsTrace
   pub parts : bytes ≡ front begun ++ rest
 
--- after a front of a text stands a frame with this fault
+-- after a prefix of a text comes a frame with this fault
 pub record HasWrongFrame (bytes : List ℕ) (e : TraceFault) : Type 0 where
   pub begun : Option ATrace
   pub rest : List ℕ
   pub begins : Begins bytes begun rest
   pub stands : Stands (progress_at begun) rest (Fails e)
 
--- the bytes end before the next frame, and so before the end, is whole
+-- the bytes end before the next frame is whole, and so before the end
 pub record IsCut (bytes : List ℕ) (e : TraceFault) : Type 0 where
   pub begun : Option ATrace
   pub rest : List ℕ
@@ -49,7 +49,7 @@ pub record IsCut (bytes : List ℕ) (e : TraceFault) : Type 0 where
   pub stands : Stands (progress_at begun) rest Waits
   pub fault_is : e ≡ Cut (length (front begun))
 
--- the bytes are cut at this place, and before it come the head and the records of a trace, or nothing
+-- the bytes are cut at this offset, and before it come the head and the records of this trace, or nothing
 pub record IsCutAfter (bytes : List ℕ) (t : ATrace) (offset : ℕ) : Type 0 where
   pub begun : Option ATrace
   pub rest : List ℕ
@@ -71,39 +71,39 @@ pub record HasMore (bytes : List ℕ) (e : TraceFault) : Type 0 where
 abbrev pub HasFault : List ℕ → TraceFault → Type 0
 HasFault bytes e = HasWrongFrame bytes e ⊎ IsCut bytes e ⊎ HasMore bytes e
 
--- the bytes are this trace's text, or have this fault first
+-- the bytes are this trace's text, or this is their first fault
 abbrev pub Says : List ℕ → Result ATrace TraceFault → Type 0
 Says bytes (Ok t) = IsTrace t × (bytes ≡ text t)
 Says bytes (Err e) = HasFault bytes e
 
--- what a reader answered holds of the bytes, unless memory or the device failed
+-- the result of a reader is right for the bytes, unless memory or the device failed
 abbrev pub Agrees : List ℕ → Result ATrace TraceFault → Type 0
 Agrees bytes (Ok t) = Says bytes (Ok t)
 Agrees bytes (Err e) = (e ≡ Memory) ⊎ (e ≡ ReadFailed) ⊎ HasFault bytes e
 
--- it answered this, unless memory or the device failed
+-- the reader's result is this one, unless memory or the device failed
 abbrev pub Gives : Result ATrace TraceFault → Result ATrace TraceFault → Type 0
 Gives answer (Ok t) = answer ≡ Ok t
 Gives answer (Err e) = (e ≡ Memory) ⊎ (e ≡ ReadFailed) ⊎ (answer ≡ Err e)
 
--- the bytes are this trace's text, or are cut at this place after its whole records
+-- the bytes are this trace's text, or are cut at this offset after its whole records
 abbrev pub BeginsAs : List ℕ → ATrace → Option ℕ → Type 0
 BeginsAs bytes t None = Says bytes (Ok t)
 BeginsAs bytes t (Some offset) = IsCutAfter bytes t offset
 
--- what was read so far holds of the bytes: a cut is no fault
+-- the result of reading so far is right for the bytes: a cut is no fault
 abbrev pub AgreesSoFar : List ℕ → Result Partial TraceFault → Type 0
 AgreesSoFar bytes (Ok p) = BeginsAs bytes p.trace p.cut
 AgreesSoFar bytes (Err e) = (e ≡ Memory) ⊎ (e ≡ ReadFailed) ⊎ (HasFault bytes e × ((offset : ℕ) → e ≢ Cut offset))
 
--- What took the records of these bytes, by whether it took a trace: all of them, or the whole ones before a cut.
+-- The sink took the records of these bytes: all of them, or the whole ones before a cut. `took` says which trace a sink took.
 pub record TakesFrom {S : Type 0} (took : S → ATrace → Type 0) (bytes : List ℕ) (taken : Taken S) : Type 0 where
   pub bytes_fit : IsBytes bytes
   pub trace : ATrace
   pub took_it : took taken.sink trace
   pub begins : BeginsAs bytes trace taken.cut
 
--- what was taken holds of the bytes: a cut is no fault
+-- the result of reading into a sink is right for the bytes: a cut is no fault
 abbrev pub AgreesInto : {S : Type 0} → (S → ATrace → Type 0) → List ℕ → Result (Taken S) TraceFault → Type 0
 AgreesInto took bytes (Ok taken) = TakesFrom took bytes taken
 AgreesInto took bytes (Err e) = (e ≡ Memory) ⊎ (e ≡ ReadFailed) ⊎ (HasFault bytes e × ((offset : ℕ) → e ≢ Cut offset))

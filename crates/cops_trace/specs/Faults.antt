@@ -1,9 +1,9 @@
--- The place of a trace's fault.
+-- The offset of a trace's fault.
 use Rattle.std.specs.Prelude.{ℕ, Option, Some, None}
 use Rattle.cops_trace.specs.declared.fault.TraceFault.{TraceFault}
 use Rattle.cops_trace.specs.declared.fault.TraceFault.TheVariants.{Memory, NoHead, BadFormat, ClientOutOfRange, IndexOutOfTurn, BadCount, BytesAfterEnd, Cut, Frame, ReadFailed, TooLong, NotARecord}
 
--- the offset that a fault carries, but for want of memory and a failed read
+-- the offset of a fault; `Memory` and `ReadFailed` have none
 abbrev pub offset_of : TraceFault → Option ℕ
 offset_of Memory = None
 offset_of ReadFailed = None

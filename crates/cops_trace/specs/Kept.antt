@@ -1,4 +1,4 @@
--- How a trace is kept: the sessions, and the clients in order of arrival.
+-- How a trace is stored: the sessions, and the clients in order of arrival.
 use Rattle.std.specs.Prelude.{◌≡◌, ℕ, ◌<◌, ◌==◌, List, [], ◌∷◌, ◌++◌, length, count_by, slice_index_or}
 use Rattle.cops_types.specs.declared.format.Format.{Format}
 use Rattle.cops_types.specs.declared.limits.TheConstants.{MAX_CLIENT_OPS, MAX_OPS}
@@ -6,7 +6,7 @@ use Rattle.cops_types.specs.Format.{IsInFormat}
 use Rattle.cops_types.specs.Histories.{Sessions, Operation, missed}
 use Rattle.cops_trace.specs.Text.{ARecord, ATrace, IsTrace, sessions_of, turn}
 
--- the operation with this index in the client's session, which is there
+-- the operation with this index in the client's session, which has to be there
 abbrev pub op_in : Sessions → ℕ → ℕ → Operation
 op_in h client index = slice_index_or (slice_index_or h client []) index (missed [])
 
@@ -15,20 +15,20 @@ abbrev pub records_from : Sessions → List ℕ → List ℕ → List ARecord
 records_from h earlier [] = []
 records_from h earlier (c ∷ cs) = record { client = c; op = op_in h c (count_by (λ d. d == c) earlier) } ∷ records_from h (earlier ++ c ∷ []) cs
 
--- the trace of a format that is kept so
+-- the trace of a format that is stored so
 abbrev pub trace_of : Format → Sessions → List ℕ → ATrace
 trace_of format h arrivals = record { format = format; clients = length h; records = records_from h [] arrivals }
 
--- it is a trace, and the sessions are those that it records
+-- the stored data is a trace, and the sessions are those that it records
 pub record IsKept (format : Format) (h : Sessions) (arrivals : List ℕ) : Type 0 where
   pub is_trace : IsTrace (trace_of format h arrivals)
   pub sessions : h ≡ sessions_of (trace_of format h arrivals)
 
--- the trace with one record more
+-- the trace with one more record
 abbrev pub grown : ATrace → ARecord → ATrace
 grown t r = record { format = t.format; clients = t.clients; records = t.records ++ r ∷ [] }
 
--- the client, or the trace, has the most operations that it may have
+-- the client, or the trace, has the most operations allowed
 abbrev pub IsFull : ATrace → ℕ → Type 0
 IsFull t client = (turn client t.records < MAX_CLIENT_OPS × length t.records < MAX_OPS) → ⊥
 
@@ -36,6 +36,6 @@ IsFull t client = (turn client t.records < MAX_CLIENT_OPS × length t.records < 
 abbrev pub MayGrow : ATrace → ℕ → Type 0
 MayGrow t client = (client < t.clients) × (turn client t.records < MAX_CLIENT_OPS) × (length t.records < MAX_OPS)
 
--- it may have this one: the operation is in the trace's format too
+-- the trace may have this record as its next: the operation is in the trace's format too
 abbrev pub MayHave : ATrace → ARecord → Type 0
 MayHave t r = MayGrow t r.client × IsInFormat t.format r.op

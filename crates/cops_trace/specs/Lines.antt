@@ -1,4 +1,4 @@
--- The line of a trace's fault.
+-- The printed line of a trace's fault.
 use Rattle.std.specs.Prelude.{ℕ, List, [], codes, decimal, Option, Some, None, option_map}
 use Rattle.cops_types.specs.Texts.{◌⧺◌}
 use Rattle.cops_wire.specs.declared.fault.WireFault.{WireFault}
@@ -33,6 +33,6 @@ abbrev pub line_of : Option (List ℕ × ℕ) → List ℕ
 line_of None = []
 line_of (Some (text, offset)) = codes "faulty: " ⧺ text ⧺ codes " at " ⧺ decimal offset ⧺ codes "\n"
 
--- the line, or nothing where the input was not at fault
+-- the line, or nothing for a fault that is not the input's
 abbrev pub fault_line : TraceFault → List ℕ
 fault_line e = line_of (words e)

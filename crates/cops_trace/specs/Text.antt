@@ -1,5 +1,5 @@
--- What a trace is, its one text, and the sessions that it records.
-use Rattle.std.specs.Prelude.{ℕ, ◌<◌, ◌≤◌, ◌^◌, List, [], ◌∷◌, ◌++◌, length, count_by, replicate, ◌==◌, Option, Some, None}
+-- Traces, the only text of each, and the sessions that it records.
+use Rattle.std.specs.Prelude.{ℕ, ◌<◌, ◌≤◌, ◌^◌, List, [], ◌∷◌, ◌++◌, length, count_by, replicate, ◌==◌}
 use Rattle.std.specs.List.{AllByRecursion}
 use Rattle.cops_types.specs.declared.limits.TheConstants.{MAX_CLIENT_OPS, MAX_OPS}
 use Rattle.cops_types.specs.declared.format.Format.{Format}
@@ -21,7 +21,7 @@ pub record ARecord : Type 0 where
 abbrev pub record_of : Record → ARecord
 record_of r = record { client = r.client; op = operation_of r.op }
 
--- a format, a number of clients, and what they did in order of arrival
+-- a format, a number of clients, and their operations in order of arrival
 pub record ATrace : Type 0 where
   pub format : Format
   pub clients : ℕ
@@ -36,7 +36,7 @@ sessions_after h (r ∷ rs) = sessions_after (with_op h r.client r.op) rs
 abbrev pub sessions_of : ATrace → Sessions
 sessions_of t = sessions_after (replicate t.clients []) t.records
 
--- how many of the records are the client's
+-- the number of the client's records
 abbrev pub turn : ℕ → List ARecord → ℕ
 turn client records = count_by (λ r. r.client == client) records
 
@@ -46,26 +46,30 @@ IsOp format (write key content version) = IsKey key × Fits format content × Is
 IsOp format (read key content version) = IsKey key × Fits format content × IsVersion version
 IsOp format (missed key) = IsKey key
 
--- clients in range, and the limits on operations
+-- the clients are in range, the operations are legal, and the limits hold
 pub record IsTrace (t : ATrace) : Type 0 where
   pub clients : t.clients < 2 ^ 16
   pub named : AllByRecursion (λ r. (r.client < t.clients) × IsOp t.format r.op) t.records
   pub each : (client : ℕ) → turn client t.records ≤ MAX_CLIENT_OPS
   pub all : length t.records ≤ MAX_OPS
 
--- the spelling of a record that comes after these: its index is the number of its client's earlier ones
+-- the encoding of a record that comes after these: its index is the number of its client's earlier ones
 abbrev pub record_text : List ARecord → ARecord → List ℕ
 record_text earlier r = spelled (record_message r.client (turn r.client earlier) r.op)
 
--- the spellings of records, the first of which comes after these
+-- the encodings of records that come after these
 abbrev pub records_text : List ARecord → List ARecord → List ℕ
 records_text earlier [] = []
 records_text earlier (r ∷ rs) = record_text earlier r ++ records_text (earlier ++ r ∷ []) rs
 
--- head, which names the format, and records
+-- the head, which names the format, and the records
 unfoldable pub beginning : ATrace → List ℕ
 beginning t = spelled (TraceHead (number_of t.format) t.clients) ++ records_text [] t.records
 
--- head, records and end, which counts the records
+-- the end, which counts the records
+abbrev pub end_text : ATrace → List ℕ
+end_text t = spelled (TraceEnd (length t.records))
+
+-- the head, the records and the end
 abbrev pub text : ATrace → List ℕ
-text t = beginning t ++ spelled (TraceEnd (length t.records))
+text t = beginning t ++ end_text t

@@ -1,4 +1,4 @@
-//! Records that are seen ahead, before the first of them is taken.
+//! Reading several records ahead, before the first of them is taken, so that a sink can prefetch what they need.
 ghost use Rattle.std.specs.Prelude.{◌≡◌, ◌≤◌, ◌+◌, false, length, drop, IfOk, OnErr, Some};
 ghost use Rattle.cops_trace.specs.Ahead.{AreSeen, GoesOn, reading_at};
 ghost use Rattle.cops_trace.specs.Parsing.{IsTakenAs, IsUnderway};
@@ -12,10 +12,10 @@ use cops_types::{Format, Memory, OpView};
 use cops_wire::record_at;
 use std::alloc::Global;
 
-/// So many records a sink is told of before it takes them.
+/// The most records that are read ahead.
 const TOGETHER: usize = 64;
 
-/// Where a record stands in some bytes, and how many it takes; of whom it is, and its index.
+/// The offset of a record in some bytes, its number of bytes, its client, and its index.
 #[derive(Clone, Copy)]
 pub(crate) struct RecordPlace {
     at: usize,
@@ -24,7 +24,7 @@ pub(crate) struct RecordPlace {
     index: u32,
 }
 
-/// Records that stand one after the other at the front of some bytes, and their operations, seen where they lie.
+/// Consecutive records at the front of some bytes, and their operations, borrowed from the bytes.
 #[derive(Drop)]
 pub(crate) struct Ahead<'a> {
     bytes: &'a [u8],
@@ -32,7 +32,7 @@ pub(crate) struct Ahead<'a> {
     pub(crate) ops: Vec<OpView<'a>>,
 }
 
-/// Sees the records of a format at the front of some bytes, as many as a sink is told of: fewer where memory is refused.
+/// Reads the records of a format at the front of some bytes, up to `TOGETHER` of them, and fewer if memory runs out.
 pub(crate) fn see_ahead<'a>(format: Format, alloc: Global, bytes: &'a [u8]) -> Ahead<'a>
     ensures bytes { result.bytes.now ≡ bytes.now }
     ensures seen { AreSeen format bytes.now result.places.items result.ops.items }
@@ -63,7 +63,8 @@ pub(crate) fn see_ahead<'a>(format: Format, alloc: Global, bytes: &'a [u8]) -> A
     Ahead { bytes, places, ops }
 }
 
-/// Gives records to the sink that was begun, as far as they may come next, and says how many bytes they take.
+/// Gives records to the sink, up to the first that may not come next, and returns the number of their bytes. Fails if
+/// memory runs out.
 pub(crate) fn take_ahead<S: Sink>(
     begun: &mut Option<S>,
     counts: &mut Counts,

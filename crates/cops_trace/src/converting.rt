@@ -15,7 +15,7 @@ use cops_types::Counted;
 use std::alloc::Global;
 use std::io::{Read, Write};
 
-/// Why a trace was not converted that was not read.
+/// The fault of the conversion for a fault of reading.
 fn fault_of_reading(fault: TraceFault) -> ConvertFault
     ensures { result ≡ fault_of_reading fault }
 {
@@ -26,7 +26,7 @@ fn fault_of_reading(fault: TraceFault) -> ConvertFault
     }
 }
 
-/// What was read, as a trace of format 2.
+/// The trace that was read, in format 2.
 fn in_format_2(read: Result<Trace, TraceFault>) -> Result<Trace, ConvertFault>
     ensures ok { IfOk result (λ new. (t : ATrace) × (read ≡ Ok t) × (new ≡ in_format_2 t)) }
     ensures err { IfErr result (λ e. (fault : AFault) × (read ≡ Err fault) × (e ≡ fault_of_reading fault)) }
@@ -37,7 +37,7 @@ fn in_format_2(read: Result<Trace, TraceFault>) -> Result<Trace, ConvertFault>
     }
 }
 
-/// Writes a trace: how many operations it has.
+/// Writes a trace, and returns the number of its operations.
 fn write_counted<W: Write>(
     alloc: Global,
     writer: &mut Counted<W>,
@@ -55,9 +55,12 @@ fn write_counted<W: Write>(
     }
 }
 
-/// Reads a trace of either format, and writes one of format 2 with the same clients and operations: how many operations
-/// it has. `Faulty` where the bytes are no trace, `ReadFailed` where a read failed, and `WriteFailed` where a write
-/// failed; neither is tried again. Only at `WriteFailed` was anything written: the first bytes of the new trace.
+/// Reads a trace of either format, writes one of format 2 with the same clients and operations, and returns the number
+/// of operations. Only with `WriteFailed` was anything written: the first bytes of the new trace. A failed read or
+/// write is not tried again.
+///
+/// Errors: `Memory` if memory runs out, `Faulty` if the bytes are no trace, `ReadFailed` if a read fails, and
+/// `WriteFailed` if a write fails.
 pub fn convert<R: Read, W: Write>(
     alloc: Global,
     reader: &mut Counted<R>,

@@ -1,11 +1,12 @@
-//! How many records a trace has so far.
+//! Counting the records of a trace.
 ghost use Rattle.std.specs.Prelude.{◌≡◌};
 
 use cops_types::{Format, MAX_CLIENT_OPS, MAX_OPS, Memory};
 use std::alloc::Global;
 use std::marker::Model;
 
-/// The format that the head names, the index of each client's next record, and how many records there are in all.
+/// The counts of a trace so far: the format that the head names, the index of each client's next record, and the number
+/// of all records.
 #[derive(Debug, Drop)]
 pub(crate) struct Counts {
     format: Format,
@@ -28,7 +29,7 @@ impl Counts {
     ghost use Rattle.std.specs.Prelude.{◌≡◌, ◌<◌, ◌^◌, ◌↔◌, length, IfOk, IsTrue};
     ghost use Rattle.cops_trace.specs.Counts.{HasTurn, counted, next_of, nothing};
 
-    /// No record of any of so many clients.
+    /// The counts of no records, with `clients` clients. Fails if memory runs out.
     pub(crate) fn new(format: Format, alloc: Global, clients: u16) -> Result<Counts, Memory>
         ensures { IfOk result (λ counts. counts ≡ nothing format clients) }
     {
@@ -54,7 +55,7 @@ impl Counts {
         self.next.len() as u16
     }
 
-    /// The index of a client's next record: 0 for a client that is not there.
+    /// The index of a client's next record, or 0 if there is no such client.
     pub(crate) fn next(&self, client: u16) -> u32
         ensures { result ≡ next_of self.now client }
     {
@@ -64,7 +65,7 @@ impl Counts {
         }
     }
 
-    /// Whether the client is there, and it and all may have one record more.
+    /// Whether there is such a client, and neither the client nor the trace has the most records allowed.
     pub(crate) fn has_turn(&self, client: u16) -> bool
         ensures { IsTrue result ↔ HasTurn self.now client }
     {

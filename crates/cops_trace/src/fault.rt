@@ -1,12 +1,12 @@
-//! Why bytes are no trace.
+//! The faults of reading, writing and converting traces.
 ghost use Rattle.std.specs.Prelude.{◌≡◌};
 ghost use Rattle.cops_trace.specs.Faults.{offset_of};
 
 use cops_wire::WireFault;
 use thiserror::Error;
 
-/// Why no trace was read. An offset counts from the text's first byte: it is the place of the frame that is wrong, or
-/// for a field that is not legal the place of that field.
+/// Why no trace was read. An offset counts from the text's first byte: it is that of the wrong frame, or of the field
+/// that is not legal.
 #[derive(Clone, Copy, Debug, PartialEq, Eq, Error)]
 pub enum TraceFault {
     /// 0: out of memory.
@@ -24,13 +24,13 @@ pub enum TraceFault {
     /// 4: a record's index is not its client's next.
     #[error("index out of turn at {offset}")]
     IndexOutOfTurn { offset: u64 },
-    /// 5: the end does not count the records.
+    /// 5: the count in the end is not the number of records.
     #[error("bad count at {offset}")]
     BadCount { offset: u64 },
-    /// 6: a byte stands after the end, at this place.
+    /// 6: there is a byte after the end, at this offset.
     #[error("bytes after end at {offset}")]
     BytesAfterEnd { offset: u64 },
-    /// 7: the input ends before the end is whole, in the frame that begins here.
+    /// 7: the input ends before the end is whole, in the frame that begins at this offset.
     #[error("cut at {offset}")]
     Cut { offset: u64 },
     /// 8: a frame is no message.
@@ -48,7 +48,7 @@ pub enum TraceFault {
 }
 
 impl TraceFault {
-    /// The fault's place in the text, if it has one.
+    /// The fault's offset in the text, if it has one.
     pub fn offset(&self) -> Option<u64>
         ensures { result ≡ offset_of self.now }
     {
@@ -74,7 +74,7 @@ pub enum WriteFault {
     /// 0: out of memory.
     #[error("out of memory")]
     Memory,
-    /// 1: the writer failed, after exactly so many of the text's first bytes.
+    /// 1: the writer failed, after exactly `written` of the text's first bytes.
     #[error("the writer failed after {written} bytes")]
     WriteFailed { written: usize },
 }
@@ -85,10 +85,10 @@ pub enum FinishFault {
     /// 0: out of memory.
     #[error("out of memory")]
     Memory,
-    /// 1: the writer failed, after exactly so many of the text's first bytes, those among them that went out before.
+    /// 1: the writer failed, after exactly `written` of the text's first bytes, including those written before.
     #[error("the writer failed after {written} bytes")]
     WriteFailed { written: usize },
-    /// 2: what was written before is not the front of the trace's text.
+    /// 2: what was written before is not a prefix of the trace's text.
     #[error("what was written is of another trace")]
     OfAnother,
 }
@@ -105,7 +105,7 @@ pub enum ConvertFault {
     /// 2: the reader failed.
     #[error("the reader failed")]
     ReadFailed,
-    /// 3: the writer failed, after exactly so many of the new text's first bytes.
+    /// 3: the writer failed, after exactly `written` of the new text's first bytes.
     #[error("the writer failed after {written} bytes")]
     WriteFailed { written: usize },
 }

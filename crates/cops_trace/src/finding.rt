@@ -1,4 +1,4 @@
-//! What stands next in a trace's text.
+//! Finding what comes next in a trace's text.
 ghost use Rattle.std.specs.Prelude.{◌≡◌, ◌≢◌, ◌<◌, ◌≤◌, ◌^◌, ◌+◌, ℕ, length, None, Some, IfOk, IfNone, IfSome, OnErr};
 ghost use Rattle.cops_types.specs.declared.op.Op.{Op as AnOp};
 ghost use Rattle.cops_trace.specs.Next.{Stands, format_next, unread, first_message, later_message, record_found, end_found};
@@ -13,7 +13,7 @@ use cops_types::{Format, MAX_CLIENT_OPS, MAX_OPS, Memory};
 use cops_wire::{Message, TraceRecord, WireFault, decode_in, record_of_message};
 use std::alloc::Global;
 
-/// A frame at this place that is no message: it is waited for, or a fault stands there.
+/// The result for a frame at this offset that is no message: it is not whole yet, or it has a fault.
 fn unread(at: u64, fault: WireFault) -> Result<Found, Memory>
     requires { at < 2 ^ 63 }
     ensures found { IfOk result (λ found. (fault ≢ WireFault.Memory) × (found ≡ unread at fault)) }
@@ -30,7 +30,7 @@ fn unread(at: u64, fault: WireFault) -> Result<Found, Memory>
     }
 }
 
-/// What the first message means.
+/// The item of the first message.
 fn first_message(message: &Message, used: usize) -> Found
     ensures { result ≡ first_message message.now used }
 {
@@ -47,7 +47,7 @@ fn first_message(message: &Message, used: usize) -> Found
     }
 }
 
-/// What stands at the front of a text.
+/// What a text begins with. Fails if memory runs out.
 pub(crate) fn first_found(alloc: Global, bytes: &[u8]) -> Result<Found, Memory>
     ensures found { IfOk result (Stands None bytes.now) }
     ensures memory { OnErr result (BeginsWithTaking (grammar (format_next None)) bytes.now) }
@@ -62,7 +62,7 @@ pub(crate) fn first_found(alloc: Global, bytes: &[u8]) -> Result<Found, Memory>
     }
 }
 
-/// The fault of a client's record with this index after those that were counted, if it has one.
+/// The fault of a record with this client and index after the counted records, if it has one.
 #[inline(always)]
 pub(crate) fn record_fault(counts: &Counts, at: u64, client: u16, index: u32) -> Option<TraceFault>
     ensures none { IfNone result ((op : AnOp) (used : ℕ) → record_found (progress_from at counts.now) (record { client = client; index = index; op = op }) used ≡ Found.Gives (Item.Op client op) used) }
@@ -82,7 +82,7 @@ pub(crate) fn record_fault(counts: &Counts, at: u64, client: u16, index: u32) ->
     }
 }
 
-/// A record after those that were counted, with a frame of this many bytes at this place.
+/// The item of a record after the counted records, whose frame has `used` bytes at this offset, or its fault.
 fn record_found(counts: &Counts, at: u64, entry: TraceRecord, used: usize) -> Found
     ensures { result ≡ record_found (progress_from at counts.now) entry used }
 {
@@ -99,7 +99,7 @@ fn record_found(counts: &Counts, at: u64, entry: TraceRecord, used: usize) -> Fo
     }
 }
 
-/// What an end that counts so many records means.
+/// The item of an end that counts `ops` records, or its fault.
 fn end_found(counts: &Counts, at: u64, ops: u32, used: usize) -> Found
     ensures { result ≡ end_found (progress_from at counts.now) ops used }
 {
@@ -111,7 +111,7 @@ fn end_found(counts: &Counts, at: u64, ops: u32, used: usize) -> Found
     }
 }
 
-/// What a message means after the head and the records that were counted.
+/// The item of a message after the head and the counted records, or its fault.
 fn later_message(counts: &Counts, at: u64, message: Message, used: usize) -> Found
     ensures { result ≡ later_message (progress_from at counts.now) message used }
 {
@@ -124,7 +124,7 @@ fn later_message(counts: &Counts, at: u64, message: Message, used: usize) -> Fou
     }
 }
 
-/// What stands at this place, after the head and the records that were counted.
+/// What the text has at this offset, after the head and the counted records. Fails if memory runs out.
 pub(crate) fn later_found(
     alloc: Global,
     counts: &Counts,

@@ -12,8 +12,7 @@ pub enum Item {
     End,
 }
 
-/// What stands at the front of the rest of a text: an item and how many bytes it takes, nothing that is whole, or a
-/// fault.
+/// What the rest of a text begins with: an item of `used` bytes, no whole frame, or a fault.
 #[derive(Debug, Drop)]
 pub enum Found {
     Gives { item: Item, used: usize },

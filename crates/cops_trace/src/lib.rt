@@ -1,6 +1,6 @@
-//! Trace files: what clients saw, in order of arrival, as bytes. Stands on the types and on the messages' codec. The
-//! layers above use a trace as a number of clients with a list of records, its one text, each fault with its case and
-//! offset, and the sessions that it records.
+//! Trace files: what clients saw, in order of arrival, as bytes. Stands on the types and on the encoding of messages.
+//! The layers above use a trace as a number of clients with a list of records, its only text, each fault with its case
+//! and offset, and the sessions that it records.
 #![tactic(auto)]
 
 mod ahead;

@@ -1,4 +1,4 @@
-//! The line of a trace's fault.
+//! The printed line of a trace's fault.
 ghost use Rattle.std.specs.Prelude.{◌≡◌, ◌++◌, OnOk, OnErr, string_bytes, IfOk, IfSome, option_map};
 ghost use Rattle.cops_trace.specs.Lines.{wire_words, words, fault_line};
 
@@ -41,8 +41,8 @@ fn words(fault: &TraceFault) -> Option<(&'static str, u64)>
     }
 }
 
-/// Appends the line of a fault, `faulty: WORDS at OFFSET`; nothing for want of memory, a failed read, or a frame that
-/// is not whole. Where memory is refused nothing is appended.
+/// Appends the line of a fault, `faulty: WORDS at OFFSET`. Appends nothing for `Memory`, for `ReadFailed`, for a frame
+/// with the fault `Memory` or `Short`, and if memory runs out.
 pub fn fault_line(alloc: Global, fault: &TraceFault, out: &mut Vec<u8>) -> Result<(), Memory>
     ensures ok { OnOk result (out.new.items ≡ out.old.items ++ fault_line fault.now) }
     ensures err { OnErr result (out.new.items ≡ out.old.items) }

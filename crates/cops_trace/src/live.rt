@@ -1,4 +1,4 @@
-//! A trace's text that is written while the trace grows.
+//! Writing a trace's text while the trace grows.
 use crate::fault::{FinishFault, WriteFault};
 use crate::record::Record;
 use crate::trace::{Trace, legal};
@@ -9,8 +9,8 @@ use std::alloc::Global;
 use std::io::Write;
 use std::snapshot::Snapshot;
 
-/// Writes the text of a trace that nobody has whole yet: its head at once, and each record as it comes. It keeps what
-/// it wrote, so that the rest can be written once the trace is there.
+/// Writes the text of a trace that is not complete yet: its head at once, and each record as it comes. It keeps what it
+/// wrote, so that the rest can be written once the trace is complete.
 #[derive(Drop)]
 pub struct LiveTrace<W: Write> {
     writer: TraceWriter<W>,
@@ -18,7 +18,7 @@ pub struct LiveTrace<W: Write> {
     begun: Snapshot<Counted<W>>,
 }
 
-/// A writer that comes back, with why the rest of a trace's text was not written.
+/// The writer, and why the rest of a trace's text was not written.
 #[derive(Drop)]
 pub struct Unfinished<W: Write> {
     pub writer: Counted<W>,
@@ -35,7 +35,7 @@ impl<W: Write> LiveTrace<W> {
     ghost use Rattle.cops_trace.specs.Live.{Gains, HasBegun, IsCutBy, IsCutShort, IsEndedBy, IsFrontOf, IsHeardBy, IsLeftBy, IsLive};
     ghost use Rattle.cops_trace.specs.Text.{record_of, text};
 
-    /// Writes the head of a format and so many clients. Where it is not written, the writer comes back.
+    /// Writes the head for a format and a number of clients. Returns the writer if the head is not written.
     pub fn new(
         format: Format,
         alloc: Global,
@@ -55,7 +55,7 @@ impl<W: Write> LiveTrace<W> {
         }
     }
 
-    /// With the frame that was written last beside what was kept before.
+    /// Adds the frame that was written last to the text kept before. Returns the writer if memory runs out.
     fn kept(
         writer: TraceWriter<W>,
         mut text: Vec<u8>,
@@ -86,22 +86,22 @@ impl<W: Write> LiveTrace<W> {
         self.writer.format()
     }
 
-    /// How many records were written.
+    /// The number of records written.
     pub fn len(&self) -> usize
         ensures { result ≡ self.now.writer.counts.total }
     {
         self.writer.len()
     }
 
-    /// Whether the client is there and may have one more record.
+    /// Whether there is such a client and it may have one more record.
     pub fn has_turn(&self, client: u16) -> bool
         ensures { IsTrue result ↔ HasTurn self.now.writer.counts client }
     {
         self.writer.has_turn(client)
     }
 
-    /// Writes the next record, an operation of the format, whose client may have one more. Where it is not written, the
-    /// writer comes back.
+    /// Writes the next record, an operation of the format, whose client may have one more. Returns the writer if the
+    /// record is not written.
     pub fn add(self, next: &Record) -> Result<Self, Unwritten<W>>
         requires live { IsLive W.contents self }
         requires turn { HasTurn self.writer.counts next.now.client }
@@ -125,7 +125,7 @@ impl<W: Write> LiveTrace<W> {
         }
     }
 
-    /// The writer, without the rest.
+    /// Returns the writer, without writing the rest.
     pub fn into_writer(self) -> Counted<W>
         requires { IsLive W.contents self }
         ensures cut { (written : ℕ) × IsCutShort (W.contents (inner self.begun.value)) (W.contents (inner result)) written }
@@ -135,8 +135,10 @@ impl<W: Write> LiveTrace<W> {
         writer.into_writer()
     }
 
-    /// Writes the rest of the trace's text, in one piece, and gives the writer back: `OfAnother` where what was written
-    /// is not the text's front. A failed write is not tried again.
+    /// Writes the rest of the trace's text, in one piece, and returns the writer. A failed write is not tried again.
+    ///
+    /// Errors, with the writer: `Memory` if memory runs out, `OfAnother` if what was written is not a prefix of the
+    /// trace's text, `WriteFailed` if the write fails.
     pub fn finish(self, alloc: Global, trace: &Trace) -> Result<Counted<W>, Unfinished<W>>
         requires { IsLive W.contents self }
         ensures ok { IfOk result (λ w. Appends (W.contents (inner self.begun.value)) (W.contents (inner w)) (text trace.now)) }

@@ -1,4 +1,4 @@
-//! A trace's text that comes in pieces, with what took the trace that it has spelled so far.
+//! Parsing a trace's text that comes in pieces into a sink.
 ghost use Rattle.std.specs.Prelude.{◌≡◌, Option, OnOk};
 ghost use Rattle.cops_trace.specs.Parsing.{IsTakenAs, ItemHasRoom, with_item};
 ghost use Rattle.cops_trace.specs.Text.{ATrace};
@@ -11,7 +11,7 @@ use crate::sink::{Sink, Taken};
 use cops_types::{Format, Memory, OpView};
 use std::alloc::Global;
 
-/// What was read of a text: what took the head and the records so far, and the bytes that no item was taken from.
+/// The state of parsing: the sink that took the head and the records so far, and the bytes that are not parsed yet.
 #[derive(Drop)]
 pub(crate) struct Parser<S: Drop> {
     alloc: Global,
@@ -36,7 +36,7 @@ impl<S: Sink> Parser<S> {
         }
     }
 
-    /// Takes the next item, of any kind, and says whether a whole one was there.
+    /// Takes the next item, of any kind, and returns whether there was a whole one.
     #[inline(never)]
     fn step_item(&mut self) -> Result<bool, TraceFault>
         requires { IsUnderway S.took self.old.begun self.old.reader }
@@ -52,8 +52,8 @@ impl<S: Sink> Parser<S> {
         }
     }
 
-    /// Takes the next items, and says whether a whole one was there: records, which are seen where their bytes lie, or an
-    /// item of any kind.
+    /// Takes the next items, and returns whether there was a whole one: records, borrowed from their bytes, or one item
+    /// of any kind.
     fn step(&mut self) -> Result<bool, TraceFault>
         requires { IsUnderway S.took self.old.begun self.old.reader }
         ensures on { IfOk result (λ went. IsTrue went → GoesOn S.took self.old.begun self.old.reader self.new.begun self.new.reader) }
@@ -68,7 +68,7 @@ impl<S: Sink> Parser<S> {
         }
     }
 
-    /// Takes all whole items off the rest. Nothing may be left after the end.
+    /// Takes all whole items. Fails if there are bytes after the end.
     fn advance(&mut self) -> Result<(), TraceFault>
         requires { IsUnderway S.took self.old.begun self.old.reader }
         ensures { (fed : List ℕ) → FedInto S.took fed self.old.begun self.old.reader → AdvancesInto S.took fed result self.new.begun self.new.reader }
@@ -77,7 +77,7 @@ impl<S: Sink> Parser<S> {
         Ok(())
     }
 
-    /// Takes the next piece, and then all whole items off the rest.
+    /// Takes the next piece, and then all whole items.
     pub(crate) fn take_piece(&mut self, piece: &[u8]) -> Result<(), TraceFault>
         requires { IsUnderway S.took self.old.begun self.old.reader }
         ensures { (fed : List ℕ) → FedInto S.took fed self.old.begun self.old.reader
@@ -89,14 +89,15 @@ impl<S: Sink> Parser<S> {
         self.advance()
     }
 
-    /// Where the next item begins.
+    /// The offset of the next item.
     pub(crate) fn at(&self) -> u64
         ensures { result ≡ self.now.reader.at }
     {
         self.reader.at()
     }
 
-    /// Where nothing more comes: what took the whole records, and the cut's place where the end did not come.
+    /// The sink that took the whole records, when no more bytes come, and the offset of the cut if there was no end.
+    /// Fails if memory runs out.
     pub(crate) fn closed(self) -> Result<Taken<S>, Memory>
         ensures { (fed : List ℕ) → SettledInto S.took fed self.begun self.reader → IfOk result (TakesFrom S.took fed) }
     {
@@ -120,8 +121,7 @@ impl<S: Sink> Parser<S> {
     }
 }
 
-/// Gives an item to the sink that was begun. It is compiled into what calls it, since each call would move the item
-/// once more.
+/// Gives an item to the sink. It is inlined, since each call would move the item once more.
 #[inline(always)]
 fn take<S: Sink>(alloc: Global, begun: &mut Option<S>, item: Item) -> Result<(), Memory>
     requires { (t : Option ATrace) × IsTakenAs S.took begun.old t × ItemHasRoom item t }
@@ -134,8 +134,7 @@ fn take<S: Sink>(alloc: Global, begun: &mut Option<S>, item: Item) -> Result<(),
     }
 }
 
-/// Begins a sink. It is kept apart from what each record takes, since the room for a sink is made, and cleared,
-/// wherever one may be begun.
+/// Begins a sink. It is a function of its own, since wherever a sink may be begun the room for it is made and cleared.
 #[cold]
 #[inline(never)]
 fn begin<S: Sink>(
@@ -152,7 +151,7 @@ fn begin<S: Sink>(
     Ok(())
 }
 
-/// Lets the sink that was begun get ready for operations that come, where that is of use.
+/// Lets the sink prepare for coming operations, if that is useful.
 pub(crate) fn foresee<S: Sink>(begun: &mut Option<S>, coming: &[OpView<'_>])
     ensures { (t : Option ATrace) → IsTakenAs S.took begun.old t → IsTakenAs S.took begun.new t }
 {
@@ -163,7 +162,7 @@ pub(crate) fn foresee<S: Sink>(begun: &mut Option<S>, coming: &[OpView<'_>])
     }
 }
 
-/// Gives a record to the sink that was begun.
+/// Gives a record to the sink.
 #[inline(always)]
 pub(crate) fn push<S: Sink>(
     begun: &mut Option<S>,

@@ -1,4 +1,4 @@
-//! The items of a trace's text that comes in pieces.
+//! Reading the items of a trace's text that comes in pieces.
 ghost use Rattle.std.specs.Prelude.{◌≡◌, ℕ, OnErr, OnOk};
 ghost use Rattle.cops_types.specs.declared.format.Format.{Format as AFormat};
 ghost use Rattle.cops_trace.specs.Reading.{ItemHasTurn, counts_with, is_end};
@@ -16,7 +16,7 @@ use std::alloc::Global;
 use std::marker::Model;
 
 /// Reads the items of a trace's text that comes in pieces: the head, the records one after the other, and the end. It
-/// keeps the bytes that no item was taken from, and of the items that it gave out nothing but counts.
+/// keeps the bytes that are not read yet (the rest), and only counts of the items that it returned.
 #[derive(Debug, Drop)]
 pub struct TraceReader {
     alloc: Global,
@@ -48,7 +48,7 @@ impl TraceReader {
     ghost use Rattle.cops_wire.specs.Answer.{BeginsWithTaking};
     ghost use Rattle.cops_wire.specs.Grammar.{grammar};
 
-    /// A reader that was given nothing.
+    /// A reader that was fed nothing. Allocates nothing.
     pub fn new(alloc: Global) -> Self
         ensures { result ≡ record { counts = None; at = 0; ended = false; rest = []; fault = None } }
     {
@@ -62,7 +62,7 @@ impl TraceReader {
         }
     }
 
-    /// Appends a piece to the rest. For want of memory nothing changes.
+    /// Appends a piece to the rest. Changes nothing if memory runs out.
     pub fn feed(&mut self, piece: &[u8]) -> Result<(), Memory>
         ensures ok { OnOk result (self.new ≡ record self.old { rest = self.old.rest ++ piece.now }) }
         ensures err { OnErr result (self.new ≡ self.old) }
@@ -71,9 +71,9 @@ impl TraceReader {
         Ok(())
     }
 
-    /// The item at the front of the rest, which is taken off, or nothing while no whole one is there. A fault that
-    /// stands there is answered again by every later call. `Memory` is answered only where what comes next takes memory:
-    /// a key or a value of a record, or a head, whose clients are counted. It changes nothing.
+    /// Removes the item at the front of the rest and returns it, or returns nothing if no whole item is there. A fault
+    /// is returned again by every later call, except `Memory`, which changes nothing: it comes only if reading the next
+    /// item allocates, for a key or a value of a record, or for the counts of a head's clients.
     pub fn next(&mut self) -> Result<Option<Item>, TraceFault>
         ensures next { GivesNext self.old result self.new }
         ensures again { IfSome self.old.fault (λ fault. result ≡ Err fault) }
@@ -95,8 +95,8 @@ impl TraceReader {
         }
     }
 
-    /// Where nothing more comes: the fault that was answered; else `Cut` where the end was not given out; else
-    /// `BytesAfterEnd` where a byte is left after it.
+    /// The result when no more bytes come: the fault that was returned before; else `Cut` if the end was not returned;
+    /// else `BytesAfterEnd` if there is a byte after it.
     pub fn close(&self) -> Result<(), TraceFault>
         ensures { result ≡ closing self.now }
     {
@@ -114,7 +114,7 @@ impl TraceReader {
         }
     }
 
-    /// What stands at the front of the rest, before the end.
+    /// What the rest begins with, before the end. Fails if memory runs out.
     fn found(&self) -> Result<Found, Memory>
         ensures found { IfOk result (Stands (progress_so_far self.now) self.now.rest) }
         ensures memory { OnErr result (BeginsWithTaking (grammar (format_next (progress_so_far self.now))) self.now.rest) }
@@ -126,9 +126,9 @@ impl TraceReader {
         }
     }
 
-    /// Gives records at the front of the rest out to the sink that was begun, as far as `next` would give them out, and
-    /// says whether there was one. A sink that looks ahead is told of them first. Where memory is refused the sink may
-    /// have taken some of them, and nothing is to be read on.
+    /// Gives the sink the records at the front of the rest that `next` would return, and returns whether there was one.
+    /// First it lets a sink that looks ahead prepare for them. If memory runs out, the sink may have taken some of
+    /// them, and reading cannot go on.
     pub(crate) fn give_ahead<S: Sink>(&mut self, begun: &mut Option<S>) -> Result<bool, Memory>
         requires { IsUnderway S.took begun.old self.old }
         ensures on { OnOk result (GoesOn S.took begun.old self.old begun.new self.new) }
@@ -151,7 +151,7 @@ impl TraceReader {
         Ok(len > 0)
     }
 
-    /// Gives out the item of so many bytes that stands at the front of the rest.
+    /// Removes the item of `used` bytes at the front of the rest and returns it.
     fn give(&mut self, item: Item, used: usize) -> Result<Option<Item>, TraceFault>
         requires stands { Stands (progress_so_far self.old) self.old.rest (Found.Gives item used) }
         requires open { self.old.ended ≡ false }
@@ -171,7 +171,7 @@ impl TraceReader {
         Ok(Some(item))
     }
 
-    /// After the end: nothing, or a byte that may not be there.
+    /// The result after the end: nothing, or a fault if there is a byte.
     fn after_end(&mut self) -> Result<Option<Item>, TraceFault>
         requires ended { self.old.ended ≡ true }
         requires fine { self.old.fault ≡ None }
@@ -185,14 +185,14 @@ impl TraceReader {
         Err(fault)
     }
 
-    /// How many bytes the items took that were given out: where the next one begins.
+    /// The number of bytes of the items returned so far, which is the offset of the next item.
     pub(crate) fn at(&self) -> u64
         ensures { result ≡ self.now.at }
     {
         self.at
     }
 
-    /// Whether the end was given out.
+    /// Whether the end was returned.
     pub(crate) fn has_ended(&self) -> bool
         ensures { result ≡ self.now.ended }
     {
@@ -207,7 +207,7 @@ fn is_end(item: &Item) -> bool
     matches!(item, Item::End)
 }
 
-/// Counts an item that is given out. For want of memory nothing changes.
+/// Counts an item that is returned. Changes nothing if memory runs out.
 fn count(alloc: Global, counts: &mut Option<Counts>, item: &Item) -> Result<(), Memory>
     requires { ItemHasTurn item.now counts.old }
     ensures ok { OnOk result (counts.new ≡ counts_with item.now counts.old) }

@@ -1,4 +1,4 @@
-//! A trace from a reader.
+//! Reading a trace from a reader.
 ghost use Rattle.std.specs.Prelude.{◌≡◌, ◌≢◌, ◌⊎◌, ℕ, ◌<◌, List, Result, Ok, IfOk, IfErr, IfSome, IsErrOf};
 ghost use Rattle.cops_types.specs.Failures.{Failed};
 ghost use Rattle.cops_types.specs.Counted.{failures, inner};
@@ -16,10 +16,10 @@ use cops_types::{Counted, Memory};
 use std::alloc::Global;
 use std::io::Read;
 
-/// How many bytes are asked for in one read.
+/// The number of bytes asked for in one read.
 const PIECE: usize = 65_536;
 
-/// The most reads. A text has a fault or an end before so many bytes.
+/// The most reads. A text has a fault or an end before this number of bytes.
 const READS: u64 = 1 << 41;
 
 /// Reads to the end of the input, or to the first fault. A failed read is not tried again.
@@ -50,9 +50,9 @@ fn read_items<S: Sink, R: Read>(
     })
 }
 
-/// Gives the trace whose text a reader gives to a sink as it comes, and keeps nothing else of it: the sink that took
-/// the whole records, and the cut's place where the text is cut; each other fault as `read_trace` answers it. Where the
-/// head is cut the sink took one of no clients.
+/// Reads a trace's text from a reader and gives its records to a sink as they come, keeping nothing else of it. Returns
+/// the sink that took the whole records, and the offset of the cut if the text is cut. If the head is cut, the sink
+/// took a head with no clients. Each other fault is as in `read_trace`.
 pub fn read_into<S: Sink, R: Read>(
     alloc: Global,
     reader: &mut Counted<R>,
@@ -68,10 +68,11 @@ pub fn read_into<S: Sink, R: Read>(
     }
 }
 
-/// The trace whose text a reader gives, or the text's first fault; `ReadFailed` where a read failed.
+/// Reads a trace's text from a reader. Fails with the text's first fault, with `ReadFailed` if a read fails, and with
+/// `Memory` if memory runs out.
 pub fn read_trace<R: Read>(alloc: Global, reader: &mut Counted<R>) -> Result<Trace, TraceFault>
     ensures says { IfSome (R.remaining (inner reader.old)) (λ bytes. Agrees bytes result) }
-    // Bytes are one text, or have one first fault.
+    // Bytes are the text of only one trace, or have only one first fault.
     ensures only { IfSome (R.remaining (inner reader.old)) (λ bytes. IsBytes bytes → (a : Result ATrace AFault) → Says bytes a → Gives a result) }
     ensures one { IfOk result (λ trace. IfSome (R.remaining (inner reader.old)) (λ bytes. (a : Result ATrace AFault) → Says bytes a → a ≡ Ok trace)) }
     ensures failed { IsErrOf result TraceFault.ReadFailed → Failed (failures reader.old) (failures reader.new) }
@@ -84,8 +85,8 @@ pub fn read_trace<R: Read>(alloc: Global, reader: &mut Counted<R>) -> Result<Tra
     }
 }
 
-/// The whole records before a cut and the cut's place, for a whole text all its records and no place; each other fault
-/// as `read_trace` answers it. Where the head is cut there are no clients and no records.
+/// Reads the whole records before a cut, and the offset of the cut. A whole text gives all its records and no offset.
+/// If the head is cut, there are no clients and no records. Each other fault is as in `read_trace`.
 pub fn read_so_far<R: Read>(alloc: Global, reader: &mut Counted<R>) -> Result<Partial, TraceFault>
     ensures says { IfSome (R.remaining (inner reader.old)) (λ bytes. AgreesSoFar bytes result) }
     ensures failed { IsErrOf result TraceFault.ReadFailed → Failed (failures reader.old) (failures reader.new) }

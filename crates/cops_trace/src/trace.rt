@@ -1,4 +1,4 @@
-ghost use Rattle.std.specs.Prelude.{◌≡◌, ◌++◌, IfOk, OnOk};
+ghost use Rattle.std.specs.Prelude.{◌≡◌, ◌+◌, ◌≤◌, ◌++◌, vec_len, vec_capacity, IsOk, OnOk};
 ghost use Rattle.cops_types.specs.declared.format.Format.TheVariants.{One};
 ghost use Rattle.cops_types.specs.Format.{IsInFormat};
 ghost use Rattle.cops_types.specs.OpRefs.{seen};
@@ -6,14 +6,19 @@ ghost use Rattle.cops_types.specs.OpViews.{viewed};
 ghost use Rattle.cops_wire.specs.Message.{spelled};
 ghost use Rattle.cops_wire.specs.Records.{record_message};
 ghost use Rattle.cops_trace.specs.Text.{IsOp};
+ghost use Rattle.cops_trace.specs.declared.trace.TheConstants.{LONGEST_FRAME};
 
-use cops_types::{Format, History, Memory, Op, OpName, OpRef, OpView, TypeFault};
-use cops_wire::{encode, record_message};
+use crate::counts::Counts;
+use cops_types::{Format, History, MAX_BODY, Memory, Op, OpName, OpRef, OpView, TypeFault};
+use cops_wire::{encode_record, spelling_is_bounded};
 use std::alloc::Global;
 use std::marker::Model;
 
-/// What clients did, in order of arrival: at most 65,535 clients, 1,000,000 operations of one client and 16,000,000 in
-/// all.
+/// The most bytes of a frame: its length, in four, and the longest body.
+pub(crate) const LONGEST_FRAME: usize = 4 + MAX_BODY;
+
+/// The operations of clients, in order of arrival: at most 65,535 clients, 1,000,000 operations of one client and
+/// 16,000,000 in all.
 #[derive(Debug, Drop)]
 pub struct Trace {
     format: Format,
@@ -33,22 +38,23 @@ impl Model for Trace {
 }
 
 impl Trace {
-    ghost use Rattle.std.specs.Prelude.{◌≡◌, ◌≤◌, ◌<◌, ◌↔◌, [], ◌++◌, length, OnOk, OnErr, IfOk, IfErr, IsErrOf, ◌==◌};
+    ghost use Rattle.std.specs.Prelude.{◌≡◌, ◌⊎◌, ◌+◌, ◌≤◌, ◌<◌, ◌↔◌, ℕ, List, [], ◌++◌, length, vec_len, vec_capacity, IsOk, OnOk, OnErr, IfOk, IfErr, IsErrOf, ◌==◌};
     ghost use Rattle.cops_types.specs.TypeFaults.{IsHistoryFault};
-    ghost use Rattle.cops_trace.specs.Text.{IsTrace, sessions_of, turn, records_text};
+    ghost use Rattle.cops_trace.specs.Text.{IsTrace, beginning, sessions_of, turn};
+    ghost use Rattle.cops_trace.specs.Writing.{CountPrefix, prefix};
     ghost use Rattle.cops_trace.specs.Converting.{in_format_2};
     ghost use Rattle.cops_trace.specs.Kept.{grown, IsFull};
     ghost use Rattle.cops_types.specs.OpViews.{viewed};
     ghost use Rattle.cops_types.specs.Operations.{operation_of};
 
-    /// A trace of format 1 and of so many clients, without operations.
+    /// A trace of format 1 with `clients` clients, without operations. Fails if memory runs out.
     pub fn new(alloc: Global, clients: u16) -> Result<Self, Memory>
         ensures { IfOk result (λ trace. trace ≡ record { format = One; clients = clients; records = [] }) }
     {
         Trace::new_in(Format::One, alloc, clients)
     }
 
-    /// A trace of a format and of so many clients, without operations.
+    /// A trace of a format with `clients` clients, without operations. Fails if memory runs out.
     pub fn new_in(format: Format, alloc: Global, clients: u16) -> Result<Self, Memory>
         ensures { IfOk result (λ trace. trace ≡ record { format = format; clients = clients; records = [] }) }
     {
@@ -60,7 +66,7 @@ impl Trace {
         })
     }
 
-    /// The same clients and operations in format 2.
+    /// The trace of format 2 with the same clients and operations.
     pub(crate) fn into_format_2(self) -> Trace
         ensures { result ≡ in_format_2 self }
     {
@@ -83,8 +89,9 @@ impl Trace {
         self.format
     }
 
-    /// Adds an operation of the trace's format: `UnknownClient` where there is no such client, then `TooManyOps` where
-    /// the client has 1,000,000 operations or there are 16,000,000. A fault changes nothing.
+    /// Adds an operation of the trace's format. Errors: `UnknownClient` if there is no such client, then `TooManyOps`
+    /// if the client has 1,000,000 operations or there are 16,000,000, then `Memory` if memory runs out. An error
+    /// changes nothing.
     pub fn push(&mut self, client: u16, op: Op) -> Result<(), TypeFault>
         requires { IsInFormat self.old.format (operation_of op) }
         ensures ok { OnOk result (self.new ≡ grown self.old (record { client = client; op = operation_of op })) }
@@ -101,7 +108,7 @@ impl Trace {
         Ok(())
     }
 
-    /// The same with an operation that is seen: what of it is new is copied.
+    /// Like `push`, with a borrowed operation: copies what is new of it.
     pub(crate) fn push_seen(&mut self, client: u16, op: &OpView<'_>) -> Result<(), TypeFault>
         requires { IsInFormat self.old.format (viewed op.now) }
         ensures ok { OnOk result (self.new ≡ grown self.old (record { client = client; op = viewed op.now })) }
@@ -122,12 +129,12 @@ impl Trace {
         Ok(())
     }
 
-    /// Whether a look ahead is of use.
+    /// Whether prefetching is useful.
     pub(crate) fn looks_ahead(&self) -> bool {
         self.history.looks_ahead()
     }
 
-    /// Fetches what operations that come need.
+    /// Prefetches the memory that coming operations need.
     pub(crate) fn foresee(&mut self, coming: &[OpView<'_>])
         ensures { self.new ≡ self.old }
     {
@@ -164,26 +171,38 @@ impl Trace {
         self.arrivals.is_empty()
     }
 
-    /// Appends the records' spellings. The index of each is the number of its client's earlier ones.
-    pub(crate) fn append_records(&self, alloc: Global, out: &mut Vec<u8>) -> Result<(), Memory>
-        ensures { OnOk result (out.new.items ≡ out.old.items ++ records_text [] self.now.records) }
+    /// Appends the frames of records, of which the counts say where the next one is, until the text has `most` bytes or no
+    /// record is left. It takes no memory where there is room for `most` bytes and one frame more.
+    pub(crate) fn append_records(
+        &self,
+        counts: &mut Counts,
+        most: usize,
+        out: &mut Vec<u8>,
+    ) -> Result<(), Memory>
+        requires { CountPrefix self.now counts.old }
+        ensures at { OnOk result (CountPrefix self.now counts.new) }
+        ensures text { OnOk result ((before : List ℕ) → before ++ out.old.items ≡ beginning (prefix counts.old.total self.now)
+            → before ++ out.new.items ≡ beginning (prefix counts.new.total self.now)) }
+        ensures until { OnOk result ((counts.new.total ≡ length self.now.records) ⊎ (most ≤ vec_len out.new)) }
+        ensures more { OnOk result (counts.old.total < length self.now.records → vec_len out.old < most → counts.old.total < counts.new.total) }
+        ensures succeeds { most + LONGEST_FRAME ≤ vec_capacity out.old → IsOk result }
+        ensures capacity { vec_capacity out.old ≤ vec_capacity out.new }
     {
-        let mut turns = vec![in alloc; 0u32; self.history.clients()]?;
-        let mut at = 0;
-        while at < self.arrivals.len() {
+        let mut at = counts.total() as usize;
+        while out.len() < most && at < self.arrivals.len() {
             let client = self.arrivals[at];
-            let index = turns[client as usize];
+            let index = counts.next(client);
             match self.history.op(OpName { client, index }) {
                 Some(op) => append_record(client, index, &op, out)?,
                 None => unreachable!(),
             }
-            turns[client as usize] = index + 1;
+            counts.add(client);
             at += 1;
         }
         Ok(())
     }
 
-    /// How many operations the client has.
+    /// The number of a client's operations.
     pub(crate) fn turn(&self, client: u16) -> usize
         ensures { result ≡ turn client self.now.records }
     {
@@ -191,14 +210,14 @@ impl Trace {
     }
 }
 
-/// The whole records before a cut, and the cut's place in the bytes; of a whole text all records, and no place.
+/// The whole records before a cut, and the offset of the cut. For a whole text all records, and no offset.
 #[derive(Debug, Drop)]
 pub struct Partial {
     pub trace: Trace,
     pub cut: Option<u64>,
 }
 
-/// Appends the spelling of an operation's record.
+/// Appends the frame of an operation's record. It takes no memory where there is room for a frame.
 #[tactic(auto, unfolding(cops_wire::specs::Message::spelled))]
 pub(crate) fn append_record(
     client: u16,
@@ -206,15 +225,15 @@ pub(crate) fn append_record(
     op: &OpRef<'_>,
     out: &mut Vec<u8>,
 ) -> Result<(), Memory>
-    ensures { OnOk result (out.new.items ≡ out.old.items ++ spelled (record_message client index (seen op.now))) }
+    ensures text { OnOk result (out.new.items ≡ out.old.items ++ spelled (record_message client index (seen op.now))) }
+    ensures succeeds { vec_len out.old + LONGEST_FRAME ≤ vec_capacity out.old → IsOk result }
+    ensures capacity { vec_capacity out.old ≤ vec_capacity out.new }
 {
-    let message = record_message(client, index, op.to_op()?);
-    let appended = encode(&message, out);
-    drop(message);
-    appended
+    spelling_is_bounded();
+    encode_record(client, index, op, out)
 }
 
-/// An operation of a format has an encoding in it: its key, value and version are within their ranges.
+/// Shows that an operation of a format has an encoding in it: its key, value and version are within their ranges.
 pub(crate) fn legal(_format: Format, op: &OpRef<'_>)
     requires { IsInFormat _format (seen op.now) }
     ensures { IsOp _format (seen op.now) }
@@ -230,16 +249,13 @@ pub(crate) fn legal(_format: Format, op: &OpRef<'_>)
     }
 }
 
-/// A seen operation of a format has an encoding in it: its key and version are within their ranges.
+/// Shows that a borrowed operation of a format has an encoding in it: its key and version are within their ranges.
 fn legal_view(_format: Format, op: &OpView<'_>)
     requires { IsInFormat _format (viewed op.now) }
     ensures { IsOp _format (viewed op.now) }
 {
     match op {
-        OpView::Put { key, version, .. }
-        | OpView::Del { key, version }
-        | OpView::Got { key, version, .. }
-        | OpView::Gone { key, version } => {
+        OpView::Put { key, version, .. } | OpView::Got { key, version, .. } => {
             let _key = key.as_bytes();
             let _version = version.as_u64();
         }

@@ -1,4 +1,4 @@
-//! A trace's text that is written as its records come.
+//! Writing a trace's text as its records come.
 use crate::counts::Counts;
 use crate::fault::WriteFault;
 use crate::trace::append_record;
@@ -8,18 +8,18 @@ use cops_wire::Message;
 use std::alloc::Global;
 use std::io::Write;
 
-/// Writes a trace's text a frame at a time: the head, each record as it comes, and the end. Of the records it keeps
-/// nothing but counts. A failed write is not tried again, and leaves a text that is cut.
+/// Writes a trace's text a frame at a time: the head, each record as it comes, and the end. It keeps only counts of the
+/// records. A failed write is not tried again, and leaves a text that is cut.
 #[derive(Drop)]
 pub struct TraceWriter<W: Write> {
     writer: Counted<W>,
     counts: Counts,
-    /// How many bytes went out; the greatest number stays.
+    /// The number of bytes written. It stops at its greatest value.
     written: usize,
     frame: Vec<u8>,
 }
 
-/// A writer that comes back, with why a frame was not written.
+/// The writer, and why a frame was not written.
 #[derive(Drop)]
 pub struct Unwritten<W: Write> {
     pub writer: Counted<W>,
@@ -38,7 +38,7 @@ impl<W: Write> TraceWriter<W> {
     ghost use Rattle.cops_trace.specs.Counts.{HasTurn, counted, nothing};
     ghost use Rattle.cops_trace.specs.Writing.{IsUnwritten, end_frame, head_frame, more_written, record_frame};
 
-    /// Writes the head of a format and so many clients. Where it is not written, the writer comes back.
+    /// Writes the head for a format and a number of clients. Returns the writer if the head is not written.
     pub fn new(
         format: Format,
         alloc: Global,
@@ -73,8 +73,8 @@ impl<W: Write> TraceWriter<W> {
         }
     }
 
-    /// Writes the next record of a client, an operation of the format. The client is there and has one operation fewer
-    /// than it may have at least, as have all.
+    /// Writes the next record of a client, an operation of the format. There has to be such a client, and neither the
+    /// client nor the trace may have the most operations allowed.
     pub fn op(&mut self, client: u16, op: &Op) -> Result<(), WriteFault>
         requires turn { HasTurn self.old.counts client }
         requires format { IsInFormat self.old.counts.format (operation_of op.now) }
@@ -95,7 +95,7 @@ impl<W: Write> TraceWriter<W> {
         Ok(())
     }
 
-    /// Whether the client is there, and it and all may have one record more.
+    /// Whether there is such a client, and neither the client nor the trace has the most records allowed.
     pub fn has_turn(&self, client: u16) -> bool
         ensures { IsTrue result ↔ HasTurn self.now.counts client }
     {
@@ -109,7 +109,7 @@ impl<W: Write> TraceWriter<W> {
         self.counts.format()
     }
 
-    /// How many records were written.
+    /// The number of records written.
     pub(crate) fn len(&self) -> usize
         ensures { result ≡ self.now.counts.total }
     {
@@ -123,7 +123,7 @@ impl<W: Write> TraceWriter<W> {
         &self.frame
     }
 
-    /// The writer comes back for this fault.
+    /// Returns the writer, with this fault.
     pub(crate) fn give_up(self, fault: WriteFault) -> Unwritten<W>
         ensures writer { result.writer ≡ self.writer }
         ensures fault { result.fault ≡ fault }
@@ -132,7 +132,7 @@ impl<W: Write> TraceWriter<W> {
         Unwritten { writer, fault }
     }
 
-    /// Writes the end, and gives the writer back.
+    /// Writes the end, and returns the writer.
     pub fn end(mut self) -> Result<Counted<W>, Unwritten<W>>
         ensures ok { IfOk result (λ w. Appends (W.contents (inner self.writer)) (W.contents (inner w)) (end_frame self.counts)) }
         ensures failed { IfErr result (λ u. u.fault ≢ WriteFault.Memory → Failed (failures self.writer) (failures u.writer)) }
@@ -150,7 +150,7 @@ impl<W: Write> TraceWriter<W> {
         }
     }
 
-    /// The writer, without an end.
+    /// Returns the writer, without writing an end.
     pub fn into_writer(self) -> Counted<W>
         ensures { result ≡ self.writer }
     {
@@ -175,7 +175,7 @@ impl<W: Write> TraceWriter<W> {
         self.send()
     }
 
-    /// Writes the frame at hand.
+    /// Writes the frame in the buffer.
     fn send(&mut self) -> Result<(), WriteFault>
         ensures ok { OnOk result (Appends (W.contents (inner self.old.writer)) (W.contents (inner self.new.writer)) self.old.frame.items) }
         ensures err { IfErr result (λ e. (e ≢ WriteFault.Memory) × IsUnwritten self.old.frame.items self.old.written (W.contents (inner self.old.writer)) (W.contents (inner self.new.writer)) e) }

@@ -1,4 +1,4 @@
--- The heights of sessions, as one more operation comes.
+-- The maxima of sessions when one more operation is added.
 use Rattle.std.proofs.Common.{◌≡◌, ◌≢◌, ◌<◌, ◌≤◌, ◌+◌, ◌⊎◌, ℕ, zero, suc, List, [], ◌∷◌, ◌++◌, length, length-append, max, replicate, Bool, true, false, Option, Some, None, refl, sym, ◌∙◌, ap, subst, inl, inr, arith, slice_get, slice_index_or, slice_set, get_or-set_same, get_or-set_other}
 use Rattle.std.proofs.Math.ListN.{length-set}
 use Rattle.std.proofs.Math.Nat.{eq-or-lt_of_le}
@@ -34,7 +34,7 @@ none_has : (h : Sessions) (n : OpName) (v : ℕ) → op_at h n ≡ None → ¬ H
 none_has h n v none (inl a) = let e : None ≡ Some (write a.0 a.1 v) = sym none ∙ a.2 in cc
 none_has h n v none (inr a) = let e : None ≡ Some (read a.0 a.1 v) = sym none ∙ a.2 in cc
 
--- what an operation has, if anything
+-- an operation has a version or none
 has_cases : (h : Sessions) (n : OpName) → ((v : ℕ) × HasVersion h n v) ⊎ ((v : ℕ) → ¬ HasVersion h n v)
 has_cases h n = by_op (op_at h n) refl
   where
@@ -44,7 +44,7 @@ has_cases h n = by_op (op_at h n) refl
     by_op (Some (read k x v)) at = inl (v, inr (k, x, at))
     by_op (Some (missed k)) at = inr (λ v. missed_has h n k v at)
 
--- where an operation of its session makes a put faulty, the first one is found
+-- if some earlier operation of its session makes a put faulty, there is a first one
 module _ (h : Sessions) (name : OpName) (own : ℕ) (put : PutsVersion h name own) where
   before : ℕ → OpName
   before i = record { client = name.client; index = i }
@@ -92,11 +92,11 @@ first_below h earlier name f = elim (search_below h name f.own f.put (suc earlie
   | inr none ↦ absurd (none earlier (omega arith) f)
 ]
 
--- a session without operations has no height
+-- the maximum of a session without operations is 0
 pub height_none : (h : Sessions) (client : ℕ) → IsHeight h client 0 0
 height_none h client = record { bounds = λ i v less has. absurd (omega (arith, less)); reached = inl refl }
 
--- the height after one more operation, by a number that is its version, or 0
+-- the maximum after one more operation, given its version, or 0 if it has none
 pub height_next : (h : Sessions) (client i height number : ℕ) → IsHeight h client i height
     → ((v : ℕ) → HasVersion h (record { client = client; index = i }) v → number ≡ v) → (number ≡ 0) ⊎ HasVersion h (record { client = client; index = i }) number
     → IsHeight h client (i + 1) (max height number)
@@ -168,7 +168,7 @@ module _ (h : Sessions) (client : ℕ) (op : Operation) (inside : client < lengt
   has_was n v (inl a) = elim (op_was n (write a.0 a.1 v) a.2) [ inl old ↦ inl (inl (a.0, a.1, old)) | inr new ↦ inr (new.0, new.1) ]
   has_was n v (inr a) = elim (op_was n (read a.0 a.1 v) a.2) [ inl old ↦ inl (inr (a.0, a.1, old)) | inr new ↦ inr (new.0, new.1) ]
 
-  -- the heights that the sessions had
+  -- the sessions' maxima stay
   height_kept : (c count height : ℕ) → count ≤ length (slice_index_or h c []) → IsHeight h c count height → IsHeight longer c count height
   height_kept c count height within was = record {
     bounds = λ i v less has. elim (has_was (record { client = c; index = i }) v has) [
@@ -184,7 +184,7 @@ module _ (h : Sessions) (client : ℕ) (op : Operation) (inside : client < lengt
   own_length : length (slice_index_or longer client []) ≡ length own + 1
   own_length = omega (arith, ap length own_longer, length-append own (op ∷ []))
 
-  -- a put that has no earlier one above it, or that is the last operation
+  -- an operation that makes a put faulty did so before, or the put is the last operation
   below_was : (e n : OpName) → IsNotBelow longer e n → IsNotBelow h e n ⊎ ((n.client ≡ client) × (n.index ≡ length own))
   below_was e n f =
       let put = f.put in
@@ -208,7 +208,7 @@ module _ (h : Sessions) (client : ℕ) (op : Operation) (inside : client < lengt
     abbrev before_last : ℕ
     before_last = slice_index_or old.sessions.items client 0
 
-    -- the last operation, where it is a put that is above what its session saw, or no put
+    -- the last operation is not a put, or is a put above what its session saw
     module _ (rises : (v : ℕ) → PutsVersion longer last v → before_last < v) where
       last_is_right : (earlier name : OpName) → IsNotBelow longer earlier name → name.client ≡ client → name.index ≡ length own → ⊥
       last_is_right earlier name b of at =
@@ -234,7 +234,7 @@ module _ (h : Sessions) (client : ℕ) (op : Operation) (inside : client < lengt
         | inr new ↦ last_is_right earlier name f.is_not_below new.0 new.1
       ]
 
-    -- a put that is not above its session's height
+    -- the last operation is a put that is not above its session's maximum
     pub falls : (own_version : ℕ) → PutsVersion longer last own_version → 0 < own_version → own_version ≤ before_last → HasNotAbove longer client
     falls own_version put some low = elim (was.each client inside).reached [
       | inl none ↦ absurd (omega (arith, none, some, low))
@@ -244,9 +244,9 @@ module _ (h : Sessions) (client : ℕ) (op : Operation) (inside : client < lengt
           (last, found.0, refl, found.1)
     ]
 
-    -- the heights with the last operation's version, or with 0 where it has none
+    -- the maxima with the last operation's version, or with 0 if it has none
     module _ (number : ℕ) (is : (v : ℕ) → HasVersion longer last v → number ≡ v) (has : (number ≡ 0) ⊎ HasVersion longer last number) where
-      -- heights of which the client's own takes in the number, and the others stay
+      -- the client's maximum takes in the number, and the others stay
       pub heights_more : (heights : List ℕ) → length heights ≡ length old.sessions.items → slice_index_or heights client 0 ≡ max before_last number
           → ((c : ℕ) → c ≢ client → slice_index_or heights c 0 ≡ slice_index_or old.sessions.items c 0)
           → (c : ℕ) → c < length longer → IsHeight longer c (length (slice_index_or longer c [])) (slice_index_or heights c 0)
@@ -417,7 +417,7 @@ no_heights clients heights are rise above = record {
   not_above = λ f. let e : true ≡ false = sym above ∙ f in cc;
 }
 
--- a height that was read at its place
+-- a maximum read at its index
 pub read_at : (heights : List ℕ) (k x : ℕ) → k < length heights → x ≡ slice_index_or heights k x → x ≡ slice_index_or heights k 0
 read_at heights k x inside at = at ∙ inside_default heights k inside
   where
@@ -430,7 +430,7 @@ pub is_false : (b : Bool) → ¬ (b ≡ true) → b ≡ false
 is_false true differs = absurd (differs refl)
 is_false false differs = refl
 
--- a flag that is set has its place
+-- the index of a set flag is within the list
 pub flag_inside : (flags : List Bool) (i : ℕ) → slice_index_or flags i false ≡ true → i < length flags
 flag_inside [] i is = let bad : false ≡ true = is in absurd cc
 flag_inside (f ∷ flags) zero is = omega arith

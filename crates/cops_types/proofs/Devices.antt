@@ -1,4 +1,4 @@
--- What a reader gave, and what a writer gained.
+-- The bytes that a reader gave, and those that a writer took.
 use Rattle.std.proofs.Common.{◌≡◌, ℕ, zero, suc, List, ◌++◌, Option, Some, None, Ok, [], refl, sym, ap, ◌∙◌, append_assoc}
 use Rattle.std.specs.Io.KnownBytes.{Appends, Consumes}
 use Rattle.cops_types.specs.Failures.{counted_write}
@@ -10,12 +10,12 @@ appends_more (Some u) (Some v) None xs ys zs p q e = absurd q
 appends_more (Some u) (Some v) (Some w) xs ys zs p q e =
     q ∙ ap (λ (t : List ℕ). t ++ ys) p ∙ append_assoc u xs ys ∙ ap (λ (t : List ℕ). u ++ t) e
 
--- a write that takes something does not count
+-- a write that takes something does not count as a failure
 pub counted_some : (E : Type 0) (f n : ℕ) (bytes : List ℕ) → (n ≡ 0 → ⊥) → counted_write {E = E} f (Ok n) bytes ≡ f
 counted_some E f zero bytes h = absurd (h refl)
 counted_some E f (suc k) bytes h = refl
 
--- bytes that were taken, and then more
+-- consuming bytes, and then more
 pub consumed : (a b c : Option (List ℕ)) (xs ys : List ℕ) → Consumes a b xs → Consumes b c ys → Consumes a c (xs ++ ys)
 consumed None b c xs ys p q = tt
 consumed (Some u) None c xs ys p q = absurd p

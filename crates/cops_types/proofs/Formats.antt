@@ -1,4 +1,4 @@
--- A format and the number that names it.
+-- A format and its number.
 use Rattle.std.proofs.Common.{◌≡◌, ℕ, eqb, Some, refl, inl, inr}
 use Rattle.std.specs.Prelude.{None}
 use Rattle.std.proofs.lemmas.Bool.{cases_Bool, eqb-true}

@@ -1,4 +1,4 @@
--- What a history keeps, as clients hold places and use them.
+-- The invariant of a history, as clients reserve room and use it.
 use Rattle.std.proofs.Common.{◌≡◌, ◌≢◌, ℕ, zero, suc, ◌+◌, ◌-◌, ◌<◌, ◌≤◌, Bool, true, false, List, [], ◌∷◌, map, length, length-append, get_or, slice_get, replicate, sum_by, Some, None, ◌++◌, refl, sym, ap, ◌∙◌, subst, arith, get_or-set_same, get_or-set_other, inl, inr}
 use Rattle.std.proofs.Math.ListN.{set, length-set}
 use Rattle.std.proofs.lemmas.List.{length-replicate, length-map}
@@ -25,7 +25,7 @@ flag-le : (b : Bool) → flag_count b ≤ 1
 flag-le true = omega arith
 flag-le false = omega arith
 
--- an entry counts as the operation that it stands for
+-- an entry counts as a put exactly if its operation is one
 puts-told : (keys : List (List ℕ)) (all : EntryLists) (e : Entry) → puts_in e ≡ flag_count (is_put (told keys all e))
 puts-told keys all (Put key value version) = refl
 puts-told keys all (Got key value version) = refl
@@ -76,7 +76,7 @@ new_kept keys entries heights n le no_keys no_entries no_names no_gets low =
       session_heights = subst (λ (h : Sessions). AreSessionHeights h heights) (sym none) low;
     }
 
--- ---- places that are held
+-- ---- reserved room
 
 module _ (k k' : KeptKeys) (e e' : KeptEntries) (heights : Heights) (reserved : List Bool) (reservations len : ℕ) (keys : k'.keys ≡ k.keys) (spare : k.spare ≤ k'.spare) (keeps : KeepsEntries e e')
     (kept : IsKept k e heights reserved reservations len) where
@@ -86,7 +86,7 @@ module _ (k k' : KeptKeys) (e e' : KeptEntries) (heights : Heights) (reserved : 
   pub same_told : told_by k'.keys e'.all ≡ told_by k.keys e.all
   same_told = λ j. told_by (keys j) (all j)
 
-  -- more room changes nothing
+  -- more room keeps the invariant
   pub room_kept : IsKept k' e' heights reserved reservations len
   room_kept = record {
     limits = subst IsWithinLimits (sym same_told) kept.limits;
@@ -107,7 +107,7 @@ module _ (k k' : KeptKeys) (e e' : KeptEntries) (heights : Heights) (reserved : 
     session_heights = subst (λ (h : Sessions). AreSessionHeights h heights) (sym same_told) kept.session_heights;
   }
 
-  -- one more place is held
+  -- one more reservation
   pub flag_kept : (client : ℕ) → client < length e.all → get_or reserved client false ≡ false → get_or e'.room client false ≡ true → reservations + 1 ≤ k'.spare → reservations + 1 ≤ e'.more_puts → reservations + 1 ≤ e'.more_gets
       → IsKept k' e' heights (set reserved client true) (reservations + 1) len
   flag_kept client inside was has places put_places get_places = record {
@@ -139,7 +139,7 @@ module _ (k k' : KeptKeys) (e e' : KeptEntries) (heights : Heights) (reserved : 
   pub put_told : told_by k'.keys e'.all ≡ with_op (told_by k.keys e.all) client op
   put_told = ap (told_by k'.keys) all ∙ told_by-with_item k.keys k'.keys gains.places e.all client entry inside kept.sound fits op is
 
-  -- the keys of the gets that are kept with what they returned
+  -- the keys of the gets stored with what they returned
   gets_keyed : (number : ℕ) (x : Entry) → slice_get e'.gets number ≡ Some x → key_number_of x < length k'.keys
   gets_keyed number x at = elim more.gets [
     | inl same ↦ omega (arith, kept.get_keys number x (sym (ap (λ (s : List Entry). slice_get s number) same) ∙ at), gains.places.longer)
@@ -149,7 +149,7 @@ module _ (k k' : KeptKeys) (e e' : KeptEntries) (heights : Heights) (reserved : 
     ]
   ]
 
-  -- there is at most one more of them
+  -- at most one such get is added
   gets_more : length e'.gets ≤ length e.gets + 1
   gets_more = elim more.gets [
     | inl same ↦ omega (arith, ap length same)

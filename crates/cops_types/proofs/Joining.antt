@@ -1,4 +1,4 @@
--- Slots that lie in blocks.
+-- Slots stored in blocks.
 use Rattle.std.proofs.Common.{◌≡◌, ℕ, zero, suc, ◌+◌, ◌-◌, ◌*◌, ◌/◌, ◌%◌, ◌<◌, ◌≤◌, All, List, [], ◌∷◌, ◌++◌, length, get_or, slice_get, Some, None, Vec, Global, refl, sym, ap, ◌∙◌, arith}
 use Rattle.std.proofs.lemmas.List.{length-append}
 use Rattle.std.proofs.lemmas.Option.{slice_get_read}
@@ -38,7 +38,7 @@ within (x ∷ full) (suc k) j b h lt at =
     let past : suc k * 64 + j ≡ length x.items + (k * 64 + j) = omega (arith, size) in
     get_right x.items (joined full) (k * 64 + j) (suc k * 64 + j) past ∙ within full k j b (rest_full x full h) lt at
 
--- at a place of a block that is full
+-- the slot at an index within a full block
 pub get_full : (full : List (Vec Slot Global)) (last : List Slot) (i : ℕ) (b : Vec Slot Global) → AreFull full → i / 64 < length full → b ≡ get_or full (i / 64) b
     → slice_get (joined full ++ last) i ≡ slice_get b.items (i % 64)
 get_full full last i b h inside is =
@@ -47,7 +47,7 @@ get_full full last i b h inside is =
     let front : i < length (joined full) = omega (arith, joined_len full h, inside) in
     get_left (joined full) last i front ∙ ap (slice_get (joined full)) (sym parts) ∙ within full (i / 64) (i % 64) b h low (slice_get_read full (length full) (i / 64) b refl inside is)
 
--- at a place behind them
+-- the slot at an index after the full blocks
 pub get_last : (full : List (Vec Slot Global)) (last : List Slot) (i : ℕ) → AreFull full → length full ≤ i / 64 → slice_get (joined full ++ last) i ≡ slice_get last (i - length full * 64)
 get_last full last i h past =
     let from : i ≡ length (joined full) + (i - length full * 64) = omega (arith, joined_len full h, past) in

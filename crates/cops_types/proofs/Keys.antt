@@ -1,4 +1,4 @@
--- Keys that come one after another, each once.
+-- Keys that are added one after another, each once.
 use Rattle.std.proofs.Common.{◌≡◌, ◌≢◌, ◌+◌, ◌≤◌, ℕ, Bool, true, false, ltb, List, [], ◌∷◌, ◌++◌, length, slice_get, Some, if◌then◌else◌, AllPairs, refl, sym, ◌∙◌, arith, inl, inr}
 use Rattle.std.specs.List.{IsDistinct}
 use Rattle.std.specs.Str.{bytes_eq}
@@ -9,12 +9,12 @@ use Rattle.std.proofs.lemmas.Option.{slice_get_within, get_or_from_slice_get}
 use Rattle.std.proofs.lemmas.Slice.Eq.{bytes_eq-Decides}
 use Rattle.cops_types.specs.KeySets.{AreDistinct, KeepsPlaces}
 
--- a key that comes, or is there, leaves the others in their places
+-- adding a key, new or not, leaves the others at their indexes
 pub places_kept : (keys : List (List ℕ)) (key : List ℕ) (there : Bool) → KeepsPlaces keys (if there then keys else keys ++ key ∷ [])
 places_kept keys key true = record { longer = omega arith; same = λ i inside. refl }
 places_kept keys key false = record { longer = omega (arith, length-append keys (key ∷ [])); same = λ i inside. get_or_append_left keys (key ∷ []) [] i inside }
 
--- and is one more at most
+-- adding a key adds at most one
 pub one_more : (keys : List (List ℕ)) (key : List ℕ) (there : Bool) → length (if there then keys else keys ++ key ∷ []) ≤ length keys + 1
 one_more keys key true = omega arith
 one_more keys key false = omega (arith, length-append keys (key ∷ []))
@@ -26,7 +26,7 @@ no_later keys pairs i j key at also =
       | inr p ↦ p
     ]
 
--- keys that a test of their bytes tells apart are distinct
+-- keys with different bytes are distinct
 pub distinct_keys : (keys : List (List ℕ)) → IsDistinct bytes_eq keys → AreDistinct keys
 distinct_keys keys d i j key at also =
     let pairs = AllPairs-from_IsDistinct bytes_eq-Decides keys d in

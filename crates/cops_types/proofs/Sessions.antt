@@ -1,4 +1,4 @@
--- Lists of which a client's gains an item, and vectors that keep them.
+-- Lists, of which one client's gains an item, and vectors that store them.
 use Rattle.std.proofs.Common.{◌≡◌, ◌≢◌, ℕ, zero, suc, ◌+◌, ◌<◌, ◌≤◌, Bool, true, false, cond, eqb, List, [], ◌∷◌, ◌++◌, map, length, get_or, replicate, refl, sym, ap, ◌∙◌, subst, arith, get_or-set_same, get_or-set_other, inl, inr}
 use Rattle.std.specs.Prelude.{◌⊎◌, Result, Ok, Err, OnErr, count_by}
 use Rattle.std.proofs.Math.ListN.{set, length-set}
@@ -15,7 +15,7 @@ use Rattle.cops_types.specs.Keeping.{flag_count}
 
 -- ---- sessions as lists
 
--- each of so many empty lists
+-- a list among `n` empty lists is empty
 pub none_of : {X : Type 0} (n c : ℕ) → get_or (replicate {A = List X} n []) c [] ≡ []
 none_of zero c = refl
 none_of (suc n) zero = refl
@@ -24,7 +24,7 @@ none_of (suc n) (suc c) = none_of n c
 pub count-none : (n : ℕ) → count_of (replicate n []) ≡ 0
 count-none n = omega (arith, sum_by-replicate (length {A = Operation}) n [])
 
--- so many empty sessions
+-- `n` empty sessions are within the limits
 pub none_within : (n : ℕ) → n ≤ 65535 → IsWithinLimits (replicate n [])
 none_within n le = record {
   clients = omega (arith, length-replicate {A = List Operation} n []);
@@ -41,7 +41,7 @@ count-with_op h i op inside =
     let s = get_or h i [] in
     omega (arith, sum_by-set length h i (s ++ op ∷ []) [] inside, length-append s (op ∷ []))
 
--- one operation more of a session
+-- a session with one more operation
 count-push : (s : List Operation) (op : Operation) → count_by is_put (s ++ op ∷ []) ≡ count_by is_put s + flag_count (is_put op)
 count-push [] (write key content version) = refl
 count-push [] (read key content version) = refl
@@ -78,35 +78,35 @@ within_with_op h i op ok w =
       all = omega (arith, count-with_op h i op inside);
     }
 
--- ---- lists as they are kept
+-- ---- lists as they are stored
 
 module _ {V X : Type 0} (items : V → List X) (has_room : V → Bool) where
-  -- one in whose place another with the same items stands
+  -- replacing an element by one with the same items
   pub same_items : (xs : List V) (i : ℕ) (old new : V) → old ≡ get_or xs i old → items new ≡ items old → map items (set xs i new) ≡ map items xs
   same_items xs i old new at same = map-set_same items xs i new old (same ∙ ap items at)
 
-  -- one in whose place another with one more item stands
+  -- replacing an element by one with one more item
   pub more_items : (xs : List V) (i : ℕ) (old new : V) (x : X) → i < length xs → old ≡ get_or xs i old → items new ≡ items old ++ x ∷ []
       → map items (set xs i new) ≡ with_item (map items xs) i x
   more_items xs i old new x inside at more =
       map-set items xs i new
       ∙ ap (set (map items xs) i) (more ∙ ap (λ (s : List X). s ++ x ∷ []) (ap items at ∙ sym (get_or-map items xs i old [] inside)))
 
-  -- the others' room stays
+  -- the other elements keep their room
   pub others_room : (xs : List V) (i c : ℕ) (new : V) → c ≢ i → get_or (map has_room xs) c false ≡ true → get_or (map has_room (set xs i new)) c false ≡ true
   others_room xs i c new other room = ap (λ (l : List Bool). get_or l c false) (map-set has_room xs i new) ∙ get_or-set_other (map has_room xs) i c (has_room new) false other ∙ room
 
-  -- the room of the one that stands there
+  -- the new element has its own room
   pub own_room : (xs : List V) (i : ℕ) (new : V) → i < length xs → has_room new ≡ true → get_or (map has_room (set xs i new)) i false ≡ true
   own_room xs i new inside has =
       let there : i < length (map has_room xs) = omega (arith, length-map xs has_room) in
       ap (λ (l : List Bool). get_or l i false) (map-set has_room xs i new) ∙ get_or-set_same (map has_room xs) i (has_room new) false there ∙ has
 
-  -- what room says of it
+  -- the room at an index is that of the element there
   pub room_says : (xs : List V) (i : ℕ) (old : V) → i < length xs → old ≡ get_or xs i old → get_or (map has_room xs) i false ≡ true → has_room old ≡ true
   room_says xs i old inside at room = ap has_room at ∙ sym (get_or-map has_room xs i old false inside) ∙ room
 
-  -- no room is lost where the one in its place has room if it had
+  -- no room is lost if the new element has room whenever the old one had
   pub kept_room : (xs : List V) (i c : ℕ) (old new : V) → i < length xs → old ≡ get_or xs i old → (has_room old ≡ true → has_room new ≡ true)
       → get_or (map has_room xs) c false ≡ true → get_or (map has_room (set xs i new)) c false ≡ true
   kept_room xs i c old new inside at keeps room =
@@ -118,7 +118,7 @@ module _ {V X : Type 0} (items : V → List X) (has_room : V → Bool) where
         | inr p ↦ others_room xs i c new p room
       ]
 
--- what holds anyway holds at an error
+-- what always holds also holds on an error
 pub at_error : {T E : Type 0} (r : Result T E) (P : Type 0) → P → OnErr r P
 at_error (Ok x) P h = tt
 at_error (Err e) P h = h

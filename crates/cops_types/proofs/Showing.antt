@@ -1,4 +1,4 @@
--- The entries that slots stand for, as one more comes.
+-- The entries of slots when one more slot is added.
 use Rattle.std.proofs.Common.{◌≡◌, ℕ, zero, suc, ◌+◌, ◌<◌, ◌≤◌, List, [], ◌∷◌, ◌++◌, map, length, length-append, get_or, replicate, slice_get, Option, Some, None, refl, sym, ap, ◌∙◌, subst, arith, get_or-set_same, get_or-set_other, inl, inr}
 use Rattle.std.specs.Prelude.{◌⊎◌, ◌≢◌, ◌↔◌, IfSome, IfNone}
 use Rattle.std.specs.Option.{option_and_then, option_map}
@@ -26,13 +26,13 @@ use Rattle.cops_types.proofs.Telling.{item_came, item_stays, map-same}
 
 -- ---- lists
 
--- what stands under a name, where each item is replaced
+-- the item of a name after mapping all items
 pub item_at-map : {X Y : Type 0} (f : X → Y) (lists : List (List X)) (name : OpName) → item_at (map (map f) lists) name ≡ option_map f (item_at lists name)
 item_at-map f lists name =
     ap (λ l. slice_get l name.index) (get_or-map (map f) lists name.client [])
     ∙ slice_get-map f (get_or lists name.client []) name.index
 
--- what stands in a list with one more item stood there, or is that item at the end
+-- an item of a list with one more item was there before, or is the new one at the end
 pub slice_get-end : {X : Type 0} (xs : List X) (y : X) (i : ℕ) (x : X) → slice_get (xs ++ y ∷ []) i ≡ Some x → (slice_get xs i ≡ Some x) ⊎ ((i ≡ length xs) × (y ≡ x))
 slice_get-end [] y zero x at = let e : y ≡ x = cc in inr (refl, e)
 slice_get-end [] y (suc i) x at = cc
@@ -49,7 +49,7 @@ stays_left [] ys i x at = cc
 stays_left (y ∷ xs) ys zero x at = at
 stays_left (y ∷ xs) ys (suc i) x at = stays_left xs ys i x at
 
--- what stands in the one stands in the other
+-- the first list is a prefix of the second
 abbrev pub IsFront : {X : Type 0} → List X → List X → Type 0
 IsFront {X} xs ys = (i : ℕ) (x : X) → slice_get xs i ≡ Some x → slice_get ys i ≡ Some x
 
@@ -59,7 +59,7 @@ front_same xs = λ i x at. at
 pub front_more : {X : Type 0} (xs : List X) (y : X) → IsFront xs (xs ++ y ∷ [])
 front_more xs y = stays_left xs (y ∷ [])
 
--- the item that comes last in a client's list
+-- the item that is added to a client's list
 pub item_last : {X : Type 0} (lists : List (List X)) (client : ℕ) (item : X) (name : OpName) → client < length lists → name.client ≡ client → name.index ≡ length (get_or lists client [])
     → item_at (with_item lists client item) name ≡ Some item
 item_last {X} lists client item name inside of at =
@@ -67,7 +67,7 @@ item_last {X} lists client item name inside of at =
     let there : get_or (with_item lists client item) client [] ≡ own ++ item ∷ [] = get_or-set_same lists client (own ++ item ∷ []) [] inside in
     (λ j. slice_get (get_or (with_item lists client item) (of j) []) (at j)) ∙ ap (λ (l : List X). slice_get l (length own)) there ∙ end_of own item
 
--- what stands in the lists with one more item stood there, or is that item, at its place
+-- an item of the lists with one more item was there before, or is the new one, at its index
 pub item_came_last : {X : Type 0} (lists : List (List X)) (client : ℕ) (item : X) → client < length lists → (name : OpName) (x : X) → item_at (with_item lists client item) name ≡ Some x
     → (item_at lists name ≡ Some x) ⊎ ((item ≡ x) × (name.client ≡ client) × (name.index ≡ length (get_or lists client [])))
 item_came_last {X} lists client item inside name x at =
@@ -92,7 +92,7 @@ no_items puts gets (suc n) = ap (λ (l : EntryLists). [] ∷ l) (no_items puts g
 pub shown-none : (puts : List KeptPut) (gets : List KeptGot) (slots : List (List Slot)) (n : ℕ) → slots ≡ replicate n [] → shown_by puts gets slots ≡ replicate n []
 shown-none puts gets slots n none = ap (shown_by puts gets) none ∙ no_items puts gets n
 
--- nothing is kept of nothing
+-- the invariant of empty lists
 pub none_kept : (slots : List (List Slot)) (n : ℕ) → slots ≡ replicate n [] → AreKept [] [] slots
 none_kept slots n none = record {
   there = λ name s at. let gone : None ≡ Some s = nothing name s at in cc;
@@ -112,14 +112,14 @@ item_at-shown puts gets slots name = item_at-map (shown puts gets) slots name
 pub length-shown : (puts : List KeptPut) (gets : List KeptGot) (slots : List (List Slot)) (client : ℕ) → length (get_or (shown_by puts gets slots) client []) ≡ length (get_or slots client [])
 length-shown puts gets slots client = ap length (get_or-map (map (shown puts gets)) slots client []) ∙ length-map (get_or slots client []) (shown puts gets)
 
--- something stands within
+-- an index within a list has an item
 pub found : {X : Type 0} (xs : List X) (i : ℕ) → i < length xs → (x : X) × (slice_get xs i ≡ Some x)
 found [] i inside = absurd (omega (arith, inside))
 found (x ∷ xs) zero inside = (x, refl)
 found (x ∷ xs) (suc i) inside = found xs i (omega (arith, inside))
 
 module _ (puts puts' : List KeptPut) (gets gets' : List KeptGot) (more_puts : IsFront puts puts') (more_gets : IsFront gets gets') where
-  -- a slot stands for the same entry
+  -- a slot still stands for the same entry
   shown-same : (s : Slot) → IsThere (length puts) (length gets) s → shown puts' gets' s ≡ shown puts gets s
   shown-same (PutSlot n) there = let p = found puts n there in ap put_shown (more_puts n p.0 p.1 ∙ sym p.1)
   shown-same (SourcedSlot n) there = let p = found puts n there in ap (source_shown n) (more_puts n p.0 p.1 ∙ sym p.1)
@@ -133,7 +133,7 @@ module _ (puts puts' : List KeptPut) (gets gets' : List KeptGot) (more_puts : Is
         map-same (shown puts' gets') (shown puts gets) s (λ i x here.
         shown-same x (kept.there (record { client = c; index = i }) x (ap (λ (l : List Slot). slice_get l i) (get_or_from_slice_get slots c s [] at) ∙ here))))
 
-    -- the client gains the entry that the slot stands for
+    -- the client gains the entry of the slot
     pub shown_by-more : (entry : Entry) → shown puts' gets' slot ≡ entry → shown_by puts' gets' (with_item slots client slot) ≡ with_item (shown_by puts gets slots) client entry
     shown_by-more entry is =
         let f = shown puts' gets' in
@@ -143,7 +143,7 @@ module _ (puts puts' : List KeptPut) (gets gets' : List KeptGot) (more_puts : Is
         ∙ ap (λ (all : EntryLists). with_item all client (f slot)) shown_by-same
         ∙ ap (with_item (shown_by puts gets slots) client) is
 
-    -- and all is kept as it was
+    -- the invariant holds with one more slot
     pub kept_more : length puts ≤ length puts' → length gets ≤ length gets' → IsThere (length puts') (length gets') slot
         → ((n : ℕ) (p : KeptPut) → slice_get puts' n ≡ Some p → (slice_get puts n ≡ Some p) ⊎ (item_at (with_item slots client slot) p.name ≡ Some (PutSlot n)))
         → ((name : OpName) (n : ℕ) → slot ≡ PutSlot n → name.client ≡ client → name.index ≡ length (get_or slots client []) → (p : KeptPut) × (slice_get puts' n ≡ Some p) × (p.name ≡ name))
@@ -204,15 +204,15 @@ module _ (puts puts' : List KeptPut) (gets gets' : List KeptGot) (more_puts : Is
         still (MissedSlot key) there = tt
 
 module _ (puts : List KeptPut) (gets : List KeptGot) (slots : List (List Slot)) (kept : AreKept puts gets slots) where
-  -- a put stands under its name
+  -- a put is the entry of its name
   pub put_at : (n : ℕ) (p : KeptPut) → slice_get puts n ≡ Some p → item_at (shown_by puts gets slots) p.name ≡ Some (Put p.key (content_of p.has_value p.value) p.version)
   put_at n p at = item_at-shown puts gets slots p.name ∙ ap (option_map (shown puts gets)) (kept.named n p at) ∙ ap (λ (o : Option KeptPut). Some (put_shown o)) at
 
-  -- a put's number is that of its name
+  -- the number in a put's slot is that of its name
   pub named_at : (name : OpName) (n : ℕ) → item_at slots name ≡ Some (PutSlot n) → slice_get (map (λ (p : KeptPut). p.name) puts) n ≡ Some name
   named_at name n at = let p = kept.back name n at in slice_get-map (λ (q : KeptPut). q.name) puts n ∙ ap (option_map (λ (q : KeptPut). q.name)) p.1 ∙ ap Some p.2
 
-  -- and the name that has it is a put's
+  -- the name with that number is a put's
   pub put_named : (name : OpName) (n : ℕ) → slice_get (map (λ (p : KeptPut). p.name) puts) n ≡ Some name → item_at slots name ≡ Some (PutSlot n)
   put_named name n at =
       let f = λ (q : KeptPut). q.name in
@@ -222,13 +222,13 @@ module _ (puts : List KeptPut) (gets : List KeptGot) (slots : List (List Slot)) 
       let same : name ≡ p.0.name = cc in
       ap (item_at slots) same ∙ kept.named n p.0 p.1
 
-  -- it stands for a put
+  -- a put's slot stands for a put
   pub put_of : (name : OpName) (n : ℕ) → item_at slots name ≡ Some (PutSlot n) → (key version : ℕ) × (value : Option (List ℕ)) × (item_at (shown_by puts gets slots) name ≡ Some (Put key value version))
   put_of name n at =
       let p = kept.back name n at in
       (p.0.key, p.0.version, content_of p.0.has_value p.0.value, ap (item_at (shown_by puts gets slots)) (sym p.2) ∙ put_at n p.0 p.1)
 
-  -- the put that a slot names is there
+  -- the put to which a slot refers is there
   pub source_of : (name : OpName) (n : ℕ) → item_at slots name ≡ Some (SourcedSlot n)
       → (put : OpName) × (slice_get (map (λ (p : KeptPut). p.name) puts) n ≡ Some put)
       × (key version : ℕ) × (item_at (shown_by puts gets slots) name ≡ Some (Sourced key (record { name = put; number = n }) version))
@@ -242,7 +242,7 @@ module _ (puts : List KeptPut) (gets : List KeptGot) (slots : List (List Slot)) 
         item_at-shown puts gets slots name ∙ ap (option_map (shown puts gets)) at ∙ ap (λ (o : Option KeptPut). Some (source_shown n o)) p.1,
       )
 
-  -- what is referred to has its put's value
+  -- a reference has its put's value
   pub has_value : (e : EntryRef) → IsFrom puts e → HasValue (shown_by puts gets slots) e
   has_value (PutRef key value version) from = tt
   has_value (GotRef key value version) from = tt
@@ -252,7 +252,7 @@ module _ (puts : List KeptPut) (gets : List KeptGot) (slots : List (List Slot)) 
       sym from.3 ∙ sym (ap value_in there)
   has_value (MissedRef key) from = tt
 
-  -- what a slot stands for that names a put
+  -- the entry of a slot that refers to a put
   pub sourced : (put : NumberedPut) (key version : ℕ) → slice_get (map (λ (p : KeptPut). p.name) puts) put.number ≡ Some put.name
       → item_at (shown_by puts gets slots) put.name ≡ Some (Put key (value_put (shown_by puts gets slots) put.name) version)
       → (put.number < length puts) × (shown puts gets (SourcedSlot put.number) ≡ Sourced key put version)
@@ -273,7 +273,7 @@ pub names_versioned : (puts : List KeptPut) → map (λ (p : VersionedPut). p.na
 names_versioned [] = refl
 names_versioned (p ∷ puts) = ap (λ (l : List OpName). p.name ∷ l) (names_versioned puts)
 
--- what does not stand for a put
+-- entries that do not stand for a put
 no_sourced_put : (number : ℕ) (o : Option KeptPut) (key : ℕ) (value : Option (List ℕ)) (version : ℕ) → source_shown number o ≡ Put key value version → ⊥
 no_sourced_put number (Some p) key value version is = cc
 no_sourced_put number None key value version is = cc
@@ -283,7 +283,7 @@ no_got_put (Some g) key value version is = cc
 no_got_put None key value version is = cc
 
 module _ (puts : List KeptPut) (gets : List KeptGot) where
-  -- what stands for a put is a put's slot
+  -- a slot that stands for a put is a put's slot
   slot_of_put : (o : Option Slot) (key : ℕ) (value : Option (List ℕ)) (version : ℕ) → option_map (shown puts gets) o ≡ Some (Put key value version) → (n : ℕ) × (o ≡ Some (PutSlot n))
   slot_of_put None key value version is = cc
   slot_of_put (Some (PutSlot n)) key value version is = (n, refl)
@@ -291,7 +291,7 @@ module _ (puts : List KeptPut) (gets : List KeptGot) where
   slot_of_put (Some (GotSlot n)) key value version is = let e : got_shown (slice_get gets n) ≡ Put key value version = cc in absurd (no_got_put (slice_get gets n) key value version e)
   slot_of_put (Some (MissedSlot k)) key value version is = cc
 
-  -- where no put's slot is, no put's entry is
+  -- without a put's slot there is no put's entry
   pub no_put_shown : (slots : List (List Slot)) (name : OpName) → ((n : ℕ) → item_at slots name ≡ Some (PutSlot n) → ⊥)
       → (key version : ℕ) (value : Option (List ℕ)) → item_at (shown_by puts gets slots) name ≡ Some (Put key value version) → ⊥
   no_put_shown slots name none key version value at = let slot = slot_of_put (item_at slots name) key value version (sym (item_at-shown puts gets slots name) ∙ at) in none slot.0 slot.1
@@ -300,7 +300,7 @@ module _ (puts : List KeptPut) (gets : List KeptGot) where
     versioned_at : (n : ℕ) (p : KeptPut) (d : VersionedPut) → slice_get puts n ≡ Some p → get_or (map versioned puts) n d ≡ versioned p
     versioned_at n p d at = get_or_from_slice_get (map versioned puts) n (versioned p) d (slice_get-map versioned puts n ∙ ap (option_map versioned) at)
 
-    -- the puts are all that entries tell of
+    -- the puts are exactly the entries of puts
     pub lists_entries : ListsEntries (shown_by puts gets slots) (map versioned puts)
     lists_entries = record {
       members = λ p. (
@@ -332,7 +332,7 @@ module _ (puts : List KeptPut) (gets : List KeptGot) where
     }
 
 module _ (puts : List KeptPut) (gets : List KeptGot) (slots : List (List Slot)) (kept : AreKept puts gets slots) (name : OpName) where
-  -- the number that a name's slot tells
+  -- the number in a name's slot
   module _ (number : Option ℕ) (tells : (n : ℕ) → (number ≡ Some n) ↔ (item_at slots name ≡ Some (PutSlot n))) where
     pub numbers_put : (n : ℕ) → (number ≡ Some n) ↔ (slice_get (map (λ (p : KeptPut). p.name) puts) n ≡ Some name)
     numbers_put n = ((λ is. named_at puts gets slots kept name n ((tells n).0 is)), (λ at. (tells n).1 (put_named puts gets slots kept name n at)))
@@ -359,7 +359,7 @@ module _ (puts : List KeptPut) (gets : List KeptGot) (slots : List (List Slot)) 
   names_source (Some n) at = source_of puts gets slots kept name n at
   names_source None at = tt
 
--- ---- gets that are kept with what they returned
+-- ---- gets stored with what they returned
 
 abbrev pub entries_of : List KeptGot → List Entry
 entries_of gets = map (λ (g : KeptGot). got_shown (Some g)) gets
@@ -376,7 +376,7 @@ no_sourced_got : (number : ℕ) (o : Option KeptPut) (key : ℕ) (value : Option
 no_sourced_got number (Some p) key value version is = cc
 no_sourced_got number None key value version is = cc
 
--- the slot of which a number is told
+-- the slot of a number
 numbered_slot : (o : Option Slot) (n : ℕ) → option_and_then get_number_in o ≡ Some n → o ≡ Some (GotSlot n)
 numbered_slot None n is = cc
 numbered_slot (Some (PutSlot k)) n is = cc
@@ -412,7 +412,7 @@ under_or_at (suc n) zero lt = absurd (omega (arith, lt))
 under_or_at (suc n) (suc m) lt = elim (under_or_at n m (omega (arith, lt))) [ inl p ↦ inl (omega (arith, p)) | inr p ↦ inr (ap suc p) ]
 
 module _ (puts : List KeptPut) (gets : List KeptGot) where
-  -- what stands for such a get is its slot
+  -- a slot that stands for such a get is its slot
   got_slot_of : (o : Option Slot) (key version : ℕ) (value : Option (List ℕ)) → option_map (shown puts gets) o ≡ Some (Got key value version) → (n : ℕ) × (o ≡ Some (GotSlot n))
   got_slot_of None key version value is = cc
   got_slot_of (Some (PutSlot n)) key version value is = let e : put_shown (slice_get puts n) ≡ Got key value version = cc in absurd (no_put_got (slice_get puts n) key value version e)
@@ -420,7 +420,7 @@ module _ (puts : List KeptPut) (gets : List KeptGot) where
   got_slot_of (Some (GotSlot n)) key version value is = (n, refl)
   got_slot_of (Some (MissedSlot k)) key version value is = cc
 
-  -- each of them has a number
+  -- each such get has a number
   pub kept_gets : (slots : List (List Slot)) (name : OpName) (key version : ℕ) (value : Option (List ℕ)) → item_at (shown_by puts gets slots) name ≡ Some (Got key value version)
       → (n : ℕ) × (slice_get (entries_of gets) n ≡ Some (Got key value version))
   kept_gets slots name key version value at =
@@ -431,7 +431,7 @@ module _ (puts : List KeptPut) (gets : List KeptGot) where
       (slot.0, slice_get-map (λ (g : KeptGot). got_shown (Some g)) gets slot.0 ∙ got_entry (slice_get gets slot.0) key version value e)
 
   module _ (slots : List (List Slot)) (kept : AreKept puts gets slots) (name : OpName) where
-    -- the number that a name's slot tells
+    -- the number in a name's slot
     pub numbers_get : (number : Option ℕ) → ((n : ℕ) → (number ≡ Some n) ↔ (item_at slots name ≡ Some (GotSlot n)))
         → IfSome number (λ n. (key version : ℕ) × (value : Option (List ℕ)) × (item_at (shown_by puts gets slots) name ≡ Some (Got key value version))
         × (slice_get (entries_of gets) n ≡ Some (Got key value version)))
@@ -446,7 +446,7 @@ module _ (puts : List KeptPut) (gets : List KeptGot) where
         )
     numbers_get None tells = tt
 
-    -- where it tells none, no such get is there
+    -- without a number there is no such get
     pub no_number_no_get : (number : Option ℕ) → ((n : ℕ) → (number ≡ Some n) ↔ (item_at slots name ≡ Some (GotSlot n)))
         → IfNone number ((key version : ℕ) (value : Option (List ℕ)) → item_at (shown_by puts gets slots) name ≢ Some (Got key value version))
     no_number_no_get (Some n) tells = tt
@@ -455,7 +455,7 @@ module _ (puts : List KeptPut) (gets : List KeptGot) where
         let gone : None ≡ Some slot.0 = (tells slot.0).1 slot.1 in
         cc
 
-    -- and it tells no other
+    -- the slot has no other number
     pub tells_number : (number : Option ℕ) → ((n : ℕ) → (number ≡ Some n) ↔ (item_at slots name ≡ Some (GotSlot n))) → number ≡ number_at (get_numbers_in slots) name
     tells_number number tells = told_number number (item_at slots name) tells ∙ sym (number_of_slot slots name)
 
@@ -474,7 +474,7 @@ module _ (puts : List KeptPut) (gets : List KeptGot) where
           rising = λ a b m n same before is also. kept.rising a b m n same before (slot_of a m is) (slot_of b n also);
         }
 
--- what is there keeps its number as one more slot comes
+-- each slot keeps its number when one more is added
 pub numbers_stay : (puts : List KeptPut) (gets : List KeptGot) (slots : List (List Slot)) (client : ℕ) (slot : Slot) → client < length slots → (name : OpName) (entry : Entry)
     → item_at (shown_by puts gets slots) name ≡ Some entry → number_at (get_numbers_in (with_item slots client slot)) name ≡ number_at (get_numbers_in slots) name
 numbers_stay puts gets slots client slot inside name entry at =
@@ -509,7 +509,7 @@ module _ (puts : List KeptPut) (gets : List KeptGot) (slots : List (List Slot)) 
         (put, subst (λ (k : ℕ). slice_get (puts ++ put ∷ []) k ≡ Some put) number (end_of puts put), same))
         (λ n within. inl within) (λ n is. cc)
 
-  -- a get that is kept with what it returned
+  -- a get stored with what it returned
   module _ (got : KeptGot) where
     abbrev slot_got : Slot
     slot_got = GotSlot (length gets)
@@ -534,7 +534,7 @@ module _ (puts : List KeptPut) (gets : List KeptGot) (slots : List (List Slot)) 
     kept_with_slot = kept_more puts puts gets gets (front_same puts) (front_same gets) slots kept client slot inside (omega arith) (omega arith) fits (λ n p there. inl there) (λ name n is own_client own_index. absurd (no_put n is))
         (λ n within. inl within) (λ n is. absurd (no_got n is))
 
--- ---- sessions as they are kept
+-- ---- sessions as they are stored
 
 module _ (puts : List KeptPut) (gets : List KeptGot) (sessions : List KeptBlocks) (client : ℕ) where
   abbrev slots_of : List (List Slot)
@@ -547,7 +547,7 @@ module _ (puts : List KeptPut) (gets : List KeptGot) (sessions : List KeptBlocks
   pub is_there : client < length (shown_by puts gets slots_of) → client < length sessions
   is_there inside = omega (arith, has_slots inside, length-map sessions (λ (b : KeptBlocks). b.items))
 
--- with one more slot
+-- the sessions with one more slot
 module _ (sessions : List KeptBlocks) (client : ℕ) (session new : KeptBlocks) (slot : Slot) (inside : client < length sessions) (at : session ≡ get_or sessions client session) where
   pub own_len : length (get_or (map (λ (b : KeptBlocks). b.items) sessions) client []) ≡ length session.items
   own_len = ap length (get_or-map-inside (λ (b : KeptBlocks). b.items) sessions client session [] inside ∙ ap (λ (b : KeptBlocks). b.items) (sym at))

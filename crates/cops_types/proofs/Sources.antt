@@ -1,4 +1,4 @@
--- What is told of an entry by its name, and when the one entry is the source of the other.
+-- The operation of an entry's name, and when one entry is the source of another.
 use Rattle.std.proofs.Common.{◌≡◌, ◌<◌, ℕ, List, [], length, map, get_or, slice_get, Bor, Option, Some, None, refl, sym, ap, ◌∙◌, inl, inr}
 use Rattle.std.specs.Prelude.{◌⊎◌, ◌≢◌, IfSome, IfNone, option_copied}
 use Rattle.std.specs.Option.{option_map}
@@ -27,28 +27,28 @@ key_told keys all (Sourced key put version) = refl
 key_told keys all (Missed key) = refl
 
 module _ (keys : List (List ℕ)) (all : EntryLists) (name : OpName) where
-  -- where no entry is, no operation is
+  -- without an entry there is no operation
   pub none_told : None ≡ item_at all name → None ≡ op_at (told_by keys all) name
   none_told none = ap (option_map (told keys all)) none ∙ sym (op_at-told keys all name)
 
-  -- where an entry is, the operation is that it stands for
+  -- with an entry, the operation is the one that it stands for
   pub told_as : (e : Entry) (op : Operation) → Some e ≡ item_at all name → told keys all e ≡ op → Some op ≡ op_at (told_by keys all) name
   told_as e op at is = ap Some (sym is) ∙ ap (option_map (told keys all)) at ∙ sym (op_at-told keys all name)
 
-  -- its key has the entry's number
+  -- the operation's key has the entry's number
   pub key_numbered : (e : Entry) (number : ℕ) → AreSound keys all → Some e ≡ item_at all name → number ≡ key_number_of e → slice_get keys number ≡ option_map key_of (op_at (told_by keys all) name)
   key_numbered e number sound at is =
       ap (slice_get keys) is ∙ slice_get-get_or keys (key_number_of e) [] (sound name e (sym at)).key ∙ ap Some (sym (key_told keys all e))
       ∙ ap (option_map key_of) (told_as e (told keys all e) at refl)
 
-  -- what is no put's entry is no put
+  -- an entry that is no put stands for no put
   pub no_put : (e : Entry) → Some e ≡ item_at all name → ((key : ℕ) (value : Option (List ℕ)) (version : ℕ) → e ≡ Put key value version → ⊥) → (version : ℕ) → ¬ PutsVersion (told_by keys all) name version
   no_put (Put key value own) at not version puts = not key value own refl
   no_put (Got key value own) at not version puts = let both = told_as (Got key value own) _ at refl ∙ puts.2 in cc
   no_put (Sourced key put own) at not version puts = let both = told_as (Sourced key put own) _ at refl ∙ puts.2 in cc
   no_put (Missed key) at not version puts = let both = told_as (Missed key) _ at refl ∙ puts.2 in cc
 
-  -- and what is no entry of a get that returned a value is no such get
+  -- an entry that is no get which returned something stands for no such get
   pub no_got : (e : Entry) → Some e ≡ item_at all name → ((key : ℕ) (value : Option (List ℕ)) (version : ℕ) → e ≡ Got key value version → ⊥) → ((key : ℕ) (put : NumberedPut) (version : ℕ) → e ≡ Sourced key put version → ⊥)
       → (version : ℕ) → ¬ GetsVersion (told_by keys all) name version
   no_got (Put key value own) at not nor version gets = let both = told_as (Put key value own) _ at refl ∙ gets.2 in cc
@@ -56,7 +56,7 @@ module _ (keys : List (List ℕ)) (all : EntryLists) (name : OpName) where
   no_got (Sourced key put own) at not nor version gets = nor key put own refl
   no_got (Missed key) at not nor version gets = let both = told_as (Missed key) _ at refl ∙ gets.2 in cc
 
-  -- the same of what is referred to
+  -- like the lemma above, for a reference
   pub no_put_there : (e : EntryRef) → Some (referred e) ≡ item_at all name → ((key : ℕ) (value : Option (Bor Value)) (version : Bor Version) → e ≡ PutRef key value version → ⊥)
       → (version : ℕ) → ¬ PutsVersion (told_by keys all) name version
   no_put_there (PutRef key value own) at not = absurd (not key value own refl)
@@ -107,7 +107,7 @@ module _ (keys : List (List ℕ)) (all : EntryLists) (put got : OpName) (key : �
     got = sym was_got;
   }
 
-  -- and the source is such a put
+  -- the get's source is such a put
   pub source_found : AreSound keys all → AreDistinct keys → key < length keys → SourceStep (told_by keys all) put got → item_at all put ≡ Some (Put key value version)
   source_found sound distinct inside s =
       let same : Some (read s.key s.content s.version) ≡ Some (read (get_or keys key []) value version) = sym s.got ∙ sym was_got in
@@ -123,7 +123,7 @@ no_source keys all put got e at is s =
       | inr p ↦ let both = told_as keys all got e (missed (get_or keys p.0 [])) at (ap (told keys all) p.1) ∙ s.got in cc
     ]
 
--- the same of what is referred to
+-- like the lemma above, for a reference
 pub no_source_there : (keys : List (List ℕ)) (all : EntryLists) (put got : OpName) (e : EntryRef) → Some (referred e) ≡ item_at all got
     → ((key : ℕ) × (value : Option (Bor Value)) × (version : Bor Version) × (e ≡ PutRef key value version)) ⊎ ((key : ℕ) × (e ≡ MissedRef key)) → SourceStep (told_by keys all) put got → ⊥
 no_source_there keys all put got e at is =
@@ -132,7 +132,7 @@ no_source_there keys all put got e at is =
       | inr p ↦ inr (p.0, ap referred p.1)
     ])
 
--- what stands for a put is a put's entry
+-- an entry that stands for a put is a put's entry
 entry_of_put : (keys : List (List ℕ)) (all : EntryLists) (found : Option Entry) (key : List ℕ) (content : Option (List ℕ)) (version : ℕ) → option_map (told keys all) found ≡ Some (write key content version)
     → (number : ℕ) × (own : Option (List ℕ)) × (found ≡ Some (Put number own version))
 entry_of_put keys all None key content version is = cc
@@ -141,7 +141,7 @@ entry_of_put keys all (Some (Got k v w)) key content version is = cc
 entry_of_put keys all (Some (Sourced k p w)) key content version is = cc
 entry_of_put keys all (Some (Missed k)) key content version is = cc
 
--- all entries of puts are all puts
+-- the entries of puts stand for all puts
 pub all_puts : (keys : List (List ℕ)) (all : EntryLists) (puts : List VersionedPut) → ListsEntries all puts → AreAllPuts (told_by keys all) puts
 all_puts keys all puts lists = record {
   members = λ p. (
@@ -166,20 +166,20 @@ names_sources keys all sound names got (Some n) named =
 names_sources keys all sound names got None named = tt
 
 module _ (keys : List (List ℕ)) (all : EntryLists) (name : OpName) where
-  -- where there is a put's entry, there is a put
+  -- a put's entry stands for a put
   pub puts_of : (number : Option ℕ) → IfSome number (λ _. (key version : ℕ) × (value : Option (List ℕ)) × (item_at all name ≡ Some (Put key value version))) → IfSome number (λ _. Puts (told_by keys all) name)
   puts_of (Some n) put = (put.1, (get_or keys put.0 [], put.2, op_at-told keys all name ∙ ap (option_map (told keys all)) put.3))
   puts_of None put = tt
 
-  -- and where there is none, there is none
+  -- without a put's entry there is no put
   pub no_puts_of : (number : Option ℕ) → IfNone number ((key version : ℕ) (value : Option (List ℕ)) → item_at all name ≢ Some (Put key value version)) → IfNone number (¬ Puts (told_by keys all) name)
   no_puts_of (Some n) none = tt
   no_puts_of None none = λ puts. let e = entry_of_put keys all (item_at all name) puts.1.0 puts.1.1 puts.0 (sym (op_at-told keys all name) ∙ puts.1.2) in none e.0 puts.0 e.1 e.2
 
--- ---- gets that are kept with what they returned
+-- ---- gets stored with what they returned
 
 module _ (keys : List (List ℕ)) (all : EntryLists) (sound : AreSound keys all) (got : OpName) where
-  -- a get that returned something has its source, or is kept with it
+  -- a get that returned something has its source, or is stored with what it returned
   got_or_sourced : (version : ℕ) → GetsVersion (told_by keys all) got version → ((key own : ℕ) × (value : Option (List ℕ)) × (item_at all got ≡ Some (Got key value own))) ⊎ ((put : OpName) × SourceStep (told_by keys all) put got)
   got_or_sourced version gets_version = by_entry (item_at all got) refl
     where
@@ -204,7 +204,7 @@ module _ (keys : List (List ℕ)) (all : EntryLists) (gets : List Entry) where
   abbrev pub IsOpen : OpName → ℕ → Type 0
   IsOpen got n = (op : Operation) × (slice_get (map (told keys all) gets) n ≡ Some op) × (op_at (told_by keys all) got ≡ Some op)
 
-  -- the one of a number is an entry's
+  -- the numbered get is that of an entry
   pub numbers_open : (got : OpName) (number : Option ℕ)
       → IfSome number (λ n. (key version : ℕ) × (value : Option (List ℕ)) × (item_at all got ≡ Some (Got key value version)) × (slice_get gets n ≡ Some (Got key value version)))
       → IfSome number (IsOpen got)
@@ -215,7 +215,7 @@ module _ (keys : List (List ℕ)) (all : EntryLists) (gets : List Entry) where
   )
   numbers_open got None at = tt
 
-  -- each get that returned something is one of them, or has its source
+  -- each get that returned something is a numbered one, or has its source
   pub open_or_sourced : AreSound keys all
       → ((name : OpName) (key version : ℕ) (value : Option (List ℕ)) → item_at all name ≡ Some (Got key value version) → (n : ℕ) × (slice_get gets n ≡ Some (Got key value version)))
       → (got : OpName) (version : ℕ) → GetsVersion (told_by keys all) got version
@@ -234,12 +234,12 @@ module _ (keys : List (List ℕ)) (all : EntryLists) (gets : List Entry) where
     | inr sourced ↦ inr sourced
   ]
 
--- an entry is there where an operation is
+-- an operation has an entry
 named_entry : (keys : List (List ℕ)) (all : EntryLists) (o : Option Entry) (op : Operation) → option_map (told keys all) o ≡ Some op → (entry : Entry) × (o ≡ Some entry)
 named_entry keys all None op is = cc
 named_entry keys all (Some entry) op is = (entry, refl)
 
--- operations keep their numbers where entries do
+-- operations keep their numbers if entries do
 pub operations_keep : (keys : List (List ℕ)) (all : EntryLists) (old new : List (List (Option ℕ))) → ((name : OpName) (entry : Entry) → item_at all name ≡ Some entry → number_at new name ≡ number_at old name)
     → (name : OpName) → IsNamed (told_by keys all) name → number_at new name ≡ number_at old name
 operations_keep keys all old new keeps name named =

@@ -1,4 +1,4 @@
--- What entries stand for, as one more comes.
+-- The operations of entries when one more entry is added.
 use Rattle.std.proofs.Common.{◌≡◌, ◌≢◌, ℕ, zero, suc, ◌<◌, List, [], ◌∷◌, ◌++◌, map, length, get_or, replicate, slice_get, Some, refl, sym, ap, ◌∙◌, subst, arith, get_or-set_same, get_or-set_other, inl, inr, Option}
 use Rattle.std.specs.Prelude.{◌⊎◌}
 use Rattle.std.specs.Option.{option_map}
@@ -23,13 +23,13 @@ map-same f g [] same = refl
 map-same f g (x ∷ xs) same = λ j. same zero x refl j ∷ map-same f g xs (λ i y at. same (suc i) y at) j
 
 module _ {X : Type 0} where
-  -- what stood in a list stands there when items come after it
+  -- an item of a list stays in its place when items are added at the end
   slice_get-left : (xs ys : List X) (i : ℕ) (x : X) → slice_get xs i ≡ Some x → slice_get (xs ++ ys) i ≡ Some x
   slice_get-left [] ys i x at = cc
   slice_get-left (y ∷ xs) ys zero x at = at
   slice_get-left (y ∷ xs) ys (suc i) x at = slice_get-left xs ys i x at
 
-  -- what stands in a list with one more item is that item, or stood there
+  -- an item of a list with one more item is that item, or was there before
   slice_get-last : (xs : List X) (y : X) (i : ℕ) (x : X) → slice_get (xs ++ y ∷ []) i ≡ Some x → (slice_get xs i ≡ Some x) ⊎ (y ≡ x)
   slice_get-last [] y zero x at = let e : y ≡ x = cc in inr e
   slice_get-last [] y (suc i) x at = cc
@@ -45,7 +45,7 @@ module _ {X : Type 0} where
     other : name.client ≢ client → get_or (with_item lists client item) name.client [] ≡ get_or lists name.client []
     other p = get_or-set_other lists client name.client (get_or lists client [] ++ item ∷ []) [] p
 
-    -- an item that stood there
+    -- an item that was there stays
     pub item_stays : item_at lists name ≡ Some x → item_at (with_item lists client item) name ≡ Some x
     item_stays at =
         elim (at_or_other client name.client) [
@@ -53,7 +53,7 @@ module _ {X : Type 0} where
           | inr p ↦ ap (λ (l : List X). slice_get l name.index) (other p) ∙ at
         ]
 
-    -- an item that stands there
+    -- an item that is there was there before, or is the new one
     pub item_came : item_at (with_item lists client item) name ≡ Some x → (item_at lists name ≡ Some x) ⊎ (item ≡ x)
     item_came at =
         elim (at_or_other client name.client) [
@@ -67,7 +67,7 @@ module _ (keys new : List (List ℕ)) (places : KeepsPlaces keys new) (all : Ent
   value-same : (put : OpName) (key version : ℕ) → item_at all put ≡ Some (Put key (value_put all put) version) → value_put (with_item all client entry) put ≡ value_put all put
   value-same put key version at = ap value_in (item_stays all client entry inside put (Put key (value_put all put) version) at)
 
-  -- an entry stands for the same operation
+  -- an entry still stands for the same operation
   told-same : (e : Entry) → IsSound keys all e → told new (with_item all client entry) e ≡ told keys all e
   told-same (Put key value version) s = ap (λ (k : List ℕ). write k value version) (places.same key s.key)
   told-same (Got key value version) s = ap (λ (k : List ℕ). read k value version) (places.same key s.key)
@@ -81,7 +81,7 @@ module _ (keys new : List (List ℕ)) (places : KeepsPlaces keys new) (all : Ent
       item_stays all client entry inside put.name (Put key (value_put all put.name) version) s ∙ ap (λ (v : Option (List ℕ)). Some (Put key v version)) (sym (value-same put.name key version s))
   source-same (Missed key) s = tt
 
-  -- and is sound
+  -- an entry stays sound
   sound-same : (e : Entry) → IsSound keys all e → IsSound new (with_item all client entry) e
   sound-same e s = record { key = omega (arith, s.key, places.longer); source = source-same e s.source }
 
@@ -91,7 +91,7 @@ module _ (keys new : List (List ℕ)) (places : KeepsPlaces keys new) (all : Ent
       map-same (told new (with_item all client entry)) (told keys all) s (λ i e found.
       told-same e (sound (record { client = c; index = i }) e (ap (λ (l : List Entry). slice_get l i) (get_or_from_slice_get all c s [] at) ∙ found))))
 
-  -- the history gains what the new entry stands for
+  -- the history gains the operation of the new entry
   told_by-more : AreSound keys all → told_by new (with_item all client entry) ≡ with_op (told_by keys all) client (told new (with_item all client entry) entry)
   told_by-more sound =
       let f = told new (with_item all client entry) in
@@ -110,7 +110,7 @@ module _ (keys new : List (List ℕ)) (places : KeepsPlaces keys new) (all : Ent
       told_by-more keys new places all client entry inside sound
       ∙ ap (with_op (told_by keys all) client) (told-same new new (same_places new) all client entry inside entry fits ∙ is)
 
-  -- and all entries are sound
+  -- all entries are sound
   pub sound-with_item : AreSound new (with_item all client entry)
   sound-with_item name e at =
       elim (item_came all client entry inside name e at) [
@@ -118,7 +118,7 @@ module _ (keys new : List (List ℕ)) (places : KeepsPlaces keys new) (all : Ent
         | inr p ↦ subst (IsSound new (with_item all client entry)) p (sound-same new new (same_places new) all client entry inside entry fits)
       ]
 
--- ---- what is told of a name
+-- ---- the entry of a name
 
 pub op_at-told : (keys : List (List ℕ)) (all : EntryLists) (name : OpName) → op_at (told_by keys all) name ≡ option_map (told keys all) (item_at all name)
 op_at-told keys all name =
@@ -128,11 +128,11 @@ op_at-told keys all name =
 pub length-told : (keys : List (List ℕ)) (all : EntryLists) (client : ℕ) → length (get_or (told_by keys all) client []) ≡ length (get_or all client [])
 length-told keys all client = ap length (get_or-map (map (told keys all)) all client []) ∙ length-map (get_or all client []) (told keys all)
 
--- an entry that is there stands within the limit
+-- the index of an entry is within the limit
 pub limit_at : (keys : List (List ℕ)) (all : EntryLists) (name : OpName) (e : Entry) → IsWithinLimits (told_by keys all) → item_at all name ≡ Some e → name.index < 1000000
 limit_at keys all name e limits at = omega (arith, slice_get_within (get_or all name.client []) name.index e at, limits.each name.client, length-told keys all name.client)
 
--- no entry stands for no operation
+-- no entries stand for no operations
 pub told-none : (keys : List (List ℕ)) (all : EntryLists) (n : ℕ) → map (map (told keys all)) (replicate n []) ≡ replicate n []
 told-none keys all zero = refl
 told-none keys all (suc n) = ap (λ (h : Sessions). [] ∷ h) (told-none keys all n)

@@ -18,7 +18,7 @@ pub record IsCausalOrder (h : Sessions) (order : Order) : Type 0 where
   pub sessions : (a b : OpName) → SessionStep h a b → Precedes order a b
   pub sources : (a b : OpName) → SourceStep h a b → Precedes order a b
 
--- p stands somewhere before q in the list
+-- p comes before q in the list
 abbrev pub StandsBefore : List OpName → OpName → OpName → Type 0
 StandsBefore names p q = (i j : ℕ) × (i < j) × (slice_get names i ≡ Some p) × (slice_get names j ≡ Some q)
 
@@ -32,18 +32,18 @@ pub record IsArbitration (h : Sessions) (order : Order) (arbitration : List OpNa
   pub puts : ListsThePuts h arbitration
   pub extends : (p q : OpName) → Puts h p → Puts h q → Precedes order p q → StandsBefore arbitration p q
 
--- a get has a source, and every other put on its key before it stands before that source
+-- the get has a source, and every other put on the get's key that precedes the get comes before the source in the arbitration
 pub record ReturnsLast (h : Sessions) (order : Order) (arbitration : List OpName) (got : OpName) (key : List ℕ) : Type 0 where
   pub source : OpName
   pub is_source : SourceStep h source got
   pub last : (q : OpName) (version : ℕ) → PutsKey h q key version → q ≢ source → Precedes order q got → StandsBefore arbitration q source
 
--- each get returns the last put on its key before it, or nothing where there is none
+-- each get returns the last put on its key that precedes it, or nothing if there is none
 pub record Explains (h : Sessions) (order : Order) (arbitration : List OpName) : Type 0 where
   pub got : (got : OpName) (key : List ℕ) (content : Option (List ℕ)) (version : ℕ) → IsGot h got key content version → ReturnsLast h order arbitration got key
   pub missed : (got q : OpName) (key : List ℕ) (version : ℕ) → IsMissed h got key → PutsKey h q key version → ¬ Precedes order q got
 
--- convergent with this arbitration
+-- the history converges with this arbitration
 abbrev pub ConvergesBy : Sessions → List OpName → Type 0
 ConvergesBy h arbitration = (order : Order) × IsCausalOrder h order × IsArbitration h order arbitration × Explains h order arbitration
 

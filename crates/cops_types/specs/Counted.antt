@@ -1,4 +1,4 @@
--- What a clause reads of a counted device.
+-- The parts of a counted device, for clauses.
 use Rattle.std.specs.Prelude.{ℕ}
 use Rattle.cops_types.specs.declared.counted.Counted.{Counted}
 

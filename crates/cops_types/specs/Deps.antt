@@ -10,10 +10,10 @@ use Rattle.cops_types.specs.Dep.{is_same_dep}
 abbrev pub IsDep : Dep → Type 0
 IsDep d = IsKey d.key × IsVersion d.version
 
--- pairs of a key and a version, none twice
+-- pairs of a key and a version, all different
 abbrev pub ArePairs : List Dep → Type 0
 ArePairs ds = IsDistinct is_same_dep ds × AllByRecursion IsDep ds
 
--- what dependencies of some format are: at most 1,024 pairs, none twice
+-- dependencies of any format: at most 1,024 pairs, all different
 abbrev pub AreDeps : List Dep → Type 0
 AreDeps ds = (length ds ≤ MAX_DEPS) × ArePairs ds

@@ -1,4 +1,4 @@
--- Entries: operations as a history keeps them, which name their keys by number, and some gets' values by the put that wrote them.
+-- Entries: operations as a history stores them, with numbers for their keys and, in some gets, the put in place of its value.
 use Rattle.std.specs.Prelude.{◌≡◌, ◌≢◌, ◌↔◌, ◌<◌, ◌≤◌, ◌+◌, ◌⊎◌, ◌++◌, ◌∷◌, ℕ, List, [], length, map, Option, Some, None, option_copied, slice_get, slice_index_or, Bool, true, false, Contains, AllPairs}
 use Rattle.cops_types.specs.declared.entry.Entry.{Entry}
 use Rattle.cops_types.specs.declared.entry.Entry.TheVariants.{Put, Got, Sourced, Missed}
@@ -13,8 +13,8 @@ use Rattle.cops_types.specs.Histories.{Sessions, Operation, write, read, missed}
 abbrev pub EntryLists : Type 0
 EntryLists = List (List Entry)
 
--- the entries, of each client whether its next one takes no memory, the names of the puts in the order in which they came, the entries of the gets that are kept
--- with what they returned, each at its number, of each entry its number among these, if it has one, and for how many more puts and such gets there is room
+-- the entries; for each client whether there is room for its next one; the names of the puts in the order in which they were added; the gets stored
+-- with what they returned, each at its number; for each entry its number among these gets, if it has one; and the room for further puts and such gets
 pub record KeptEntries : Type 0 where
   pub all : EntryLists
   pub room : List Bool
@@ -24,14 +24,14 @@ pub record KeptEntries : Type 0 where
   pub more_puts : ℕ
   pub more_gets : ℕ
 
--- the number of its key
+-- the number of an entry's key
 abbrev pub key_number_of : Entry → ℕ
 key_number_of (Put key value version) = key
 key_number_of (Got key value version) = key
 key_number_of (Sourced key put version) = key
 key_number_of (Missed key) = key
 
--- the content, where the entry is a put
+-- the content, if the entry is a put
 abbrev pub value_in : Option Entry → Option (List ℕ)
 value_in (Some (Put key value version)) = value
 value_in _ = None
@@ -51,12 +51,12 @@ told keys all (Missed key) = missed (slice_index_or keys key [])
 abbrev pub told_by : List (List ℕ) → EntryLists → Sessions
 told_by keys all = map (map (told keys all)) all
 
--- the put that it names is there, with its key and version
+-- the put that the entry names is there, with the entry's key and version
 abbrev pub HasSource : EntryLists → Entry → Type 0
 HasSource all (Sourced key put version) = item_at all put.name ≡ Some (Put key (value_put all put.name) version)
 HasSource all _ = Unit {0}
 
--- its key is there, and the put that it names, if it names one
+-- the entry's key is there, and so is the put that it names, if it names one
 pub record IsSound (keys : List (List ℕ)) (all : EntryLists) (entry : Entry) : Type 0 where
   pub key : key_number_of entry < length keys
   pub source : HasSource all entry
@@ -64,24 +64,24 @@ pub record IsSound (keys : List (List ℕ)) (all : EntryLists) (entry : Entry) :
 abbrev pub AreSound : List (List ℕ) → EntryLists → Type 0
 AreSound keys all = (name : OpName) (entry : Entry) → item_at all name ≡ Some entry → IsSound keys all entry
 
--- the put that it names has that number
+-- the put that the entry names has the number in the entry
 abbrev pub IsNumbered : List OpName → Entry → Type 0
 IsNumbered names (Sourced key put version) = slice_get names put.number ≡ Some put.name
 IsNumbered names _ = Unit {0}
 
--- the entry that is referred to
+-- the entry that a reference borrows
 abbrev pub referred : EntryRef → Entry
 referred (PutRef key value version) = Put key (option_copied value) version.now
 referred (GotRef key value version) = Got key (option_copied value) version.now
 referred (SourcedRef key put value version) = Sourced key put version.now
 referred (MissedRef key) = Missed key
 
--- the value of the put that it names stands with it
+-- the reference has the value of the put that it names
 abbrev pub HasValue : EntryLists → EntryRef → Type 0
 HasValue all (SourcedRef key put value version) = option_copied value ≡ value_put all put.name
 HasValue all _ = Unit {0}
 
--- what stays as room is made
+-- making room changes no entry, and loses no room
 pub record KeepsEntries (old new : KeptEntries) : Type 0 where
   pub all : new.all ≡ old.all
   pub names : new.names ≡ old.names
@@ -91,21 +91,22 @@ pub record KeepsEntries (old new : KeptEntries) : Type 0 where
   pub more_gets : old.more_gets ≤ new.more_gets
   pub others : (client : ℕ) → slice_index_or old.room client false ≡ true → slice_index_or new.room client false ≡ true
 
--- a put counts 1
+-- the number of puts in an entry
 abbrev pub puts_in : Entry → ℕ
 puts_in (Put key value version) = 1
 puts_in (Got key value version) = 0
 puts_in (Sourced key put version) = 0
 puts_in (Missed key) = 0
 
--- the entry came, with a name where it is a put, and among the gets where it is kept with what it returned; it took at most one place of the room for each
+-- the entry was added, with a name if it is a put, and among the gets if it is stored with what it returned; it took at most one place of the room
+-- for each
 pub record GainsEntry (entry : Entry) (old new : KeptEntries) : Type 0 where
   pub names : length new.names ≡ length old.names + puts_in entry
   pub gets : (new.gets ≡ old.gets) ⊎ (new.gets ≡ old.gets ++ entry ∷ [])
   pub more_puts : old.more_puts ≤ new.more_puts + 1
   pub more_gets : old.more_gets ≤ new.more_gets + 1
 
--- what was there keeps its number, if it has one
+-- each entry keeps its number, if it has one
 abbrev pub KeepsNumbers : KeptEntries → KeptEntries → Type 0
 KeepsNumbers old new = (name : OpName) (entry : Entry) → item_at old.all name ≡ Some entry → number_at new.get_numbers name ≡ number_at old.get_numbers name
 

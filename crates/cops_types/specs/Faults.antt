@@ -4,7 +4,7 @@ use Rattle.cops_types.specs.declared.op.OpName.{OpName}
 use Rattle.cops_types.specs.Histories.{Sessions, IsGot, IsMissed, PutsKey, PutsVersion, SourceStep}
 use Rattle.cops_types.specs.Past.{Past}
 
--- a get that no put is the source of
+-- a get that has no source among the puts
 pub record HasNoSource (h : Sessions) (name : OpName) : Type 0 where
   pub key : List ℕ
   pub content : Option (List ℕ)
@@ -26,25 +26,25 @@ pub record IsNotBelow (h : Sessions) (earlier name : OpName) : Type 0 where
   pub before : earlier.index < name.index
   pub not_below : own ≤ version
 
--- the first such operation
+-- the first operation of the session whose version is not below the put's own
 pub record IsNotAbove (h : Sessions) (name earlier : OpName) : Type 0 where
   pub is_not_below : IsNotBelow h earlier name
   pub first : (e : OpName) → IsNotBelow h e name → earlier.index ≤ e.index
 
--- a put in the past, of this version, is newer than what was returned
+-- a put in the past of the get, with this version, is newer than what the get returned
 pub record IsNewer (h : Sessions) (name newer : OpName) (version : ℕ) : Type 0 where
   pub key : List ℕ
   pub put : PutsKey h newer key version
   pub past : Past h newer name
   pub returned : ((content : Option (List ℕ)) × (old : ℕ) × IsGot h name key content old × (old < version)) ⊎ IsMissed h name key
 
--- the newest put on the key in the past is newer than what was returned
+-- the newest put on the key in the past of the get is newer than what the get returned
 pub record IsStale (h : Sessions) (name newer : OpName) : Type 0 where
   pub version : ℕ
   pub is_newer : IsNewer h name newer version
   pub newest : (q : OpName) (w : ℕ) → IsNewer h name q w → w ≤ version
 
--- the order of names: clients first
+-- the order of names: by client first
 abbrev pub IsBefore : OpName → OpName → Type 0
 IsBefore a b = (a.client < b.client) ⊎ (a.client ≡ b.client × a.index < b.index)
 

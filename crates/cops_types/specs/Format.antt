@@ -1,16 +1,16 @@
--- The number and the limits of each format, and what each has.
+-- The number and the limits of each format, and which operations it has.
 use Rattle.std.specs.Prelude.{◌≤◌, ℕ, Bool, true, false, nat_le, List, length, ◌==◌, if◌then◌else◌, Option, Some, None}
 use Rattle.cops_types.specs.declared.format.Format.{Format}
 use Rattle.cops_types.specs.declared.format.Format.TheVariants.{One, Two}
 use Rattle.cops_types.specs.declared.limits.TheConstants.{MAX_BODY, MAX_BODY_IN_ONE, MAX_DEPS, MAX_DEPS_IN_ONE, MAX_VALUE, MAX_VALUE_IN_ONE}
 use Rattle.cops_types.specs.Histories.{Operation, write, read, missed}
 
--- the number that names it
+-- the number of a format
 abbrev pub number_of : Format → ℕ
 number_of One = 1
 number_of Two = 2
 
--- the format that a number names, if it names one
+-- the format of a number, if there is one
 abbrev pub format_of_number : ℕ → Option Format
 format_of_number number = if number == 1 then Some One else if number == 2 then Some Two else None
 
@@ -35,7 +35,7 @@ Fits format (Some value) = length value ≤ most_value format
 Fits One None = ⊥
 Fits Two None = Unit {0}
 
--- whether it may be
+-- whether a content fits the format
 abbrev pub fits : Format → Option (List ℕ) → Bool
 fits format (Some value) = nat_le (length value) (most_value format)
 fits One None = false

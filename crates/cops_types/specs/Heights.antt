@@ -1,4 +1,4 @@
--- How high the versions of sessions have come.
+-- The maxima of sessions: the greatest version that each has put or got.
 use Rattle.std.specs.Prelude.{◌≡◌, ◌<◌, ◌≤◌, ◌⊎◌, ℕ, [], length, slice_index_or, true, false}
 use Rattle.cops_types.specs.declared.op.OpName.{OpName}
 use Rattle.cops_types.specs.declared.heights.Heights.{Heights}
@@ -6,20 +6,20 @@ use Rattle.cops_types.specs.Histories.{Sessions}
 use Rattle.cops_types.specs.Faults.{HasVersion, IsNotAbove}
 use Rattle.cops_types.specs.Verdicts.{AllAbove}
 
--- the height of a session after so many operations: the least number that is not below the versions that these put or got
+-- the maximum of a session after its first `count` operations: the greatest version among them, or 0 if they have none
 pub record IsHeight (h : Sessions) (client count height : ℕ) : Type 0 where
   pub bounds : (i version : ℕ) → i < count → HasVersion h (record { client = client; index = i }) version → version ≤ height
   pub reached : (height ≡ 0) ⊎ ((i : ℕ) × (i < count) × HasVersion h (record { client = client; index = i }) height)
 
--- each put of a client's session is above what that saw before it
+-- each put of a client's session has a greater version than all that the session put or got before it
 abbrev pub IsSessionAbove : Sessions → ℕ → Type 0
 IsSessionAbove h client = (name earlier : OpName) → name.client ≡ client → ¬ IsNotAbove h name earlier
 
--- one is not
+-- some put of the session does not
 abbrev pub HasNotAbove : Sessions → ℕ → Type 0
 HasNotAbove h client = (name : OpName) × (earlier : OpName) × (name.client ≡ client) × IsNotAbove h name earlier
 
--- the height of each session, whether each of its puts is above what it saw before, and whether each put of all sessions is
+-- the maximum of each session, and whether each of its puts is above what it saw before; and whether each put of all sessions is
 pub record AreSessionHeights (h : Sessions) (heights : Heights) : Type 0 where
   pub clients : length heights.sessions.items ≡ length h
   pub each : (client : ℕ) → client < length h → IsHeight h client (length (slice_index_or h client [])) (slice_index_or heights.sessions.items client 0)

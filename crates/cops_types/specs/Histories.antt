@@ -2,8 +2,8 @@
 use Rattle.std.specs.Prelude.{◌≡◌, ◌<◌, ℕ, List, [], ◌∷◌, ◌++◌, Option, Some, slice_get, slice_index_or, slice_set}
 use Rattle.cops_types.specs.declared.op.OpName.{OpName}
 
--- What a client did, and what it was told, whichever requests it made: a put of this content, which was given this version; a get that returned this content, and
--- the version of the put that wrote it; or a get that found nothing. Where there is no content, there is no value.
+-- An operation of a client, and its result, whichever requests it made: a put of this content, with its version; a get that returned this content and
+-- version; or a get that found nothing. A put without content is a deletion, and a get without content found one.
 pub data Operation : Type 0 where
   write : List ℕ → Option (List ℕ) → ℕ → Operation
   read : List ℕ → Option (List ℕ) → ℕ → Operation
@@ -34,15 +34,15 @@ IsGot h name key content version = op_at h name ≡ Some (read key content versi
 abbrev pub IsMissed : Sessions → OpName → List ℕ → Type 0
 IsMissed h name key = op_at h name ≡ Some (missed key)
 
--- a put bears this version
+-- the operation is a put with this version
 abbrev pub PutsVersion : Sessions → OpName → ℕ → Type 0
 PutsVersion h name version = (key : List ℕ) × (content : Option (List ℕ)) × IsPut h name key content version
 
--- a put on this key
+-- the operation is a put on this key, with this version
 abbrev pub PutsKey : Sessions → OpName → List ℕ → ℕ → Type 0
 PutsKey h name key version = (content : Option (List ℕ)) × IsPut h name key content version
 
--- a put
+-- the operation is a put
 abbrev pub Puts : Sessions → OpName → Type 0
 Puts h name = (version : ℕ) × PutsVersion h name version
 

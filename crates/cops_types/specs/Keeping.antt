@@ -1,4 +1,4 @@
--- What a history keeps.
+-- The invariant of a history.
 use Rattle.std.specs.Prelude.{◌≡◌, ◌<◌, ◌≤◌, ℕ, List, length, slice_get, slice_index_or, Some, Bool, true, false, sum_by}
 use Rattle.cops_types.specs.Counts.{count_of, put_count}
 use Rattle.cops_types.specs.declared.entry.Entry.{Entry}
@@ -8,13 +8,13 @@ use Rattle.cops_types.specs.Heights.{AreSessionHeights}
 use Rattle.cops_types.specs.KeySets.{KeptKeys, AreDistinct}
 use Rattle.cops_types.specs.Recorded.{IsWithinLimits}
 
--- a flag that is set counts 1
+-- a set flag counts 1
 abbrev pub flag_count : Bool → ℕ
 flag_count true = 1
 flag_count false = 0
 
--- so many operations, whose keys and sources are there, a name for each put, and the heights of their sessions; and for each client that has reserved a place among
--- its entries and among the keys
+-- there are `len` operations, whose keys and sources are there, a name for each put, and the maxima of the sessions; each client that made a
+-- reservation has room for its next operation among its entries, and there is room for all reservations among the keys, the puts and the gets
 pub record IsKept (keys : KeptKeys) (entries : KeptEntries) (heights : Heights) (reserved : List Bool) (reservations len : ℕ) : Type 0 where
   pub limits : IsWithinLimits (told_by keys.keys entries.all)
   pub count : len ≡ count_of (told_by keys.keys entries.all)

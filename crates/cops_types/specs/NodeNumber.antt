@@ -3,7 +3,7 @@ use Rattle.std.specs.Prelude.{ℕ, ◌+◌, ◌*◌, ◌/◌, ◌%◌}
 use Rattle.cops_types.specs.declared.limits.TheConstants.{PLACES}
 use Rattle.cops_types.specs.Version.{node_of}
 
--- that of the node at a place of a data centre
+-- the number of the node at a place of a data centre
 abbrev pub node_number : ℕ → ℕ → ℕ
 node_number dc place = dc * PLACES + place
 

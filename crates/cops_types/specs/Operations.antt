@@ -1,4 +1,4 @@
--- The operation that an `Op` is, what it is on, and what a get returned.
+-- The operation of an `Op`, an operation's key, and the version that a get returned.
 use Rattle.std.specs.Prelude.{ℕ, List, Option, Some, None}
 use Rattle.cops_types.specs.Histories.{Sessions, Operation, write, read, missed, IsGot}
 use Rattle.cops_types.specs.declared.op.Op.{Op}
@@ -12,12 +12,12 @@ operation_of (Got key value version) = read key (Some value) version
 operation_of (Gone key version) = read key None version
 operation_of (Missed key) = missed key
 
--- the key that an operation is on
+-- the key of an operation
 abbrev pub key_of : Operation → List ℕ
 key_of (write key content version) = key
 key_of (read key content version) = key
 key_of (missed key) = key
 
--- a get returned this version
+-- the operation is a get that returned this version
 abbrev pub GetsVersion : Sessions → OpName → ℕ → Type 0
 GetsVersion h name version = (key : List ℕ) × (content : Option (List ℕ)) × IsGot h name key content version

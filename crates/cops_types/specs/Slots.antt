@@ -1,4 +1,4 @@
--- Slots: what stands in a session for an operation, and the lists of puts and of gets whose numbers they name.
+-- Slots: the operations in a session, as numbers that refer to lists of puts and of gets.
 use Rattle.std.specs.Prelude.{◌≡◌, ◌<◌, ℕ, List, length, map, Bool, true, false, Option, Some, None, option_copied, slice_get}
 use Rattle.cops_types.specs.declared.entry.Entry.{Entry}
 use Rattle.cops_types.specs.declared.entry.Entry.TheVariants.{Put, Got, Sourced, Missed}
@@ -13,7 +13,7 @@ use Rattle.cops_types.specs.declared.versioned_put.VersionedPut.{VersionedPut}
 use Rattle.cops_types.specs.Entries.{EntryLists}
 use Rattle.cops_types.specs.Lists.{item_at}
 
--- what is kept with a flag whether there is a value
+-- the content that a flag and a value stand for
 abbrev pub content_of : Bool → List ℕ → Option (List ℕ)
 content_of true value = Some value
 content_of false value = None
@@ -45,23 +45,24 @@ shown_by puts gets slots = map (map (shown puts gets)) slots
 abbrev pub versioned : KeptPut → VersionedPut
 versioned put = record { version = put.version; name = put.name }
 
--- what it names is among so many puts and gets
+-- what the slot refers to is among this number of puts and gets
 abbrev pub IsThere : ℕ → ℕ → Slot → Type 0
 IsThere puts gets (PutSlot number) = number < puts
 IsThere puts gets (SourcedSlot number) = number < puts
 IsThere puts gets (GotSlot number) = number < gets
 IsThere puts gets (MissedSlot key) = Unit {0}
 
--- the number of the get that a slot names, where the slot is that of a get that is kept with what it returned
+-- the number of the get to which a slot refers, if that get is stored with what it returned
 abbrev pub get_number_in : Slot → Option ℕ
 get_number_in (GotSlot number) = Some number
 get_number_in _ = None
 
--- of each slot that number
+-- the number of each slot
 abbrev pub get_numbers_in : List (List Slot) → List (List (Option ℕ))
 get_numbers_in slots = map (map get_number_in) slots
 
--- what each slot names is there; each put stands where its name says, and nowhere else; each get that is kept has one slot, and in a session their numbers rise
+-- each slot refers to what is there; each put is in the slot of its name, and in no other; each get stored with what it returned has one slot, and in
+-- a session their numbers rise
 pub record AreKept (puts : List KeptPut) (gets : List KeptGot) (slots : List (List Slot)) : Type 0 where
   pub there : (name : OpName) (slot : Slot) → item_at slots name ≡ Some slot → IsThere (length puts) (length gets) slot
   pub named : (number : ℕ) (put : KeptPut) → slice_get puts number ≡ Some put → item_at slots put.name ≡ Some (PutSlot number)
@@ -70,7 +71,7 @@ pub record AreKept (puts : List KeptPut) (gets : List KeptGot) (slots : List (Li
   pub once : (a b : OpName) (number : ℕ) → item_at slots a ≡ Some (GotSlot number) → item_at slots b ≡ Some (GotSlot number) → a ≡ b
   pub rising : (a b : OpName) (m n : ℕ) → a.client ≡ b.client → a.index < b.index → item_at slots a ≡ Some (GotSlot m) → item_at slots b ≡ Some (GotSlot n) → m < n
 
--- the put that it names is the one of that number, with the value that stands with it
+-- the put that the entry names is the one of its number, and has the entry's value
 abbrev pub IsFrom : List KeptPut → EntryRef → Type 0
 IsFrom puts (SourcedRef key put value version) = (kept : KeptPut) × (slice_get puts put.number ≡ Some kept) × (kept.name ≡ put.name) × (content_of kept.has_value kept.value ≡ option_copied value)
 IsFrom puts _ = Unit {0}

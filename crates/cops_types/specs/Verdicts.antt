@@ -1,4 +1,4 @@
--- The verdict: the first class of faults that is not empty, or that none has any.
+-- The verdict: the faults of the first class that has any, or accepted if no class has any.
 use Rattle.std.specs.Prelude.{◌≢◌, List, []}
 use Rattle.cops_types.specs.declared.op.OpName.{OpName}
 use Rattle.cops_types.specs.Histories.{Sessions}
@@ -26,8 +26,7 @@ pub record IsAccepted (h : Sessions) (puts : List OpName) : Type 0 where
 abbrev pub HasAcceptedVerdict : Sessions → Type 0
 HasAcceptedVerdict h = (puts : List OpName) × IsAccepted h puts
 
--- Each class is looked at only where those before it are empty. Its faults are all there, in order of names, and there
--- are some.
+-- A class is looked at only if those before it are empty. Its list has all its faults, in the order of names, and is not empty.
 abbrev pub RefusesDoubled : Sessions → List OpName → Type 0
 RefusesDoubled h names = (names ≢ []) × Lists (λ n. n) (IsDoubled h) names
 

@@ -1,10 +1,10 @@
--- Versions that tell puts apart, and the order that they give.
+-- Versions that identify puts, and the order that they give.
 use Rattle.std.specs.Prelude.{◌≢◌, ◌<◌, ◌↔◌, ℕ, List, Contains}
 use Rattle.cops_types.specs.declared.op.OpName.{OpName}
 use Rattle.cops_types.specs.Histories.{Sessions, Puts, PutsVersion}
 use Rattle.cops_types.specs.Convergence.{StandsBefore}
 
--- a put whose version another put bears
+-- a put whose version another put has too
 pub record IsDoubled (h : Sessions) (name : OpName) : Type 0 where
   pub version : ℕ
   pub put : PutsVersion h name version
@@ -12,7 +12,7 @@ pub record IsDoubled (h : Sessions) (name : OpName) : Type 0 where
   pub other_put : PutsVersion h other version
   pub differs : other ≢ name
 
--- no two puts bear one version
+-- no two puts have the same version
 abbrev pub NoneDoubled : Sessions → Type 0
 NoneDoubled h = (name : OpName) → ¬ IsDoubled h name
 

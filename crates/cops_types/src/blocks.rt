@@ -6,10 +6,10 @@ use std::alloc::Global;
 use std::marker::Model;
 use std::mem;
 
-/// How many entries a full block holds.
+/// The number of entries in a full block.
 const BLOCK: usize = 64;
 
-/// Entries, one after the other, in blocks: those of a full one stay where they are, and no larger room is looked for.
+/// A list of entries in blocks. It grows without moving the entries of full blocks.
 #[derive(Debug, Drop)]
 pub(crate) struct Blocks {
     full: Vec<Vec<Slot>>,
@@ -31,7 +31,7 @@ impl Blocks {
     ghost use Rattle.std.specs.Prelude.{◌≡◌, ◌<◌, ◌++◌, ◌∷◌, [], true, length, slice_get, OnOk, option_copied};
     ghost use Rattle.cops_types.specs.declared.limits.TheConstants.{MAX_CLIENT_OPS};
 
-    /// No entry. It takes no memory.
+    /// An empty list. Allocates nothing.
     pub(crate) fn new(alloc: Global) -> Self
         ensures { result.items ≡ [] }
     {
@@ -58,7 +58,7 @@ impl Blocks {
         }
     }
 
-    /// Makes room for the next entry: in a block of its own where the last one is full. A refusal changes nothing.
+    /// Makes room for the next entry, in a new block if the last one is full. Changes no entry if memory runs out.
     pub(crate) fn reserve(&mut self) -> Result<(), Memory>
         ensures same { self.new.items ≡ self.old.items }
         ensures room { OnOk result (self.new.room ≡ true) }
@@ -75,7 +75,7 @@ impl Blocks {
         Ok(())
     }
 
-    /// Adds the next entry. It takes no memory.
+    /// Adds the next entry, in room that was reserved. Allocates nothing.
     pub(crate) fn push(&mut self, slot: Slot)
         requires room { self.old.room ≡ true }
         requires few { length self.old.items < MAX_CLIENT_OPS }

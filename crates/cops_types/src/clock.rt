@@ -36,14 +36,15 @@ impl Clock {
         Clock { clock: 0, node }
     }
 
-    /// Raises the clock to that of a version, where that is greater.
+    /// Raises the clock to that of a version, if that is greater.
     pub fn raise(&mut self, version: Version)
         ensures { self.new ≡ record self.old { clock = max self.old.clock (clock_of version) } }
     {
         self.clock = self.clock.max(version.clock());
     }
 
-    /// The next version: the clock is one more. `ClockExhausted` where it is at its greatest, and then it stays.
+    /// Raises the clock by one and returns the node's version of that clock. Fails with `ClockExhausted` if the clock
+    /// is at its greatest, and then changes nothing.
     pub fn next(&mut self) -> Result<Version, TypeFault>
         ensures ok { IfOk result (λ version. (version ≡ version_of (self.old.clock + 1) self.old.node) × (self.new ≡ record self.old { clock = self.old.clock + 1 })) }
         ensures err { OnErr result (self.new ≡ self.old) }
@@ -58,7 +59,7 @@ impl Clock {
         Ok(version)
     }
 
-    /// Where it stands.
+    /// The clock's value.
     pub fn clock(&self) -> u64
         ensures value { result ≡ self.now.clock }
         ensures range { result ≤ MAX_CLOCK }

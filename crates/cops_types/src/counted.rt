@@ -7,8 +7,8 @@ ghost use Rattle.cops_types.specs.Counted.{failures, inner};
 use std::io;
 use std::io::{Read, Write};
 
-/// A reader or a writer that counts its failures: errors, and writes that take nothing of a slice
-/// that isn't empty. The greatest count stays.
+/// A reader or a writer that counts its failures: errors, and writes that take nothing of a slice that isn't empty. The
+/// count stops at its greatest value.
 #[derive(Drop)]
 pub struct Counted<T> {
     inner: T,
@@ -92,8 +92,8 @@ impl<T: Write> Write for Counted<T> {
     }
 }
 
-/// Writes all of a text, or tells how many of its first bytes were written, fewer than all. A failed write is not tried
-/// again.
+/// Writes all of a text. On `Err` returns the number of bytes written, which is less than the text's length. A failed
+/// write is not tried again.
 pub fn write_text<W: Write>(writer: &mut Counted<W>, text: &[u8]) -> Result<(), usize>
     ensures ok { OnOk result (Appends (W.contents (inner writer.old)) (W.contents (inner writer.new)) text.now) }
     ensures err { IfErr result (λ n. Appends (W.contents (inner writer.old)) (W.contents (inner writer.new)) (take n text.now)) }

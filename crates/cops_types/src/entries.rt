@@ -18,8 +18,9 @@ use crate::versioned_put::VersionedPut;
 use std::alloc::{AllocError, Global};
 use std::marker::Model;
 
-/// The entries of each client, in their order. Each put lies in one list for all clients, in the order in which they
-/// came, and so does what a get returned whose put is not known: in a session stands a number.
+/// The entries of each client, in their order. All clients' puts are in one list, in the order in which they were
+/// added, and so are the gets whose puts are not known, with what they returned. The sessions refer to these lists by
+/// numbers.
 #[derive(Debug, Drop)]
 pub(crate) struct Entries {
     sessions: Vec<Blocks>,
@@ -57,7 +58,7 @@ impl Entries {
     ghost use Rattle.cops_types.specs.declared.entry.Entry.TheVariants.{Put, Got, Sourced, Missed};
     ghost use Rattle.cops_types.specs.declared.limits.TheConstants.{MAX_CLIENT_OPS, MAX_OPS};
 
-    /// No entry of so many clients.
+    /// No entries, for `clients` clients. Fails if memory runs out.
     pub(crate) fn new(alloc: Global, clients: u16) -> Result<Self, Memory>
         ensures entries { IfOk result (λ entries. entries.all ≡ replicate clients []) }
         ensures names { IfOk result (λ entries. entries.names ≡ []) }
@@ -78,21 +79,21 @@ impl Entries {
         self.sessions.len()
     }
 
-    /// How many entries a client has: none where it is not there.
+    /// The number of a client's entries, 0 if there is no such client.
     pub(crate) fn session_len(&self, client: u16) -> usize
         ensures { result ≡ length (slice_index_or self.now.all client []) }
     {
         slot_count(&self.sessions, client)
     }
 
-    /// How many puts there are: the number of the next one.
+    /// The number of puts, which is the number of the next one.
     pub(crate) fn puts(&self) -> usize
         ensures { result ≡ length self.now.names }
     {
         self.puts.len()
     }
 
-    /// How many gets are kept with what they returned: the number of the next one.
+    /// The number of gets stored with what they returned, which is the number of the next one.
     pub(crate) fn gets(&self) -> usize
         ensures count { result ≡ length self.now.gets }
         ensures kept { (name : OpName) (key version : ℕ) (value : Option (List ℕ)) → item_at self.now.all name ≡ Some (Got key value version)
@@ -102,14 +103,14 @@ impl Entries {
         self.gets.len()
     }
 
-    /// The get of that number, of which it is kept what it returned, if there is one.
+    /// The get of that number among those stored with what they returned, if there is one.
     pub(crate) fn kept_get(&self, number: u32) -> Option<&KeptGot>
         ensures { option_map (λ g. got_shown (Some g.now)) result ≡ slice_get self.now.gets number }
     {
         self.gets.get(number as usize)
     }
 
-    /// The number of the get of that name, if it is kept with what it returned.
+    /// The number of the get of that name, if it is stored with what it returned.
     #[inline(always)]
     pub(crate) fn get_number(&self, name: OpName) -> Option<u32>
         ensures number { IfSome result (λ n. (key version : ℕ) × (value : Option (List ℕ)) × (item_at self.now.all name ≡ Some (Got key value version))
@@ -139,7 +140,7 @@ impl Entries {
         number_at(&self.sessions, name)
     }
 
-    /// The number of the put that the get of that name names, if it names one.
+    /// The number of the put to which the get of that name refers, if it refers to one.
     #[inline(always)]
     pub(crate) fn source_number(&self, name: OpName) -> Option<u32>
         ensures { IfSome result (λ n. (put : OpName) × (slice_get self.now.names n ≡ Some put)
@@ -181,7 +182,7 @@ impl Entries {
         }
     }
 
-    /// Whether the one put is the same as the other, which is of this key and version.
+    /// Whether the one put equals the other, which has this key and version.
     pub(crate) fn is_same_put(&self, put: OpName, other: OpName, key: u32, version: Version) -> bool
         requires { item_at self.now.all other ≡ Some (Put key (value_put self.now.all other) version) }
         ensures { IsTrue result ↔ (item_at self.now.all put ≡ Some (Put key (value_put self.now.all other) version)) }
@@ -215,8 +216,8 @@ impl Entries {
         None
     }
 
-    /// Whether the put of that number is there, bears this version and wrote as many bytes. It looks at both ends of
-    /// what is kept of it, which may lie in two lines of a processor's caches.
+    /// Whether there is a put of that number, with this version and a value of `bytes` bytes. It reads both ends of the
+    /// stored put, which may lie in two cache lines.
     pub(crate) fn may_be_put(&self, number: u32, bytes: usize, version: Version) -> bool {
         match self.puts.get(number as usize) {
             Some(put) => put.version == version && put.value.as_bytes().len() == bytes,
@@ -224,8 +225,8 @@ impl Entries {
         }
     }
 
-    /// Makes it all puts with their versions, in the order in which they came. It takes no memory where there is room
-    /// for them.
+    /// Fills `to` with all puts and their versions, in the order in which they were added. Allocates nothing if there
+    /// is room for them. Fails if memory runs out.
     pub(crate) fn list_puts(&self, to: &mut Vec<VersionedPut>) -> Result<(), AllocError>
         ensures puts { OnOk result (ListsEntries self.now.all to.new.items) }
         ensures names { OnOk result (map (λ p. p.name) to.new.items ≡ self.now.names) }
@@ -239,8 +240,8 @@ impl Entries {
         Ok(())
     }
 
-    /// Makes room for a client's next entry, and for so many more puts and gets of all clients. A refusal changes
-    /// nothing.
+    /// Makes room for a client's next entry, and for `more` more puts and gets of all clients. Changes no entry if
+    /// memory runs out.
     #[inline(always)]
     pub(crate) fn reserve(&mut self, client: u16, more: usize) -> Result<(), Memory>
         requires { client < length self.old.all }
@@ -253,7 +254,7 @@ impl Entries {
         self.reserve_slot(client)
     }
 
-    /// Makes room for so many more puts and gets.
+    /// Makes room for `more` more puts and gets.
     #[inline(always)]
     fn reserve_lists(&mut self, more: usize) -> Result<(), Memory>
         ensures keeps { KeepsEntries self.old self.new }
@@ -277,7 +278,7 @@ impl Entries {
         Ok(())
     }
 
-    /// Adds a client's next entry. It takes no memory.
+    /// Adds a client's next entry. Allocates nothing: room has to be reserved.
     #[inline(always)]
     pub(crate) fn push(&mut self, client: u16, entry: Entry)
         requires inside { client < length self.old.all }
@@ -339,7 +340,7 @@ impl Entries {
         });
     }
 
-    /// Adds a get of which it is kept what it returned.
+    /// Adds a get with what it returned.
     #[inline(always)]
     fn push_got(&mut self, client: u16, key: u32, value: Option<Value>, version: Version)
         requires inside { client < length self.old.all }
@@ -363,7 +364,7 @@ impl Entries {
         });
     }
 
-    /// Adds a get that returned what that put wrote.
+    /// Adds a get that returned what this put wrote.
     #[inline(always)]
     fn push_sourced(&mut self, client: u16, key: u32, put: NumberedPut, version: Version)
         requires inside { client < length self.old.all }
@@ -394,7 +395,7 @@ impl Entries {
     }
 }
 
-/// No slot of so many clients.
+/// No slots, for `clients` clients.
 fn no_slots(alloc: Global, clients: u16) -> Result<Vec<Blocks>, Memory>
     ensures { IfOk result (λ sessions. map (λ s. s.items) sessions.items ≡ replicate clients []) }
 {
@@ -405,7 +406,7 @@ fn no_slots(alloc: Global, clients: u16) -> Result<Vec<Blocks>, Memory>
     Ok(sessions)
 }
 
-/// How many slots a client has: none where it is not there.
+/// The number of a client's slots, 0 if there is no such client.
 #[inline(always)]
 fn slot_count(sessions: &[Blocks], client: u16) -> usize
     ensures { result ≡ length (slice_index_or (map (λ s. s.items) sessions.now) client []) }
@@ -416,7 +417,7 @@ fn slot_count(sessions: &[Blocks], client: u16) -> usize
     }
 }
 
-/// Adds a client's next slot. It takes no memory.
+/// Adds a client's next slot. Allocates nothing: room has to be reserved.
 #[inline(always)]
 fn push_slot(sessions: &mut Vec<Blocks>, client: u16, slot: Slot)
     requires inside { client < length sessions.old.items }
@@ -430,7 +431,7 @@ fn push_slot(sessions: &mut Vec<Blocks>, client: u16, slot: Slot)
     session.push(slot);
 }
 
-/// What stands under that name, if something does.
+/// The slot of that name, if there is one.
 #[inline(always)]
 fn slot_at(sessions: &[Blocks], name: OpName) -> Option<&Slot>
     ensures { option_copied result ≡ item_at (map (λ s. s.items) sessions.now) name }
@@ -449,7 +450,7 @@ fn number_at(sessions: &[Blocks], name: OpName) -> Option<u32>
     }
 }
 
-/// The number of the put that the get of that name names, if it names one.
+/// The number of the put to which the get of that name refers, if it refers to one.
 #[inline(always)]
 fn source_number_at(sessions: &[Blocks], name: OpName) -> Option<u32>
     ensures { IfSome result (λ n. item_at (map (λ s. s.items) sessions.now) name ≡ Some (SourcedSlot n)) }
@@ -460,7 +461,7 @@ fn source_number_at(sessions: &[Blocks], name: OpName) -> Option<u32>
     }
 }
 
-/// The number of the get of that name, if it is kept with what it returned.
+/// The number of the get of that name, if it is stored with what it returned.
 #[inline(always)]
 fn got_number_at(sessions: &[Blocks], name: OpName) -> Option<u32>
     ensures { (n : ℕ) → (result ≡ Some n) ↔ (item_at (map (λ s. s.items) sessions.now) name ≡ Some (GotSlot n)) }
@@ -471,7 +472,7 @@ fn got_number_at(sessions: &[Blocks], name: OpName) -> Option<u32>
     }
 }
 
-/// The entry that a slot stands for, of these puts and gets.
+/// The entry of a slot that refers to these puts and gets.
 #[inline(always)]
 fn refer<'a>(puts: &'a [KeptPut], gets: &'a [KeptGot], slot: Slot) -> EntryRef<'a>
     requires { IsThere (length puts.now) (length gets.now) slot }

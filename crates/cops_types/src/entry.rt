@@ -2,29 +2,29 @@ use crate::op::OpName;
 use crate::value::Value;
 use crate::version::Version;
 
-/// A put of a history, with its number among the puts in the order in which they came.
+/// A put of a history, with its number: puts are numbered in the order in which they were added.
 #[derive(Clone, Copy, Debug)]
 pub(crate) struct NumberedPut {
     pub(crate) name: OpName,
     pub(crate) number: u32,
 }
 
-/// An operation that a history gains: its key is named by its number.
+/// An operation to be added to a history. A number stands for its key.
 #[derive(Debug, Drop)]
 pub(crate) enum Entry {
-    /// A put, which was given this version: without a value it is a deletion.
+    /// A put, and its version. Without a value it is a deletion.
     Put {
         key: u32,
         value: Option<Value>,
         version: Version,
     },
-    /// A get that returned this value, or without one found a deletion.
+    /// A get that returned this value, or found a deletion if there is no value.
     Got {
         key: u32,
         value: Option<Value>,
         version: Version,
     },
-    /// A get that returned what that put wrote.
+    /// A get that returned what this put wrote.
     Sourced {
         key: u32,
         put: NumberedPut,
@@ -36,7 +36,7 @@ pub(crate) enum Entry {
     },
 }
 
-/// The same of an operation that a history has, seen where its parts lie.
+/// Like `Entry`, but borrowed from a history.
 #[derive(Clone, Copy, Debug)]
 pub(crate) enum EntryRef<'a> {
     Put {
@@ -49,7 +49,7 @@ pub(crate) enum EntryRef<'a> {
         value: Option<&'a Value>,
         version: &'a Version,
     },
-    /// With what the put wrote.
+    /// With the value that the put wrote.
     Sourced {
         key: u32,
         put: NumberedPut,
@@ -65,7 +65,7 @@ impl EntryRef<'_> {
     ghost use Rattle.std.specs.Prelude.{◌≡◌};
     ghost use Rattle.cops_types.specs.Entries.{key_number_of, referred};
 
-    /// The number of its key.
+    /// The number of the operation's key.
     pub(crate) fn key(&self) -> u32
         ensures { result ≡ key_number_of (referred self.now) }
     {

@@ -5,7 +5,7 @@ ghost use Rattle.cops_types.specs.declared.fault.TypeFault.TheVariants.{Memory a
 use std::alloc::{AllocError, AllocFailed};
 use thiserror::Error;
 
-/// Want of memory: the only fault of a call that has no other.
+/// Out of memory: the error of a call that has no other.
 #[derive(Clone, Copy, Debug, PartialEq, Eq, Error)]
 #[error("out of memory")]
 pub struct Memory;
@@ -22,7 +22,7 @@ impl<T: Drop> From<AllocFailed<T>> for Memory {
     }
 }
 
-/// Why no value of a type could be made, or an operation was not taken. The numbers are the faults' codes.
+/// Why a value of a type could not be made, or an operation was not taken. The numbers are the faults' codes.
 #[derive(Clone, Copy, Debug, PartialEq, Eq, Error)]
 pub enum TypeFault {
     /// 0: out of memory.

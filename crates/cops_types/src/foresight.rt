@@ -7,46 +7,46 @@ use crate::op_view::{KeyView, OpView};
 use crate::version::Version;
 use std::alloc::Global;
 
-/// How far the places of two nodes' puts at one clock lie apart.
+/// The distance between the places of two nodes' puts at one clock.
 const NODE_STEP: usize = 40_503;
 
 /// An odd number whose multiples spread over all bits.
 const SPREAD: u64 = 0x9E37_79B9_7F4A_7C15;
 
-/// What a place has that guesses no put: there are fewer.
+/// The content of a place without a candidate: no put has this number.
 const NO_PUT: PutGuess = PutGuess {
     tag: 0,
     number: u32::MAX,
 };
 
-/// What a place has that guesses no key: there are fewer.
+/// The content of a place without a candidate: no key has this number.
 const NO_KEY: u32 = u32::MAX;
 
 /// The most places of a table.
 const MOST_PLACES: usize = 1_048_576;
 
-/// After how many operations the tables may grow.
+/// The number of operations after which the tables may grow.
 const GROWN_AFTER: usize = 64;
 
-/// So many keys, with what they are found by, lie in a processor's caches: what is needed for operations on fewer is at
-/// hand.
+/// The memory for fewer keys than these fits into a processor's caches, so that prefetching is of no use.
 const FEW_KEYS: usize = 32_768;
 
-/// A put that may bear a version, and a part of that version, so that most of the puts that do not are not looked at.
+/// A candidate put for a version, with a part of the put's version, so that most of the wrong candidates are rejected
+/// without looking at the put.
 #[derive(Clone, Copy, Debug)]
 struct PutGuess {
     tag: u32,
     number: u32,
 }
 
-/// What is guessed of an operation: the numbers of its key and of the put that it returned.
+/// The candidates for an operation: the numbers of its key and of the put that it returned.
 #[derive(Clone, Copy, Debug)]
 pub(crate) struct Guess {
     pub(crate) key: Option<u32>,
     pub(crate) put: Option<u32>,
 }
 
-/// An operation that comes: the place of its key, and of the put that it may return, with what is guessed.
+/// An operation to be added: the place of its key, the version that it returned, and its candidates.
 #[derive(Clone, Copy, Debug)]
 struct Coming {
     key_place: usize,
@@ -54,26 +54,26 @@ struct Coming {
     guess: Guess,
 }
 
-/// Of an operation that was not foreseen.
+/// The candidates of an operation that was not prefetched.
 const NO_GUESS: Guess = Guess {
     key: None,
     put: None,
 };
 
-/// Guesses, which no clause speaks of: whoever asks looks whether they are right. What is needed for operations that
-/// come is fetched from memory for many of them at once, where one after the other would wait for each.
+/// Candidates for lookups. No clause speaks of them: the caller verifies each. The memory for many coming operations is
+/// prefetched at once, where fetching it for one after the other would wait for each.
 #[derive(Debug, Drop)]
 pub(crate) struct Foresight {
     keys: Guesses<u32>,
     puts: Guesses<PutGuess>,
-    /// Of the operations that come, in their order.
+    /// The candidates of the operations to be added, in their order.
     coming: Vec<Coming>,
-    /// How many of those came.
+    /// How many of those were added.
     come: usize,
 }
 
 impl Foresight {
-    /// No guess. It takes no memory.
+    /// No candidates. Allocates nothing.
     pub(crate) fn new(alloc: Global) -> Self {
         Foresight {
             keys: Guesses::new(alloc),
@@ -83,7 +83,7 @@ impl Foresight {
         }
     }
 
-    /// Makes room for guesses of these keys and of so many operations, as far as there is memory, and now and then.
+    /// Makes room for candidates for these keys and `ops` operations, if there is memory. It does so only now and then.
     #[inline(always)]
     pub(crate) fn grow(&mut self, keys: &KeySet, ops: usize) {
         if ops % GROWN_AFTER == 0 {
@@ -91,7 +91,7 @@ impl Foresight {
         }
     }
 
-    /// The same, at once.
+    /// Like `grow`, but at once.
     #[inline(never)]
     fn grow_tables(&mut self, keys: &KeySet, ops: usize) {
         self.puts.grow(ops, MOST_PLACES, NO_PUT);
@@ -103,7 +103,7 @@ impl Foresight {
         }
     }
 
-    /// Keeps the numbers of these keys, and no others.
+    /// Stores the numbers of these keys, and no others.
     fn note_keys(&mut self, keys: &KeySet) {
         self.keys.fill(NO_KEY);
         for (number, key) in keys.as_slice().iter().enumerate() {
@@ -114,19 +114,20 @@ impl Foresight {
         }
     }
 
-    /// Forgets all guesses, and gives their memory back.
+    /// Drops all candidates, and gives their memory back.
     pub(crate) fn forget(&mut self) {
         self.keys.forget();
         self.puts.forget();
     }
 
-    /// Whether what is needed for operations that come has to be fetched, with so many keys: else it is at hand.
+    /// Whether prefetching is useful with this number of keys. If not, the memory is in the caches anyway.
     pub(crate) fn looks_ahead(&self, keys: &KeySet) -> bool {
         keys.len() >= FEW_KEYS
     }
 
-    /// Guesses what is needed for operations that come, and fetches it. Each loop fetches from one array: so short a
-    /// one has so many turns under way at once that a processor waits for memory once, and not for each operation.
+    /// Finds candidates for the coming operations, and prefetches their memory. Each loop reads from one array: its
+    /// turns are so short that a processor has many of them under way at once, and waits for memory once instead of
+    /// once for each operation.
     pub(crate) fn foresee(&mut self, keys: &KeySet, entries: &Entries, coming: &[OpView<'_>]) {
         self.come = 0;
         self.coming.clear();
@@ -149,7 +150,7 @@ impl Foresight {
         }
     }
 
-    /// What was guessed of the operation that comes now.
+    /// The candidates for the next operation.
     pub(crate) fn next(&mut self) -> Guess {
         let coming = self.coming.get(self.come).copied();
         self.come = self.come.saturating_add(1);
@@ -159,7 +160,7 @@ impl Foresight {
         }
     }
 
-    /// The number of a key, where the table tells: at the key's place, or at the one beside it.
+    /// The number of a key, if the table has it, at the key's place or at the one next to it.
     #[inline(always)]
     pub(crate) fn number_of(&self, keys: &KeySet, key: &KeyView<'_>) -> Option<u32>
         ensures { IfSome result (λ number. slice_get keys.now.keys number ≡ Some key.now) }
@@ -176,7 +177,7 @@ impl Foresight {
         None
     }
 
-    /// Keeps the number of a key, beside its place where another key has that.
+    /// Stores the number of a key, next to its place if another key has that.
     pub(crate) fn note_key(&mut self, key: &KeyView<'_>, number: u32) {
         let place = spread(key);
         match self.keys.find(place) {
@@ -185,7 +186,7 @@ impl Foresight {
         }
     }
 
-    /// Keeps the number of a put of that version.
+    /// Stores the number of a put of that version.
     pub(crate) fn note_put(&mut self, version: Version, number: usize) {
         let Ok(number) = u32::try_from(number) else {
             return;
@@ -197,7 +198,7 @@ impl Foresight {
         self.puts.note(place(version), guess);
     }
 
-    /// The number of the put that may be of that version.
+    /// The candidate put for a version.
     #[inline(always)]
     pub(crate) fn put_of(&self, version: Version) -> Option<u32> {
         put_among(&self.puts, Some(version))
@@ -205,11 +206,11 @@ impl Foresight {
 }
 
 impl Coming {
-    /// An operation of which nothing is guessed yet.
+    /// An operation without candidates yet.
     fn of(op: &OpView<'_>) -> Self {
         let version = match op {
-            OpView::Got { version, .. } | OpView::Gone { version, .. } => Some(*version),
-            OpView::Put { .. } | OpView::Del { .. } | OpView::Missed { .. } => None,
+            OpView::Got { version, .. } => Some(*version),
+            OpView::Put { .. } | OpView::Missed { .. } => None,
         };
         Coming {
             key_place: spread(op.key()),
@@ -219,7 +220,7 @@ impl Coming {
     }
 }
 
-/// The number of the put that may be of a version, if there is a version.
+/// The candidate put for a version, if there is a version.
 #[inline(always)]
 fn put_among(puts: &Guesses<PutGuess>, version: Option<Version>) -> Option<u32> {
     let version = version?;
@@ -230,7 +231,7 @@ fn put_among(puts: &Guesses<PutGuess>, version: Option<Version>) -> Option<u32> 
     Some(guess.number)
 }
 
-/// The guess of a key's number, unless it is seen to be wrong.
+/// The candidate for a key's number, unless it is seen to be wrong.
 fn key_that_may_be(guess: Option<u32>, keys: &KeySet, key: &KeyView<'_>) -> Option<u32> {
     let number = guess?;
     if keys.may_be_at(number, key) {
@@ -240,14 +241,20 @@ fn key_that_may_be(guess: Option<u32>, keys: &KeySet, key: &KeyView<'_>) -> Opti
     }
 }
 
-/// The guess of a put's number, unless it is seen to be wrong.
+/// The candidate for a put's number, unless it is seen to be wrong.
 fn put_that_may_be(guess: Option<u32>, entries: &Entries, op: &OpView<'_>) -> Option<u32> {
     let number = guess?;
-    match op {
-        OpView::Got { value, version, .. }
-            if entries.may_be_put(number, value.as_bytes().len(), *version) => { Some(number) }
-        OpView::Gone { version, .. } if entries.may_be_put(number, 0, *version) => Some(number),
-        _ => None,
+    let OpView::Got { value, version, .. } = op else {
+        return None;
+    };
+    let len = match value {
+        Some(value) => value.as_bytes().len(),
+        None => 0,
+    };
+    if entries.may_be_put(number, len, *version) {
+        Some(number)
+    } else {
+        None
     }
 }
 
@@ -258,7 +265,7 @@ fn spread(key: &KeyView<'_>) -> usize {
         bytes.first_chunk::<8>(),
         bytes.last_chunk::<8>(),
     ) {
-        // (the first ones are spread before: of a key of eight bytes they are the last ones too)
+        // The first bytes are spread before: in a key of eight bytes they are the last ones too.
         u64::from_le_bytes(*first).wrapping_mul(SPREAD) ^ u64::from_le_bytes(*last).rotate_left(32)
     } else if let (Some(first), Some(last)) = (bytes.first_chunk::<4>(), bytes.last_chunk::<4>()) {
         u64::from(u32::from_le_bytes(*first)) << 32 | u64::from(u32::from_le_bytes(*last))
@@ -277,7 +284,7 @@ fn short_word(bytes: &[u8]) -> u64 {
     word
 }
 
-/// A part of a version that tells most versions of one place apart.
+/// A part of a version that distinguishes most versions of one place.
 fn tag(version: Version) -> u32 {
     (version.as_u64().wrapping_mul(SPREAD) >> 32) as u32
 }

@@ -16,7 +16,7 @@ pub enum Format {
 }
 
 impl Format {
-    /// The number that names the format: 1 or 2.
+    /// The format's number: 1 or 2.
     pub fn number(self) -> u16
         ensures { result ≡ number_of self }
     {
@@ -26,7 +26,7 @@ impl Format {
         }
     }
 
-    /// The format that a number names, if it names one.
+    /// The format of a number, if there is one.
     pub fn of_number(number: u16) -> Option<Format>
         ensures { result ≡ format_of_number number }
     {
@@ -67,8 +67,8 @@ impl Format {
         }
     }
 
-    /// Whether it may be written in the format: a value within the format's limit, or None, which is a deletion and is
-    /// of format 2.
+    /// Whether a put of the format may have this content: a value within the format's limit, or in format 2 also None,
+    /// which is a deletion.
     pub fn fits(self, content: Option<&Value>) -> bool
         ensures value { result ≡ fits self (option_copied content.entry) }
         ensures fits { IsTrue result ↔ Fits self (option_copied content.entry) }

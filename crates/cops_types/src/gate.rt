@@ -1,5 +1,4 @@
-//! Points of a call at which it may be held, so that a test can show which steps of a call on threads stand side by
-//! side.
+//! Points at which a call can be held, so that a test can show which steps of calls on threads run concurrently.
 use std::sync::Wait;
 
 /// A point that a call passes.
@@ -9,15 +8,14 @@ pub enum Point {
     PieceStart(u32),
     /// A worker has judged the piece of this number, 0 to 63.
     PieceDone(u32),
-    /// A step of this client stands under the lock of this node, which it has not asked yet. A receiver's client is
-    /// 65,535.
+    /// A step of this client has locked this node, and has not called it yet. A receiver's client is 65,535.
     InStep {
         /// The node, 0 to 1,023.
         node: u16,
         /// The client, 0 to 65,535.
         client: u16,
     },
-    /// A step of this client was answered by this node, whose lock is released. A receiver's client is 65,535.
+    /// This node has answered a step of this client, and its lock is released. A receiver's client is 65,535.
     Answered {
         /// The node, 0 to 1,023.
         node: u16,
@@ -26,24 +24,25 @@ pub enum Point {
     },
 }
 
-/// A call was held at a point, and went no further.
+/// The error of a call that was held at a point, and went no further.
 #[derive(Clone, Copy, Debug, PartialEq, Eq)]
 pub struct GateHeld;
 
-/// What a call passes at its points.
+/// Decides at each point of a call whether the call goes on.
 pub trait Gate: Sync {
     ghost use Rattle.cops_types.specs.declared.gate.Point.{Point};
     ghost use Rattle.std.specs.Prelude.{OnErr};
 
-    /// The points at which it may hold a call.
+    /// The points at which the gate may hold a call.
     ghost may_hold: { Self → Point → Type 0 };
 
-    /// Lets the call past the point, at once or after others reached theirs, or answers `GateHeld`.
+    /// Lets the call past the point, at once or after other calls reached theirs. Fails with `GateHeld` if it holds the
+    /// call.
     fn pass<R: Wait>(&self, rt: &R, point: Point) -> Result<(), GateHeld>
         ensures { OnErr result (may_hold self.now point) };
 }
 
-/// The gate that holds no call at any point, for all use but tests.
+/// The gate that never holds a call, for all use but tests.
 pub struct OpenGate;
 
 impl Gate for OpenGate {

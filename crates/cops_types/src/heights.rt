@@ -6,8 +6,8 @@ ghost use Rattle.cops_types.specs.Histories.{Sessions, Operation, with_op};
 use crate::entry::Entry;
 use std::alloc::{AllocError, Global};
 
-/// Of each session how high the versions of what it put or got have come, and whether each of its puts is above all
-/// that it put or got before; and whether each put of all sessions is.
+/// For each session its maximum, the greatest version that it put or got so far, and whether each of its puts has a
+/// greater version than all that it put or got before; and whether that holds for all sessions.
 #[derive(Debug, Drop)]
 pub(crate) struct Heights {
     sessions: Vec<u64>,
@@ -16,7 +16,7 @@ pub(crate) struct Heights {
 }
 
 impl Heights {
-    /// Those of so many sessions without operations.
+    /// The state for `clients` sessions without operations. Fails if memory runs out.
     pub(crate) fn new(alloc: Global, clients: u16) -> Result<Self, AllocError>
         ensures { IfOk result (AreSessionHeights (replicate clients [])) }
     {
@@ -29,22 +29,22 @@ impl Heights {
         })
     }
 
-    /// Whether each put is above all that its session put or got before it.
+    /// Whether each put has a greater version than all that its session put or got before it.
     pub(crate) fn are_above(&self) -> bool
         ensures { result ≡ self.now.are_above }
     {
         self.are_above
     }
 
-    /// Whether each put of a client is above all that its session put or got before it: false where there is no such
-    /// client.
+    /// Whether each put of a client has a greater version than all that the client put or got before it. False if there
+    /// is no such client.
     pub(crate) fn is_above(&self, client: u16) -> bool
         ensures { result ≡ slice_index_or self.now.rise.items client false }
     {
         self.rise.get(client as usize).copied().unwrap_or(false)
     }
 
-    /// Takes in a client's next operation.
+    /// Updates the state with a client's next operation.
     #[inline(always)]
     pub(crate) fn take_in(&mut self, client: u16, entry: &Entry)
         requires height { client < length self.old.sessions.items }

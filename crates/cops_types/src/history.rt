@@ -27,8 +27,8 @@ use std::alloc::{AllocError, Global};
 use std::marker::Model;
 
 /// A history (POPL 2017, section 3): a session for each client, each the list of its operations. There are at most
-/// 65,535 clients, 1,000,000 operations of one client and 16,000,000 in all. Each key lies there once, and where a get
-/// names its put, so does the value.
+/// 65,535 clients, 1,000,000 operations of one client and 16,000,000 in all. Each key is stored once. A get that refers
+/// to its put does not store the value again.
 #[derive(Debug, Drop)]
 pub struct History {
     keys: KeySet,
@@ -77,7 +77,7 @@ impl History {
     ghost use Rattle.cops_types.specs.Heights.{HasNotAbove, IsSessionAbove};
     ghost use Rattle.cops_types.specs.Verdicts.{AllAbove};
 
-    /// A history of so many clients, each with an empty session.
+    /// A history of `clients` clients, each with an empty session. Fails if memory runs out.
     pub fn new(alloc: Global, clients: u16) -> Result<Self, Memory>
         ensures { IfOk result (λ history. history.sessions ≡ replicate clients []) }
     {
@@ -95,8 +95,9 @@ impl History {
         })
     }
 
-    /// Makes room for the client's next operation, whose `push` then takes no memory: `UnknownClient` where there is
-    /// no such client, then `TooManyOps` where the client has 1,000,000 operations or there are 16,000,000.
+    /// Makes room for the client's next operation, so that its `push` allocates nothing. Errors: `UnknownClient` if
+    /// there is no such client, then `TooManyOps` if the client has 1,000,000 operations or there are 16,000,000, then
+    /// `Memory` if memory runs out.
     #[inline(always)]
     pub fn reserve(&mut self, client: u16) -> Result<(), TypeFault>
         ensures same { self.new.sessions ≡ self.old.sessions }
@@ -114,8 +115,9 @@ impl History {
         Ok(())
     }
 
-    /// Adds a client's next operation: `UnknownClient` where there is no such client, then `TooManyOps` where the
-    /// client has 1,000,000 operations or there are 16,000,000. A fault changes nothing.
+    /// Adds a client's next operation. Errors: `UnknownClient` if there is no such client, then `TooManyOps` if the
+    /// client has 1,000,000 operations or there are 16,000,000, then `Memory` if memory runs out. An error changes
+    /// nothing.
     #[inline(always)]
     pub fn push(&mut self, client: u16, op: Op) -> Result<(), TypeFault>
         ensures ok { OnOk result (self.new.sessions ≡ with_op self.old.sessions client (operation_of op)) }
@@ -133,21 +135,20 @@ impl History {
         Ok(())
     }
 
-    /// Whether a look ahead is of use: else what operations that come need is at hand.
+    /// Whether prefetching is useful. If not, the memory that later operations need is in the caches anyway.
     pub fn looks_ahead(&self) -> bool {
         self.foresight.looks_ahead(&self.keys)
     }
 
-    /// Fetches from memory what will be needed for operations that come, where these come next and in this order.
-    /// Nothing that is said of the history changes.
+    /// Prefetches the memory that these operations need, on the assumption that they are added next and in this order.
+    /// The history does not change.
     pub fn foresee(&mut self, coming: &[OpView<'_>])
         ensures { self.new ≡ self.old }
     {
         self.foresight.foresee(&self.keys, &self.entries, coming);
     }
 
-    /// Lets go of guesses that only find sooner what operations that come need. Nothing that is said of the history
-    /// changes.
+    /// Drops the candidates that only speed up adding operations. The history does not change.
     pub fn forget_guesses(&mut self)
         ensures { self.new ≡ self.old }
     {
@@ -172,7 +173,7 @@ impl History {
         Ok(())
     }
 
-    /// Holds a place for the client's next operation, among its entries and among the keys, unless one is held.
+    /// Reserves room for the client's next operation, among its entries and among the keys, unless it is reserved.
     #[inline(always)]
     fn hold(&mut self, client: u16) -> Result<(), Memory>
         requires { client < length self.old.sessions }
@@ -188,7 +189,7 @@ impl History {
         self.hold_anew(client)
     }
 
-    /// The same where none is held.
+    /// Like `hold`, where no room is reserved yet.
     #[inline(always)]
     fn hold_anew(&mut self, client: u16) -> Result<(), Memory>
         requires inside { client < length self.old.sessions }
@@ -207,7 +208,7 @@ impl History {
         Ok(())
     }
 
-    /// Adds the operation, at the place that is held for it.
+    /// Adds the operation, in the room that is reserved for it.
     #[inline(always)]
     fn put_in(&mut self, client: u16, op: Op)
         requires inside { client < length self.old.sessions }
@@ -226,8 +227,8 @@ impl History {
         self.len += 1;
     }
 
-    /// Adds the client's next operation, which is seen, at the place that `reserve` made: what of it is new is
-    /// copied. For want of memory nothing changes.
+    /// Adds the client's next operation from borrowed bytes, in the room that `reserve` made. Copies what is new of it.
+    /// Changes nothing if memory runs out.
     #[inline(always)]
     pub fn push_seen(&mut self, client: u16, op: &OpView<'_>) -> Result<(), Memory>
         requires inside { client < length self.old.sessions }
@@ -272,7 +273,7 @@ impl History {
         self.len
     }
 
-    /// How many puts there are: their numbers are those below.
+    /// The number of puts. Their numbers are those below it.
     pub fn puts(&self) -> usize
         ensures count { result ≡ put_count self.now.sessions }
         ensures numbers { result ≡ length self.now.puts }
@@ -280,8 +281,8 @@ impl History {
         self.entries.puts()
     }
 
-    /// Makes it all puts with their versions, in the order of their numbers. It takes no memory where there is room for
-    /// as many as there are operations.
+    /// Fills `to` with all puts and their versions, in the order of their numbers. Allocates nothing if there is room
+    /// for as many as there are operations. Fails if memory runs out.
     pub fn list_puts(&self, to: &mut Vec<VersionedPut>) -> Result<(), AllocError>
         ensures puts { OnOk result (AreAllPuts self.now.sessions to.new.items) }
         ensures numbers { OnOk result (map (λ p. p.name) to.new.items ≡ self.now.puts) }
@@ -294,9 +295,9 @@ impl History {
         Ok(())
     }
 
-    /// How many gets are open: their puts the history had not found as they came. They are numbered from 0 in the order
-    /// in which they came, each with a number of its own, which it keeps. Each other get that returned something has
-    /// its source in the history.
+    /// The number of pending reads: gets whose puts the history had not found when the gets were added. They are
+    /// numbered from 0 in that order, and each keeps its number. Each other get that returned something has its source
+    /// in the history.
     pub fn open_gets(&self) -> usize
         ensures count { result ≡ length self.now.gets }
         ensures few { result ≤ count_of self.now.sessions }
@@ -308,7 +309,7 @@ impl History {
         self.entries.gets()
     }
 
-    /// The open get of that number, if there is one.
+    /// The pending read of that number, if there is one.
     pub fn open_get(&self, number: u32) -> Option<OpRef<'_>>
         ensures { option_map seen result ≡ slice_get self.now.gets number }
     {
@@ -320,8 +321,8 @@ impl History {
         })
     }
 
-    /// The number of the open get of that name, if it is one: where there is none, a get that returned something has
-    /// its source.
+    /// The number of the get of that name among the pending reads, if it is one. If it is none and the get returned
+    /// something, its source is in the history.
     #[inline(always)]
     pub fn open_number(&self, got: OpName) -> Option<u32>
         ensures open { IfSome result (λ number. IsOpenAt self.now number got) }
@@ -331,7 +332,7 @@ impl History {
         self.entries.get_number(got)
     }
 
-    /// Whether the version of each put is above those of all that its session put or got before it.
+    /// Whether the version of each put is greater than those of all that its session put or got before it.
     pub fn are_puts_above(&self) -> bool
         ensures above { IsTrue result → AllAbove self.now.sessions }
         ensures not_above { ¬ IsTrue result → (name : OpName) × (earlier : OpName) × IsNotAbove self.now.sessions name earlier }
@@ -339,7 +340,7 @@ impl History {
         self.heights.are_above()
     }
 
-    /// The same of the puts of a client: false where there is no such client.
+    /// Like `are_puts_above`, for the puts of one client. False if there is no such client.
     pub fn is_session_above(&self, client: u16) -> bool
         ensures there { IsTrue result → client < length self.now.sessions }
         ensures above { IsTrue result → IsSessionAbove self.now.sessions client }
@@ -355,7 +356,7 @@ impl History {
         self.len == 0
     }
 
-    /// How many operations a client has, at most 1,000,000: none where it is not there.
+    /// The number of a client's operations, at most 1,000,000, and 0 if there is no such client.
     pub fn session_len(&self, client: u16) -> usize
         ensures count { result ≡ length (slice_index_or self.now.sessions client []) }
         ensures limit { result ≤ MAX_CLIENT_OPS }
@@ -363,14 +364,14 @@ impl History {
         self.entries.session_len(client)
     }
 
-    /// A client's session: no operation where the client is not there.
+    /// A client's session, which is empty if there is no such client.
     pub fn session(&self, client: u16) -> SessionRef<'_>
         ensures { result ≡ slice_index_or self.now.sessions client [] }
     {
         SessionRef::new(self, client)
     }
 
-    /// How many keys the operations are on, each counted once: no more than there are operations.
+    /// The number of different keys of all operations: at most the number of operations.
     pub fn keys(&self) -> usize
         ensures count { result ≡ length self.now.keys }
         ensures few { result ≤ count_of self.now.sessions }
@@ -406,7 +407,7 @@ impl History {
         }
     }
 
-    /// The number of the key that the operation of that name is on, if there is one: below `keys`.
+    /// The number of the key of that name's operation, if there is one: below `keys`.
     pub fn key_number(&self, name: OpName) -> Option<u32>
         ensures key { option_and_then (slice_get self.now.keys) result ≡ option_map key_of (op_at self.now.sessions name) }
         ensures within { IfSome result (λ number. number < length self.now.keys) }
@@ -414,8 +415,7 @@ impl History {
         Some(self.entries.get(name)?.key())
     }
 
-    /// The version that the put of that name bears: none where there is no put of that name. It reads neither key nor
-    /// value.
+    /// The version of the put of that name, or nothing if there is no put of that name. It reads neither key nor value.
     pub fn put_version(&self, name: OpName) -> Option<Version>
         ensures put { IfSome result (λ v. PutsVersion self.now.sessions name v) }
         ensures none { IfNone result ((v : ℕ) → ¬ PutsVersion self.now.sessions name v) }
@@ -426,7 +426,7 @@ impl History {
         }
     }
 
-    /// The version of what the get of that name returned: none where there is no get of that name, or it missed. It
+    /// The version that the get of that name returned, or nothing if there is no get of that name or it missed. It
     /// reads neither key nor value.
     pub fn got_version(&self, name: OpName) -> Option<Version>
         ensures got { IfSome result (λ v. GetsVersion self.now.sessions name v) }
@@ -449,8 +449,8 @@ impl History {
         self.entries.put_number(name)
     }
 
-    /// The number of the put that the get of that name returned, its key, its value and its version, where the history
-    /// found it as the get came. None says nothing of the get.
+    /// The number of the put that the get of that name returned: its key, its value and its version. Nothing if the
+    /// history had not found the put when the get was added, which says nothing about the get.
     #[inline(always)]
     pub fn source_number(&self, got: OpName) -> Option<u32>
         ensures { IfSome result (λ n. (put : OpName) × (slice_get self.now.puts n ≡ Some put) × SourceStep self.now.sessions put got) }
@@ -458,7 +458,7 @@ impl History {
         self.entries.source_number(got)
     }
 
-    /// Whether the one is a put, and the other a get that returned it: its key, its value and its version.
+    /// Whether `put` is a put, and `got` a get that returned it: its key, its value and its version.
     pub fn is_source(&self, put: OpName, got: OpName) -> bool
         ensures source { IsTrue result ↔ SourceStep self.now.sessions put got }
         ensures limit { IsTrue result → put.index < MAX_CLIENT_OPS }
@@ -483,7 +483,7 @@ impl History {
     }
 }
 
-/// The entry of an operation, whose key is added where it is not there.
+/// The entry of an operation, whose key is added if it is new.
 #[inline(always)]
 fn entry_of(keys: &mut KeySet, foresight: &mut Foresight, entries: &Entries, op: Op) -> Entry
     requires sound { AreSound keys.old.keys entries.now.all }
@@ -536,7 +536,7 @@ fn entry_of(keys: &mut KeySet, foresight: &mut Foresight, entries: &Entries, op:
     }
 }
 
-/// The entry of an operation that is seen, whose key is added where it is not there. For want of memory none is.
+/// The entry of a borrowed operation, whose key is added if it is new. Adds nothing if memory runs out.
 #[inline(always)]
 fn entry_of_seen(
     alloc: Global,
@@ -563,21 +563,12 @@ fn entry_of_seen(
             value,
             version,
         } => {
-            let value = value.to_value(alloc)?;
+            let value = copy_of_seen(alloc, value.as_ref())?;
             let key = number_of_seen(alloc, keys, foresight, key, known)?;
             foresight.note_put(*version, entries.puts());
             Ok(Entry::Put {
                 key,
-                value: Some(value),
-                version: *version,
-            })
-        }
-        OpView::Del { key, version } => {
-            let key = number_of_seen(alloc, keys, foresight, key, known)?;
-            foresight.note_put(*version, entries.puts());
-            Ok(Entry::Put {
-                key,
-                value: None,
+                value,
                 version: *version,
             })
         }
@@ -586,17 +577,14 @@ fn entry_of_seen(
             value,
             version,
         } => {
+            let value = value.as_ref();
             if let Some(key) = known {
                 return known_got_entry(alloc, foresight, entries, guess.put, key, value, *version);
             }
-            // (once the key is added nothing may fail; the copy goes where the put is found)
-            let value = value.to_value(alloc)?;
+            // (once the key is added nothing may fail; the copy is dropped where the put is found)
+            let value = copy_of_seen(alloc, value)?;
             let key = number_of_seen(alloc, keys, foresight, key, None)?;
-            Ok(got_entry(foresight, entries, guess.put, key, Some(value), *version))
-        }
-        OpView::Gone { key, version } => {
-            let key = number_of_seen(alloc, keys, foresight, key, known)?;
-            Ok(got_entry(foresight, entries, guess.put, key, None, *version))
+            Ok(got_entry(foresight, entries, guess.put, key, value, *version))
         }
         OpView::Missed { key } => {
             let key = number_of_seen(alloc, keys, foresight, key, known)?;
@@ -605,7 +593,7 @@ fn entry_of_seen(
     }
 }
 
-/// The entry of a get of the key of that number: it names its put where that is guessed right, and has the value where
+/// The entry of a get of the key of that number. It refers to its put if a candidate is right, and stores the value if
 /// not.
 #[inline(always)]
 fn got_entry(
@@ -642,7 +630,7 @@ fn got_entry(
     }
 }
 
-/// The same, where the value is seen and is copied only if no put is named.
+/// The entry of a get whose value is borrowed, and is copied only where no put is named.
 #[inline(always)]
 fn known_got_entry(
     alloc: Global,
@@ -650,21 +638,33 @@ fn known_got_entry(
     entries: &Entries,
     guess: Option<u32>,
     key: u32,
-    value: &ValueView<'_>,
+    value: Option<&ValueView<'_>>,
     version: Version,
 ) -> Result<Entry, Memory>
-    ensures told { IfOk result (λ entry. (keys : List (List ℕ)) → told keys entries.now.all entry ≡ read (slice_index_or keys key []) (Some value.now) version) }
+    ensures told { IfOk result (λ entry. (keys : List (List ℕ)) → told keys entries.now.all entry
+        ≡ read (slice_index_or keys key []) (option_copied value.entry) version) }
     ensures key { IfOk result (λ entry. key_number_of entry ≡ key) }
     ensures source { IfOk result (HasSource entries.now.all) }
     ensures numbered { IfOk result (IsNumbered entries.now.names) }
 {
-    match source_of(foresight, entries, guess, key, Some(value), version) {
+    match source_of(foresight, entries, guess, key, value, version) {
         Some(put) => Ok(Entry::Sourced { key, put, version }),
         None => Ok(Entry::Got {
             key,
-            value: Some(value.to_value(alloc)?),
+            value: copy_of_seen(alloc, value)?,
             version,
         }),
+    }
+}
+
+/// A copy of a borrowed value, or that there is none.
+#[inline(always)]
+fn copy_of_seen(alloc: Global, value: Option<&ValueView<'_>>) -> Result<Option<Value>, Memory>
+    ensures { IfOk result (λ copy. copy ≡ option_copied value.entry) }
+{
+    match value {
+        Some(value) => Ok(Some(value.to_value(alloc)?)),
+        None => Ok(None),
     }
 }
 
@@ -684,8 +684,8 @@ fn known_number(
     }
 }
 
-/// The number of a key: the one that is known, or else the one that is found by a search, in which a new key is
-/// added, and which is kept for further guesses.
+/// The number of a key: the known one, or else the one that a search finds, which adds a new key and stores the number
+/// as a candidate.
 #[inline(always)]
 fn number_of(keys: &mut KeySet, foresight: &mut Foresight, key: Key, known: Option<u32>) -> u32
     requires known { IfSome known (λ number. slice_get keys.old.keys number ≡ Some key) }
@@ -704,7 +704,7 @@ fn number_of(keys: &mut KeySet, foresight: &mut Foresight, key: Key, known: Opti
     number
 }
 
-/// The number of a key that is seen: the one that is known, or else that of a copy.
+/// The number of a borrowed key: the known one, or else that of a copy. Fails if memory runs out.
 #[inline(always)]
 fn number_of_seen(
     alloc: Global,
@@ -728,7 +728,7 @@ fn number_of_seen(
     Ok(number_of(keys, foresight, copied, None))
 }
 
-/// The put that a get of the key of that number returned, where it is guessed right: it wrote this to the key with this
+/// The put that a get of the key of that number returned, if a candidate is right: it wrote this to the key with this
 /// version.
 #[inline(always)]
 fn source_of(

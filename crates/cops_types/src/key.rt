@@ -12,7 +12,7 @@ use std::cmp::Ordering;
 use std::hash::{Hash, Hasher};
 use std::marker::Model;
 
-/// The most bytes that lie in the key itself: those of a longer key lie in an allocation.
+/// Keys of at most this many bytes are stored inline, longer ones in an allocation.
 const INLINE: usize = 16;
 
 /// A key: 1 to 64 bytes.
@@ -113,7 +113,8 @@ impl Clone for Key {
 }
 
 impl Key {
-    /// The key of these bytes, `KeyEmpty` where there are none, or `KeyTooLong` where there are more than 64.
+    /// The key of these bytes. Errors: `KeyEmpty` if there are none, `KeyTooLong` if there are more than 64, `Memory`
+    /// if memory runs out.
     pub fn new(alloc: Global, bytes: &[u8]) -> Result<Self, TypeFault>
         ensures ok { IfOk result (λ key. (key ≡ bytes.now) × IsKey bytes.now) }
         ensures empty { IsErrOf result TypeFault.KeyEmpty ↔ (length bytes.now ≡ 0) }
@@ -126,7 +127,7 @@ impl Key {
         }
     }
 
-    /// A copy of what is seen.
+    /// A copy of a borrowed key.
     pub(crate) fn of(alloc: Global, seen: &KeyView<'_>) -> Result<Self, AllocError>
         ensures { IfOk result (λ key. key ≡ seen.now) }
     {
@@ -134,7 +135,7 @@ impl Key {
         Ok(Key { bytes })
     }
 
-    /// The key, seen where its bytes lie.
+    /// Borrows the key.
     pub fn as_view(&self) -> KeyView<'_>
         ensures { result ≡ self.now }
     {
@@ -157,7 +158,7 @@ impl Key {
         self.is_seen(&other.as_view())
     }
 
-    /// Whether the one that is seen has the same bytes.
+    /// Whether the borrowed key has the same bytes.
     pub fn is_seen(&self, other: &KeyView<'_>) -> bool
         ensures { IsTrue result ↔ (self.now ≡ other.now) }
     {
@@ -165,7 +166,7 @@ impl Key {
     }
 }
 
-/// Room for a copy of any key, which then takes no memory.
+/// Reserved memory for a copy of any key, so that making the copy cannot fail.
 #[derive(Drop)]
 pub struct KeyRoom {
     bytes: SmallVec<u8, INLINE>,
@@ -174,14 +175,14 @@ pub struct KeyRoom {
 }
 
 impl KeyRoom {
-    /// Room for one copy.
+    /// Reserves memory for one copy. Fails if memory runs out.
     pub fn new(alloc: Global) -> Result<Self, AllocError> {
         Ok(KeyRoom {
             bytes: SmallVec::with_capacity(alloc, MAX_KEY)?,
         })
     }
 
-    /// A copy of a key, in this room.
+    /// A copy of a key, in this memory.
     pub fn copy(self, key: &Key) -> Key
         ensures { result ≡ key.now }
     {

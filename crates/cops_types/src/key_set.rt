@@ -5,7 +5,7 @@ use indexmap::IndexSet;
 use std::alloc::Global;
 use std::marker::Model;
 
-/// Keys, each once, in the order in which they came: a key's number is its place.
+/// Keys, each once, in the order in which they were added. A key's number is its index.
 #[derive(Debug, Drop)]
 pub(crate) struct KeySet {
     keys: IndexSet<Key>,
@@ -25,7 +25,7 @@ impl KeySet {
     ghost use Rattle.cops_types.specs.KeySets.{AreDistinct, GainsKey};
     ghost use Rattle.cops_types.specs.declared.limits.TheConstants.{MAX_OPS};
 
-    /// No key. It takes no memory.
+    /// No keys. Allocates nothing.
     pub(crate) fn new(alloc: Global) -> Self
         ensures { result.keys ≡ [] }
     {
@@ -54,7 +54,7 @@ impl KeySet {
         &self.keys.as_slice()[number as usize]
     }
 
-    /// Makes room for so many more keys. A refusal changes nothing.
+    /// Makes room for `more` more keys. Changes no key if memory runs out.
     pub(crate) fn reserve(&mut self, more: usize) -> Result<(), Memory>
         ensures same { self.new.keys ≡ self.old.keys }
         ensures ok { OnOk result (more ≤ self.new.spare) }
@@ -64,8 +64,8 @@ impl KeySet {
         Ok(())
     }
 
-    /// Whether the key of that number is there, is as long as this one and begins alike. It looks at both ends of where
-    /// the key lies, which may be in two lines of a processor's caches.
+    /// Whether there is a key of that number, of the same length and with the same first byte as this one. It reads
+    /// both ends of the stored key, which may lie in two cache lines.
     pub(crate) fn may_be_at(&self, number: u32, key: &KeyView<'_>) -> bool {
         match self.keys.as_slice().get(number as usize) {
             Some(there) => {
@@ -76,7 +76,7 @@ impl KeySet {
         }
     }
 
-    /// Whether the key of that number is there and is this one.
+    /// Whether there is a key of that number and it is this one.
     pub(crate) fn is_at(&self, number: u32, key: &KeyView<'_>) -> bool
         ensures { IsTrue result ↔ (slice_get self.now.keys number ≡ Some key.now) }
     {
@@ -86,7 +86,7 @@ impl KeySet {
         }
     }
 
-    /// The number of a key, which is added where it is not there. It takes no memory.
+    /// The number of a key, which is added if it is new. Allocates nothing: room has to be reserved.
     #[inline(never)]
     pub(crate) fn number(&mut self, key: Key) -> u32
         requires few { length self.old.keys < MAX_OPS }

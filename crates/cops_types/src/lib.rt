@@ -1,7 +1,7 @@
-//! What every other crate speaks of: keys, values, versions, dependencies, operations, and histories of what clients
-//! saw; want of memory; and readers and writers that count their failures. Stands on no other crate of the repository.
-//! The layers above use the ranges of these types, the order of versions, a history as a list of sessions, and the
-//! definitions of causal convergence, faults and verdicts in `specs/`.
+//! The types that every other crate uses: keys, values, versions, dependencies, operations, and histories of what
+//! clients saw; the error for running out of memory; and readers and writers that count their failures. Stands on no
+//! other crate of the repository. The layers above use the ranges of these types, the order of versions, a history as a
+//! list of sessions, and the definitions of causal convergence, faults and verdicts in `specs/`.
 #![tactic(auto)]
 
 mod blocks;

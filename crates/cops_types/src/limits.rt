@@ -1,4 +1,4 @@
-//! The limits of what there is, for code and definitions alike.
+//! The limits of the types, for code and definitions alike.
 
 /// The most bytes that a key has.
 pub const MAX_KEY: usize = 64;
@@ -18,13 +18,13 @@ pub const MAX_DEPS: usize = 1024;
 /// The greatest clock of a version.
 pub const MAX_CLOCK: u64 = 281_474_976_710_655;
 
-/// How many data centres there are at most: their numbers are below it.
+/// The most data centres. Their numbers are below it.
 pub const MAX_DCS: u8 = 16;
 
-/// How many nodes a data centre has at most: their places are below it.
+/// The most nodes of a data centre. Their places are below it.
 pub const PLACES: u8 = 64;
 
-/// How many nodes there are at most: their numbers are below it.
+/// The most nodes. Their numbers are below it.
 pub const NODES: u16 = 1024;
 
 /// The most bytes that the body of a frame of format 1 has.

@@ -7,21 +7,21 @@ use crate::version::Version;
 use std::alloc::AllocError;
 use std::fmt;
 
-/// What a client did, and what it was told.
+/// An operation of a client, and its result.
 #[derive(Debug, Drop, PartialEq, Eq)]
 pub enum Op {
-    /// A put, which was given this version.
+    /// A put, and its version.
     Put {
         key: Key,
         value: Value,
         version: Version,
     },
-    /// A deletion, which was given this version.
+    /// A deletion, and its version.
     Del {
         key: Key,
         version: Version,
     },
-    /// A get that returned a value, and the version of the put that wrote it.
+    /// A get, with the value and the version that it returned.
     Got {
         key: Key,
         value: Value,
@@ -84,8 +84,8 @@ impl Op {
     ghost use Rattle.cops_types.specs.OpViews.{viewed};
     ghost use Rattle.cops_types.specs.Operations.{key_of, operation_of};
 
-    /// Whether the format has such an operation: a deletion, and a get that found one, are of format 2, and so is a
-    /// value of more than 4,096 bytes.
+    /// Whether the format has such an operation. Deletions, gets that found one, and values of more than 4,096 bytes
+    /// are only in format 2.
     pub fn in_format(&self, format: Format) -> bool
         ensures { IsTrue result ↔ IsInFormat format (operation_of self.now) }
     {
@@ -96,7 +96,7 @@ impl Op {
         }
     }
 
-    /// The operation, seen where it lies.
+    /// Borrows the operation.
     pub fn as_ref(&self) -> OpRef<'_>
         ensures { seen result ≡ operation_of self.now }
     {
@@ -133,7 +133,7 @@ impl Op {
         }
     }
 
-    /// The key that it is on, seen where its bytes lie.
+    /// Borrows the operation's key.
     pub fn as_key_view(&self) -> KeyView<'_>
         ensures { result ≡ key_of (operation_of self.now) }
     {
@@ -146,7 +146,7 @@ impl Op {
         }
     }
 
-    /// The operation, seen as bytes where they lie.
+    /// The operation, borrowed.
     pub fn as_view(&self) -> OpView<'_>
         ensures { viewed result ≡ operation_of self.now }
     {
@@ -157,7 +157,7 @@ impl Op {
                 version,
             } => OpView::Put {
                 key: key.as_view(),
-                value: value.as_view(),
+                value: Some(value.as_view()),
                 version: *version,
             },
             Op::Got {
@@ -166,15 +166,17 @@ impl Op {
                 version,
             } => OpView::Got {
                 key: key.as_view(),
-                value: value.as_view(),
+                value: Some(value.as_view()),
                 version: *version,
             },
-            Op::Del { key, version } => OpView::Del {
+            Op::Del { key, version } => OpView::Put {
                 key: key.as_view(),
+                value: None,
                 version: *version,
             },
-            Op::Gone { key, version } => OpView::Gone {
+            Op::Gone { key, version } => OpView::Got {
                 key: key.as_view(),
+                value: None,
                 version: *version,
             },
             Op::Missed { key } => OpView::Missed { key: key.as_view() },
@@ -182,7 +184,7 @@ impl Op {
     }
 }
 
-/// An operation's name: its client, and its place in that client's session, both from 0. Names are ordered by client
+/// An operation's name: its client, and its index in that client's session, both from 0. Names are ordered by client
 /// first.
 #[derive(Clone, Copy, Debug, PartialEq, Eq, PartialOrd, Ord)]
 pub struct OpName {

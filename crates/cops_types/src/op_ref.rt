@@ -9,16 +9,16 @@ use crate::value::Value;
 use crate::version::Version;
 use std::alloc::AllocError;
 
-/// An operation of a history, seen where its parts lie.
+/// An operation borrowed from a history.
 #[derive(Clone, Copy, Debug)]
 pub enum OpRef<'a> {
-    /// A put, which was given this version: without a value it is a deletion.
+    /// A put, and its version. Without a value it is a deletion.
     Put {
         key: &'a Key,
         value: Option<&'a Value>,
         version: &'a Version,
     },
-    /// A get that returned a value and the version of its put, or without a value one that found a deletion.
+    /// A get, with the value and the version that it returned. Without a value it found a deletion.
     Got {
         key: &'a Key,
         value: Option<&'a Value>,
@@ -114,8 +114,8 @@ impl OpRef<'_> {
         }
     }
 
-    /// Whether it is a put, and the other a get that returned it: its key, its value or that it is a deletion, and its
-    /// version.
+    /// Whether this is a put, and the other a get that returned it: its key, its version, and its value or that it is a
+    /// deletion.
     pub fn is_source_of(&self, got: &OpRef<'_>) -> bool
         ensures { IsTrue result ↔ ((key : List ℕ) × (content : Option (List ℕ)) × (version : ℕ)
             × (seen self.now ≡ write key content version) × (seen got.now ≡ read key content version)) }
@@ -140,7 +140,7 @@ impl OpRef<'_> {
     }
 }
 
-/// Whether the two are one value, or no value both.
+/// Whether the two are equal values, or both no value.
 pub(crate) fn is_same_content(content: Option<&Value>, other: Option<&Value>) -> bool
     ensures { IsTrue result ↔ (option_copied content.entry ≡ option_copied other.entry) }
 {

@@ -1,4 +1,4 @@
-//! Operations that are seen as bytes, before a history holds them.
+//! Operations borrowed as bytes, before a history stores them.
 ghost use Rattle.std.specs.Prelude.{◌≡◌, ◌<◌, ◌≤◌, ◌↔◌, length, IfErr, IfOk, IsErrOf};
 ghost use Rattle.cops_types.specs.declared.limits.TheConstants.{MAX_KEY};
 ghost use Rattle.cops_types.specs.Format.{most_value};
@@ -14,7 +14,7 @@ use crate::version::Version;
 use std::alloc::{AllocError, Global};
 use std::marker::Model;
 
-/// A key, seen where its 1 to 64 bytes lie.
+/// A borrowed key of 1 to 64 bytes.
 #[derive(Debug, Drop)]
 pub struct KeyView<'a> {
     pub(crate) bytes: &'a [u8],
@@ -64,7 +64,7 @@ impl<'a> KeyView<'a> {
     }
 }
 
-/// A value, seen where its bytes lie, at most 16,384.
+/// A borrowed value of at most 16,384 bytes.
 #[derive(Debug, Drop)]
 pub struct ValueView<'a> {
     pub(crate) bytes: &'a [u8],
@@ -110,29 +110,19 @@ impl<'a> ValueView<'a> {
     }
 }
 
-/// An operation whose key and value are seen where their bytes lie.
+/// An operation with a borrowed key and value.
 #[derive(Debug, Drop)]
 pub enum OpView<'a> {
-    /// A put, which was given this version.
+    /// A put, which was given this version: without a value it is a deletion.
     Put {
         key: KeyView<'a>,
-        value: ValueView<'a>,
+        value: Option<ValueView<'a>>,
         version: Version,
     },
-    /// A deletion, which was given this version.
-    Del {
-        key: KeyView<'a>,
-        version: Version,
-    },
-    /// A get that returned a value, and the version of the put that wrote it.
+    /// A get that returned a value and the version of its put, or without a value one that found a deletion.
     Got {
         key: KeyView<'a>,
-        value: ValueView<'a>,
-        version: Version,
-    },
-    /// A get that found a deletion of this version.
-    Gone {
-        key: KeyView<'a>,
+        value: Option<ValueView<'a>>,
         version: Version,
     },
     /// A get that found nothing.
@@ -151,11 +141,7 @@ impl<'a> OpView<'a> {
         ensures { result.now ≡ key_of (viewed self.now) }
     {
         match self {
-            OpView::Put { key, .. }
-            | OpView::Del { key, .. }
-            | OpView::Got { key, .. }
-            | OpView::Gone { key, .. }
-            | OpView::Missed { key } => key,
+            OpView::Put { key, .. } | OpView::Got { key, .. } | OpView::Missed { key } => key,
         }
     }
 }

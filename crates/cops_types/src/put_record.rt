@@ -4,7 +4,7 @@ use crate::value::{Value, content_copy};
 use crate::version::Version;
 use std::alloc::AllocError;
 
-/// A put as it is sent to the other data centres, with its nearest dependencies (COPS, section 4.3): without a value it
+/// A put as it is sent to the other data centres, with its nearest dependencies (COPS, section 4.3). Without a value it
 /// is a deletion.
 #[derive(Debug, Drop)]
 pub struct PutRecord {
@@ -30,8 +30,7 @@ impl Clone for PutRecord {
     }
 }
 
-/// What a node tells of itself: its clock, how many keys show a put, how many pairs are settled, and how many puts
-/// are held.
+/// The status of a node: its clock, how many keys show a put, how many pairs are settled, and how many puts are held.
 #[derive(Clone, Copy, Debug, PartialEq, Eq)]
 pub struct NodeStatus {
     pub clock: u64,

@@ -1,7 +1,7 @@
-/// Which of the faults of a report are told.
+/// Which of a report's faults are explained.
 #[derive(Clone, Copy, Debug, PartialEq, Eq)]
 pub enum Selection {
-    /// The first ones, and how many more there are.
+    /// The first ones, and the number of the others.
     First,
     /// All.
     All,

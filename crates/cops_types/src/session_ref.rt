@@ -9,7 +9,7 @@ use crate::op::OpName;
 use crate::op_ref::OpRef;
 use std::marker::Model;
 
-/// The operations of one client in their order, borrowed from a history: none where the history has no such client.
+/// The operations of one client in their order, borrowed from a history. It is empty if the history has no such client.
 #[derive(Debug, Drop)]
 pub struct SessionRef<'a> {
     history: &'a History,

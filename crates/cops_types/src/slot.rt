@@ -7,21 +7,21 @@ use crate::value::Value;
 use crate::version::Version;
 use std::alloc::Global;
 
-/// What stands in a session for an operation: a number, under which lies what is known of it.
+/// An operation in a session, as a number that refers to the history's lists of puts, gets and keys.
 #[derive(Clone, Copy, Debug)]
 pub(crate) enum Slot {
     /// The put of that number.
     Put(u32),
     /// A get that returned what the put of that number wrote.
     Sourced(u32),
-    /// The get of that number, of which is kept what it returned.
+    /// The get of that number, stored with what it returned.
     Got(u32),
     /// A get of the key of that number, which found nothing.
     Missed(u32),
 }
 
-/// A put as a history keeps it: its key is named by its number. The value of a deletion is empty, and the flag says
-/// that there is none: it lies in bytes that were of no use, where an `Option` would take eight more.
+/// A put as a history stores it. A number stands for its key. For a deletion the value is empty and `has_value` is
+/// false; the flag lies in padding, where an `Option` would take eight bytes more.
 #[derive(Debug, Drop)]
 pub(crate) struct KeptPut {
     pub(crate) name: OpName,
@@ -31,7 +31,7 @@ pub(crate) struct KeptPut {
     pub(crate) value: Value,
 }
 
-/// What a get returned whose put is not known, with a flag as a put has it.
+/// What a get returned whose put is not known. `has_value` is as in `KeptPut`.
 #[derive(Debug, Drop)]
 pub(crate) struct KeptGot {
     pub(crate) key: u32,
@@ -41,14 +41,14 @@ pub(crate) struct KeptGot {
 }
 
 impl KeptPut {
-    /// The value that it wrote: none where it is a deletion.
+    /// The value that the put wrote: none if it is a deletion.
     pub(crate) fn content(&self) -> Option<&Value>
         ensures { option_copied result ≡ content_of self.now.has_value self.now.value }
     {
         content(self.has_value, &self.value)
     }
 
-    /// Whether it wrote this.
+    /// Whether the put wrote this.
     #[inline(always)]
     pub(crate) fn has_content(&self, content: Option<&ValueView<'_>>) -> bool
         ensures { IsTrue result ↔ (content_of self.now.has_value self.now.value ≡ option_copied content.entry) }
@@ -61,7 +61,7 @@ impl KeptPut {
 }
 
 impl KeptGot {
-    /// The value that it returned: none where it found a deletion.
+    /// The value that the get returned: none if it found a deletion.
     pub(crate) fn content(&self) -> Option<&Value>
         ensures { option_copied result ≡ content_of self.now.has_value self.now.value }
     {
@@ -69,14 +69,14 @@ impl KeptGot {
     }
 }
 
-/// What is kept with a flag whether there is a value.
+/// The content that a flag and a value stand for.
 fn content(has_value: bool, value: &Value) -> Option<&Value>
     ensures { option_copied result ≡ content_of has_value value.now }
 {
     if has_value { Some(value) } else { None }
 }
 
-/// The flag and the value that a content is kept as.
+/// The flag and the value that stand for a content.
 pub(crate) fn flagged(alloc: Global, content: Option<Value>) -> (bool, Value)
     ensures { content_of result.0 result.1 ≡ content }
 {

@@ -11,10 +11,10 @@ use smallvec::SmallVec;
 use std::alloc::{AllocError, Global};
 use std::marker::Model;
 
-/// The most bytes that lie in the value itself: those of a longer value lie in an allocation.
+/// Values of at most this many bytes are stored inline, longer ones in an allocation.
 const INLINE: usize = 16;
 
-/// A value: at most 16,384 bytes, the most of format 2.
+/// A value: at most 16,384 bytes, the limit of format 2.
 #[derive(Debug, Drop)]
 pub struct Value {
     bytes: SmallVec<u8, INLINE>,
@@ -62,7 +62,8 @@ impl Clone for Value {
 }
 
 impl Value {
-    /// The value of these bytes in format 1, or `ValueTooLong` where there are more than 4,096.
+    /// The value of these bytes in format 1. Errors: `ValueTooLong` if there are more than 4,096, `Memory` if memory
+    /// runs out.
     pub fn new(alloc: Global, bytes: &[u8]) -> Result<Self, TypeFault>
         ensures ok { IfOk result (λ value. (value ≡ bytes.now) × (length bytes.now ≤ MAX_VALUE_IN_ONE)) }
         ensures too_long { IsErrOf result TypeFault.ValueTooLong ↔ (MAX_VALUE_IN_ONE < length bytes.now) }
@@ -71,8 +72,8 @@ impl Value {
         Value::new_in(Format::One, alloc, bytes)
     }
 
-    /// The value of these bytes, or `ValueTooLong` where there are more than the format allows: 4,096 in format 1, and
-    /// 16,384 in format 2.
+    /// The value of these bytes in a format. Errors: `ValueTooLong` if there are more than the format allows, 4,096 in
+    /// format 1 and 16,384 in format 2; `Memory` if memory runs out.
     pub fn new_in(format: Format, alloc: Global, bytes: &[u8]) -> Result<Self, TypeFault>
         ensures ok { IfOk result (λ value. (value ≡ bytes.now) × (length bytes.now ≤ most_value format)) }
         ensures too_long { IsErrOf result TypeFault.ValueTooLong ↔ (most_value format < length bytes.now) }
@@ -84,7 +85,7 @@ impl Value {
         }
     }
 
-    /// The value without bytes. It takes no memory.
+    /// The value without bytes. Allocates nothing.
     pub(crate) fn empty(alloc: Global) -> Self
         ensures { result ≡ [] }
     {
@@ -93,7 +94,7 @@ impl Value {
         }
     }
 
-    /// A copy of what is seen.
+    /// A copy of a borrowed value.
     pub(crate) fn of(alloc: Global, seen: &ValueView<'_>) -> Result<Self, AllocError>
         ensures { IfOk result (λ value. value ≡ seen.now) }
     {
@@ -101,7 +102,7 @@ impl Value {
         Ok(Value { bytes })
     }
 
-    /// The value, seen where its bytes lie.
+    /// Borrows the value.
     pub fn as_view(&self) -> ValueView<'_>
         ensures { result ≡ self.now }
     {
@@ -124,7 +125,7 @@ impl Value {
         self.is_seen(&other.as_view())
     }
 
-    /// Whether the one that is seen has the same bytes.
+    /// Whether the borrowed value has the same bytes.
     #[inline(always)]
     pub fn is_seen(&self, other: &ValueView<'_>) -> bool
         ensures { IsTrue result ↔ (self.now ≡ other.now) }
@@ -133,7 +134,7 @@ impl Value {
     }
 }
 
-/// A copy of what was written: of a value, or that there is none.
+/// A copy of what an operation wrote: a value, or nothing for a deletion.
 pub fn content_copy(content: Option<&Value>) -> Result<Option<Value>, AllocError>
     ensures { IfOk result (λ copy. copy ≡ option_copied content.entry) }
 {
@@ -143,7 +144,7 @@ pub fn content_copy(content: Option<&Value>) -> Result<Option<Value>, AllocError
     }
 }
 
-/// Room for a copy of any value of a format, which then takes no memory.
+/// Reserved memory for a copy of any value of a format, so that making the copy cannot fail.
 #[derive(Drop)]
 pub struct ValueRoom {
     format: Format,
@@ -163,7 +164,7 @@ impl Model for ValueRoom {
 }
 
 impl ValueRoom {
-    /// Room for one copy of a value of this format.
+    /// Reserves memory for one copy of a value of this format. Fails if memory runs out.
     pub fn new_in(format: Format, alloc: Global) -> Result<Self, AllocError>
         ensures { IfOk result (λ room. room ≡ format) }
     {
@@ -173,7 +174,7 @@ impl ValueRoom {
         })
     }
 
-    /// A copy of a value of the format, in this room.
+    /// A copy of a value of the format, in this memory.
     pub fn copy(self, value: &Value) -> Value
         requires { length value.now ≤ most_value self }
         ensures { result ≡ value.now }

@@ -34,7 +34,7 @@ impl Model for Version {
 }
 
 impl Version {
-    /// The version of this clock and node, or `BadVersion` where one is out of its range.
+    /// The version of this clock and node. Fails with `BadVersion` if one of them is out of its range.
     pub fn new(clock: u64, node: u16) -> Result<Self, TypeFault>
         ensures ok { IfOk result (λ version. version ≡ version_of clock node) }
         ensures bad { IsErrOf result TypeFault.BadVersion ↔ ((1 ≤ clock × clock ≤ MAX_CLOCK × node < NODES) → ⊥) }
@@ -49,7 +49,7 @@ impl Version {
         }
     }
 
-    /// The version with this number, or `BadVersion` where its clock or node is out of its range.
+    /// The version with this number. Fails with `BadVersion` if its clock or node is out of its range.
     pub fn from_u64(raw: u64) -> Result<Self, TypeFault>
         ensures ok { IfOk result (λ version. (version ≡ raw) × IsVersion raw) }
         ensures bad { IsErrOf result TypeFault.BadVersion ↔ (IsVersion raw → ⊥) }
@@ -62,7 +62,7 @@ impl Version {
         }
     }
 
-    /// The clock times 65,536, and the node.
+    /// The version's number: the clock times 65,536, plus the node.
     pub fn as_u64(self) -> u64
         ensures number { result ≡ self }
         ensures version { IsVersion self }
@@ -78,7 +78,7 @@ impl Version {
         self.raw / 65536
     }
 
-    /// The number of the node that gave it, below 1,024.
+    /// The number of the node that gave the version, below 1,024.
     pub fn node(self) -> u16
         ensures value { result ≡ node_of self }
         ensures range { result < NODES }
@@ -94,7 +94,7 @@ impl Version {
         (self.node() / u16::from(PLACES)) as u8
     }
 
-    /// The place of that node there, below 64.
+    /// The place of that node in its data centre, below 64.
     pub fn place(self) -> u8
         ensures value { result ≡ place_of self }
         ensures range { result < PLACES }

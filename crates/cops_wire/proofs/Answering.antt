@@ -1,4 +1,4 @@
--- What `decode` makes of the answer of the reading.
+-- From the result of reading to the result of `decode`.
 use Rattle.std.proofs.Common.{◌≡◌, ℕ, ◌+◌, ◌^◌, ◌<◌, ◌≤◌, List, length, Option, Some, None, Result, Ok, Err, refl, sym, ap, subst, ◌∙◌, arith}
 use Rattle.std.proofs.lemmas.List.{length-append}
 use Rattle.cops_types.specs.declared.format.Format.{Format}
@@ -21,17 +21,17 @@ use Rattle.std.specs.Prelude.{IfSome}
 use Rattle.cops_wire.proofs.Rows.{fields_stop}
 use Rattle.cops_wire.proofs.Frames.{frame_answers, only_answer}
 
--- the messages of each format fit their frames
+-- the messages of each format fit into their frames
 pub grammar_ok : (format : Format) → IsGrammar (grammar format)
 grammar_ok One = (omega arith, refl)
 grammar_ok Two = (omega arith, refl)
 
--- a place in a frame is a number of 32 bits
+-- an offset in a frame is a number of 32 bits
 pub places_fit : (format : Format) → 4 + longest_body format < 2 ^ 32
 places_fit One = omega arith
 places_fit Two = omega arith
 
--- dependencies of each format are dependencies
+-- the limit of each format's dependencies is within that of all formats
 pub most_deps_le : (format : Format) → most_deps format ≤ MAX_DEPS
 most_deps_le One = omega arith
 most_deps_le Two = omega arith
@@ -43,7 +43,7 @@ known_left (Some fs) bytes left fits e =
     let left_is : left ≡ length s.rest = let e = s.fault_is in cc in
     omega (arith, left_is, ap length s.split, length-append (spelled_all s.before s.contents) s.rest)
 
--- what is left at a bad field is part of what was there
+-- the bytes left at a bad field are part of the bytes
 pub left_within : (g : Grammar) (kind : ℕ) (bytes : List ℕ) (left : ℕ) → IsBytes bytes → contents_at g kind bytes ≡ Err (faults.BadField left) → left ≤ length bytes
 left_within g kind bytes left fits e = known_left (fields_of g kind) bytes left fits e
 
@@ -59,7 +59,7 @@ pub answers_only : (g : Grammar) → IsGrammar g → (bytes : List ℕ) (r : Res
     → (a : Result (Parts × ℕ) WireFault) → IsAnswer g bytes a → Answers r (λ b. b ≡ a)
 answers_only g ok bytes r fits h a is = Answers-weaker r (λ a. a ≡ frame_at g bytes) (λ b. b ≡ a) h (λ b e. e ∙ only_answer g ok bytes fits a is)
 
--- a record that is seen is the answer of the bytes
+-- the bytes decode to the borrowed record
 pub seen_answers : (g : Grammar) (bytes text : List ℕ) (o : Option RecordView) → IsBytes bytes → frame_at g bytes ≡ body_at g text
     → IfSome o (λ r. body_at g text ≡ Ok (parts (seen_message r), r.used)) → IfSome o (λ r. IsAnswer g bytes (Ok (parts (seen_message r), r.used)))
 seen_answers g bytes text None fits reading h = tt

@@ -1,4 +1,4 @@
--- What the layers above may cite of spellings and answers. Each is at any format.
+-- The lemmas on encodings and decoding that the layers above use. Each holds for every format.
 use Rattle.std.proofs.Common.{◌≡◌, ◌≢◌, ℕ, ◌+◌, ◌<◌, ◌≤◌, List, [], ◌∷◌, ◌++◌, length, take, drop, Result, Ok, Err, refl, sym, ap, subst, ◌∙◌, arith, inl, inr}
 use Rattle.std.specs.Int.{w32, from_be_bytes}
 use Rattle.std.proofs.lemmas.Bool.{cases_lt}
@@ -19,47 +19,47 @@ use Rattle.cops_wire.proofs.Frames.{short_again, bad_field_place, known_answer, 
 use Rattle.cops_wire.proofs.Messages.{parts-same}
 use Rattle.cops_wire.proofs.Answering.{grammar_ok, places_fit}
 
--- No spelling of a message begins another, and each is the spelling of one message.
+-- No encoding of a message is a prefix of another's, and each encodes only one message.
 pub one_message : (format : Format) (m n : Message) (x y : List ℕ) → IsMessage (grammar format) (parts m) → IsMessage (grammar format) (parts n)
     → spelling (grammar format) (parts m) ++ x ≡ spelling (grammar format) (parts n) ++ y → (m ≡ n) × (x ≡ y)
 one_message format m n x y legal_m legal_n e =
     let same = one_spelling (grammar format) (grammar_ok format) (parts m) (parts n) x y legal_m legal_n e in
     (parts-same m n same.0, same.1)
 
--- The answer is what reading gives.
+-- The result of decoding is what reading gives.
 pub answer_is_read : (format : Format) (bytes : List ℕ) → IsBytes bytes → (a : Result (Parts × ℕ) WireFault) → IsAnswer (grammar format) bytes a → a ≡ frame_at (grammar format) bytes
 answer_is_read format bytes fits a h = sym (only_answer (grammar format) (grammar_ok format) bytes fits a h)
 
--- What reading gives is the answer.
+-- What reading gives is the result of decoding.
 pub read_is_answer : (format : Format) (bytes : List ℕ) → IsBytes bytes → (a : Result (Parts × ℕ) WireFault) → a ≡ frame_at (grammar format) bytes → IsAnswer (grammar format) bytes a
 read_is_answer format bytes fits a e = subst (IsAnswer (grammar format) bytes) (sym e) (frame_answers (grammar format) bytes fits)
 
--- Bytes have at most one answer.
+-- Decoding bytes has at most one result.
 pub same_answer : (format : Format) (bytes : List ℕ) → IsBytes bytes → (a b : Result (Parts × ℕ) WireFault) → IsAnswer (grammar format) bytes a → IsAnswer (grammar format) bytes b → a ≡ b
 same_answer format bytes fits a b is_a is_b = answer_is_read format bytes fits a is_a ∙ sym (answer_is_read format bytes fits b is_b)
 
--- A spelling is answered by its message, whatever follows it.
+-- An encoding decodes to its message, whatever follows it.
 pub spelling_answered : (format : Format) (p : Parts) (rest : List ℕ) → IsMessage (grammar format) p
     → IsAnswer (grammar format) (spelling (grammar format) p ++ rest) (Ok (p, length (spelling (grammar format) p)))
 spelling_answered format p rest legal = record { message = legal; rest = rest; front = refl; length_is = refl }
 
--- A spelling is read as its message, whatever follows it.
+-- Reading an encoding gives its message, whatever follows it.
 pub spelling_read : (format : Format) (p : Parts) (rest : List ℕ) → IsMessage (grammar format) p
     → frame_at (grammar format) (spelling (grammar format) p ++ rest) ≡ Ok (p, length (spelling (grammar format) p))
 spelling_read format p rest legal = spelling_again (grammar format) (grammar_ok format) p rest legal
 
--- An answer that is a message splits the bytes: the message's spelling, and what follows the used bytes.
+-- If bytes decode to a message, they are the message's encoding and then the bytes after the used ones.
 pub answer_splits : (format : Format) (bytes : List ℕ) (p : Parts) (used : ℕ) → IsAnswer (grammar format) bytes (Ok (p, used))
     → IsMessage (grammar format) p × (used ≡ length (spelling (grammar format) p)) × (bytes ≡ spelling (grammar format) p ++ drop used bytes)
 answer_splits format bytes p used h =
     let rest : drop used bytes ≡ h.rest = ap (drop used) h.front ∙ drop_at (spelling (grammar format) p) h.rest used (sym h.length_is) in
     (h.message, h.length_is, h.front ∙ ap (λ (t : List ℕ). spelling (grammar format) p ++ t) (sym rest))
 
--- how long a spelling is
+-- the length of an encoding
 pub length-spelling : (format : Format) (p : Parts) → length (spelling (grammar format) p) ≡ 4 + length (body (grammar format) p)
 length-spelling format p = length-append (spelled_number u32 (length (body (grammar format) p))) (body (grammar format) p) ∙ ap (λ (n : ℕ). n + length (body (grammar format) p)) ((wide u32).len (length (body (grammar format) p)))
 
--- A spelling is longer than 4 bytes and no longer than a frame may be.
+-- An encoding is longer than 4 bytes and no longer than a frame may be.
 pub spelling_bounds : (format : Format) (p : Parts) → IsMessage (grammar format) p
     → (4 < length (spelling (grammar format) p)) × (length (spelling (grammar format) p) ≤ 4 + longest_body format)
 spelling_bounds format p legal =
@@ -71,7 +71,7 @@ not_empty : (y : List ℕ) → y ≢ [] → 0 < length y
 not_empty [] ne = absurd (ne refl)
 not_empty (b ∷ bs) ne = omega arith
 
--- A front of a spelling that is not all of it is Short.
+-- A proper prefix of an encoding is Short.
 pub front_is_short : (format : Format) (p : Parts) (x y : List ℕ) → IsMessage (grammar format) p → spelling (grammar format) p ≡ x ++ y → y ≢ [] → IsShort (grammar format) x
 front_is_short format p x y legal e more =
     let text : List ℕ = body (grammar format) p in
@@ -88,30 +88,30 @@ front_is_short format p x y legal e more =
           inr (omega (arith, len), omega (arith, len, fits), omega (arith, len, total, some))
     ]
 
--- Where a whole frame of a known kind stands, the answer is found in its fields.
+-- The result for a whole frame of a known kind comes from its fields.
 pub known_is_from_fields : (format : Format) (bytes : List ℕ) → IsBytes bytes → BeginsWithKnown (grammar format) bytes → (a : Result (Parts × ℕ) WireFault) → IsAnswer (grammar format) bytes a → IsFromFields a
 known_is_from_fields format bytes fits known a h = known_answer (grammar format) (grammar_ok format) bytes fits known a h
 
--- What follows changes nothing of what is read, but that a frame is not whole.
+-- More bytes change nothing of what is read, except that a frame is not whole.
 pub read_stays : (format : Format) (bytes more : List ℕ) → IsBytes bytes → IsBytes (bytes ++ more) → frame_at (grammar format) bytes ≢ Err Short
     → frame_at (grammar format) (bytes ++ more) ≡ frame_at (grammar format) bytes
 read_stays format bytes more fits all_fit long =
     sym (answer_is_read format (bytes ++ more) all_fit (frame_at (grammar format) bytes) (answer_stays (grammar format) bytes more (frame_at (grammar format) bytes) long (frame_answers (grammar format) bytes fits)))
 
--- What is short is read so.
+-- Reading short bytes gives Short.
 pub short_read : (format : Format) (bytes : List ℕ) → IsShort (grammar format) bytes → frame_at (grammar format) bytes ≡ Err Short
 short_read format bytes h = short_again (grammar format) bytes h
 
--- A front of a spelling that is not all of it is read as Short.
+-- Reading a proper prefix of an encoding gives Short.
 pub front_read : (format : Format) (p : Parts) (x y : List ℕ) → IsMessage (grammar format) p → spelling (grammar format) p ≡ x ++ y → y ≢ [] → frame_at (grammar format) x ≡ Err Short
 front_read format p x y legal e more = short_read format x (front_is_short format p x y legal e more)
 
--- A message that is read splits the bytes: its spelling, and what follows the used bytes.
+-- If reading gives a message, the bytes are its encoding and then the bytes after the used ones.
 pub read_splits : (format : Format) (bytes : List ℕ) (p : Parts) (used : ℕ) → IsBytes bytes → frame_at (grammar format) bytes ≡ Ok (p, used)
     → IsMessage (grammar format) p × (used ≡ length (spelling (grammar format) p)) × (bytes ≡ spelling (grammar format) p ++ drop used bytes)
 read_splits format bytes p used fits e = answer_splits format bytes p used (read_is_answer format bytes fits (Ok (p, used)) (sym e))
 
--- What is used lies within the bytes, and is a frame's length.
+-- The used bytes are within the bytes, and their number is a frame's length.
 pub used_within : (format : Format) (bytes : List ℕ) (p : Parts) (used : ℕ) → IsAnswer (grammar format) bytes (Ok (p, used))
     → (4 < used) × (used ≤ length bytes) × (used ≤ 4 + longest_body format)
 used_within format bytes p used h =
@@ -119,7 +119,7 @@ used_within format bytes p used h =
     let all : length bytes ≡ length (spelling (grammar format) p) + length h.rest = ap length h.front ∙ length-append (spelling (grammar format) p) h.rest in
     (omega (arith, h.length_is, bounds.0), omega (arith, h.length_is, all), omega (arith, h.length_is, bounds.1))
 
--- A bad field's place lies within the frame.
+-- A bad field's offset is within the frame.
 pub offset_within : (format : Format) (bytes : List ℕ) (offset : ℕ) → IsAnswer (grammar format) bytes (Err (BadField offset)) → (4 < offset) × (offset ≤ 4 + longest_body format)
 offset_within format bytes offset h = bad_field_place (grammar format) bytes offset h
 

@@ -1,4 +1,4 @@
--- A field that is read is the field that was spelled, and what is spelled is read again.
+-- Reading a field gives the field that was encoded, and an encoding is read as its field.
 use Rattle.std.proofs.Common.{◌≡◌, ℕ, zero, suc, ◌+◌, ◌/◌, ◌%◌, ◌<◌, ◌≤◌, Bool, true, false, cond, ltb, leb, ◌&&◌, List, [], ◌∷◌, ◌++◌, length, take, drop, Option, Some, None, refl, sym, ap, subst, ◌∙◌, append_assoc, arith, inl, inr}
 use Rattle.std.specs.List.{flat_map, list_any, IsDistinct, AllByRecursion}
 use Rattle.std.specs.Int.{byte_len, from_be_bytes}
@@ -44,7 +44,7 @@ only_if_some false x y e = absurd cc
 some_is : {A : Type 0} (x y : A) → Some x ≡ Some y → x ≡ y
 some_is x y e = cc
 
--- what a reader took from the front
+-- the bytes that a reader took from the front
 pub record Takes (bytes text rest : List ℕ) : Type 0 where
   pub parts : bytes ≡ text ++ rest
   pub rest_fits : IsBytes rest
@@ -226,7 +226,7 @@ pairs_again (d ∷ ds) rest legal =
     ap (λ (r : Option (Dep × List ℕ)). r >>= λ first. pairs_at (length ds) first.1 >>= λ others. Some (first.0 ∷ others.0, others.1)) first
     ∙ ap (λ (r : Option (List Dep × List ℕ)). r >>= λ others. Some (d ∷ others.0, others.1)) (pairs_again ds rest legal.1)
 
--- the test is the fact
+-- the test decides whether a pair differs from all others
 apart_from_none : (d : Dep) (ds : List Dep) → list_any (is_same_dep d) ds ≡ false → AllByRecursion (λ y. is_same_dep d y ≡ false) ds
 apart_from_none d [] e = tt
 apart_from_none d (x ∷ xs) e = let both = or_parts _ _ e in (both.0, apart_from_none d xs both.1)

@@ -1,4 +1,4 @@
--- The answer on any bytes, and that there is no other.
+-- What any bytes decode to, and that the result is unique.
 use Rattle.std.proofs.Common.{◌≡◌, ◌≢◌, ℕ, suc, ◌+◌, ◌-◌, ◌<◌, ◌≤◌, Bool, true, false, cond, ltb, eqb, ◌||◌, List, [], ◌∷◌, ◌++◌, length, take, drop, Option, Some, None, Result, Ok, Err, refl, sym, ap, subst, ◌∙◌, append_assoc, arith, inl, inr}
 use Rattle.std.specs.Prelude.{unwrap_or, MatchOption, IsSome, IsTrue}
 use Rattle.std.specs.Int.{w32, from_be_bytes}
@@ -19,7 +19,7 @@ use Rattle.cops_wire.proofs.Rows.{Read, never_unknown, row_fits, length-spelled_
 abbrev Answer : Type 0
 Answer = Result (Parts × ℕ) WireFault
 
--- ---- the answer of the reading is one of the six steps'
+-- ---- the result of reading is the one that the six checks define
 
 none_begins : (field : Field) (rest : List ℕ) → field_at field rest ≡ None → NoneBegins field rest
 none_begins field rest none c legal more e =
@@ -86,7 +86,7 @@ body_answers g bytes (kind ∷ fields) rest fits front some below =
     let frame : BeginsWithFrame g bytes kind fields = record { rest = rest; front = front; fits = below } in
     known_answers g bytes kind fields frame (IsBytes-right (kind ∷ []) fields fits) (fields_of g kind) refl
 
--- the first bytes are those of a frame
+-- the bytes begin with a frame
 frame_parts : (bytes : List ℕ) → IsBytes bytes → 4 ≤ length bytes → 4 + length_at bytes ≤ length bytes
     → let text = take (length_at bytes) (drop 4 bytes) in (length text ≡ length_at bytes) × (bytes ≡ (spelled_number u32 (length text) ++ text) ++ drop (length_at bytes) (drop 4 bytes))
 frame_parts bytes fits four long =
@@ -136,7 +136,7 @@ taking_front g bytes (kind ∷ fields) rest fits front below h =
       begins = s.begins;
     }
 
--- a frame in which reading comes to a field that takes memory
+-- a frame in which reading comes to a field whose reading allocates
 pub taking_frame : (g : Grammar) (bytes : List ℕ) → IsBytes bytes → 4 ≤ length bytes → length_at bytes ≤ g.longest → 4 + length_at bytes ≤ length bytes
     → IsTrue (body_takes g (take (length_at bytes) (drop 4 bytes))) → BeginsWithTaking g bytes
 taking_frame g bytes fits four below long h =
@@ -164,7 +164,7 @@ frame_answers g bytes fits =
     let parts = frame_parts bytes fits four long in
     body_answers g bytes (take len (drop 4 bytes)) (drop len (drop 4 bytes)) (IsBytes-take len (drop 4 bytes) (IsBytes-drop 4 bytes fits)) parts.1 (omega (arith, parts.0)) (omega (arith, parts.0)))))
 
--- ---- and there is no other
+-- ---- the result is unique
 
 whole_frame : (g : Grammar) → IsGrammar g → (text rest : List ℕ) → 0 < length text → length text ≤ g.longest → frame_at g ((spelled_number u32 (length text) ++ text) ++ rest) ≡ body_at g text
 unfolding frame_at
@@ -228,7 +228,7 @@ fields_fit g bytes kind fields fits frame =
     let text : IsBytes (kind ∷ fields) = IsBytes-right (spelled_number u32 (length (kind ∷ fields))) (kind ∷ fields) (IsBytes-left (spelled_number u32 (length (kind ∷ fields)) ++ (kind ∷ fields)) frame.rest all) in
     IsBytes-right (kind ∷ []) fields text
 
--- what is short is read so
+-- reading short bytes gives Short
 pub short_again : (g : Grammar) (bytes : List ℕ) → IsShort g bytes → frame_at g bytes ≡ Err Short
 unfolding frame_at
 short_again g bytes (inl lt) = ap (λ (b : Bool). cond b (Err Short) (cond (eqb (length_at bytes) 0 || ltb g.longest (length_at bytes)) (Err BadLength) (cond (ltb (length bytes) (4 + length_at bytes)) (Err Short) (body_at g (take (length_at bytes) (drop 4 bytes)))))) (lt-ltb _ _ lt)
@@ -280,7 +280,7 @@ only_answer g ok bytes fits (Err UnknownKind) h =
 only_answer g ok bytes fits (Err (BadField offset)) h = bad_field_again g ok bytes offset fits h
 only_answer g ok bytes fits (Err TrailingBytes) h = trailing_again g ok bytes h
 
--- no spelling begins another
+-- no encoding is a prefix of another
 pub one_spelling : (g : Grammar) → IsGrammar g → (p q : Parts) (x y : List ℕ) → IsMessage g p → IsMessage g q → spelling g p ++ x ≡ spelling g q ++ y → (p ≡ q) × (x ≡ y)
 one_spelling g ok p q x y m n e =
     let a : Answer = Ok (p, length (spelling g p)) in
@@ -289,7 +289,7 @@ one_spelling g ok p q x y m n e =
     let same : p ≡ q = let pairs : (p, length (spelling g p)) ≡ (q, length (spelling g q)) = cc in ap (λ (z : Parts × ℕ). z.0) pairs in
     (same, append_cancel_left (spelling g p) x y (e ∙ ap (λ (z : Parts). spelling g z ++ y) (sym same)))
 
--- ---- what comes after a frame changes no answer but Short
+-- ---- more bytes change no result except Short
 
 frame_grows : (g : Grammar) (bytes more : List ℕ) (kind : ℕ) (fields : List ℕ) → BeginsWithFrame g bytes kind fields → BeginsWithFrame g (bytes ++ more) kind fields
 frame_grows g bytes more kind fields frame =
@@ -372,7 +372,7 @@ bad_length_not_short g bytes bad short =
     let none = short_again g bytes short in
     absurd cc
 
--- ---- a whole frame of a known kind is answered by what stands in its fields
+-- ---- the result for a whole frame of a known kind comes from its fields
 
 whole_from_fields : (len kind : ℕ) (r : Read) → (r ≡ Err faults.UnknownKind → ⊥) → (whole len kind r ≡ Err Memory → ⊥) → IsFromFields (whole len kind r)
 whole_from_fields len kind (Ok (cs, [])) known enough = tt

@@ -1,4 +1,4 @@
--- Each message is told by its kind and its fields.
+-- A message is determined by its kind and its fields.
 use Rattle.std.proofs.Common.{◌≡◌, ℕ, zero, suc, cond, eqb, List, [], ◌∷◌, refl, sym, ap, ◌∙◌, arith}
 use Rattle.cops_types.specs.declared.dep.Dep.{Dep}
 use Rattle.cops_types.specs.declared.format.Format.TheVariants.{One, Two}
@@ -9,7 +9,7 @@ use Rattle.cops_wire.specs.Grammar.{Parts, value, deps as some_deps, grammar_one
 use Rattle.cops_wire.specs.Legal.{IsLegal, IsMessage}
 use Rattle.cops_wire.specs.Message.{parts}
 
--- what stands at a place
+-- the content at an index
 abbrev content : List Content → ℕ → Content
 content [] i = of_number 0
 content (c ∷ cs) zero = c
@@ -65,15 +65,15 @@ back _ = refl
 pub parts-same : (m n : Message) → parts m ≡ parts n → m ≡ n
 parts-same m n e = sym (back m) ∙ ap message_of e ∙ back n
 
--- a value of format 1 is one of format 2
+-- a value of format 1 is a value of format 2
 longer : (text : List ℕ) → IsLegal (value One) (of_bytes text) → IsLegal (value Two) (of_bytes text)
 longer text (fits, least, most) = (fits, least, omega (arith, most))
 
--- and so are dependencies
+-- dependencies of format 1 are dependencies of format 2
 more : (ds : List Dep) → IsLegal (some_deps One) (of_pairs ds) → IsLegal (some_deps Two) (of_pairs ds)
 more ds (fits, most, pairs) = (fits, omega (arith, most), pairs)
 
--- a message of format 1 has the same spelling in format 2
+-- a message of format 1 has the same encoding in format 2
 pub first-in-second : (m : Message) → IsMessage grammar_one (parts m) → IsMessage grammar_two (parts m) × (spelling grammar_two (parts m) ≡ spelling grammar_one (parts m))
 first-in-second (Put seq key text) (first, (second, (third, end))) = ((first, (second, (longer text third, end))), refl)
 first-in-second (Got seq text version) (first, (second, (third, end))) = ((first, (longer text second, (third, end))), refl)

@@ -1,8 +1,11 @@
 -- A record and its message are one.
-use Rattle.std.proofs.Common.{◌≡◌, ℕ, Some, refl}
+use Rattle.std.proofs.Common.{◌≡◌, ℕ, Some, None, refl}
 use Rattle.cops_types.specs.Operations.{operation_of}
+use Rattle.cops_types.specs.OpViews.{op_viewed, viewed}
 use Rattle.cops_types.specs.declared.op.Op.{Op}
 use Rattle.cops_types.specs.declared.op.Op.TheVariants.{Put, Del, Got, Gone, Missed}
+use Rattle.cops_types.specs.declared.op_view.OpView.{OpView}
+use Rattle.cops_types.specs.declared.op_view.OpView.TheVariants.{Put as SeenPut, Got as SeenGot, Missed as SeenMissed}
 use Rattle.cops_wire.specs.Records.{record_message, record_of_message}
 use Rattle.cops_wire.specs.declared.message.Message.{Message}
 use Rattle.cops_wire.specs.declared.message.Message.TheVariants.{TracePut, TraceGot, TraceMissed, TraceDel, TraceGone}
@@ -14,6 +17,14 @@ record_again client index (Got key value version) = refl
 record_again client index (Del key version) = refl
 record_again client index (Gone key version) = refl
 record_again client index (Missed key) = refl
+
+-- the same of an operation that is borrowed
+pub seen_again : (client index : ℕ) (op : OpView) → record_of_message (record_message client index (viewed op)) ≡ Some (record { client = client; index = index; op = op_viewed op })
+seen_again client index (SeenPut key (Some value) version) = refl
+seen_again client index (SeenPut key None version) = refl
+seen_again client index (SeenGot key (Some value) version) = refl
+seen_again client index (SeenGot key None version) = refl
+seen_again client index (SeenMissed key) = refl
 
 pub message_is : (m : Message) (r : TraceRecord) → record_of_message m ≡ Some r → m ≡ record_message r.client r.index (operation_of r.op)
 message_is (TracePut client index key value version) r is = let same : record { client = client; index = index; op = Put key value version } ≡ r = cc in rw (← same) refl

@@ -1,4 +1,4 @@
--- Fields in a row: they are read as they are spelled, up to the first that does not stand there.
+-- Fields in a row: they are read as they were encoded, up to the first that cannot be read.
 use Rattle.std.proofs.Common.{◌≡◌, ℕ, ◌+◌, ◌*◌, ◌≤◌, Bool, true, false, cond, leb, eqb, List, [], ◌∷◌, ◌++◌, length, Option, Some, None, Result, Ok, Err, ◌⊎◌, refl, sym, ap, subst, ◌∙◌, append_assoc, arith, inl, inr}
 use Rattle.std.specs.Prelude.{IsTrue, is_some}
 use Rattle.std.specs.List.{flat_map, AllByRecursion}
@@ -70,7 +70,7 @@ fields_again (f ∷ fs) (c ∷ cs) rest h =
     ∙ ap (put_first c) (fields_again fs cs rest h.1)
 fields_again _ _ rest h = absurd h
 
--- The fields of a row are no unknown kind.
+-- Reading the fields of a row never gives an unknown kind.
 pub never_unknown : (fs : List Field) (bytes : List ℕ) → fields_at fs bytes ≡ Err UnknownKind → ⊥
 never_unknown [] bytes e = absurd cc
 never_unknown (f ∷ fs) bytes e =
@@ -79,7 +79,7 @@ never_unknown (f ∷ fs) bytes e =
       | inr a ↦ never_unknown fs a.0.1 a.2
     ]
 
--- the first field that does not stand there
+-- the first field that cannot be read
 pub record StopsAt (fs : List Field) (bytes : List ℕ) (fault : ReadFault) : Type 0 where
   pub before : List Field
   pub field : Field
@@ -124,7 +124,7 @@ fields_stop_again (f ∷ fs) field after (c ∷ cs) rest h none =
     ∙ ap (put_first c) (fields_stop_again fs field after cs rest h.1 none)
 fields_stop_again _ field after _ rest h none = absurd h
 
--- the field that takes memory, which reading comes to
+-- reading comes to a field whose reading allocates
 pub record ComesTo (fs : List Field) (bytes : List ℕ) : Type 0 where
   pub before : List Field
   pub field : Field
@@ -192,7 +192,7 @@ fields_come (f ∷ fs) bytes fits h =
           }
     ]
 
--- ---- no legal field is longer than the most
+-- ---- no legal field is longer than the greatest length
 
 pairs_len : (ds : List Dep) → AllByRecursion IsDep ds → length (flat_map spelled_pair ds) ≤ length ds * 73
 pairs_len [] h = omega arith

@@ -1,4 +1,4 @@
--- A message's frame is taken off the front of the rest.
+-- Taking a message's frame off the front of the rest.
 use Rattle.std.proofs.Common.{◌≡◌, ℕ, List, ◌++◌, drop, sym, ap, ◌∙◌}
 use Rattle.std.proofs.lemmas.List.{drop_at}
 use Rattle.cops_wire.specs.Grammar.{Grammar, Parts, spelling}

@@ -1,12 +1,12 @@
--- The answer that some bytes have. These steps are taken in order, and the first that applies is the answer:
+-- What some bytes decode to. These checks are made in order, and the first that applies gives the result:
 -- 1. fewer than four bytes: Short;
 -- 2. the length in the first four bytes is 0 or above the longest of a body: BadLength;
--- 3. fewer bytes than four and that length: Short;
+-- 3. fewer bytes than four plus that length: Short;
 -- 4. the body's first byte is no kind of the grammar: UnknownKind;
--- 5. a field, from the left, that runs past the body's end or is not legal: BadField, with the place of that field's
+-- 5. a field, from the left, that runs past the body's end or is not legal: BadField, with the offset of that field's
 --    first byte, counted from the frame's first byte;
 -- 6. bytes of the body are left after the last field: TrailingBytes.
--- Else it is the message, and how many bytes its frame has. What follows the frame is not looked at.
+-- Otherwise the result is the message and the number of bytes of its frame. The bytes after the frame do not matter.
 use Rattle.std.specs.Prelude.{◌≡◌, ◌≢◌, ℕ, ◌+◌, ◌<◌, ◌≤◌, ◌⊎◌, List, [], ◌∷◌, ◌++◌, length, take, slice_index, Some, None, IsSome, IsTrue, Result, Ok, Err}
 use Rattle.std.specs.Int.{w32, from_be_bytes}
 use Rattle.cops_wire.specs.declared.fault.WireFault.{WireFault}
@@ -26,36 +26,36 @@ IsBytes bytes = (i : ℕ) → slice_index bytes i < 256
 abbrev pub length_at : List ℕ → ℕ
 length_at bytes = from_be_bytes w32 (take 4 bytes)
 
--- steps 1 and 3
+-- checks 1 and 3
 abbrev pub IsShort : Grammar → List ℕ → Type 0
 IsShort g bytes = (length bytes < 4) ⊎ ((0 < length_at bytes) × (length_at bytes ≤ g.longest) × (length bytes < 4 + length_at bytes))
 
--- step 2
+-- check 2
 abbrev pub HasBadLength : Grammar → List ℕ → Type 0
 HasBadLength g bytes = (4 ≤ length bytes) × ((length_at bytes ≡ 0) ⊎ (g.longest < length_at bytes))
 
--- the first three steps are passed: a whole frame stands at the front, of this kind, with these bytes for its fields
+-- the bytes pass the first three checks: they begin with a whole frame, of this kind, with these bytes for its fields
 pub record BeginsWithFrame (g : Grammar) (bytes : List ℕ) (kind : ℕ) (fields : List ℕ) : Type 0 where
   pub rest : List ℕ
   pub front : bytes ≡ spelled_number u32 (length (kind ∷ fields)) ++ (kind ∷ fields) ++ rest
   pub fits : length (kind ∷ fields) ≤ g.longest
 
--- step 4
+-- check 4
 pub record HasUnknownKind (g : Grammar) (bytes : List ℕ) : Type 0 where
   pub kind : ℕ
   pub fields : List ℕ
   pub frame : BeginsWithFrame g bytes kind fields
   pub unknown : fields_of g kind ≡ None
 
--- a whole frame of a kind of the grammar stands at the front
+-- the bytes begin with a whole frame of a kind of the grammar
 pub record BeginsWithKnown (g : Grammar) (bytes : List ℕ) : Type 0 where
   pub kind : ℕ
   pub fields : List ℕ
   pub frame : BeginsWithFrame g bytes kind fields
   pub known : IsSome (fields_of g kind)
 
--- A whole frame of a kind of the grammar stands at the front, and in it legal fields up to a field that takes memory: a
--- key or a value that is legal too, or dependencies whose count is.
+-- The bytes begin with a whole frame of a kind of the grammar. It has legal fields up to a field whose reading allocates: a key or a value that is
+-- legal too, or dependencies whose count is legal.
 pub record BeginsWithTaking (g : Grammar) (bytes : List ℕ) : Type 0 where
   pub kind : ℕ
   pub fields : List ℕ
@@ -74,11 +74,11 @@ pub record BeginsWithTaking (g : Grammar) (bytes : List ℕ) : Type 0 where
   pub more : List ℕ
   pub begins : rest ≡ spelled (first_part field) part ++ more
 
--- no legal field of this type stands at the front: each runs past the end, or differs
+-- the bytes begin with no legal field of this type: each runs past the end, or differs
 abbrev pub NoneBegins : Field → List ℕ → Type 0
 NoneBegins field bytes = (c : Content) → IsLegal field c → (rest : List ℕ) → bytes ≢ spelled field c ++ rest
 
--- step 5: legal fields, and then a place where the next field does not stand
+-- check 5: legal fields, and then a place where the next field cannot be read
 pub record HasBadField (g : Grammar) (bytes : List ℕ) (offset : ℕ) : Type 0 where
   pub kind : ℕ
   pub fields : List ℕ
@@ -94,7 +94,7 @@ pub record HasBadField (g : Grammar) (bytes : List ℕ) (offset : ℕ) : Type 0 
   pub bad : NoneBegins field rest
   pub place : offset ≡ 5 + length (spelled_all before contents)
 
--- step 6: all the fields, and then more bytes of the body
+-- check 6: all the fields, and then more bytes of the body
 pub record HasTrailingBytes (g : Grammar) (bytes : List ℕ) : Type 0 where
   pub kind : ℕ
   pub fields : List ℕ
@@ -107,14 +107,14 @@ pub record HasTrailingBytes (g : Grammar) (bytes : List ℕ) : Type 0 where
   pub split : fields ≡ spelled_all types contents ++ rest
   pub more : rest ≢ []
 
--- no fault: a message's spelling stands at the front, and this is its length
+-- no fault: the bytes begin with a message's encoding, of length `used`
 pub record HasMessage (g : Grammar) (bytes : List ℕ) (p : Parts) (used : ℕ) : Type 0 where
   pub message : IsMessage g p
   pub rest : List ℕ
   pub front : bytes ≡ spelling g p ++ rest
   pub length_is : used ≡ length (spelling g p)
 
--- This is the answer that the bytes have.
+-- The bytes decode to this result.
 abbrev pub IsAnswer : Grammar → List ℕ → Result (Parts × ℕ) WireFault → Type 0
 IsAnswer g bytes (Ok x) = HasMessage g bytes x.0 x.1
 IsAnswer g bytes (Err Memory) = ⊥
@@ -124,20 +124,20 @@ IsAnswer g bytes (Err UnknownKind) = HasUnknownKind g bytes
 IsAnswer g bytes (Err (BadField offset)) = HasBadField g bytes offset
 IsAnswer g bytes (Err TrailingBytes) = HasTrailingBytes g bytes
 
--- The answer is found by looking at the fields, which is what may take memory.
+-- The result comes from reading the fields, which may allocate.
 abbrev pub IsFromFields : Result (Parts × ℕ) WireFault → Type 0
 IsFromFields (Ok x) = Unit {0}
 IsFromFields (Err (BadField offset)) = Unit {0}
 IsFromFields (Err TrailingBytes) = Unit {0}
 IsFromFields (Err _) = ⊥
 
--- What `decode` returned, apart from its Rust types, is so, unless memory ran out.
+-- The result of `decode`, apart from its Rust types, has this property, unless memory ran out.
 abbrev pub Answers : Result Decoded WireFault → (Result (Parts × ℕ) WireFault → Type 0) → Type 0
 Answers (Ok d) P = P (Ok (parts d.message, d.used))
 Answers (Err Memory) P = Unit {0}
 Answers (Err fault) P = P (Err fault)
 
--- a bad field's place is within a frame whose body has at most so many bytes, behind the kind's byte
+-- the offset of a bad field is within a frame whose body has at most `most` bytes, and after the kind's byte
 abbrev pub IsPlacedWithin : ℕ → WireFault → Type 0
 IsPlacedWithin most (BadField offset) = (4 < offset) × (offset ≤ 4 + most)
 IsPlacedWithin most _ = Unit {0}

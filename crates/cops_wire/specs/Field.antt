@@ -1,4 +1,4 @@
--- The types of fields, and how each is spelled.
+-- The types of fields, and the encoding of each.
 use Rattle.std.specs.Prelude.{ℕ, List, [], ◌∷◌, ◌++◌, length}
 use Rattle.std.specs.List.{flat_map}
 use Rattle.std.specs.Int.{Width, w8, w16, w32, w64, to_be_bytes}
@@ -9,15 +9,15 @@ use Rattle.cops_types.specs.declared.dep.Dep.{Dep}
 pub data Size : Type 0 where
   u8 u16 u32 u64 : Size
 
--- the same as a width of bits
+-- the width of a number in bits
 abbrev pub width : Size → Width
 width u8 = w8
 width u16 = w16
 width u32 = w32
 width u64 = w64
 
--- the type of a field: a number, a number from least to greatest, bytes behind their length (which goes from
--- least to greatest), a version, and at most so many pairs of a key and a version behind their count
+-- the type of a field: a number, a number from least to greatest, bytes after their length (which goes from least to greatest), a version, or at most
+-- `most` pairs of a key and a version after their count
 pub data Field : Type 0 where
   number : Size → Field
   number_in : Size → ℕ → ℕ → Field
@@ -25,7 +25,7 @@ pub data Field : Type 0 where
   version : Field
   pairs : ℕ → Field
 
--- what stands in a field
+-- the content of a field
 pub data Content : Type 0 where
   of_number : ℕ → Content
   of_bytes : List ℕ → Content
@@ -35,11 +35,11 @@ pub data Content : Type 0 where
 abbrev pub key : Field
 key = string u8 1 MAX_KEY
 
--- big-endian; opened only where the bytes of a number matter
+-- big-endian; proofs unfold it only where the bytes of a number matter
 unfoldable pub spelled_number : Size → ℕ → List ℕ
 spelled_number s n = to_be_bytes (width s) n
 
--- bytes behind their length
+-- bytes after their length
 abbrev pub spelled_string : Size → List ℕ → List ℕ
 spelled_string s bytes = spelled_number s (length bytes) ++ bytes
 
@@ -47,7 +47,7 @@ spelled_string s bytes = spelled_number s (length bytes) ++ bytes
 abbrev pub spelled_pair : Dep → List ℕ
 spelled_pair d = spelled_string u8 d.key ++ spelled_number u64 d.version
 
--- what stands in a field, as bytes
+-- the encoding of a field
 abbrev pub spelled : Field → Content → List ℕ
 spelled (number s) (of_number n) = spelled_number s n
 spelled (number_in s least greatest) (of_number n) = spelled_number s n
@@ -56,7 +56,7 @@ spelled version (of_number n) = spelled_number u64 n
 spelled (pairs most) (of_pairs ds) = spelled_number u16 (length ds) ++ flat_map spelled_pair ds
 spelled _ _ = []
 
--- fields in a row
+-- the encoding of fields in a row
 abbrev pub spelled_all : List Field → List Content → List ℕ
 spelled_all (f ∷ fs) (c ∷ cs) = spelled f c ++ spelled_all fs cs
 spelled_all _ _ = []

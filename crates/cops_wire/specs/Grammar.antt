@@ -17,7 +17,7 @@ value format = string u16 0 (most_value format)
 abbrev pub deps : Format → Field
 deps format = pairs (most_deps format)
 
--- the kinds that format 2 has and format 1 has not: those of deletions
+-- the kinds of deletions, which only format 2 has
 abbrev pub kinds_of_deletions : Format → List (ℕ × List Field)
 kinds_of_deletions One = []
 kinds_of_deletions Two =
@@ -65,7 +65,7 @@ grammar_one = grammar One
 abbrev pub grammar_two : Grammar
 grammar_two = grammar Two
 
--- the fields of the first row of a kind
+-- the fields in the first row with this kind
 abbrev pub row_of : ℕ → List (ℕ × List Field) → Option (List Field)
 row_of kind [] = None
 row_of kind (row ∷ rows) = if kind == row.0 then Some row.1 else row_of kind rows
@@ -74,15 +74,15 @@ row_of kind (row ∷ rows) = if kind == row.0 then Some row.1 else row_of kind r
 abbrev pub fields_of : Grammar → ℕ → Option (List Field)
 fields_of g kind = row_of kind g.kinds
 
--- a message apart from its Rust type: its kind, and what stands in its fields
+-- a message apart from its Rust type: its kind, and the contents of its fields
 pub record Parts : Type 0 where
   pub kind : ℕ
   pub contents : List Content
 
--- the kind's byte and the fields
+-- the body of a message: the kind's byte and the fields
 abbrev pub body : Grammar → Parts → List ℕ
 body g p = p.kind ∷ spelled_all (unwrap_or (fields_of g p.kind) []) p.contents
 
--- the frame of a message: its body behind the body's length
+-- the encoding of a message, its frame: its body after the body's length
 abbrev pub spelling : Grammar → Parts → List ℕ
 spelling g p = spelled_number u32 (length (body g p)) ++ body g p

@@ -1,4 +1,4 @@
--- The kind of a message, and what stands in its fields.
+-- The kind of a message, and the contents of its fields.
 use Rattle.std.specs.Prelude.{ℕ, ◌==◌, List, IsTrue}
 use Rattle.std.specs.List.{list_any}
 use Rattle.cops_wire.specs.declared.message.Message.{Message}

@@ -1,4 +1,4 @@
--- What is legal in a field, and in a message.
+-- The legal contents of fields and messages.
 use Rattle.std.specs.Prelude.{ℕ, ◌<◌, ◌≤◌, ◌^◌, ◌*◌, List, [], ◌∷◌, length, MatchOption}
 use Rattle.std.specs.Int.{byte_len}
 use Rattle.cops_types.specs.Deps.{ArePairs}
@@ -8,11 +8,11 @@ use Rattle.cops_wire.specs.Grammar.{Grammar, Parts, fields_of, grammar_two}
 use Rattle.cops_wire.specs.Message.{parts}
 use Rattle.cops_wire.specs.declared.message.Message.{Message}
 
--- the first number that does not fit
+-- the least number that does not fit
 abbrev pub limit : Size → ℕ
 limit s = 2 ^ (8 * byte_len (width s))
 
--- what may stand in a field
+-- the content is legal in the field
 abbrev pub IsLegal : Field → Content → Type 0
 IsLegal (number s) (of_number n) = n < limit s
 IsLegal (number_in s least greatest) (of_number n) = (n < limit s) × (least ≤ n) × (n ≤ greatest)
@@ -21,7 +21,7 @@ IsLegal version (of_number n) = IsVersion n
 IsLegal (pairs most) (of_pairs ds) = (length ds < limit u16) × (length ds ≤ most) × ArePairs ds
 IsLegal _ _ = ⊥
 
--- each stands in its field, and there is one for each
+-- the contents are legal in the fields, one for each
 abbrev pub AllLegal : List Field → List Content → Type 0
 AllLegal [] [] = Unit {0}
 AllLegal (f ∷ fs) (c ∷ cs) = IsLegal f c × AllLegal fs cs
@@ -31,6 +31,6 @@ AllLegal _ _ = ⊥
 abbrev pub IsMessage : Grammar → Parts → Type 0
 IsMessage g p = MatchOption (fields_of g p.kind) ⊥ (λ fields. AllLegal fields p.contents)
 
--- what stands in a message is legal in format 2, which has all messages
+-- the message is legal in format 2, which has all messages
 abbrev pub IsLegalMessage : Message → Type 0
 IsLegalMessage m = IsMessage grammar_two (parts m)

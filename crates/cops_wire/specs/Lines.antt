@@ -16,7 +16,7 @@ field_text (Value v) = bytes_text v.now
 field_text (Version v) = version_text v.now
 field_text (Deps d) = deps_text d.now
 
--- a field behind its name
+-- a field with its name
 abbrev pub named_text : Named → List ℕ
 named_text f = codes " " ⧺ f.name.now ⧺ codes "=" ⧺ field_text f.field
 

@@ -1,4 +1,4 @@
--- Each message of the program as a kind and what stands in its fields.
+-- Each message of the program as a kind and the contents of its fields.
 use Rattle.std.specs.Prelude.{ℕ, List, [], ◌∷◌}
 use Rattle.cops_wire.specs.declared.message.Message.{Message}
 use Rattle.cops_wire.specs.declared.message.Message.TheVariants.{Hello, HelloOk, Put, Get, PutDone, Got, Missed, Refused, PutAfter, DepCheck, DepYes, DepWait, Status, StatusIs, Bye, ByeOk, TraceHead, TracePut, TraceGot, TraceMissed, TraceEnd, Del, Deleted, Gone, DelAfter, TraceDel, TraceGone}
@@ -34,6 +34,6 @@ parts (DelAfter key version deps) = record { kind = 25; contents = of_bytes key 
 parts (TraceDel client index key version) = record { kind = 26; contents = of_number client ∷ of_number index ∷ of_bytes key ∷ of_number version ∷ [] }
 parts (TraceGone client index key version) = record { kind = 27; contents = of_number client ∷ of_number index ∷ of_bytes key ∷ of_number version ∷ [] }
 
--- the bytes of a message: those of format 2, which has all messages
+-- the encoding of a message in format 2, which has all messages
 unfoldable pub spelled : Message → List ℕ
 spelled m = spelling grammar_two (parts m)

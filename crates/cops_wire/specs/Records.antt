@@ -1,4 +1,4 @@
--- Records of a trace: the message of each, and the record that a message is.
+-- Records of a trace: the message of each record, and the record of a message.
 use Rattle.std.specs.Prelude.{ℕ, Option, Some, None}
 use Rattle.cops_types.specs.Histories.{Operation, write, read, missed}
 use Rattle.cops_types.specs.OpViews.{viewed}
@@ -8,7 +8,7 @@ use Rattle.cops_wire.specs.declared.message.Message.TheVariants.{TracePut, Trace
 use Rattle.cops_wire.specs.declared.record.TraceRecord.{TraceRecord}
 use Rattle.cops_wire.specs.declared.record_view.RecordView.{RecordView}
 
--- the message of a client's operation at this place of its session
+-- the message of a client's operation at this index of its session
 abbrev pub record_message : ℕ → ℕ → Operation → Message
 record_message client index (write key (Some value) version) = TracePut client index key value version
 record_message client index (read key (Some value) version) = TraceGot client index key value version
@@ -16,7 +16,7 @@ record_message client index (missed key) = TraceMissed client index key
 record_message client index (write key None version) = TraceDel client index key version
 record_message client index (read key None version) = TraceGone client index key version
 
--- the record that a message is, if it is one
+-- the record of a message, if the message is one
 abbrev pub record_of_message : Message → Option TraceRecord
 record_of_message (TracePut client index key value version) = Some (record { client = client; index = index; op = Put key value version })
 record_of_message (TraceGot client index key value version) = Some (record { client = client; index = index; op = Got key value version })
@@ -25,6 +25,6 @@ record_of_message (TraceDel client index key version) = Some (record { client = 
 record_of_message (TraceGone client index key version) = Some (record { client = client; index = index; op = Gone key version })
 record_of_message _ = None
 
--- the message of a record that is seen
+-- the message of a borrowed record
 abbrev pub seen_message : RecordView → Message
 seen_message r = record_message r.client r.index (viewed r.op)

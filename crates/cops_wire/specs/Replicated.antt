@@ -5,11 +5,11 @@ use Rattle.cops_types.specs.declared.put_record.PutRecord.{PutRecord}
 use Rattle.cops_wire.specs.declared.message.Message.{Message}
 use Rattle.cops_wire.specs.declared.message.Message.TheVariants.{PutAfter, DelAfter}
 
--- a write of this content, with what must be there before
+-- the message of a write of this content, with the dependencies that must be there before
 abbrev pub write_after : List ℕ → Option (List ℕ) → ℕ → List Dep → Message
 write_after key (Some value) version deps = PutAfter key value version deps
 write_after key None version deps = DelAfter key version deps
 
--- to another data centre
+-- the message that replicates a put to another data centre
 abbrev pub put_after : PutRecord → Message
 put_after put = write_after put.key put.value put.version put.deps

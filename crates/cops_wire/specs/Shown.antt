@@ -1,4 +1,4 @@
--- The text of a message: the kind's name, and each field behind a space, its name and `=`.
+-- The text of a message: the kind's name, and for each field a space, its name, `=` and its text.
 use Rattle.std.specs.Prelude.{ℕ, ◌/◌, ◌%◌, ◌==◌, Bool, false, ◌||◌, if◌then◌else◌, List, [], ◌∷◌, codes, decimal}
 use Rattle.std.specs.List.{flat_map, join_by}
 use Rattle.std.specs.Char.{is_ascii_alphanumeric}
@@ -8,11 +8,11 @@ use Rattle.cops_types.specs.Texts.{◌⧺◌, version_text}
 use Rattle.cops_wire.specs.declared.message.Message.{Message}
 use Rattle.cops_wire.specs.declared.message.Message.TheVariants.{Hello, HelloOk, Put, Get, PutDone, Got, Missed, Refused, PutAfter, DepCheck, DepYes, DepWait, Status, StatusIs, Bye, ByeOk, TraceHead, TracePut, TraceGot, TraceMissed, TraceEnd, Del, Deleted, Gone, DelAfter, TraceDel, TraceGone}
 
--- a byte that stands as it is: a letter or digit of ASCII, `-`, `.` or `_`
+-- a byte that is shown as it is: a letter or digit of ASCII, `-`, `.` or `_`
 abbrev pub is_plain : ℕ → Bool
 is_plain b = is_ascii_alphanumeric b || b == 45 || b == 46 || b == 95
 
--- any other is `%` and two hexadecimal digits
+-- any other byte is shown as `%` and two hexadecimal digits
 abbrev pub byte_text : ℕ → List ℕ
 byte_text b = if is_plain b then b ∷ [] else codes "%" ⧺ (digit_glyph false (b / 16) ∷ digit_glyph false (b % 16) ∷ [])
 

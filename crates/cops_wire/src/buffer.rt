@@ -1,11 +1,11 @@
-//! Bytes that come in pieces, and are taken off at the front.
+//! A buffer of bytes that come in pieces and are taken from the front.
 ghost use Rattle.std.specs.Prelude.{◌≡◌, ◌≤◌, drop, length};
 
 use cops_types::Memory;
 use std::alloc::Global;
 use std::marker::Model;
 
-/// What came and was not taken yet: the rest.
+/// The bytes that came and were not taken yet, here called the rest.
 #[derive(Debug, Drop)]
 pub struct Buffer {
     bytes: Vec<u8>,
@@ -25,7 +25,7 @@ impl Model for Buffer {
 impl Buffer {
     ghost use Rattle.std.specs.Prelude.{◌≡◌, ◌≤◌, ◌++◌, [], length, drop, OnOk, OnErr};
 
-    /// Nothing came. It takes no memory.
+    /// An empty buffer. Allocates nothing.
     pub fn new(alloc: Global) -> Self
         ensures { result ≡ [] }
     {
@@ -35,7 +35,7 @@ impl Buffer {
         }
     }
 
-    /// Appends a piece to the rest. For want of memory nothing changes.
+    /// Appends a piece to the rest. Changes nothing if memory runs out.
     pub fn feed(&mut self, piece: &[u8]) -> Result<(), Memory>
         ensures ok { OnOk result (self.new ≡ self.old ++ piece.now) }
         ensures err { OnErr result (self.new ≡ self.old) }
@@ -53,7 +53,7 @@ impl Buffer {
         &self.bytes[self.start..]
     }
 
-    /// Takes the first bytes of the rest off, so many.
+    /// Removes the first `count` bytes of the rest.
     pub fn take(&mut self, count: usize)
         requires { count ≤ length self.old }
         ensures { self.new ≡ drop count self.old }
@@ -62,7 +62,7 @@ impl Buffer {
     }
 }
 
-/// Takes the first bytes away, so many.
+/// Removes the first `count` bytes.
 fn remove_front(bytes: &mut Vec<u8>, count: usize)
     requires { count ≤ length bytes.old.items }
     ensures { bytes.new.items ≡ drop count bytes.old.items }

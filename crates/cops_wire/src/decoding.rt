@@ -1,4 +1,4 @@
-//! The message at the front of some bytes.
+//! Decoding the message at the front of some bytes.
 ghost use Rattle.std.specs.Prelude.{◌≡◌, ◌<◌, ◌≤◌, ◌+◌, ℕ, length, take, drop, Result, Err, IfOk, IfErr, IsTrue};
 ghost use Rattle.cops_types.specs.Format.{longest_body};
 ghost use Rattle.cops_types.specs.declared.limits.TheConstants.{MAX_BODY_IN_ONE};
@@ -13,15 +13,15 @@ use crate::reading::{ReadFault, Rest};
 use cops_types::Format;
 use std::alloc::Global;
 
-/// A message, and how many bytes its frame takes: more than 4, and at most 4 and the most of a body.
+/// A message, and the number of bytes of its frame: more than 4, and at most 4 plus the most bytes of a body.
 #[derive(Debug, Drop)]
 pub struct Decoded {
     pub message: Message,
     pub used: usize,
 }
 
-/// The message of format 1 at the front: `decode_in` at `Format::One`. As there, memory runs out only at a field that
-/// takes it.
+/// Decodes the message of format 1 at the front of some bytes, as `decode_in` with `Format::One` does. As there, memory
+/// runs out only at a field whose reading allocates.
 pub fn decode(alloc: Global, bytes: &[u8]) -> Result<Decoded, WireFault>
     ensures answer { Answers result (IsAnswer grammar_one bytes.now) }
     ensures only { (a : Result (Parts × ℕ) WireFault) → IsAnswer grammar_one bytes.now a → Answers result (λ b. b ≡ a) }
@@ -33,33 +33,35 @@ pub fn decode(alloc: Global, bytes: &[u8]) -> Result<Decoded, WireFault>
     decode_in(Format::One, alloc, bytes)
 }
 
-/// The message of a format at the front of some bytes, and how many bytes its frame takes. What follows its frame is
-/// not looked at. It looks in this order: fewer than 4 bytes are `Short`; a length of 0 or above the format's most is
-/// `BadLength`; a frame that is not whole is `Short`; then `UnknownKind`; then `BadField`, at the first field from the
-/// left that runs past the body's end or is not legal; then `TrailingBytes`. `Memory` is answered only where it comes
-/// to a legal key or value, or to dependencies whose count is legal: of no other field, and of no kind without one.
+/// Decodes the message of a format at the front of some bytes, and returns the number of bytes of its frame. It does
+/// not look at what follows the frame.
+///
+/// The errors are checked in this order: `Short` if there are fewer than 4 bytes; `BadLength` if the length is 0 or
+/// above the format's limit; `Short` if the frame is not whole; `UnknownKind`; `BadField` at the first field from the
+/// left that runs past the body's end or is not legal; `TrailingBytes`. `Memory` comes only at a legal key or value, or
+/// at dependencies whose count is legal: at no other field, and at no kind without one.
 pub fn decode_in(format: Format, alloc: Global, bytes: &[u8]) -> Result<Decoded, WireFault>
-    // What is answered is so by that order, unless memory runs out.
+    // The result is the one that this order gives, unless memory runs out.
     ensures answer { Answers result (IsAnswer (grammar format) bytes.now) }
 
-    // What is so by that order is answered: there is no other answer.
+    // This order gives only one result.
     ensures only { (a : Result (Parts × ℕ) WireFault) → IsAnswer (grammar format) bytes.now a → Answers result (λ b. b ≡ a) }
 
-    // The same, computed.
+    // The result as a computed function.
     ensures reading { Answers result (λ a. a ≡ frame_at (grammar format) bytes.now) }
 
     // Memory runs out only in a whole frame of a known kind, at a legal key or value or at dependencies whose count is
     // legal, and only if the fields before are legal too.
     ensures memory { result ≡ Err WireFault.Memory → BeginsWithTaking (grammar format) bytes.now }
 
-    // A frame lies within the bytes, and a bad field's place within its frame.
+    // The frame is within the bytes, and the offset of a bad field is within its frame.
     ensures used { IfOk result (λ decoded. (4 < decoded.used) × (decoded.used ≤ length bytes.now) × (decoded.used ≤ 4 + longest_body format)) }
     ensures offset { IfErr result (IsPlacedWithin (longest_body format)) }
 {
     frame(format, alloc, bytes)
 }
 
-/// The first three steps, which look at the length: they leave a whole body.
+/// The first three checks, which look at the length. On success they return a whole body.
 #[tactic(auto, unfolding(crate::specs::Reading::frame_at))]
 pub(crate) fn whole_body(format: Format, bytes: &[u8]) -> Result<&[u8], WireFault>
     ensures some { IfOk result (λ text. (0 < length text.now) × (length text.now ≤ longest_body format)) }
@@ -82,7 +84,7 @@ pub(crate) fn whole_body(format: Format, bytes: &[u8]) -> Result<&[u8], WireFaul
     Ok(text)
 }
 
-/// All steps.
+/// All checks.
 fn frame(format: Format, alloc: Global, bytes: &[u8]) -> Result<Decoded, WireFault>
     ensures reading { Answers result (λ a. a ≡ frame_at (grammar format) bytes.now) }
     ensures memory { result ≡ Err WireFault.Memory → BeginsWithTaking (grammar format) bytes.now }
@@ -95,7 +97,7 @@ fn frame(format: Format, alloc: Global, bytes: &[u8]) -> Result<Decoded, WireFau
     }
 }
 
-/// The last three steps, on a whole body.
+/// The last three checks, on a whole body.
 fn body(format: Format, alloc: Global, text: &[u8]) -> Result<Decoded, WireFault>
     requires some { 0 < length text.now }
     requires fits { length text.now ≤ longest_body format }

@@ -1,15 +1,19 @@
 //! The one spelling of a message.
-ghost use Rattle.std.specs.Prelude.{◌≡◌, ◌++◌, length, OnOk, OnErr};
+ghost use Rattle.std.specs.Prelude.{◌≡◌, ◌+◌, ◌≤◌, ◌++◌, length, vec_len, vec_capacity, IsOk, OnOk, OnErr};
+ghost use Rattle.cops_types.specs.KeyValue.{IsKey, IsValue};
+ghost use Rattle.cops_types.specs.OpRefs.{seen};
+ghost use Rattle.cops_types.specs.Version.{IsVersion};
 ghost use Rattle.cops_wire.specs.Grammar.{grammar_two, body, spelling};
 ghost use Rattle.cops_wire.specs.Legal.{IsLegalMessage};
 ghost use Rattle.cops_wire.specs.Message.{parts};
 ghost use Rattle.cops_wire.specs.Kind.{kind_of};
+ghost use Rattle.cops_wire.specs.Records.{record_message};
 ghost use Rattle.cops_wire.specs.Replicated.{put_after};
 
 use crate::field::{self, FieldRef, as_written};
 use crate::message::Message;
 use crate::table::kinds;
-use cops_types::{Memory, PutRecord};
+use cops_types::{Key, Memory, OpRef, PutRecord, Value, Version};
 
 /// The number of a message's kind, 1 to 27.
 pub fn kind(message: &Message) -> u8
@@ -25,7 +29,7 @@ pub fn kind(message: &Message) -> u8
     kinds!(number message)
 }
 
-/// How many bytes a message's body has, which is 4 fewer than its frame.
+/// The number of bytes of a message's body, which is 4 less than that of its frame.
 pub fn body_len(message: &Message) -> usize
     ensures { result ≡ length (body grammar_two (parts message.now)) }
 {
@@ -39,8 +43,8 @@ pub fn body_len(message: &Message) -> usize
     kinds!(len message)
 }
 
-/// Appends the frame of a message that is legal in format 2, its one spelling, or where memory runs out nothing. A
-/// message of format 1 has the same frame in both formats.
+/// Appends the frame of a message, its only encoding. The message has to be legal in format 2. Appends nothing if
+/// memory runs out. A message of format 1 has the same frame in both formats.
 pub fn encode(message: &Message, out: &mut Vec<u8>) -> Result<(), Memory>
     requires { IsLegalMessage message.now }
     ensures ok { OnOk result (out.new.items ≡ out.old.items ++ spelling grammar_two (parts message.now)) }
@@ -56,14 +60,15 @@ pub fn encode(message: &Message, out: &mut Vec<u8>) -> Result<(), Memory>
     kinds!(append message, out)
 }
 
-/// Appends the frame of the message that replicates a put or a deletion, which is always legal in format 2, or where
-/// memory runs out nothing. It is what `encode` appends for that message, without a copy of the put.
+/// Appends the frame of the message that replicates a put or a deletion, which is always legal in format 2. Appends
+/// nothing if memory runs out. The bytes are those that `encode` appends for that message, but no copy of the put is
+/// made.
 pub fn encode_put_after(put: &PutRecord, out: &mut Vec<u8>) -> Result<(), Memory>
     ensures legal { IsLegalMessage (put_after put.now) }
     ensures ok { OnOk result (out.new.items ≡ out.old.items ++ spelling grammar_two (parts (put_after put.now))) }
     ensures err { OnErr result (out.new.items ≡ out.old.items) }
 {
-    // Its key, value, version and dependencies are within their ranges: these calls tell so.
+    // These calls show that the key, the value, the version and the dependencies are within their ranges.
     let _key = put.key.as_bytes();
     let _version = put.version.as_u64();
     let _deps = put.deps.as_slice();
@@ -87,4 +92,105 @@ pub fn encode_put_after(put: &PutRecord, out: &mut Vec<u8>) -> Result<(), Memory
             field::append(out, 25, &fields)
         }
     }
+}
+
+/// Appends the frame of the record of a client's operation at this place of its session, which is always legal in format
+/// 2, or where memory runs out nothing. It takes no memory where there is room for the frame, and copies neither the key
+/// nor the value.
+pub fn encode_record(
+    client: u16,
+    index: u32,
+    op: &OpRef<'_>,
+    out: &mut Vec<u8>,
+) -> Result<(), Memory>
+    ensures legal { IsLegalMessage (record_message client index (seen op.now)) }
+    ensures ok { OnOk result (out.new.items ≡ out.old.items ++ spelling grammar_two (parts (record_message client index (seen op.now)))) }
+    ensures err { OnErr result (out.new.items ≡ out.old.items) }
+    ensures succeeds { vec_len out.old + length (spelling grammar_two (parts (record_message client index (seen op.now)))) ≤ vec_capacity out.old → IsOk result }
+    ensures capacity { vec_capacity out.old ≤ vec_capacity out.new }
+{
+    let (client, index) = (FieldRef::U16(&client), FieldRef::U32(&index));
+    match op {
+        OpRef::Put {
+            key,
+            value: Some(value),
+            version,
+        } => {
+            in_range(key, value, version);
+            let fields = [
+                client,
+                index,
+                FieldRef::Key(key),
+                FieldRef::Value(value),
+                FieldRef::Version(version),
+            ];
+            field::append(out, 18, &fields)
+        }
+        OpRef::Got {
+            key,
+            value: Some(value),
+            version,
+        } => {
+            in_range(key, value, version);
+            let fields = [
+                client,
+                index,
+                FieldRef::Key(key),
+                FieldRef::Value(value),
+                FieldRef::Version(version),
+            ];
+            field::append(out, 19, &fields)
+        }
+        OpRef::Put {
+            key,
+            value: None,
+            version,
+        } => {
+            key_in_range(key, version);
+            let fields = [
+                client,
+                index,
+                FieldRef::Key(key),
+                FieldRef::Version(version),
+            ];
+            field::append(out, 26, &fields)
+        }
+        OpRef::Got {
+            key,
+            value: None,
+            version,
+        } => {
+            key_in_range(key, version);
+            let fields = [
+                client,
+                index,
+                FieldRef::Key(key),
+                FieldRef::Version(version),
+            ];
+            field::append(out, 27, &fields)
+        }
+        OpRef::Missed { key } => {
+            let _key = key.as_bytes();
+            field::append(out, 20, &[client, index, FieldRef::Key(key)])
+        }
+    }
+}
+
+/// A key, a value and a version are within their ranges.
+fn in_range(key: &Key, value: &Value, version: &Version)
+    ensures key { IsKey key.now }
+    ensures value { IsValue value.now }
+    ensures version { IsVersion version.now }
+{
+    let _value = value.as_bytes();
+    key_in_range(key, version);
+}
+
+/// A key and a version are within their ranges.
+fn key_in_range(key: &Key, version: &Version)
+    ensures key { IsKey key.now }
+    ensures version { IsVersion version.now }
+{
+    let _key = key.as_bytes();
+    let _version = version.as_u64();
 }

@@ -1,10 +1,10 @@
 use thiserror::Error;
 
-/// Why no message could be read. Of `Short` to `TrailingBytes` the first that stands, in the order in which `decode`
-/// looks.
+/// Why no message could be decoded. Of `Short` to `TrailingBytes` it is the first that applies, in the order in which
+/// `decode` checks.
 #[derive(Clone, Copy, Debug, PartialEq, Eq, Error)]
 pub enum WireFault {
-    /// 0: memory ran out, at a legal key or value or at dependencies. What was read stays to be read again.
+    /// 0: memory ran out, at a legal key or value or at dependencies. The bytes stay, and can be decoded again.
     #[error("out of memory")]
     Memory,
     /// 1: the frame is not whole: fewer than 4 bytes, or fewer than its length says.
@@ -14,7 +14,7 @@ pub enum WireFault {
     /// 131,072 in format 2).
     #[error("bad length")]
     BadLength,
-    /// 3: the kind is none of the format's.
+    /// 3: the format has no such kind.
     #[error("unknown kind")]
     UnknownKind,
     /// 4: a field runs past the body's end or is out of its range. The offset is that of the first such field's first

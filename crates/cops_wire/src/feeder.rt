@@ -1,4 +1,4 @@
-//! Messages from a stream that comes in pieces.
+//! Decoding messages from a stream that comes in pieces.
 ghost use Rattle.std.specs.Prelude.{◌≡◌};
 
 use crate::buffer::Buffer;
@@ -9,7 +9,8 @@ use cops_types::{Format, Memory};
 use std::alloc::Global;
 use std::marker::Model;
 
-/// Reads messages of a format from a stream that comes in pieces: what came and is not read is the rest.
+/// Decodes messages of a format from a stream that comes in pieces. The bytes that came and are not decoded yet are the
+/// rest.
 #[derive(Debug, Drop)]
 pub struct Feeder {
     alloc: Global,
@@ -35,7 +36,7 @@ impl Feeder {
     ghost use Rattle.cops_wire.specs.Answer.{IsShort};
     ghost use Rattle.cops_wire.specs.Feeding.{IsNext, in_format};
 
-    /// A feeder that was given nothing, and reads format 1.
+    /// A feeder for format 1, which was fed nothing. Allocates nothing.
     pub fn new(alloc: Global) -> Self
         ensures { result ≡ record { format = Format.One; rest = []; fault = None } }
     {
@@ -47,7 +48,7 @@ impl Feeder {
         }
     }
 
-    /// Appends a piece to the rest.
+    /// Appends a piece to the rest. Changes nothing if memory runs out.
     pub fn feed(&mut self, piece: &[u8]) -> Result<(), Memory>
         ensures ok { OnOk result (self.new ≡ record self.old { rest = self.old.rest ++ piece.now }) }
         ensures err { OnErr result (self.new ≡ self.old) }
@@ -56,7 +57,7 @@ impl Feeder {
         Ok(())
     }
 
-    /// Has what is not given out yet read in this format. After a fault was answered it changes nothing.
+    /// Sets the format in which the rest is decoded. Changes nothing after `next` returned a fault other than `Memory`.
     pub fn set_format(&mut self, format: Format)
         ensures { self.new ≡ in_format self.old self.old.fault format }
     {
@@ -65,9 +66,9 @@ impl Feeder {
         }
     }
 
-    /// The message at the front of the rest, which is taken off, or nothing while the front is no whole frame. A fault
-    /// but `Memory` is answered again by every later call, and takes no memory. `Memory` is answered only where reading
-    /// comes to a legal key or value, or to dependencies whose count is legal.
+    /// Removes the message at the front of the rest and returns it, or returns nothing if the rest begins with no whole
+    /// frame. A fault other than `Memory` is returned again by every later call, which then allocates nothing. `Memory`
+    /// comes only if decoding reaches a legal key or value, or dependencies whose count is legal.
     pub fn next(&mut self) -> Result<Option<Message>, WireFault>
         ensures next { IsNext self.old result self.new }
         ensures again { IfSome self.old.fault (λ fault. result ≡ Err fault) }

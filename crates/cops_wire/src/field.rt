@@ -1,5 +1,5 @@
 //! A message's fields as they are written.
-ghost use Rattle.std.specs.Prelude.{◌≡◌, ◌+◌, ◌*◌, ◌≤◌, ◌++◌, length, vec_len, vec_capacity, OnOk, OnErr};
+ghost use Rattle.std.specs.Prelude.{◌≡◌, ◌+◌, ◌*◌, ◌≤◌, ◌++◌, length, vec_len, vec_capacity, IsOk, OnOk, OnErr};
 ghost use Rattle.std.specs.List.{flat_map};
 ghost use Rattle.cops_wire.specs.Field.{spelled_pair};
 ghost use Rattle.cops_wire.specs.Written.{spelled_field, spelled_body, spelled_frame};
@@ -34,7 +34,7 @@ macro_rules! as_written {
 
 pub(crate) use as_written;
 
-/// How many bytes a field takes: at most 74,754, a count and 1,024 pairs of 73 bytes.
+/// The number of bytes of a field's encoding: at most 74,754, for a count and 1,024 pairs of 73 bytes.
 #[tactic(auto, unfolding(crate::specs::Field::spelled_number))]
 fn field_len(field: &FieldRef<'_>) -> usize
     ensures len { result ≡ length (spelled_field field.now) }
@@ -64,7 +64,7 @@ fn deps_len(deps: &Deps) -> usize
     len
 }
 
-/// How many bytes a body takes.
+/// The number of bytes of a body.
 pub(crate) fn len(kind: u8, fields: &[FieldRef<'_>]) -> usize
     requires { length fields.now ≤ 8 }
     ensures len { result ≡ length (spelled_body kind fields.now) }
@@ -97,12 +97,14 @@ fn put_field(out: &mut Vec<u8>, field: &FieldRef<'_>)
     }
 }
 
-/// Appends a frame, or at an error nothing.
+/// Appends a frame, or where memory runs out nothing. It takes none where there is room for the frame.
 #[tactic(auto, unfolding(crate::specs::Field::spelled_number))]
 pub(crate) fn append(out: &mut Vec<u8>, kind: u8, fields: &[FieldRef<'_>]) -> Result<(), Memory>
     requires { length fields.now ≤ 8 }
     ensures ok { OnOk result (out.new.items ≡ out.old.items ++ spelled_frame kind fields.now) }
     ensures err { OnErr result (out.new.items ≡ out.old.items) }
+    ensures succeeds { vec_len out.old + length (spelled_frame kind fields.now) ≤ vec_capacity out.old → IsOk result }
+    ensures capacity { vec_capacity out.old ≤ vec_capacity out.new }
 {
     let len = len(kind, fields);
     out.reserve(4 + len)?;

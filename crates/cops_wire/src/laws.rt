@@ -1,4 +1,4 @@
-//! Laws of the grammar alone, at any format. Each is the contract of a function that does nothing.
+//! Theorems about the grammar alone, for every format. Each is stated as the contract of a function with an empty body.
 ghost use Rattle.std.specs.Prelude.{◌≡◌, ◌≢◌, ◌<◌, ◌≤◌, ◌+◌, ◌++◌, ◌↔◌, ℕ, [], List, Result, Ok, Err, length, drop};
 ghost use Rattle.cops_types.specs.declared.format.Format.{Format};
 ghost use Rattle.cops_types.specs.Format.{longest_body};
@@ -10,70 +10,70 @@ ghost use Rattle.cops_wire.specs.Legal.{IsMessage};
 ghost use Rattle.cops_wire.specs.Message.{parts};
 ghost use Rattle.cops_wire.specs.Reading.{frame_at};
 
-/// No spelling of a message begins another, and each is the spelling of one message.
+/// No encoding of a message is a prefix of another's, and each encodes only one message.
 pub fn one_spelling()
     ensures { (format : Format) (m n : Message) (x y : List ℕ) → IsMessage (grammar format) (parts m) → IsMessage (grammar format) (parts n)
         → spelling (grammar format) (parts m) ++ x ≡ spelling (grammar format) (parts n) ++ y → (m ≡ n) × (x ≡ y) }
 {}
 
-/// Each spelling of a message in format 1 is its spelling in format 2.
+/// A message of format 1 has the same encoding in format 2.
 pub fn first_is_in_second()
     ensures { (m : Message) → IsMessage grammar_one (parts m) → IsMessage grammar_two (parts m) × (spelling grammar_two (parts m) ≡ spelling grammar_one (parts m)) }
 {}
 
-/// Bytes have at most one answer.
+/// Decoding bytes has at most one result.
 pub fn one_answer()
     ensures { (format : Format) (bytes : List ℕ) → IsBytes bytes → (a b : Result (Parts × ℕ) WireFault)
         → IsAnswer (grammar format) bytes a → IsAnswer (grammar format) bytes b → a ≡ b }
 {}
 
-/// What follows a frame changes no answer but that the frame is not whole. So a fault at the front of a stream stays.
+/// More bytes at the end change no result of decoding except `Short`. So a fault at the front of a stream stays.
 pub fn answer_stays()
     ensures { (format : Format) (bytes more : List ℕ) (a : Result (Parts × ℕ) WireFault) → a ≢ Err WireFault.Short
         → IsAnswer (grammar format) bytes a → IsAnswer (grammar format) (bytes ++ more) a }
 {}
 
-/// A spelling is answered by its message, whatever follows it.
+/// An encoding decodes to its message, whatever follows it.
 pub fn spelling_is_answered()
     ensures { (format : Format) (m : Message) (rest : List ℕ) → IsMessage (grammar format) (parts m)
         → IsAnswer (grammar format) (spelling (grammar format) (parts m) ++ rest) (Ok (parts m, length (spelling (grammar format) (parts m)))) }
 {}
 
-/// An answer that is a message splits the bytes: the message's spelling stands first, and then what was not used.
+/// If bytes decode to a message, they are the message's encoding and then the bytes that were not used.
 pub fn answer_splits()
     ensures { (format : Format) (bytes : List ℕ) (p : Parts) (used : ℕ) → IsAnswer (grammar format) bytes (Ok (p, used))
         → IsMessage (grammar format) p × (used ≡ length (spelling (grammar format) p)) × (bytes ≡ spelling (grammar format) p ++ drop used bytes) }
 {}
 
-/// The answer is what reading from left to right gives.
+/// The result of decoding is what reading from left to right gives.
 pub fn answer_is_read()
     ensures { (format : Format) (bytes : List ℕ) → IsBytes bytes → (a : Result (Parts × ℕ) WireFault)
         → IsAnswer (grammar format) bytes a ↔ (a ≡ frame_at (grammar format) bytes) }
 {}
 
-/// Messages with the same kind and the same contents are the same.
+/// Messages of the same kind with the same contents are equal.
 pub fn parts_tell_messages()
     ensures { (m n : Message) → parts m ≡ parts n → m ≡ n }
 {}
 
-/// A legal message's spelling has more than 4 bytes, and no more than a frame may have.
+/// A legal message's encoding has more than 4 bytes, and at most as many as a frame may have.
 pub fn spelling_is_bounded()
     ensures { (format : Format) (m : Message) → IsMessage (grammar format) (parts m)
         → (4 < length (spelling (grammar format) (parts m))) × (length (spelling (grammar format) (parts m)) ≤ 4 + longest_body format) }
 {}
 
-/// A front of a spelling that is not all of it is no whole frame.
+/// A proper prefix of an encoding is no whole frame.
 pub fn front_is_short()
     ensures { (format : Format) (m : Message) (x y : List ℕ) → IsMessage (grammar format) (parts m)
         → spelling (grammar format) (parts m) ≡ x ++ y → y ≢ [] → IsShort (grammar format) x }
 {}
 
-/// Where memory may run out, at a field that takes it, a whole frame of a known kind stands at the front.
+/// If memory may run out, at a field whose reading allocates, then the bytes begin with a whole frame of a known kind.
 pub fn taking_is_known()
     ensures { (format : Format) (bytes : List ℕ) → BeginsWithTaking (grammar format) bytes → BeginsWithKnown (grammar format) bytes }
 {}
 
-/// In a whole frame of a known kind the answer is a message, a bad field or trailing bytes.
+/// A whole frame of a known kind decodes to a message, a bad field or trailing bytes.
 pub fn known_is_from_fields()
     ensures { (format : Format) (bytes : List ℕ) → IsBytes bytes → BeginsWithKnown (grammar format) bytes
         → (a : Result (Parts × ℕ) WireFault) → IsAnswer (grammar format) bytes a → IsFromFields a }

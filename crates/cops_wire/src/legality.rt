@@ -1,4 +1,4 @@
-//! Whether a message is one of a format.
+//! Checking whether a format has a message.
 ghost use Rattle.std.specs.Prelude.{◌↔◌, IsTrue};
 ghost use Rattle.cops_wire.specs.Grammar.{grammar, grammar_one};
 ghost use Rattle.cops_wire.specs.Legal.{IsMessage};
@@ -9,7 +9,7 @@ use crate::message::Message;
 use crate::table::kinds;
 use cops_types::Format;
 
-/// A test of a message of a group: format 1 has none of the group of deletions.
+/// A test of a message of a group. Format 1 does not have the group of deletions.
 macro_rules! in_group {
     (deletion $limits:ident, $test:expr) => {
         match $limits.format {

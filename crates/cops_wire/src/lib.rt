@@ -1,12 +1,12 @@
-//! Messages as bytes: what clients, nodes and traces send and keep, each as one frame, and frames read back.
+//! Encoding and decoding of messages: what clients, nodes and traces send and store, each as one frame.
 //!
-//! A frame is a length of four bytes, big-endian, and then a body of so many bytes: a byte for the kind, and the fields
-//! of that kind in order. `specs/Grammar.antt` has the table of kinds and fields as a function of the format, and
-//! `specs/Answer.antt` what any bytes are answered: a message, or the first of the faults in a fixed order. `encode`
-//! writes the one spelling of a message, `decode` answers by those definitions and nothing else, and `Feeder` does so
-//! for a stream that comes in pieces. `show` writes a message as the text that `specs/Shown.antt` gives it. `laws` says
-//! what follows from the definitions alone: no spelling begins another, bytes have one answer, and an answer stays
-//! whatever follows.
+//! A frame is a length of four bytes, big-endian, and then a body of that length: a byte for the kind, and the fields
+//! of that kind in order. `specs/Grammar.antt` has the table of kinds and fields as a function of the format.
+//! `specs/Answer.antt` defines what any bytes decode to: a message, or the first of the faults in a fixed order.
+//! `encode` writes the only encoding of a message, `decode` returns exactly what those definitions say, and `Feeder`
+//! does so for a stream that comes in pieces. `show` writes a message as the text that `specs/Shown.antt` gives it.
+//! `laws` states what follows from the definitions alone: no encoding is a prefix of another, decoding has one result,
+//! and more bytes do not change it.
 //!
 //! Stands on `cops_types` (keys, values, versions, dependencies, formats and their limits). The layers above use
 //! `Message` and the calls here, the definitions of `specs/`, and for their proofs the lemmas of `proofs/Codec.antt`.
@@ -33,7 +33,7 @@ mod table;
 
 pub use buffer::Buffer;
 pub use decoding::{Decoded, decode, decode_in};
-pub use encoding::{body_len, encode, encode_put_after, kind};
+pub use encoding::{body_len, encode, encode_put_after, encode_record, kind};
 pub use fault::WireFault;
 pub use feeder::Feeder;
 pub use laws::{
@@ -43,6 +43,6 @@ pub use laws::{
 };
 pub use legality::{legal, legal_in};
 pub use message::Message;
-pub use record::{TraceRecord, record_message, record_of_message};
+pub use record::{TraceRecord, record_of_message};
 pub use record_view::{RecordView, record_at};
 pub use showing::{show, show_bytes};

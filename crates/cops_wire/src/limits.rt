@@ -1,4 +1,4 @@
-//! Whether what stands in a field is within the format's limits.
+//! Checking whether the content of a field is within the format's limits.
 ghost use Rattle.std.specs.Prelude.{◌↔◌, IsTrue};
 ghost use Rattle.cops_wire.specs.Field.{u8 as one_byte, u16 as two_bytes, u32 as four_bytes, u64 as eight_bytes, number, number_in, key as a_key, version as a_version, of_number, of_bytes, of_pairs};
 ghost use Rattle.cops_wire.specs.Legal.{IsLegal};
@@ -6,7 +6,7 @@ ghost use Rattle.cops_wire.specs.Grammar.{value as a_value, deps as some_deps};
 
 use cops_types::{Deps, Format, Key, Value, Version};
 
-/// The limits of a format. There is a test for each type of field.
+/// The limits of a format, with a test for each type of field.
 #[derive(Clone, Copy)]
 pub(crate) struct Limits {
     pub(crate) format: Format,

@@ -1,15 +1,16 @@
 use cops_types::{Deps, Key, Value, Version};
 
-/// What is sent, and what a trace holds. `seq` is the asker's own number for a request, which its answer repeats. Each
-/// field may have any value of its type, save where a range is given; `legal` tests those ranges.
+/// The messages that are sent, and those of which a trace consists. `seq` is a number that the requester gives to a
+/// request, and that the answer repeats. Each field may have any value of its type, except where a range is given;
+/// `legal` tests those ranges.
 #[derive(Debug, Drop)]
 pub enum Message {
-    /// A client greets, with the number of the format that it speaks and its own number.
+    /// A client's greeting, with the number of the format that it speaks and its own number.
     Hello {
         profile: u16,
         client: u16,
     },
-    /// The answer to a greeting: the client's data centre, below 16, and its number of nodes, 1 to 64.
+    /// The answer to a greeting: the client's data centre, below 16, and the number of its nodes, 1 to 64.
     HelloOk {
         dc: u8,
         nodes: u8,
@@ -25,7 +26,7 @@ pub enum Message {
         seq: u32,
         key: Key,
     },
-    /// The version that a put was given.
+    /// The answer to a put: its version.
     PutDone {
         seq: u32,
         version: Version,
@@ -52,26 +53,27 @@ pub enum Message {
         version: Version,
         deps: Deps,
     },
-    /// A question whether a put is there.
+    /// Asks whether a put is there.
     DepCheck {
         seq: u32,
         key: Key,
         version: Version,
     },
-    /// It is there.
+    /// The put is there.
     DepYes {
         seq: u32,
     },
-    /// It is not there yet.
+    /// The put is not there yet.
     DepWait {
         seq: u32,
     },
-    /// A question how a node stands, by its number in the data centre, below 64.
+    /// Asks for the status of a node, by its number in the data centre, below 64.
     Status {
         seq: u32,
         node: u8,
     },
-    /// How it stands: its clock, at most 281,474,976,710,655, and how many keys, settled puts and held puts it has.
+    /// The status of a node: its clock, at most 281,474,976,710,655, and the numbers of its keys, settled puts and held
+    /// puts.
     StatusIs {
         seq: u32,
         clock: u64,
@@ -81,14 +83,14 @@ pub enum Message {
     },
     /// A client ends its session.
     Bye,
-    /// The session is ended.
+    /// The session has ended.
     ByeOk,
-    /// The head of a trace: its format, and how many clients it has.
+    /// The head of a trace: its format, and the number of its clients.
     TraceHead {
         format: u16,
         clients: u16,
     },
-    /// A record of a trace: a put, and the version that it was given. The index is its place in the client's session.
+    /// A record of a trace: a put, and its version. The index is the operation's place in the client's session.
     TracePut {
         client: u16,
         index: u32,
@@ -110,7 +112,7 @@ pub enum Message {
         index: u32,
         key: Key,
     },
-    /// The end of a trace: how many records it has.
+    /// The end of a trace: the number of its records.
     TraceEnd {
         ops: u32,
     },
@@ -119,7 +121,7 @@ pub enum Message {
         seq: u32,
         key: Key,
     },
-    /// The version that a deletion was given.
+    /// The answer to a deletion: its version.
     Deleted {
         seq: u32,
         version: Version,
@@ -135,7 +137,7 @@ pub enum Message {
         version: Version,
         deps: Deps,
     },
-    /// A record of a trace: a deletion, and the version that it was given.
+    /// A record of a trace: a deletion, and its version.
     TraceDel {
         client: u16,
         index: u32,

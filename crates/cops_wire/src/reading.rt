@@ -1,4 +1,4 @@
-//! The fields of a message, from the front of what is left of its body.
+//! Reading the fields of a message from the front of the remaining body.
 ghost use Rattle.std.specs.Prelude.{◌≡◌, ◌≤◌, length, take, drop, IfOk};
 ghost use Rattle.cops_wire.specs.Field.{u8, u16, u32, u64, key};
 ghost use Rattle.cops_types.specs.declared.limits.TheConstants.{MAX_KEY};
@@ -12,7 +12,7 @@ use crate::table::{group, kinds};
 use cops_types::{Dep, Deps, Format, Key, KeyView, Value, ValueView, Version};
 use std::alloc::{AllocError, AllocFailed, Global};
 
-/// The fewest bytes that a pair has: a key's length, one byte of a key, and a version.
+/// The fewest bytes of a pair: a key's length, one byte of a key, and a version.
 const LEAST_PAIR: usize = 10;
 
 /// Why fields could not be read.
@@ -20,7 +20,7 @@ const LEAST_PAIR: usize = 10;
 pub(crate) enum ReadFault {
     Memory,
     UnknownKind,
-    /// How many bytes are left from the first field on that does not stand there.
+    /// The number of bytes left at the first field that cannot be read.
     BadField(usize),
 }
 
@@ -75,7 +75,7 @@ macro_rules! read {
     };
 }
 
-/// A field that was read; a fault is returned.
+/// A field that was read. Returns from the function on a fault.
 macro_rules! taken {
     ($read:expr) => {
         match $read {
@@ -85,7 +85,7 @@ macro_rules! taken {
     };
 }
 
-/// What is left of a body. A reader takes a field off its front.
+/// The remaining bytes of a body. A reader takes a field from their front.
 #[derive(Drop)]
 pub(crate) struct Rest<'a> {
     pub(crate) alloc: Global,
@@ -100,7 +100,7 @@ impl<'a> Rest<'a> {
         ReadFault::BadField(self.bytes.len())
     }
 
-    /// The next `len` bytes, which are there.
+    /// Takes the next `len` bytes, which have to be there.
     pub(crate) fn take(&mut self, len: usize) -> &'a [u8]
         requires { len ≤ length self.old.bytes.now }
         ensures format { self.new.format ≡ self.old.format }
@@ -198,7 +198,7 @@ impl<'a> Rest<'a> {
         Ok(key)
     }
 
-    /// The key, seen where it lies.
+    /// Reads a key and borrows its bytes.
     #[tactic(auto, unfolding(crate::specs::Reading::string_at, crate::specs::Reading::number_in_at))]
     #[inline(always)]
     pub(crate) fn key_view(&mut self) -> Result<KeyView<'a>, ReadFault>
@@ -226,7 +226,7 @@ impl<'a> Rest<'a> {
         Ok(value)
     }
 
-    /// The value, seen where it lies.
+    /// Reads a value and borrows its bytes.
     #[tactic(auto, unfolding(crate::specs::Reading::string_at, crate::specs::Reading::number_in_at))]
     #[inline(always)]
     pub(crate) fn value_view(&mut self) -> Result<ValueView<'a>, ReadFault>
@@ -272,7 +272,7 @@ impl<'a> Rest<'a> {
         }
     }
 
-    /// So many pairs. No more room is made than for those that the bytes left can hold.
+    /// Reads `count` pairs. Allocates no more room than for the pairs that the remaining bytes can hold.
     fn pairs(&mut self, count: u16) -> Result<Vec<Dep>, ReadFault>
         ensures format { self.new.format ≡ self.old.format }
         ensures field { GivesPart (λ v. (v.items, self.new.bytes.now)) result (pairs_at count self.old.bytes.now) }
@@ -308,7 +308,7 @@ impl<'a> Rest<'a> {
         }
     }
 
-    /// The message of this kind whose fields stand at the front, as the method of the kind's group reads it.
+    /// Reads the message of this kind whose fields are at the front, by the method of the kind's group.
     pub(crate) fn message(&mut self, kind: u8) -> Result<Message, ReadFault>
         ensures contents { GivesContents (grammar self.old.format) kind self.old.bytes.now result self.new.bytes.now }
         ensures kind { IfOk result (λ m. kind_of m ≡ kind) }

@@ -1,4 +1,4 @@
-//! A record of a trace, seen where its bytes lie.
+//! Records of a trace, borrowed from its bytes.
 ghost use Rattle.std.specs.Prelude.{◌≡◌, ◌<◌, ◌≤◌, Ok, IfOk, IfSome, length};
 ghost use Rattle.cops_types.specs.Format.{longest_body};
 ghost use Rattle.cops_wire.specs.Answer.{IsAnswer};
@@ -13,8 +13,8 @@ use crate::reading::{ReadFault, Rest};
 use cops_types::{Format, OpView};
 use std::alloc::Global;
 
-/// A record of a trace: a client's operation, seen where its bytes lie, and its place in the client's session; and how
-/// many bytes its frame takes.
+/// A record of a trace, borrowed from its bytes: a client's operation, its index in the client's session, and the
+/// number of bytes of its frame.
 #[derive(Debug, Drop)]
 pub struct RecordView<'a> {
     pub client: u16,
@@ -36,7 +36,7 @@ impl<'a> Rest<'a> {
         let version = self.version()?;
         let op = OpView::Put {
             key,
-            value,
+            value: Some(value),
             version,
         };
         Ok(RecordView {
@@ -59,7 +59,7 @@ impl<'a> Rest<'a> {
         let version = self.version()?;
         let op = OpView::Got {
             key,
-            value,
+            value: Some(value),
             version,
         };
         Ok(RecordView {
@@ -96,7 +96,11 @@ impl<'a> Rest<'a> {
         let index = self.u32()?;
         let key = self.key_view()?;
         let version = self.version()?;
-        let op = OpView::Del { key, version };
+        let op = OpView::Put {
+            key,
+            value: None,
+            version,
+        };
         Ok(RecordView {
             client,
             index,
@@ -114,7 +118,11 @@ impl<'a> Rest<'a> {
         let index = self.u32()?;
         let key = self.key_view()?;
         let version = self.version()?;
-        let op = OpView::Gone { key, version };
+        let op = OpView::Got {
+            key,
+            value: None,
+            version,
+        };
         Ok(RecordView {
             client,
             index,
@@ -148,7 +156,7 @@ impl<'a> Rest<'a> {
     }
 }
 
-/// The record that a whole body is.
+/// The record of a whole body, if it is one.
 #[inline(always)]
 fn record_in<'a>(format: Format, alloc: Global, text: &'a [u8]) -> Option<RecordView<'a>>
     requires some { 0 < length text.now }
@@ -167,8 +175,8 @@ fn record_in<'a>(format: Format, alloc: Global, text: &'a [u8]) -> Option<Record
     }
 }
 
-/// The record of a trace of a format at the front of some bytes. It takes no memory. There is none where something else
-/// stands there, nothing whole, or a frame with a fault, which `decode_in` tells.
+/// The record of a trace of a format at the front of some bytes. Allocates nothing. Returns nothing if another message
+/// is there, or no whole frame, or a frame with a fault; `decode_in` says which.
 #[inline(always)]
 pub fn record_at<'a>(format: Format, alloc: Global, bytes: &'a [u8]) -> Option<RecordView<'a>>
     ensures { IfSome result (λ r. IsAnswer (grammar format) bytes.now (Ok (parts (seen_message r), r.used))) }

@@ -1,4 +1,4 @@
-//! A message as a line of text.
+//! Showing a message as a line of text.
 ghost use Rattle.std.specs.Prelude.{◌≡◌, ◌<◌, ◌≤◌, ◌++◌, OnOk, OnErr, IfOk, string_bytes, codes};
 ghost use Rattle.std.specs.List.{join_by};
 ghost use Rattle.cops_wire.specs.Kind.{kind_of};
@@ -11,17 +11,17 @@ use crate::table::kinds;
 use cops_types::{Dep, Deps, Memory};
 use std::alloc::{AllocError, Global};
 
-/// A field behind its name.
+/// A field with its name.
 #[derive(Clone, Copy)]
 struct Named<'a> {
     name: &'a str,
     field: FieldRef<'a>,
 }
 
-/// Appends a line without its end: the kind's name, then for each field a space, the field's name, `=` and its text.
-/// Numbers are decimal, versions are `clock.node`, and dependencies are `[key@version,key@version]`. In keys and values
-/// the bytes of ASCII letters, digits, `-`, `.` and `_` stand as they are, and any other byte is `%` and two lower case
-/// hexadecimal digits (`shown` in `specs/Shown.antt`). Where memory runs out, nothing is appended.
+/// Appends the line of a message, without a line feed: the kind's name, then for each field a space, the field's name,
+/// `=` and its text. Numbers are decimal, versions are `clock.node`, and dependencies are `[key@version,key@version]`.
+/// In keys and values the bytes of ASCII letters, digits, `-`, `.` and `_` stand as they are, and any other byte is `%`
+/// and two lower case hexadecimal digits (`shown` in `specs/Shown.antt`). Appends nothing if memory runs out.
 pub fn show(alloc: Global, message: &Message, out: &mut Vec<u8>) -> Result<(), Memory>
     ensures ok { OnOk result (out.new.items ≡ out.old.items ++ shown message.now) }
     ensures err { OnErr result (out.new.items ≡ out.old.items) }
@@ -31,7 +31,7 @@ pub fn show(alloc: Global, message: &Message, out: &mut Vec<u8>) -> Result<(), M
     Ok(())
 }
 
-/// That line.
+/// The line of a message.
 fn line_of(alloc: Global, message: &Message) -> Result<String, AllocError>
     ensures { IfOk result (λ text. string_bytes text ≡ shown message.now) }
 {
@@ -45,7 +45,7 @@ fn line_of(alloc: Global, message: &Message) -> Result<String, AllocError>
     kinds!(text alloc, message)
 }
 
-/// A kind's name, and then the fields.
+/// The line of a kind's name and the fields.
 fn line(alloc: Global, kind: &str, fields: &[Named<'_>]) -> Result<String, AllocError>
     ensures { IfOk result (λ text. string_bytes text ≡ kind.now ++ fields_text fields.now) }
 {
@@ -56,7 +56,7 @@ fn line(alloc: Global, kind: &str, fields: &[Named<'_>]) -> Result<String, Alloc
     Ok(line)
 }
 
-/// A field behind a space, its name and `=`.
+/// Appends a space, a field's name, `=` and its text.
 fn push_named(line: &mut String, named: &Named<'_>) -> Result<(), AllocError>
     ensures { OnOk result (string_bytes line.new ≡ string_bytes line.old ++ named_text named.now) }
 {
@@ -80,7 +80,7 @@ fn push_field(line: &mut String, field: &FieldRef<'_>) -> Result<(), AllocError>
     }
 }
 
-/// Whether a byte of a key or a value stands as it is.
+/// Whether a byte of a key or a value is shown as it is.
 fn is_plain(byte: u8) -> bool
     ensures { result ≡ is_plain byte }
 {
@@ -99,8 +99,8 @@ fn push_byte(line: &mut String, byte: u8) -> Result<(), AllocError>
 }
 
 /// Appends the bytes of a key or a value: those of ASCII letters, digits, `-`, `.` and `_` as they are, and any other
-/// as `%` and two lower case hexadecimal digits (`bytes_text` in `specs/Shown.antt`). Where memory runs out, some of
-/// them may be there.
+/// as `%` and two lower case hexadecimal digits (`bytes_text` in `specs/Shown.antt`). If memory runs out, some of them
+/// may have been appended.
 pub fn show_bytes(bytes: &[u8], line: &mut String) -> Result<(), AllocError>
     ensures { OnOk result (string_bytes line.new ≡ string_bytes line.old ++ bytes_text bytes.now) }
 {
@@ -110,7 +110,7 @@ pub fn show_bytes(bytes: &[u8], line: &mut String) -> Result<(), AllocError>
     Ok(())
 }
 
-/// A key and its version.
+/// Appends a key and its version.
 fn push_pair(line: &mut String, dep: &Dep) -> Result<(), AllocError>
     ensures { OnOk result (string_bytes line.new ≡ string_bytes line.old ++ pair_text dep.now) }
 {
@@ -119,7 +119,7 @@ fn push_pair(line: &mut String, dep: &Dep) -> Result<(), AllocError>
     write!(line, "@{version}")
 }
 
-/// Pairs with a comma between each two.
+/// Appends pairs, with a comma between each two.
 fn push_pairs(line: &mut String, pairs: &[Dep]) -> Result<(), AllocError>
     ensures { OnOk result (string_bytes line.new ≡ string_bytes line.old ++ join_by pair_text (codes ",") pairs.now) }
 {

@@ -1,4 +1,4 @@
-//! The verdict on a trace, by each way to it.
+//! The verdict on a trace, by each way to obtain it.
 
 use cops_audit::{FeedFault, Online};
 use cops_batch::{BatchFault, judge_with};
@@ -10,7 +10,7 @@ use std::alloc::Global;
 use std::sync::Wait;
 use std::thread::Threads;
 
-/// A trace, or nothing where the bytes are none.
+/// The trace of bytes, or nothing if they are no trace.
 fn read(alloc: Global, bytes: &[u8]) -> Result<Option<Trace>, Memory> {
     match read_trace(alloc, &mut Counted::new(bytes)) {
         Ok(trace) => Ok(Some(trace)),
@@ -19,7 +19,7 @@ fn read(alloc: Global, bytes: &[u8]) -> Result<Option<Trace>, Memory> {
     }
 }
 
-/// Whether two workers say so.
+/// Whether a judge with two workers gives the expected report.
 fn two_say<R: Threads + Wait + Sync>(
     rt: &R,
     alloc: Global,
@@ -37,7 +37,7 @@ fn two_say<R: Threads + Wait + Sync>(
     }
 }
 
-/// Feeds an operation: where memory is refused once more, and tells whether it was taken.
+/// Feeds an operation, a second time if memory runs out, and returns whether it was taken.
 fn feed(online: &mut Online, client: u16, op: OpRef<'_>) -> Result<bool, Memory> {
     match online.feed(client, op.to_op()?) {
         Ok(()) => Ok(true),
@@ -46,7 +46,7 @@ fn feed(online: &mut Online, client: u16, op: OpRef<'_>) -> Result<bool, Memory>
     }
 }
 
-/// Feeds a client's operations, and tells whether all were taken.
+/// Feeds a client's operations, and returns whether all were taken.
 fn feed_session(online: &mut Online, history: &History, client: u16) -> Result<bool, Memory> {
     for index in 0..history.session_len(client) {
         let index = index as u32;
@@ -61,7 +61,7 @@ fn feed_session(online: &mut Online, history: &History, client: u16) -> Result<b
     Ok(true)
 }
 
-/// Feeds a history, and tells whether all was taken.
+/// Feeds a history, and returns whether all of it was taken.
 fn feed_all(online: &mut Online, history: &History) -> Result<bool, Memory> {
     for client in 0..history.clients() {
         if !feed_session(online, history, client as u16)? {
@@ -71,7 +71,7 @@ fn feed_all(online: &mut Online, history: &History) -> Result<bool, Memory> {
     Ok(true)
 }
 
-/// The report of what an auditor says that was fed.
+/// The report of an online auditor on what it was fed.
 fn closed_report(alloc: Global, online: Online) -> Result<Vec<u8>, Memory> {
     let judged = online.close()?;
     let text = report_judged(alloc, &judged);
@@ -79,7 +79,7 @@ fn closed_report(alloc: Global, online: Online) -> Result<Vec<u8>, Memory> {
     text
 }
 
-/// The report of what an auditor that is fed says, or nothing where not all was taken.
+/// The report of an online auditor on a history, or nothing if it did not take every operation.
 fn fed_report(alloc: Global, history: &History) -> Result<Option<Vec<u8>>, Memory> {
     let mut online = Online::new(alloc, history.clients() as u16)?;
     match feed_all(&mut online, history) {
@@ -95,7 +95,7 @@ fn fed_report(alloc: Global, history: &History) -> Result<Option<Vec<u8>>, Memor
     }
 }
 
-/// Whether an auditor that is fed says so.
+/// Whether an online auditor gives the expected report.
 fn fed_says(alloc: Global, history: &History, wanted: &[u8]) -> Result<bool, Memory> {
     match fed_report(alloc, history)? {
         Some(text) => Ok(text.as_slice() == wanted),
@@ -103,7 +103,7 @@ fn fed_says(alloc: Global, history: &History, wanted: &[u8]) -> Result<bool, Mem
     }
 }
 
-/// Whether this is said of a history, by one judge, by two workers, and by an auditor that is fed.
+/// Whether one judge, two workers and an online auditor all give the expected report on a history.
 fn all_say<R: Threads + Wait + Sync>(
     rt: &R,
     alloc: Global,
@@ -117,7 +117,7 @@ fn all_say<R: Threads + Wait + Sync>(
     )
 }
 
-/// The same of a trace's bytes.
+/// Like `all_say`, on the history of a trace's bytes.
 pub fn says<R: Threads + Wait + Sync>(
     rt: &R,
     alloc: Global,

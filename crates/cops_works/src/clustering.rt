@@ -7,7 +7,7 @@ use cops_types::{Key, Memory, OpenGate, Refusal, TypeFault, Value, Version};
 use std::alloc::Global;
 use std::sync::Wait;
 
-/// A cluster of one node with one client, or nothing where it is refused for another reason than memory.
+/// A cluster of one node with one client, or nothing if it is refused for another reason than memory.
 fn opened(alloc: Global) -> Result<Option<Opened>, Memory> {
     let homes = Vec::from_slice(alloc, &[0])?;
     let Ok(place) = Place::new(1, Vec::new(alloc)) else {
@@ -28,7 +28,7 @@ fn value(alloc: Global) -> Result<Value, Memory> {
     Value::new(alloc, b"a value of more bytes than lie in it").or(Err(Memory))
 }
 
-/// Puts, or gets.
+/// Puts if `puts` holds, and gets otherwise.
 fn step<R: Wait>(
     rt: &R,
     alloc: Global,
@@ -44,7 +44,7 @@ fn step<R: Wait>(
     Ok(answer.ok())
 }
 
-/// The answer to a put or a get: one that is refused for want of memory, and then has no entry, is asked for again.
+/// The answer to a put or a get. One that is refused because memory ran out, and has no entry, is tried again.
 fn surely<R: Wait>(
     rt: &R,
     alloc: Global,
@@ -62,12 +62,12 @@ fn surely<R: Wait>(
     step(rt, alloc, cluster, client, puts)
 }
 
-/// Whether the value was got, at a version.
+/// Whether the value was got, at this version.
 fn is_got(alloc: Global, answer: &Option<Outcome>, version: Version) -> Result<bool, Memory> {
     Ok(*answer == Some(Outcome::Got(value(alloc)?, version)))
 }
 
-/// Whether a client gets what it put, and each of the two has its entry.
+/// Whether a client gets what it put, and each of the two operations has its entry.
 fn gets_what_it_put<R: Wait>(
     rt: &R,
     alloc: Global,
@@ -86,7 +86,7 @@ fn gets_what_it_put<R: Wait>(
     Ok(has_put && has_got? && client.share().entries().len() == 2)
 }
 
-/// What is left of a cluster, which is closed again where memory was refused.
+/// The remains of a closed cluster. Closing is tried again if memory runs out.
 fn closed(cluster: Cluster, shares: Vec<Share>) -> Option<Closed> {
     match cluster.close(shares) {
         Ok(closed) => Some(closed),
@@ -95,7 +95,7 @@ fn closed(cluster: Cluster, shares: Vec<Share>) -> Option<Closed> {
     }
 }
 
-/// Whether so many operations are in the trace of a cluster in the end.
+/// Whether the trace of a cluster has this number of operations once the cluster is closed.
 fn are_told(cluster: Cluster, shares: Vec<Share>, operations: usize) -> bool {
     match closed(cluster, shares) {
         Some(closed) => {
@@ -107,13 +107,13 @@ fn are_told(cluster: Cluster, shares: Vec<Share>, operations: usize) -> bool {
     }
 }
 
-/// The same once a client has got what it put.
+/// Whether the trace has two operations, once the client's share is added to the others.
 fn is_told(cluster: Cluster, client: Client, mut shares: Vec<Share>) -> Result<bool, Memory> {
     shares.push(client.into_share())?;
     Ok(are_told(cluster, shares, 2))
 }
 
-/// Whether a client gets what it put, and both are in the trace in the end.
+/// Whether a client gets what it put, and both operations are in the trace in the end.
 fn is_answered<R: Wait>(
     rt: &R,
     alloc: Global,
@@ -132,7 +132,7 @@ fn is_answered<R: Wait>(
     }
 }
 
-/// The same of the last client of a cluster that was opened.
+/// Like `is_answered`, with the last client of an opened cluster.
 fn is_told_in<R: Wait>(rt: &R, alloc: Global, opened: Opened) -> Result<bool, Memory> {
     let Opened {
         cluster,
@@ -151,7 +151,7 @@ fn is_told_in<R: Wait>(rt: &R, alloc: Global, opened: Opened) -> Result<bool, Me
     }
 }
 
-/// Whether a client of a cluster gets what it put, and both are in the trace in the end.
+/// Whether a client of a cluster gets what it put, and both operations are in the trace in the end.
 pub fn answers<R: Wait>(rt: &R, alloc: Global) -> Result<bool, Memory> {
     match opened(alloc)? {
         Some(opened) => is_told_in(rt, alloc, opened),

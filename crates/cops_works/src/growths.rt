@@ -1,4 +1,4 @@
-//! The works of a cluster and of an auditor, one after the other, each beside what is wanted of it.
+//! Runs of a world, a cluster and an auditor, one after the other, each compared with its expected output.
 
 use crate::{auditing, clustering, happening};
 use anyhow::{Error, bail};
@@ -8,7 +8,7 @@ use std::rt::Files;
 use std::sync::Wait;
 use std::thread::Threads;
 
-/// What the works are given, and what is wanted of them.
+/// The inputs of the runs, and the expected outputs.
 #[derive(Drop)]
 struct Inputs {
     events: Vec<u8>,
@@ -27,7 +27,7 @@ fn read<R: Files + AllocGlobal>(rt: &R, paths: &[&String; 4]) -> Result<Inputs, 
     })
 }
 
-/// Whether all works go as is wanted.
+/// Whether all runs give the expected output.
 fn go<R: Threads + Wait + Sync + AllocGlobal>(rt: &R, inputs: &Inputs) -> Result<bool, Memory> {
     let alloc = rt.alloc();
     Ok(
@@ -37,8 +37,8 @@ fn go<R: Threads + Wait + Sync + AllocGlobal>(rt: &R, inputs: &Inputs) -> Result
     )
 }
 
-/// Says whether all works go as is wanted by the files: a scenario with events and what is told of them, a trace and
-/// what is told of it. It fails where memory is refused to a work that has that for an answer.
+/// Prints whether all runs give the output that the files expect: a scenario with events and its lines, a trace and its
+/// report. Fails if an allocation fails in a run that reports it.
 pub fn say<R: Files + Threads + Wait + Sync + Print + AllocGlobal>(
     rt: &R,
     words: &[String],

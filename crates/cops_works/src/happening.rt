@@ -7,7 +7,7 @@ use cops_scenario::{Scenario, ScenarioFault, outcome_line};
 use cops_types::{Memory, Refusal};
 use std::alloc::Global;
 
-/// Whether it was refused for want of memory.
+/// Whether an event was refused because memory ran out.
 fn lacked_memory(outcome: &Outcome) -> bool {
     match outcome {
         Outcome::Refused(Refusal::Memory) => true,
@@ -15,7 +15,7 @@ fn lacked_memory(outcome: &Outcome) -> bool {
     }
 }
 
-/// The answer to an event: one that is refused for want of memory, and then has changed nothing, is asked for again.
+/// The answer to an event. One that is refused because memory ran out, and has changed nothing, is tried again.
 fn answered(world: &mut World, event: &Event) -> Outcome {
     let before = (world.history().len(), world.puts());
     let outcome = world.answer(event);
@@ -39,7 +39,7 @@ fn told(alloc: Global, world: &mut World, events: &[Event]) -> Result<Vec<u8>, M
     Ok(text)
 }
 
-/// The same of a world in a setting, in which nothing has happened.
+/// Like `told`, in a new world of a setting.
 fn told_in(alloc: Global, setting: Setting, events: &[Event]) -> Result<Vec<u8>, Memory> {
     let mut world = World::of(alloc, setting)?;
     let told = told(alloc, &mut world, events);
@@ -47,7 +47,7 @@ fn told_in(alloc: Global, setting: Setting, events: &[Event]) -> Result<Vec<u8>,
     told
 }
 
-/// Whether these lines are told of the events of a scenario.
+/// Whether the events of a scenario give the expected lines.
 fn tells(alloc: Global, scenario: &Scenario, wanted: &[u8]) -> Result<bool, Memory> {
     let Some(events) = scenario.events() else {
         return Ok(false);
@@ -56,7 +56,7 @@ fn tells(alloc: Global, scenario: &Scenario, wanted: &[u8]) -> Result<bool, Memo
     Ok(text.as_slice() == wanted)
 }
 
-/// The same of a scenario's bytes.
+/// Whether the events of the scenario in these bytes give the expected lines.
 pub fn happens(alloc: Global, bytes: &[u8], wanted: &[u8]) -> Result<bool, Memory> {
     match Scenario::from_json(alloc, bytes) {
         Ok(scenario) => {

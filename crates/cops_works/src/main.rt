@@ -1,7 +1,9 @@
-//! What scripts and the tests run. Rows of calls of the crates, and the answers that are wanted: `rows FILE..`. For
-//! scripts in `bench/`, which time a node, a world and the auditor that is fed: `node PAIRS TURNS AMONG`, `world FILE
-//! MODE DATA_CENTRES CLIENTS`, `online TRACE MODE`. For `tests/growths.py`, which refuses growths in turn: `growths
-//! SCENARIO LINES TRACE LINES`. With no words it does nothing.
+//! The program that scripts and tests run. Its first word selects the task:
+//!
+//! `rows FILE..` makes the calls of test cases and compares their answers with the expected ones.
+//! `node PAIRS TURNS AMONG`, `world FILE MODE DATA_CENTRES CLIENTS` and `online TRACE MODE` are for scripts in
+//! `bench/`, which time a node, a world and the online auditor. `growths SCENARIO LINES TRACE LINES` is for
+//! `tests/growths.py`, which makes allocations fail one after the other. Without words it does nothing.
 #![tactic(auto)]
 
 mod auditing;
@@ -35,7 +37,7 @@ fn time_world<R: Files + Print + AllocGlobal>(rt: &R, words: &[String]) -> Resul
     world::happen(rt, path, mode, (u8_of(dcs)?, u16_of(clients)?))
 }
 
-/// Runs what the words name.
+/// Runs the task that the first word names.
 fn perform<R: Files + Threads + Wait + Sync + Print + AllocGlobal>(
     rt: &R,
     words: &[String],

@@ -19,7 +19,7 @@ fn put(alloc: Global, node: &mut Node, number: u64) -> Result<(), Error> {
     Ok(())
 }
 
-/// How many of an ask and a get of the pair of a number are answered with it.
+/// How many of two calls find the pair of a number: an ask for its version, and a get of its key.
 fn found(alloc: Global, node: &mut Node, number: u64) -> Result<u64, Error> {
     let version = Version::new(number.wrapping_add(1), 0)?;
     let key = key(alloc, number)?;
@@ -29,7 +29,7 @@ fn found(alloc: Global, node: &mut Node, number: u64) -> Result<u64, Error> {
     Ok(u64::from(asked).wrapping_add(u64::from(shown)))
 }
 
-/// Makes turns of an ask and a get, about so many of the pairs, and counts what is found.
+/// Makes `turns` turns of an ask and a get, among the first `among` pairs, and counts what is found.
 fn ask(alloc: Global, node: &mut Node, turns: u64, among: u64) -> Result<u64, Error> {
     let mut answered = 0u64;
     for turn in 0..turns {
@@ -39,7 +39,7 @@ fn ask(alloc: Global, node: &mut Node, turns: u64, among: u64) -> Result<u64, Er
     Ok(answered)
 }
 
-/// Settles so many puts, each on a key of its own, and then asks.
+/// Settles `pairs` puts, each on a key of its own, and then asks.
 fn fill_and_ask(
     alloc: Global,
     node: &mut Node,
@@ -53,7 +53,8 @@ fn fill_and_ask(
     ask(alloc, node, turns, among)
 }
 
-/// Fills a node with so many settled pairs, and then makes turns of an ask and a get, about so many of the pairs.
+/// Fills a node with `pairs` settled pairs, and then makes `turns` turns of an ask and a get, among the first `among`
+/// pairs.
 pub fn answer<R: Print + AllocGlobal>(
     rt: &R,
     pairs: u64,

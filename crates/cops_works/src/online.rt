@@ -1,4 +1,4 @@
-//! What is said of a trace that is fed operation by operation, beside the verdict on the same history.
+//! The online auditor on a trace that it is fed operation by operation, and the judge on the same history.
 
 use anyhow::Error;
 use cops_audit::{Online, judge};
@@ -17,7 +17,7 @@ fn longest(history: &History) -> u32 {
     longest
 }
 
-/// Feeds the operation of a name, where there is one.
+/// Feeds the operation of a name, if there is one.
 fn feed(online: &mut Online, history: &History, name: OpName) -> Result<(), Error> {
     if let Some(op) = history.op(name) {
         online.feed(name.client, op.to_op()?)?;
@@ -36,7 +36,7 @@ fn feed_in_turns(online: &mut Online, history: &History) -> Result<(), Error> {
     Ok(())
 }
 
-/// Feeds one client's operations after the other's: many a get comes long before its put.
+/// Feeds one client's operations after the other's, so that many gets come long before their puts.
 fn feed_by_sessions(online: &mut Online, history: &History) -> Result<(), Error> {
     for client in 0..history.clients() {
         let client = client as u16;
@@ -54,7 +54,7 @@ fn ask<R: Print>(rt: &R, online: &mut Online) -> Result<(), Error> {
     Ok(())
 }
 
-/// Feeds a history in one of two orders, and asks so many times.
+/// Feeds a history by sessions or in turns, and asks for the verdict `questions` times.
 fn feed_and_ask<R: Print>(
     rt: &R,
     online: &mut Online,
@@ -91,7 +91,7 @@ fn judge_only(alloc: Global, history: &History) -> Result<(), Error> {
     Ok(())
 }
 
-/// Judges a history, or feeds it, as the mode says.
+/// Judges a history, or feeds it, according to the mode.
 fn heard<R: Print + AllocGlobal>(rt: &R, history: &History, mode: &str) -> Result<(), Error> {
     match mode {
         "judge" => judge_only(rt.alloc(), history),
@@ -103,8 +103,8 @@ fn heard<R: Print + AllocGlobal>(rt: &R, history: &History, mode: &str) -> Resul
     }
 }
 
-/// Reads a trace and, by the mode, judges it, or feeds it in turns or by sessions and asks at the end, once, or twice,
-/// or not at all.
+/// Reads a trace and, according to the mode, judges it, or feeds it in turns or by sessions and asks for the verdict
+/// not at all, once or twice at the end.
 pub fn say<R: Files + Print + AllocGlobal>(rt: &R, words: &[String]) -> Result<(), Error> {
     let [path, mode] = words else {
         return Ok(());

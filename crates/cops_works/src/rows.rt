@@ -1,4 +1,4 @@
-//! Rows of calls and the answers that are wanted: `CALL ARGUMENTS.. = ANSWER`.
+//! Test cases, one on a line, with the expected answer: `CALL ARGUMENTS.. = ANSWER`.
 
 mod book;
 mod clock;
@@ -25,7 +25,7 @@ use std::alloc::Global;
 use std::fs;
 use std::rt::Files;
 
-/// The answer to a row's call, or the text of its error.
+/// The answer to a case's call, or the text of its error.
 fn told(alloc: Global, subjects: &mut Subjects, call: &str) -> Result<String, Error> {
     let words: Vec<&str> = call.split(' ').collect(alloc)?;
     match subjects.answer(alloc, &words) {
@@ -44,7 +44,7 @@ fn unlike<'a>(alloc: Global, got: &'a str, wanted: &'a str) -> Result<String, Er
     )
 }
 
-/// What differs in a row, or nothing.
+/// How the answer of a case differs from the expected one; empty where it does not.
 fn difference(alloc: Global, subjects: &mut Subjects, row: &str) -> Result<String, Error> {
     match row.split_once(" = ") {
         Some((call, wanted)) => {
@@ -55,14 +55,14 @@ fn difference(alloc: Global, subjects: &mut Subjects, row: &str) -> Result<Strin
     }
 }
 
-/// Prints a line of parts.
+/// Prints a line made of parts.
 fn say<R: Print + AllocGlobal>(rt: &R, parts: &[Part]) -> Result<(), Error> {
     let line = text(rt.alloc(), parts)?;
     println!(rt; "{line}")?;
     Ok(())
 }
 
-/// Prints what differs in a row.
+/// Prints how the answer of a case differs.
 fn say_difference<'a, R: Print + AllocGlobal>(
     rt: &R,
     name: &'a str,
@@ -79,7 +79,7 @@ fn say_difference<'a, R: Print + AllocGlobal>(
     say(rt, &parts)
 }
 
-/// Prints what differs in a row, if anything does, and counts it.
+/// Prints how the answer of a case differs, if it does, and counts it.
 fn say_row<R: Print + AllocGlobal>(
     rt: &R,
     subjects: &mut Subjects,
@@ -95,8 +95,8 @@ fn say_row<R: Print + AllocGlobal>(
     Ok(1)
 }
 
-/// Makes the calls of a text's rows, and counts the rows and those that differ. A line that is empty, or a heading, is
-/// no row.
+/// Makes the calls of a text's cases, and counts the cases and those that differ. Skips empty lines and headings, which
+/// begin with `#`.
 fn say_rows<R: Print + AllocGlobal>(
     rt: &R,
     subjects: &mut Subjects,
@@ -116,7 +116,7 @@ fn say_rows<R: Print + AllocGlobal>(
     Ok((rows, differing))
 }
 
-/// Makes the calls of a text's rows where nothing has happened.
+/// Makes the calls of a text's cases on new subjects.
 fn say_text<R: Print + AllocGlobal>(rt: &R, name: &str, text: &str) -> Result<(u64, u64), Error> {
     let mut subjects = Subjects::new(rt.alloc());
     let counts = say_rows(rt, &mut subjects, name, text);
@@ -124,7 +124,8 @@ fn say_text<R: Print + AllocGlobal>(rt: &R, name: &str, text: &str) -> Result<(u
     counts
 }
 
-/// Prints that a file's rows are as wanted, where none differs. A file without rows differs.
+/// Prints that all cases of a file are as expected, if none differs, and returns the number that differ. A file without
+/// cases counts as one that differs.
 fn say_count<R: Print + AllocGlobal>(rt: &R, name: &str, counts: (u64, u64)) -> Result<u64, Error> {
     let (rows, differing) = counts;
     if rows == 0 {
@@ -143,15 +144,15 @@ fn say_count<R: Print + AllocGlobal>(rt: &R, name: &str, counts: (u64, u64)) -> 
     Ok(differing)
 }
 
-/// Reads the rows of a file, and counts those that differ.
+/// Reads the cases of a file, and counts those that differ.
 fn say_file<R: Files + Print + AllocGlobal>(rt: &R, name: &str) -> Result<u64, Error> {
     let text = fs::read_to_string(rt, name)?;
     let counts = say_text(rt, name, &text)?;
     say_count(rt, name, counts)
 }
 
-/// Makes the calls of the rows of all files, each on subjects of its own, and prints of each that all is as wanted, or
-/// each row that differs. An error where rows differ, or a file cannot be read.
+/// Makes the calls of all files' cases, each file on subjects of its own. Prints for each file that all is as expected,
+/// or each case that differs. Fails if a case differs or a file cannot be read.
 pub fn say_files<R: Files + Print + AllocGlobal>(rt: &R, names: &[String]) -> Result<(), Error> {
     let mut differing = 0u64;
     for name in names {

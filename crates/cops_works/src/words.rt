@@ -1,5 +1,5 @@
-//! The words of rows and of other files: what they stand for, numbers, keys, values, versions, dependencies,
-//! operations, outcomes, and the events of a node and of a world; and the words that tell such.
+//! The words of test cases and of other files: reading what they stand for (numbers, keys, values, versions,
+//! dependencies, operations, outcomes, and the events of a node and of a world), and writing it.
 mod hex;
 mod nodes;
 mod outcomes;

@@ -23,7 +23,7 @@ fn events_of(alloc: Global, text: &str) -> Result<Vec<Event>, Error> {
     Ok(events)
 }
 
-/// A world of so many data centres, and of so many clients who live at them in turn.
+/// A world of `dcs` data centres and `clients` clients, which are distributed over the data centres in turn.
 fn open(alloc: Global, dcs: u8, clients: u16) -> Result<World, Error> {
     let mut homes = Vec::new(alloc);
     for client in 0..clients {
@@ -32,14 +32,15 @@ fn open(alloc: Global, dcs: u8, clients: u16) -> Result<World, Error> {
     Ok(World::open(alloc, Place::new(dcs, Vec::new(alloc))?, homes)?)
 }
 
-/// Lets the events happen in a world, and counts the operations that it records.
+/// Applies the events to a world, and counts the operations that it records.
 fn run(world: &mut World, events: &[Event]) -> Result<usize, Error> {
     let outcomes = world.run(events)?;
     drop(outcomes);
     Ok(world.history().len())
 }
 
-/// Lets the events happen in a world of so many data centres and clients, and counts the operations that it records.
+/// Applies the events to a new world of the given numbers of data centres and clients, and counts the operations that
+/// it records.
 fn count(alloc: Global, events: &[Event], of: (u8, u16)) -> Result<usize, Error> {
     let (dcs, clients) = of;
     let mut world = open(alloc, dcs, clients)?;
@@ -54,8 +55,8 @@ fn say<R: Print + AllocGlobal>(rt: &R, events: &[Event], of: (u8, u16)) -> Resul
     Ok(())
 }
 
-/// Reads the events of a file and, where the mode is `run`, lets them happen in a world of so many data centres and
-/// clients.
+/// Reads the events of a file and, if the mode is `run`, applies them to a new world of the given numbers of data
+/// centres and clients.
 pub fn happen<R: Files + Print + AllocGlobal>(
     rt: &R,
     path: &str,

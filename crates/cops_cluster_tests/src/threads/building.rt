@@ -1,4 +1,4 @@
-//! What the tests of clusters share.
+//! Helpers of the tests of clusters.
 use cops_cluster::{Cluster, Opened};
 use cops_place::Place;
 use cops_types::{Format, Key, TypeFault, Value};
@@ -14,7 +14,7 @@ pub fn pair(alloc: Global, byte: u8) -> Result<(Key, Value), TypeFault> {
     cops_testing::pair(alloc, &[byte], b"1")
 }
 
-/// A place of so many data centres, each with one node or with two whose ranges meet at `m`.
+/// A place of `dcs` data centres, each with one node or with two whose ranges meet at `m`.
 fn place(alloc: Global, dcs: u8, is_split: bool) -> Result<Place, Fail> {
     let mut splits = Vec::new(alloc);
     if is_split {
@@ -23,14 +23,14 @@ fn place(alloc: Global, dcs: u8, is_split: bool) -> Result<Place, Fail> {
     Ok(Place::new(dcs, splits)?)
 }
 
-/// A cluster at such a place, with clients in these data centres.
+/// A cluster at such a place, with one client in each of these data centres.
 pub fn opened(alloc: Global, dcs: u8, is_split: bool, homes: &[u8]) -> Result<Opened, Fail> {
     let homes = Vec::from_slice(alloc, homes)?;
     let place = place(alloc, dcs, is_split)?;
     Ok(Cluster::open(alloc, place, homes)?)
 }
 
-/// A cluster of a format with one node in each of so many data centres, and with clients in these.
+/// A cluster of a format with one node in each of `dcs` data centres, and one client in each of these.
 pub fn opened_in(format: Format, alloc: Global, dcs: u8, homes: &[u8]) -> Result<Opened, Fail> {
     let homes = Vec::from_slice(alloc, homes)?;
     let place = place(alloc, dcs, false)?;

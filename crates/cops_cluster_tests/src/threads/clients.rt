@@ -12,8 +12,7 @@ use std::test::Fail;
 use std::thread;
 use std::thread::Threads;
 
-/// A word for what an outcome tells. A put, a deletion and a get have theirs where the version is this one, and the
-/// value 1.
+/// A word for an outcome. A put, a deletion and a get have one only if the version is `of`, and the value 1.
 fn word(outcome: &Outcome, of: Version) -> &'static str {
     match outcome {
         Outcome::PutDone(version) if *version == of => "put",
@@ -35,7 +34,7 @@ fn word(outcome: &Outcome, of: Version) -> &'static str {
     }
 }
 
-/// The word of an answer, which is let go.
+/// The word for an answer. Drops the answer.
 pub fn told(answer: Result<Outcome, GateHeld>, of: Version) -> &'static str {
     let told = match &answer {
         Ok(outcome) => word(outcome, of),
@@ -45,7 +44,7 @@ pub fn told(answer: Result<Outcome, GateHeld>, of: Version) -> &'static str {
     told
 }
 
-/// What is told of a put of 1 at a key, which is to have this version.
+/// The word for the answer to a put of 1 at a key, which should get this version.
 fn put<R: Wait, G: Gate>(
     rt: &R,
     alloc: Global,
@@ -59,7 +58,7 @@ fn put<R: Wait, G: Gate>(
     Ok(told(cluster.put(rt, client, gate, key, value), of))
 }
 
-/// What is told of a deletion of a key, which is to have this version.
+/// The word for the answer to a deletion of a key, which should get this version.
 fn del<R: Wait>(
     rt: &R,
     alloc: Global,
@@ -72,7 +71,7 @@ fn del<R: Wait>(
     Ok(told(cluster.del(rt, client, &OpenGate, key), of))
 }
 
-/// What is told of a get of a key, which is to have this version.
+/// The word for the answer to a get of a key, which should find this version.
 fn get<R: Wait>(
     rt: &R,
     alloc: Global,
@@ -85,7 +84,7 @@ fn get<R: Wait>(
     Ok(told(cluster.get(rt, client, &OpenGate, key), of))
 }
 
-/// A client gets what it put, and misses another key.
+/// A client gets what it put, and finds nothing at another key.
 fn gets_what_it_put<R: Wait + Abort>(
     rt: &R,
     alloc: Global,
@@ -100,7 +99,7 @@ fn gets_what_it_put<R: Wait + Abort>(
     Ok(())
 }
 
-/// The same of the only client of an opened cluster, which has one share more and one node.
+/// Like `gets_what_it_put`, for the only client of a new cluster, which has one more share and one node.
 fn only_client_gets<R: Wait + Abort>(
     rt: &R,
     alloc: Global,
@@ -121,7 +120,7 @@ fn a_client_gets_what_it_put(rt: HostRuntime) -> Result<(), Fail> {
     Ok(told?)
 }
 
-/// A client gets what it deleted as gone, also a key that it never put, and puts again.
+/// A client gets a key that it deleted as gone, even one that it never put, and then puts again.
 fn finds_what_it_deleted<R: Wait + Abort>(
     rt: &R,
     alloc: Global,
@@ -156,7 +155,7 @@ fn deletes_nothing<R: Wait + Abort>(
     Ok(())
 }
 
-/// The first of them of the only client of a cluster of format 2, and the second where it is of format 1.
+/// `finds_what_it_deleted` for the only client of a cluster of format 2, and `deletes_nothing` for format 1.
 fn only_client_deletes<R: Wait + Abort>(
     rt: &R,
     alloc: Global,
@@ -181,7 +180,7 @@ fn a_client_deletes_in_format_2(rt: HostRuntime) -> Result<(), Fail> {
     Ok(())
 }
 
-/// Whether a put, a deletion and a get of a client of another cluster are refused as those of no client.
+/// Whether a put, a deletion and a get of a client of another cluster are refused as those of an unknown client.
 fn of_another<R: Wait>(
     rt: &R,
     alloc: Global,
@@ -222,7 +221,7 @@ fn a_client_that_is_not_there_is_refused(rt: HostRuntime) -> Result<(), Fail> {
     Ok(())
 }
 
-/// Whether the answer tells that a put was done. It is let go.
+/// Whether the answer says that a put was done. Drops the answer.
 fn is_done(answer: Result<Outcome, GateHeld>) -> bool {
     let is_done = matches!(&answer, Ok(Outcome::PutDone(_)));
     drop(answer);
@@ -244,7 +243,7 @@ fn puts<R: Wait, G: Gate>(
     }
 }
 
-/// Whether clients 1 and 2, one at each of two nodes, put in steps that stand side by side.
+/// Whether clients 1 and 2, each at another of two nodes, put in steps that run in parallel.
 fn meet<R: Threads + Wait + Sync + Abort>(rt: &R, alloc: Global, opened: &mut Opened) -> bool {
     let Opened {
         cluster,
@@ -278,7 +277,7 @@ fn two_puts_stand_in_their_steps_at_once(rt: HostRuntime) -> Result<(), Fail> {
 /// Holds each step of client 0 under the node's lock.
 const HOLDING: HoldsSteps = HoldsSteps { client: 0 };
 
-/// A put of client 0 is held and makes no entry, and then one of client 1 is done and makes one.
+/// A put of client 0 is held and makes no entry, and then a put of client 1 is done and makes one.
 fn one_is_held<R: Wait + Abort>(rt: &R, alloc: Global, opened: &mut Opened) {
     let Opened {
         cluster,
@@ -331,7 +330,8 @@ fn put_of(
     })
 }
 
-/// What is told of a put of x at 1.0, or of y at another version that depends on it, as it comes into data centre 1.
+/// The word for the answer to a put of x at 1.0, or of y at another version that depends on it, when it is delivered to
+/// data centre 1.
 fn deliver<R: Wait>(
     rt: &R,
     alloc: Global,
@@ -344,7 +344,7 @@ fn deliver<R: Wait>(
     Ok(told(cluster.deliver(rt, share, &OpenGate, 1, put), of))
 }
 
-/// What is told as the put of a version is settled in a data centre.
+/// The word for the answer when the put of a version is settled in a data centre.
 fn settle<R: Wait>(
     rt: &R,
     cluster: &Cluster,
@@ -355,7 +355,7 @@ fn settle<R: Wait>(
     told(cluster.settle(rt, share, &OpenGate, dc, of), of)
 }
 
-/// A word for the answer to a question, which is let go.
+/// A word for the answer to a question. Drops the answer.
 fn answered(asked: Result<Asked, GateHeld>) -> &'static str {
     let answered = match &asked {
         Ok(Asked::Yes(_)) => "yes",
@@ -366,7 +366,7 @@ fn answered(asked: Result<Asked, GateHeld>) -> &'static str {
     answered
 }
 
-/// What is answered where data centre 1 is asked whether exactly x at this version is settled there.
+/// The word for the answer when data centre 1 is asked whether exactly x at this version is settled there.
 fn ask<R: Wait>(
     rt: &R,
     alloc: Global,
@@ -380,7 +380,7 @@ fn ask<R: Wait>(
     Ok(answered(asked))
 }
 
-/// The put of x comes into data centre 1 twice, and is settled there.
+/// The put of x is delivered to data centre 1 twice, and settled there.
 fn comes_once<R: Wait + Abort>(
     rt: &R,
     alloc: Global,
@@ -397,8 +397,8 @@ fn comes_once<R: Wait + Abort>(
     Ok(())
 }
 
-/// Client 0 of data centre 0 puts x, which client 1 misses in data centre 1, into which it then comes: five entries are
-/// made there.
+/// Client 0 of data centre 0 puts x, which client 1 does not find in data centre 1, to which it is then delivered: five
+/// entries are made there.
 fn comes_over<R: Wait + Abort>(
     rt: &R,
     alloc: Global,
@@ -438,7 +438,7 @@ fn deletion_of_x(alloc: Global, version: Version) -> Result<PutRecord, TypeFault
     })
 }
 
-/// A deletion comes into data centre 1, where client 0 then finds it.
+/// A deletion is delivered to data centre 1, where client 0 then finds it.
 fn deletion_comes_over<R: Wait + Abort>(
     rt: &R,
     alloc: Global,
@@ -479,7 +479,7 @@ fn yes_of(asked: Result<Asked, GateHeld>) -> Result<Yes, Fail> {
     }
 }
 
-/// A put without dependencies comes into a data centre and is settled, and the node says so.
+/// A put without dependencies is delivered to a data centre and settled, and the node then answers that it is settled.
 fn settled<R: Wait>(
     rt: &R,
     alloc: Global,
@@ -498,7 +498,7 @@ fn settled<R: Wait>(
     yes_of(asked)
 }
 
-/// What is told where the answer is to mark the one dependency of y in data centre 1.
+/// The word for the outcome when `yes` is used to mark the one dependency of y in data centre 1.
 fn mark_y<R: Wait>(
     rt: &R,
     cluster: &Cluster,
@@ -509,7 +509,7 @@ fn mark_y<R: Wait>(
     told(cluster.mark(rt, share, &OpenGate, 1, y, 0, yes), y)
 }
 
-/// Whether the answer is refused as none for the one dependency of y, and the share gains nothing.
+/// Whether the answer is refused since it is not for the one dependency of y, and the share gains nothing.
 fn is_no_yes<R: Wait>(rt: &R, cluster: &Cluster, share: &mut Share, y: Version, yes: &Yes) -> bool {
     let entries = share.entries().len();
     mark_y(rt, cluster, share, y, yes) == "no yes" && share.entries().len() == entries
@@ -529,7 +529,7 @@ fn is_no_yes_of_z<R: Wait>(
     Ok(is_no_yes)
 }
 
-/// What is told where the Yes for x at 1.0 is to mark the one dependency of y.
+/// The word for the outcome when the Yes for x at 1.0 is used to mark the one dependency of y.
 fn mark_y_by_x<R: Wait>(
     rt: &R,
     alloc: Global,
@@ -551,8 +551,8 @@ fn node_of_y(alloc: Global, y: Version) -> Result<Node, TypeFault> {
     Ok(node)
 }
 
-/// Whether the Yes for x at 1.0 in data centre 0 allows to mark there the dependency of y, in data centre 1, and what
-/// is no dependency of y.
+/// Whether the Yes for x at 1.0 in data centre 0 allows marking the dependency of y there, the dependency of y in data
+/// centre 1, and an index that is no dependency of y.
 fn allowed(alloc: Global, elsewhere: &Yes, y: Version) -> Result<[bool; 3], TypeFault> {
     let node = node_of_y(alloc, y)?;
     let allowed = [
@@ -564,8 +564,8 @@ fn allowed(alloc: Global, elsewhere: &Yes, y: Version) -> Result<[bool; 3], Type
     Ok(allowed)
 }
 
-/// A put of y waits for x: the Yes for z marks nothing, nor does that for x of another data centre, and that for x
-/// does.
+/// A put of y waits for x: the Yes for z marks nothing, nor does the Yes for x of another data centre, but the Yes for
+/// x does.
 fn waits_for_x<R: Wait + Abort>(
     rt: &R,
     alloc: Global,
@@ -583,7 +583,7 @@ fn waits_for_x<R: Wait + Abort>(
     Ok(())
 }
 
-/// The same in an opened cluster of two data centres.
+/// Like `waits_for_x`, in a new cluster of two data centres.
 fn waits_in<R: Wait + Abort>(rt: &R, alloc: Global, opened: &mut Opened) -> Result<(), Fail> {
     let Opened {
         cluster,
@@ -639,7 +639,8 @@ fn put_all<R: Wait>(rt: &R, alloc: Global, opened: &mut Opened, keys: &[u8]) {
     }
 }
 
-/// A cluster with one node before its end, with its shares: client 0 was held, and client 1 put at each of these keys.
+/// A cluster with one node that is not closed yet, with its shares: client 0 was held, and client 1 put at each of
+/// these keys.
 fn before_the_end<R: Wait>(
     rt: &R,
     alloc: Global,
@@ -682,7 +683,7 @@ fn with_shares_of<R: Wait>(
     }
 }
 
-/// The same where a share is lost.
+/// Such a cluster without one of its shares.
 fn without_a_share<R: Wait>(rt: &R, alloc: Global) -> Result<(Cluster, Vec<Share>), Fail> {
     let (cluster, mut shares) = before_the_end(rt, alloc, b"xy")?;
     let lost = shares.pop();
@@ -690,7 +691,7 @@ fn without_a_share<R: Wait>(rt: &R, alloc: Global) -> Result<(Cluster, Vec<Share
     Ok((cluster, shares))
 }
 
-/// Whether it was closed, one node has two entries, and two operations are in the trace. What is left is let go.
+/// Whether the cluster was closed, its one node has two entries, and the trace has two operations. Drops what is left.
 fn has_two(ended: Result<Closed, CloseFault>) -> bool {
     let has_two = match &ended {
         Ok(Closed { books, trace }) => {
@@ -709,7 +710,7 @@ fn a_cluster_ends_with_its_entries(rt: HostRuntime) -> Result<(), Fail> {
     Ok(())
 }
 
-/// The ticket at which the books are not the shares, or none.
+/// The ticket at which the books differ from the shares, or none.
 fn ticket_of(ended: Result<Closed, CloseFault>) -> Option<u64> {
     let ticket = match &ended {
         Err(CloseFault::NotKept { ticket }) => Some(*ticket),
@@ -750,7 +751,7 @@ fn a_cluster_without_all_shares_comes_back(rt: HostRuntime) -> Result<(), Fail> 
     Ok(())
 }
 
-/// The difference of a cluster's entries, which are one list, from the shares, where nobody compared them as it ended.
+/// The difference of a closed cluster's entries, which are one list, from its shares, which closing did not compare.
 fn difference(alloc: Global, ended: &Result<Uncompared, CloseFault>) -> Result<Option<u64>, Fail> {
     match ended {
         Ok(Uncompared { closed, shares }) if closed.books.len() == 1 => {

@@ -9,7 +9,7 @@ use std::alloc::Global;
 use std::sync::Wait;
 use std::test::Fail;
 
-/// Two data centres of one node each, a client at each, the writer and the reader, and the receiver of the second one.
+/// Two data centres of one node each, a client in each, the writer and the reader, and the receiver of the second one.
 #[derive(Drop)]
 struct Scene {
     cluster: Cluster,
@@ -17,14 +17,14 @@ struct Scene {
     receiver: Receiver,
 }
 
-/// The same, with the sender of the first data centre.
+/// A scene together with the sender of the first data centre.
 #[derive(Drop)]
 struct Both {
     scene: Scene,
     sender: Sender,
 }
 
-/// What a turn or a drain told, as a number: how much was done, and what is above all such numbers for a fault.
+/// The result of a turn or a drain as a number: how much was done, or for a fault a number above all those.
 const MEMORY: u32 = 1_000;
 
 const HELD: u32 = 1_001;
@@ -46,7 +46,7 @@ fn turn_number(turn: Turn) -> u32 {
     }
 }
 
-/// The receiver takes from these links.
+/// A scene whose receiver takes from these links.
 fn with_receiver(alloc: Global, opened: Opened, links: Vec<LinkOut>) -> Result<Scene, Fail> {
     if opened.clients.len() != 2 {
         drop(opened);
@@ -68,7 +68,7 @@ fn with_receiver(alloc: Global, opened: Opened, links: Vec<LinkOut>) -> Result<S
     })
 }
 
-/// The receiver takes from this link.
+/// A scene whose receiver takes from this link.
 fn set_up(alloc: Global, link: LinkOut) -> Result<Scene, Fail> {
     let mut links = Vec::new(alloc);
     links.push(link)?;
@@ -76,14 +76,14 @@ fn set_up(alloc: Global, link: LinkOut) -> Result<Scene, Fail> {
     with_receiver(alloc, opened, links)
 }
 
-/// The sender of the first data centre, into this link.
+/// The sender of the first data centre, which sends into this link.
 fn sender_into(alloc: Global, link: LinkIn) -> Result<Sender, Memory> {
     let mut links = Vec::new(alloc);
     links.push(link)?;
     Sender::new(alloc, 0, links, 0)
 }
 
-/// A scene with the sender into this link.
+/// The scene together with a sender into this link.
 fn with_sender(alloc: Global, scene: Scene, link: LinkIn) -> Result<Both, Fail> {
     match sender_into(alloc, link) {
         Ok(sender) => Ok(Both { scene, sender }),
@@ -94,7 +94,7 @@ fn with_sender(alloc: Global, scene: Scene, link: LinkIn) -> Result<Both, Fail> 
     }
 }
 
-/// Both ends of a link of this capacity are driven.
+/// A scene with a sender and a receiver at the two ends of a link of this capacity.
 fn joined(alloc: Global, capacity: usize) -> Result<Both, Fail> {
     let (link_in, link_out) = link(alloc, capacity)?;
     match set_up(alloc, link_out) {
@@ -106,7 +106,7 @@ fn joined(alloc: Global, capacity: usize) -> Result<Both, Fail> {
     }
 }
 
-/// What a get shows: 1 for a value, 2 for a deletion. The answer is let go.
+/// What a get finds: 1 for a value, 2 for a deletion, otherwise 0. Drops the answer.
 fn shown(answer: Result<Outcome, GateHeld>) -> u32 {
     let shown = match &answer {
         Ok(Outcome::Got(_, _)) => 1,
@@ -138,7 +138,7 @@ impl Scene {
         Ok(())
     }
 
-    /// The writer puts `1` at each of these keys, one after the other: each put depends on the one before.
+    /// The writer puts `1` at each of these keys in order: each put depends on the one before.
     fn put_all<R: Wait>(&mut self, rt: &R, alloc: Global, keys: &[u8]) -> Result<(), TypeFault> {
         for byte in keys {
             self.put(rt, alloc, *byte)?;
@@ -146,7 +146,7 @@ impl Scene {
         Ok(())
     }
 
-    /// What the key shows to the reader: 1 for a value, 2 for a deletion.
+    /// What the reader finds at the key: 1 for a value, 2 for a deletion, otherwise 0.
     fn shows<R: Wait>(&mut self, rt: &R, alloc: Global, byte: u8) -> u32 {
         let Some(reader) = self.clients.get_mut(1) else {
             return 0;
@@ -174,19 +174,20 @@ impl Scene {
         ]
     }
 
-    /// Three turns of the receiver, what the key then shows to the reader, and how many entries the share has.
+    /// The results of three turns of the receiver, what the reader then finds at the key, and the number of entries of
+    /// the share.
     fn told<R: Wait>(&mut self, rt: &R, alloc: Global, byte: u8) -> [u32; 5] {
         let [first, second, third] = self.turns(rt, &OpenGate);
         let shown = self.shows(rt, alloc, byte);
         [first, second, third, shown, self.entries()]
     }
 
-    /// How many entries the receiver's share has.
+    /// The number of entries of the receiver's share.
     fn entries(&mut self) -> u32 {
         self.receiver.share().entries().len().min(1_000) as u32
     }
 
-    /// So many turns at most, until nothing is kept back.
+    /// Makes at most `turns` turns, until nothing is pending.
     fn drain<R: Wait, G: Gate>(&mut self, rt: &R, gate: &G, turns: u32) -> u32 {
         match self.receiver.drain(rt, &self.cluster, gate, turns) {
             Ok(()) => 0,
@@ -194,7 +195,7 @@ impl Scene {
         }
     }
 
-    /// Sends the puts that were issued in the first data centre, the last one first.
+    /// Sends the puts that were issued in the first data centre in reverse order.
     fn send_backwards<R: Wait>(
         &mut self,
         rt: &R,
@@ -209,7 +210,7 @@ impl Scene {
         sent
     }
 
-    /// The writer puts at these keys, and the puts are sent, the last one first.
+    /// The writer puts at these keys, and the puts are sent in reverse order.
     fn put_backwards<R: Wait>(
         &mut self,
         rt: &R,
@@ -223,7 +224,7 @@ impl Scene {
     }
 }
 
-/// Sends these puts, the last one first.
+/// Sends these puts in reverse order.
 fn send_backwards(alloc: Global, puts: &[PutRecord], link: &mut LinkIn) -> Result<(), Memory> {
     for put in puts.iter().rev() {
         let frame = Frame::of(alloc, put)?;
@@ -246,8 +247,8 @@ impl Both {
         [self.send(rt), self.send(rt)]
     }
 
-    /// Two turns of the sender, a drain of it that finds the link full, and three rounds, each of a drain of the
-    /// receiver and a turn of the sender.
+    /// Two turns of the sender, a drain of it that finds the link full, and three rounds, each a drain of the receiver
+    /// and a turn of the sender.
     fn one_by_one<R: Wait>(&mut self, rt: &R) -> [u32; 6] {
         let [first, second] = self.sends(rt);
         let mut told = [first, second, self.drain(rt, 2), 0, 0, 0];
@@ -258,7 +259,7 @@ impl Both {
         told
     }
 
-    /// So many turns of the sender at most, until nothing is kept back.
+    /// Makes at most `turns` turns of the sender, until nothing is left to send.
     fn drain<R: Wait>(&mut self, rt: &R, turns: u32) -> u32 {
         match self.sender.drain(rt, &self.scene.cluster, turns) {
             Ok(()) => 0,
@@ -267,7 +268,7 @@ impl Both {
     }
 }
 
-/// The writer has put at these keys, and the receiver's link has the puts, the last one first.
+/// A scene in which the writer has put at these keys, and the receiver's link has the puts in reverse order.
 fn backwards<R: Wait>(rt: &R, alloc: Global, keys: &[u8]) -> Result<Scene, Fail> {
     let (link_in, link_out) = link(alloc, MAX_CAPACITY)?;
     match set_up(alloc, link_out) {
@@ -279,7 +280,7 @@ fn backwards<R: Wait>(rt: &R, alloc: Global, keys: &[u8]) -> Result<Scene, Fail>
     }
 }
 
-/// The same in a scene, through the other end of the receiver's link.
+/// Puts at these keys in a scene, and sends the puts in reverse order through the other end of the receiver's link.
 fn sent_backwards<R: Wait>(
     rt: &R,
     alloc: Global,
@@ -298,7 +299,7 @@ fn sent_backwards<R: Wait>(
     }
 }
 
-/// Whether two puts come over in one turn, and are settled in the next.
+/// Whether two puts arrive in one turn, and are settled in the next.
 fn come_over<R: Wait>(rt: &R, alloc: Global, joined: &mut Both) -> Result<bool, TypeFault> {
     joined.scene.put_all(rt, alloc, b"xy")?;
     let sent = joined.sends(rt);
@@ -314,7 +315,7 @@ fn a_put_comes_into_the_other_data_centre(rt: HostRuntime) -> Result<(), Fail> {
     Ok(())
 }
 
-/// Whether a put and the deletion of its key come over in one turn, and are settled in the next.
+/// Whether a put and the deletion of its key arrive in one turn, and are settled in the next.
 fn deletion_comes_over<R: Wait>(
     rt: &R,
     alloc: Global,
@@ -354,7 +355,7 @@ fn asks(made: &Made) -> bool {
     matches!(&made.entry.event, NodeEvent::Ask { .. })
 }
 
-/// How many of these entries are questions.
+/// The number of questions among these entries.
 fn questions(entries: &[Made]) -> usize {
     entries.iter().filter(|made| asks(made)).count()
 }
@@ -399,7 +400,7 @@ fn are_in_order(entries: &[Made], last: u64) -> bool {
     before == last
 }
 
-/// Whether three puts come over one by one, in their order.
+/// Whether three puts arrive one by one, in order.
 fn come_in_order<R: Wait>(rt: &R, alloc: Global, joined: &mut Both) -> Result<bool, TypeFault> {
     joined.scene.put_all(rt, alloc, b"abc")?;
     let told = joined.one_by_one(rt);
@@ -422,12 +423,12 @@ const HOLDING: HoldsSteps = HoldsSteps { client: RECEIVER };
 /// Holds each caller of a receiver's step after the node's answer.
 const HOLDING_AFTER: HoldsAnswers = HoldsAnswers { client: RECEIVER };
 
-/// A receiver that is held by both gates.
+/// The results of a receiver that both gates hold.
 fn held<R: Wait>(rt: &R, scene: &mut Scene) -> [u32; 2] {
     [scene.drain(rt, &HOLDING, 9), scene.turn(rt, &HOLDING_AFTER)]
 }
 
-/// Whether both gates hold the receiver, and what it was held at is done in the turns after.
+/// Whether both gates hold the receiver, and the steps that were held happen in the turns after.
 fn loses_nothing<R: Wait>(rt: &R, alloc: Global, scene: &mut Scene) -> bool {
     held(rt, scene) == [HELD, HELD] && scene.told(rt, alloc, b'y') == [5, 0, 0, 1, 7]
 }
@@ -450,7 +451,7 @@ fn drains<R: Wait>(rt: &R, scene: &mut Scene) -> [u32; 3] {
     ]
 }
 
-/// Whether three turns are too few for three puts that come backwards, and one more is enough.
+/// Whether three turns are too few for three puts that arrive in reverse order, and one more is enough.
 fn reaches_limit<R: Wait>(rt: &R, alloc: Global, scene: &mut Scene) -> bool {
     drains(rt, scene) == [TURN_LIMIT, TURN_LIMIT, 0] && scene.shows(rt, alloc, b'z') == 1
 }
@@ -464,7 +465,7 @@ fn a_limit_of_turns(rt: HostRuntime) -> Result<(), Fail> {
     Ok(())
 }
 
-/// What drains tell where there is nothing to send and to settle, and how many entries there are.
+/// The results of drains where there is nothing to send and to settle, and the number of entries.
 fn nothing<R: Wait>(rt: &R, joined: &mut Both) -> [u32; 3] {
     [
         joined.drain(rt, 1),
@@ -473,7 +474,7 @@ fn nothing<R: Wait>(rt: &R, joined: &mut Both) -> [u32; 3] {
     ]
 }
 
-/// How many entries the receiver's share has once sender and receiver are ended.
+/// The number of entries of the receiver's share after sender and receiver have ended.
 fn left(both: Both) -> usize {
     let Both { scene, sender } = both;
     sender.finish();

@@ -6,7 +6,7 @@ use std::alloc::Global;
 use std::sync::Wait;
 use std::test::Fail;
 
-/// What is told of a put of a value of so many bytes, which is to have the version 1.0.
+/// The word for the answer to a put of a value of `bytes` bytes, which should get the version 1.0.
 fn put_long<R: Wait>(
     rt: &R,
     alloc: Global,

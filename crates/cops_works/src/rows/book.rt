@@ -1,4 +1,4 @@
-//! Rows of a node's book.
+//! Test cases of a node's book.
 
 use crate::words::Part::{At, Count, Number, Word};
 use crate::words::{
@@ -15,7 +15,7 @@ pub fn entries_text(alloc: Global, count: usize) -> Result<String, Error> {
     text(alloc, &[Count(count), Word(" entries")])
 }
 
-/// Begins a book anew.
+/// Replaces the book by a new one.
 fn begin(alloc: Global, book: &mut Book, words: &[&str]) -> Result<String, Error> {
     let [number] = words else {
         return Err(no_row());
@@ -59,7 +59,7 @@ fn mark_text(alloc: Global, version: Version, dep: u16) -> Result<String, Error>
     )
 }
 
-/// What a node's event is, and whose.
+/// What a node's event is, and which client or version it is of.
 fn event_text(alloc: Global, event: &NodeEvent) -> Result<String, Error> {
     match event {
         NodeEvent::Put { client, .. } => of_client(alloc, "put of client ", *client),
@@ -95,7 +95,7 @@ fn entry_text(alloc: Global, entry: &Entry) -> Result<String, Error> {
     entry_line(alloc, entry.ticket, &event, &outcome)
 }
 
-/// The entry at a place.
+/// The entry at an index.
 fn entry(alloc: Global, book: &Book, words: &[&str]) -> Result<String, Error> {
     let [index] = words else {
         return Err(no_row());
@@ -121,7 +121,7 @@ fn node(alloc: Global, book: &Book) -> Result<String, Error> {
     )
 }
 
-/// Closes the book, and begins that of node 0.
+/// Closes the book, and begins one of node 0.
 fn close(alloc: Global, book: &mut Book) -> Result<String, Error> {
     let entries = std::mem::replace(book, Book::open(alloc, 0)).into_entries();
     let count = entries.len();
@@ -129,7 +129,7 @@ fn close(alloc: Global, book: &mut Book) -> Result<String, Error> {
     entries_text(alloc, count)
 }
 
-/// The answer to a call of one word, behind which none may stand.
+/// The answer to a call of one word, which no other word may follow.
 fn ask(alloc: Global, book: &mut Book, what: &str, rest: &[&str]) -> Result<String, Error> {
     if !rest.is_empty() {
         return Err(no_row());

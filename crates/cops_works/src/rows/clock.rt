@@ -1,4 +1,4 @@
-//! Rows of a node's clock.
+//! Test cases of a node's clock.
 
 use crate::words::Part::{At, Number, Word};
 use crate::words::{no_node, no_row, only_version, text, u16_of};
@@ -6,12 +6,12 @@ use anyhow::Error;
 use cops_types::{Clock, NODES};
 use std::alloc::Global;
 
-/// Where the clock stands.
+/// The clock's reading.
 fn told(alloc: Global, clock: &Clock) -> Result<String, Error> {
     text(alloc, &[Word("at "), Number(clock.clock())])
 }
 
-/// Begins a clock anew.
+/// Replaces the clock by a new one.
 fn begin(alloc: Global, clock: &mut Clock, words: &[&str]) -> Result<String, Error> {
     let [number] = words else {
         return Err(no_row());
@@ -24,7 +24,7 @@ fn begin(alloc: Global, clock: &mut Clock, words: &[&str]) -> Result<String, Err
     told(alloc, clock)
 }
 
-/// The answer to a call of one word, behind which none may stand.
+/// The answer to a call of one word, which no other word may follow.
 fn ask(alloc: Global, clock: &mut Clock, what: &str, rest: &[&str]) -> Result<String, Error> {
     if !rest.is_empty() {
         return Err(no_row());

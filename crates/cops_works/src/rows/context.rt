@@ -1,4 +1,4 @@
-//! Rows of a client's context.
+//! Test cases of a client's context.
 
 use crate::words::Part::{Count, Word};
 use crate::words::{add_behind, format_of, key, no_row, pair, pair_text, text, u64_of, yes_or_no};
@@ -7,7 +7,7 @@ use cops_context::Context;
 use cops_types::{Dep, Version};
 use std::alloc::Global;
 
-/// How many pairs there are, and whether one more has room.
+/// How many pairs there are, and whether there is room for one more.
 fn counts(alloc: Global, context: &Context) -> Result<String, Error> {
     let pairs = Count(context.len());
     let room = if context.has_room() {
@@ -35,19 +35,19 @@ fn deps(alloc: Global, context: &Context) -> Result<String, Error> {
     told
 }
 
-/// Adds a pair, where room was made for it or not.
+/// Adds a pair, whether or not room was reserved for it.
 fn add(alloc: Global, context: &mut Context, words: &[&str]) -> Result<String, Error> {
     context.add(pair(alloc, words)?)?;
     counts(alloc, context)
 }
 
-/// Puts a pair in the place of all.
+/// Replaces all pairs by one.
 fn replace(alloc: Global, context: &mut Context, words: &[&str]) -> Result<String, Error> {
     context.replace(pair(alloc, words)?);
     counts(alloc, context)
 }
 
-/// Begins an empty context, of a format or, where none is named, of format 1.
+/// Begins an empty context, of the named format or else of format 1.
 fn begin(alloc: Global, context: &mut Context, words: &[&str]) -> Result<String, Error> {
     let empty = match words {
         [] => Context::new(alloc),
@@ -58,7 +58,7 @@ fn begin(alloc: Global, context: &mut Context, words: &[&str]) -> Result<String,
     counts(alloc, context)
 }
 
-/// Adds pairs of one key, whose versions have the clocks from 1 up to that of one word.
+/// Adds pairs of one key with the clocks from 1 up to the given number.
 fn fill(alloc: Global, context: &mut Context, words: &[&str]) -> Result<String, Error> {
     let [most] = words else {
         return Err(no_row());
@@ -71,7 +71,7 @@ fn fill(alloc: Global, context: &mut Context, words: &[&str]) -> Result<String, 
     counts(alloc, context)
 }
 
-/// The answer to a call of one word, behind which none may stand.
+/// The answer to a call of one word, which no other word may follow.
 fn ask(alloc: Global, context: &mut Context, what: &str, rest: &[&str]) -> Result<String, Error> {
     if !rest.is_empty() {
         return Err(no_row());

@@ -1,4 +1,4 @@
-//! Rows of explanations.
+//! Test cases of explanations.
 
 use crate::words::{add_behind, lossy, no_row, u32_of, word};
 use anyhow::{Error, bail};
@@ -8,7 +8,7 @@ use cops_trace::Trace;
 use cops_types::{History, Selection};
 use std::alloc::Global;
 
-/// The faults that words ask for.
+/// The selection of faults that words ask for.
 fn read_asked(words: &[&str]) -> Result<Selection, Error> {
     if let ["one", number] = words {
         return Ok(Selection::One(u32_of(number)?));
@@ -41,7 +41,7 @@ fn last_line(alloc: Global, told: &str) -> Result<String, Error> {
     word(alloc, last)
 }
 
-/// The bytes of what is explained of a history.
+/// The bytes of the explanation of a history.
 fn explained(alloc: Global, history: &History, words: &[&str]) -> Result<Vec<u8>, Error> {
     let asked = read_asked(words)?;
     let verdict = judge(alloc, history)?;
@@ -50,13 +50,13 @@ fn explained(alloc: Global, history: &History, words: &[&str]) -> Result<Vec<u8>
     Ok(told?)
 }
 
-/// What is explained of a history, as text.
+/// The text of the explanation of a history.
 fn told(alloc: Global, history: &History, words: &[&str]) -> Result<String, Error> {
     let bytes = explained(alloc, history, words)?;
     lossy(alloc, &bytes)
 }
 
-/// The answer to a call of the trace that there is: all lines, or the last one.
+/// The answer to a call on the current trace: all lines, or the last one. Fails if there is no trace.
 pub fn answer(alloc: Global, trace: &Option<Trace>, words: &[&str]) -> Result<String, Error> {
     let Some(trace) = trace else {
         bail!("there is no trace");

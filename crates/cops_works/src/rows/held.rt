@@ -1,4 +1,4 @@
-//! Rows of the puts that wait at a node.
+//! Test cases of the puts that wait at a node.
 
 use crate::words::Part::{At, Bytes, Count, Number, Word};
 use crate::words::{mark, no_row, only_version, put, text, word, yes_or_no};
@@ -76,7 +76,7 @@ fn has(alloc: Global, held: &Held, words: &[&str]) -> Result<String, Error> {
     yes_or_no(alloc, held.record(version).is_some())
 }
 
-/// The answer to a call of one word, behind which none may stand.
+/// The answer to a call of one word, which no other word may follow.
 fn ask(alloc: Global, held: &mut Held, what: &str, rest: &[&str]) -> Result<String, Error> {
     if !rest.is_empty() {
         return Err(no_row());

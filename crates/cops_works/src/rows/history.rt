@@ -1,4 +1,4 @@
-//! Rows of histories.
+//! Test cases of histories.
 
 use crate::words::Part::{Count, Word};
 use crate::words::{
@@ -17,7 +17,7 @@ fn counts(alloc: Global, history: &History) -> Result<String, Error> {
     )
 }
 
-/// Begins a history anew.
+/// Replaces the history by a new one.
 fn begin(alloc: Global, history: &mut Option<History>, clients: &str) -> Result<String, Error> {
     let opened = History::new(alloc, u16_of(clients)?)?;
     let told = counts(alloc, &opened);
@@ -53,7 +53,7 @@ pub fn name(words: &[&str]) -> Result<OpName, Error> {
     Ok(OpName { client, index })
 }
 
-/// What was done by the operation of a name.
+/// The operation of a name.
 pub fn op_at(alloc: Global, history: &History, words: &[&str]) -> Result<String, Error> {
     match history.op(name(words)?) {
         Some(op) => op_text(alloc, &op),
@@ -89,7 +89,7 @@ fn operations(alloc: Global, history: &History, words: &[&str]) -> Result<String
     }
 }
 
-/// How many gets are open; the one of a number; or the number of the one of a name.
+/// The number of pending reads; or the one at an index; or the index of the one of a name.
 fn open_gets(alloc: Global, history: &History, words: &[&str]) -> Result<String, Error> {
     if words.is_empty() {
         return text(alloc, &[Count(history.open_gets()), Word(" open gets")]);
@@ -106,7 +106,7 @@ fn open_gets(alloc: Global, history: &History, words: &[&str]) -> Result<String,
     }
 }
 
-/// Whether each put is above its session, or each of a client.
+/// Whether each put has a greater version than its session has seen before it; of all clients, or of one.
 fn above(alloc: Global, history: &History, words: &[&str]) -> Result<String, Error> {
     let is_above = match words {
         [] => history.are_puts_above(),
@@ -116,7 +116,7 @@ fn above(alloc: Global, history: &History, words: &[&str]) -> Result<String, Err
     yes_or_no(alloc, is_above)
 }
 
-/// The answer to a call of one word, behind which none may stand.
+/// The answer to a call of one word, which no other word may follow.
 fn ask(alloc: Global, history: &History, what: &str, rest: &[&str]) -> Result<String, Error> {
     if !rest.is_empty() {
         return Err(no_row());
@@ -128,7 +128,7 @@ fn ask(alloc: Global, history: &History, what: &str, rest: &[&str]) -> Result<St
     }
 }
 
-/// The answer to a call of the history that there is.
+/// The answer to a call on the current history.
 fn ask_any(alloc: Global, history: &mut History, words: &[&str]) -> Result<String, Error> {
     let [what, rest @ ..] = words else {
         return Err(no_row());

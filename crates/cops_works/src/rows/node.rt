@@ -1,4 +1,4 @@
-//! Rows of one node.
+//! Test cases of one node.
 
 use crate::words::Part::{Number, Word};
 use crate::words::{
@@ -10,7 +10,7 @@ use cops_node::{Node, NodeEvent, Outcome};
 use cops_types::NODES;
 use std::alloc::Global;
 
-/// Begins a node anew.
+/// Replaces the node by a new one.
 fn begin(alloc: Global, node: &mut Node, words: &[&str]) -> Result<String, Error> {
     let [number] = words else {
         return Err(no_row());
@@ -23,7 +23,7 @@ fn begin(alloc: Global, node: &mut Node, words: &[&str]) -> Result<String, Error
     text(alloc, &[Word("node "), Number(u64::from(node.number()))])
 }
 
-/// The node takes an event by that event's own call.
+/// Applies an event to the node by the event's own call.
 fn taken(node: &mut Node, event: NodeEvent) -> Outcome {
     match event {
         NodeEvent::Put {
@@ -59,7 +59,7 @@ fn call(alloc: Global, node: &mut Node, words: &[&str]) -> Result<String, Error>
     told_outcome(alloc, taken(node, event))
 }
 
-/// The node's clock, and how much there is in it.
+/// The node's clock, and the counts of its parts.
 fn status(alloc: Global, node: &Node, words: &[&str]) -> Result<String, Error> {
     if !words.is_empty() {
         return Err(no_row());

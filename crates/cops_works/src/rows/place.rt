@@ -1,4 +1,4 @@
-//! Rows of where keys live.
+//! Test cases of the placement of keys.
 
 use crate::words::Part::{Number, Word};
 use crate::words::{key, keys, no_row, only_key, text, u8_of};
@@ -20,7 +20,7 @@ fn counts(alloc: Global, place: &Place) -> Result<String, Error> {
     )
 }
 
-/// The place of so many data centres and of split keys.
+/// The place with this number of data centres and these split keys.
 pub fn open(alloc: Global, dcs: &str, splits: &str) -> Result<Place, Error> {
     let dcs = u8_of(dcs)?;
     let splits = keys(alloc, splits)?;
@@ -49,7 +49,7 @@ fn node(alloc: Global, place: &Place, words: &[&str]) -> Result<String, Error> {
     text(alloc, &[Number(u64::from(node))])
 }
 
-/// The node in a copy of the place.
+/// The node of a key in a copy of the place.
 fn copy_node(alloc: Global, place: &Place, words: &[&str]) -> Result<String, Error> {
     let ["node", rest @ ..] = words else {
         return Err(no_row());
@@ -60,7 +60,7 @@ fn copy_node(alloc: Global, place: &Place, words: &[&str]) -> Result<String, Err
     told
 }
 
-/// Begins a place anew.
+/// Replaces the place by a new one.
 fn begin(
     alloc: Global,
     place: &mut Option<Place>,
@@ -73,7 +73,7 @@ fn begin(
     told
 }
 
-/// The answer to a call of the place that there is.
+/// The answer to a call on the current place.
 fn ask_any(alloc: Global, place: &Place, words: &[&str]) -> Result<String, Error> {
     let [what, rest @ ..] = words else {
         return Err(no_row());

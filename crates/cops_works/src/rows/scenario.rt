@@ -1,4 +1,4 @@
-//! Rows of scenario files.
+//! Test cases of scenario files.
 
 use crate::words::Part::{At, Bytes, Count, Number, Word};
 use crate::words::{line_of, no_row, outcome, text, usize_of, word};
@@ -27,7 +27,7 @@ fn counts(alloc: Global, scenario: &Scenario) -> Result<String, Error> {
     text(alloc, &parts)
 }
 
-/// Begins a scenario anew.
+/// Replaces the scenario by the one in a text.
 fn begin(alloc: Global, scenario: &mut Option<Scenario>, text: &str) -> Result<String, Error> {
     let read = Scenario::from_json(alloc, text.as_bytes())?;
     let told = counts(alloc, &read);
@@ -64,7 +64,7 @@ fn op_text(alloc: Global, op: &ScriptOp) -> Result<String, Error> {
     }
 }
 
-/// An operation of a script, by its client and its place.
+/// An operation of a script, by its client and its index.
 fn script(alloc: Global, scenario: &Scenario, words: &[&str]) -> Result<String, Error> {
     let [number, index] = words else {
         return Err(no_row());
@@ -105,7 +105,7 @@ fn client_put<'a>(
     text(alloc, &parts)
 }
 
-/// What a client does with a key.
+/// An event of a client on a key.
 fn client_does<'a>(
     alloc: Global,
     client: u16,
@@ -153,7 +153,7 @@ fn event_text(alloc: Global, event: &Event) -> Result<String, Error> {
     }
 }
 
-/// The event at a place of the list.
+/// The event at an index of the list.
 fn event(alloc: Global, scenario: &Scenario, words: &[&str]) -> Result<String, Error> {
     let [index] = words else {
         return Err(no_row());
@@ -182,7 +182,7 @@ fn line(alloc: Global, number: &str, words: &[&str]) -> Result<String, Error> {
     told
 }
 
-/// The answer to a call of one word, behind which none may stand.
+/// The answer to a call of one word, which no other word may follow.
 fn ask(alloc: Global, scenario: &Scenario, what: &str, rest: &[&str]) -> Result<String, Error> {
     if !rest.is_empty() {
         return Err(no_row());
@@ -198,7 +198,7 @@ fn ask(alloc: Global, scenario: &Scenario, what: &str, rest: &[&str]) -> Result<
     text(alloc, &[Number(number)])
 }
 
-/// The answer to a call of the scenario that there is.
+/// The answer to a call on the current scenario.
 fn ask_any(alloc: Global, scenario: &Scenario, words: &[&str]) -> Result<String, Error> {
     let [what, rest @ ..] = words else {
         return Err(no_row());

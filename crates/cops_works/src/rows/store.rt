@@ -1,4 +1,4 @@
-//! Rows of a node's settled puts.
+//! Test cases of a node's settled puts.
 
 use crate::words::Part::{Count, Word};
 use crate::words::{key, no_row, only_key, pair, text, value, value_at, version, word, yes_or_no};
@@ -22,7 +22,7 @@ fn told(alloc: Global, settled: Settled) -> Result<String, Error> {
     word(alloc, told)
 }
 
-/// A put `KEY VALUE VERSION` is settled, or a deletion `KEY VERSION`.
+/// Settles a put `KEY VALUE VERSION`, or a deletion `KEY VERSION`.
 fn settle(alloc: Global, store: &mut Store, words: &[&str]) -> Result<String, Error> {
     if let [_, _] = words {
         let Dep { key, version } = pair(alloc, words)?;
@@ -54,7 +54,7 @@ fn get(alloc: Global, store: &Store, words: &[&str]) -> Result<String, Error> {
     told
 }
 
-/// The answer to a call of one word, behind which none may stand.
+/// The answer to a call of one word, which no other word may follow.
 fn ask(alloc: Global, store: &mut Store, what: &str, rest: &[&str]) -> Result<String, Error> {
     if !rest.is_empty() {
         return Err(no_row());

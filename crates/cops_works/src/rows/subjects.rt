@@ -1,4 +1,4 @@
-//! What rows act on.
+//! The values on which test cases act.
 
 use crate::rows::tie::Run;
 use crate::rows::{
@@ -20,7 +20,7 @@ use cops_types::{Clock, History};
 use cops_wire::Feeder;
 use std::alloc::Global;
 
-/// What rows of traces and messages act on.
+/// The values for cases of traces and messages.
 #[derive(Drop)]
 struct Traces {
     feeder: Feeder,
@@ -38,7 +38,7 @@ impl Traces {
     }
 }
 
-/// What rows of nodes act on.
+/// The values for cases of nodes.
 #[derive(Drop)]
 struct Nodes {
     book: Book,
@@ -62,7 +62,7 @@ impl Nodes {
     }
 }
 
-/// What rows of worlds act on.
+/// The values for cases of worlds.
 #[derive(Drop)]
 struct Worlds {
     place: Option<Place>,
@@ -92,7 +92,7 @@ impl Worlds {
     }
 }
 
-/// What the rows of one file act on, each on what those before it made.
+/// The values on which the cases of one file act. Each case finds what those before it left.
 #[derive(Drop)]
 pub struct Subjects {
     traces: Traces,
@@ -101,7 +101,7 @@ pub struct Subjects {
 }
 
 impl Subjects {
-    /// Nothing has happened.
+    /// The subjects before the first case.
     pub fn new(alloc: Global) -> Self {
         Subjects {
             traces: Traces::new(alloc),
@@ -110,7 +110,7 @@ impl Subjects {
         }
     }
 
-    /// The answer to a row that acts on nodes or on worlds.
+    /// The answer to a case that acts on nodes or on worlds.
     fn answer_of_nodes(&mut self, alloc: Global, on: &str, call: &[&str]) -> Result<String, Error> {
         match on {
             "book" => book::answer(alloc, &mut self.nodes.book, call),
@@ -123,7 +123,7 @@ impl Subjects {
         }
     }
 
-    /// The answer to a row's words, of which the first names what it acts on.
+    /// The answer to a case's words. The first word names the subject.
     pub fn answer(&mut self, alloc: Global, words: &[&str]) -> Result<String, Error> {
         let [on, call @ ..] = words else {
             return Err(no_row());

@@ -1,4 +1,4 @@
-//! Rows of what the books of a run are told to be.
+//! Test cases of tying the books of a run to one world.
 
 use crate::rows::book::entries_text;
 use crate::rows::trace::add;
@@ -20,7 +20,7 @@ pub struct Run {
     trace: Trace,
 }
 
-/// A run of a scenario, in which nothing has happened.
+/// A run of a scenario before the first event.
 fn run_of(alloc: Global, scenario: &Scenario) -> Result<Run, Error> {
     let trace = Trace::new_in(scenario.format(), alloc, scenario.clients().len() as u16)?;
     let setting = scenario.setting(alloc)?;
@@ -31,7 +31,7 @@ fn run_of(alloc: Global, scenario: &Scenario) -> Result<Run, Error> {
     })
 }
 
-/// The same of a scenario's text.
+/// Like `run_of`, of the scenario in a text.
 fn open(alloc: Global, text: &str) -> Result<Run, Error> {
     let scenario = Scenario::from_json(alloc, text.as_bytes())?;
     let run = run_of(alloc, &scenario);
@@ -39,7 +39,7 @@ fn open(alloc: Global, text: &str) -> Result<Run, Error> {
     run
 }
 
-/// Begins a run anew.
+/// Replaces the run by a new one.
 fn begin(alloc: Global, run: &mut Option<Run>, text: &str) -> Result<String, Error> {
     drop(run.replace(open(alloc, text)?));
     word(alloc, "opened")
@@ -61,7 +61,7 @@ fn made(alloc: Global, ticket: u64, event: &[&str], told: &[&str]) -> Result<Ent
     }
 }
 
-/// An entry, whose event and outcome stand beside `->`.
+/// An entry, with `->` between its event and its outcome.
 fn entry(alloc: Global, ticket: &str, words: &[&str]) -> Result<Entry, Error> {
     let ticket = u64_of(ticket)?;
     let sides = parts(alloc, words, "->")?;
@@ -90,7 +90,7 @@ fn record(alloc: Global, trace: &mut Trace, words: &[&str]) -> Result<String, Er
     text(alloc, &[Count(trace.len()), Word(" records")])
 }
 
-/// How many events the book tells.
+/// The number of events in the book, if it ties.
 fn tied(alloc: Global, run: &Run, words: &[&str]) -> Result<String, Error> {
     if !words.is_empty() {
         return Err(no_row());
@@ -105,7 +105,7 @@ fn tied(alloc: Global, run: &Run, words: &[&str]) -> Result<String, Error> {
     text(alloc, &[Count(count), Word(" events")])
 }
 
-/// The answer to a call of the run that there is.
+/// The answer to a call on the current run.
 fn ask_any(alloc: Global, run: &mut Run, words: &[&str]) -> Result<String, Error> {
     let [what, rest @ ..] = words else {
         return Err(no_row());

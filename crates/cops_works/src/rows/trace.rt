@@ -1,4 +1,4 @@
-//! Rows of traces.
+//! Test cases of traces.
 
 use crate::rows::history::op_at;
 use crate::words::Part::{Count, Number, Word};
@@ -28,7 +28,7 @@ fn kept(alloc: Global, trace: &mut Option<Trace>, read: Trace) -> Result<String,
     told
 }
 
-/// Begins a trace anew: of so many clients, and of format 1, or of the one behind them.
+/// Begins an empty trace with a number of clients, of format 1 or of the format that follows the number.
 fn begin(alloc: Global, trace: &mut Option<Trace>, words: &[&str]) -> Result<String, Error> {
     let opened = match words {
         [clients] => Trace::new(alloc, u16_of(clients)?)?,
@@ -45,13 +45,13 @@ fn line(alloc: Global, fault: &TraceFault) -> Result<String, Error> {
     line_of(alloc, &bytes)
 }
 
-/// The trace of bytes that come in pieces of so many.
+/// The trace of bytes that a reader gives in pieces of `piece` bytes.
 fn read_pieces(alloc: Global, piece: usize, bytes: &[u8]) -> Result<Trace, TraceFault> {
     let mut reader = Counted::new(FailingReader::new(bytes, 1_000_000, 1_000_000, piece));
     read_trace(alloc, &mut reader)
 }
 
-/// Begins the trace that bytes are, or tells their first fault.
+/// Reads the trace in bytes and keeps it, or reports the first fault.
 fn read(alloc: Global, trace: &mut Option<Trace>, words: &[&str]) -> Result<String, Error> {
     let [piece, word] = words else {
         return Err(no_row());
@@ -64,7 +64,7 @@ fn read(alloc: Global, trace: &mut Option<Trace>, words: &[&str]) -> Result<Stri
     }
 }
 
-/// The fault of a trace, or else of what stands whole at the front, of whose bytes only so many pieces come.
+/// The fault of reading a whole trace, or a prefix of one, from a reader that fails after `reads` pieces.
 fn fault_of(
     alloc: Global,
     is_trace: bool,
@@ -87,7 +87,7 @@ fn fault_text(alloc: Global, fault: Option<TraceFault>) -> Result<String, Error>
     }
 }
 
-/// The first fault of bytes, of which only so many pieces of so many come.
+/// The first fault of bytes that come from a reader which fails after a number of pieces.
 fn failing(alloc: Global, words: &[&str]) -> Result<String, Error> {
     let [what, reads, piece, word] = words else {
         return Err(no_row());
@@ -103,7 +103,7 @@ fn failing(alloc: Global, words: &[&str]) -> Result<String, Error> {
     fault_text(alloc, fault_of(alloc, is_trace, &bytes, reads, piece))
 }
 
-/// What stands whole in bytes before a cut.
+/// The whole records in bytes before a cut.
 fn whole(alloc: Global, bytes: &[u8]) -> Result<Partial, Error> {
     let mut reader = Counted::new(bytes);
     Ok(read_so_far(alloc, &mut reader)?)
@@ -117,7 +117,7 @@ fn partial_text(alloc: Global, partial: &Partial) -> Result<String, Error> {
     }
 }
 
-/// How much stands whole before a cut.
+/// How many whole records stand before a cut, and where it is.
 fn front(alloc: Global, words: &[&str]) -> Result<String, Error> {
     let [word] = words else {
         return Err(no_row());
@@ -142,7 +142,7 @@ fn write(alloc: Global, trace: &Trace) -> Result<String, Error> {
     digits(alloc, &bytes)
 }
 
-/// The bytes that a device takes which fails once it has so many, and why no more of the trace was written.
+/// The bytes that a device takes which fails after `bytes` bytes, and why no more of the trace was written.
 fn cut_short(alloc: Global, trace: &Trace, bytes: u64) -> (Vec<u8>, Option<WriteFault>) {
     let device = FailingWriter::new(Vec::new(alloc), 100, bytes, 5);
     let mut writer = Counted::new(device);
@@ -154,7 +154,7 @@ fn short_line<'a>(alloc: Global, fault: &'a str, taken: &'a str) -> Result<Strin
     text(alloc, &[Word(fault), Word(": "), Word(taken)])
 }
 
-/// The bytes that a device takes which fails once it has so many, and what is told then.
+/// The bytes that a device takes which fails after a number of bytes, and the fault then reported.
 fn short(alloc: Global, trace: &Trace, words: &[&str]) -> Result<String, Error> {
     let [bytes] = words else {
         return Err(no_row());
@@ -168,7 +168,7 @@ fn short(alloc: Global, trace: &Trace, words: &[&str]) -> Result<String, Error> 
     short_line(alloc, &told, &taken)
 }
 
-/// Adds an operation to a trace that may have it in its format.
+/// Adds an operation to a trace. Fails if the trace's format does not have the operation.
 pub fn add(trace: &mut Trace, client: u16, op: Op) -> Result<(), Error> {
     if !op.in_format(trace.format()) {
         drop(op);
@@ -187,7 +187,7 @@ fn push(alloc: Global, trace: &mut Trace, words: &[&str]) -> Result<String, Erro
     counts(alloc, trace)
 }
 
-/// The answer to a call of one word, behind which none may stand.
+/// The answer to a call of one word, which no other word may follow.
 fn ask(alloc: Global, trace: &Trace, what: &str, rest: &[&str]) -> Result<String, Error> {
     if !rest.is_empty() {
         return Err(no_row());
@@ -201,7 +201,7 @@ fn ask(alloc: Global, trace: &Trace, what: &str, rest: &[&str]) -> Result<String
     }
 }
 
-/// The answer to a call of the trace that there is.
+/// The answer to a call on the current trace.
 fn ask_any(
     alloc: Global,
     trace: &mut Option<Trace>,

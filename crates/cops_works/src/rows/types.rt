@@ -1,4 +1,4 @@
-//! Rows of keys, values, versions and dependencies.
+//! Test cases of keys, values, versions and dependencies.
 
 use crate::rows::history;
 use crate::words::Part::{At, Count, Number, Word};
@@ -10,7 +10,7 @@ use anyhow::Error;
 use cops_types::{Format, Key, Value, Version};
 use std::alloc::Global;
 
-/// So many bytes, of the number of one word.
+/// As many bytes as the one word says.
 fn letters(alloc: Global, words: &[&str]) -> Result<Vec<u8>, Error> {
     let [count] = words else {
         return Err(no_row());
@@ -32,7 +32,7 @@ fn key_of(alloc: Global, words: &[&str]) -> Result<String, Error> {
     told
 }
 
-/// The value of so many bytes, in a format or, where none is named, in format 1.
+/// The value with a number of bytes, in the named format or else in format 1.
 fn value_of(alloc: Global, words: &[&str]) -> Result<String, Error> {
     let (count, format) = match words {
         [count] => (*count, Format::One),
@@ -46,7 +46,7 @@ fn value_of(alloc: Global, words: &[&str]) -> Result<String, Error> {
     told
 }
 
-/// Whether two keys are the same, or one stands before the other.
+/// Whether two keys are equal, or one is less than the other.
 fn keys(alloc: Global, words: &[&str]) -> Result<String, Error> {
     let [one, how, other] = words else {
         return Err(no_row());
@@ -123,7 +123,7 @@ fn pairs(alloc: Global, words: &[&str]) -> Result<String, Error> {
     text(alloc, &[Count(count), Word(" pairs")])
 }
 
-/// The copy of what a client did.
+/// A copy of a client's operation.
 fn op_copy(alloc: Global, words: &[&str]) -> Result<String, Error> {
     let op = op(alloc, words)?;
     let copy: Result<_, _> = op.clone();

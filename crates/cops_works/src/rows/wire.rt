@@ -1,4 +1,4 @@
-//! Rows of frames.
+//! Test cases of frames.
 
 use crate::words::Part::{Count, Number, Word};
 use crate::words::{
@@ -72,7 +72,7 @@ fn spelled(alloc: Global, message: &Message) -> Result<Vec<u8>, Error> {
     Ok(spelling)
 }
 
-/// The bytes of the message at the front, spelled anew.
+/// The encoding of the message at the front.
 fn spell(alloc: Global, words: &[&str]) -> Result<String, Error> {
     let front = front(alloc, words)?;
     let spelling = spelled(alloc, &front.message);
@@ -80,7 +80,7 @@ fn spell(alloc: Global, words: &[&str]) -> Result<String, Error> {
     digits(alloc, &spelling?)
 }
 
-/// Adds the line of a message that so many bytes completed.
+/// Adds the line of a message that was complete after `count` bytes.
 fn push_line(alloc: Global, lines: &mut String, count: u64, message: Message) -> Result<(), Error> {
     let line = line(alloc, &message);
     drop(message);
@@ -88,7 +88,7 @@ fn push_line(alloc: Global, lines: &mut String, count: u64, message: Message) ->
     Ok(lines.push_str(&one)?)
 }
 
-/// One byte comes, and the line of what it completes is added.
+/// Feeds one byte, and adds the line of the frame that it completes.
 fn feed_byte(
     alloc: Global,
     feeder: &mut Feeder,
@@ -103,7 +103,8 @@ fn feed_byte(
     }
 }
 
-/// Bytes come one by one: the line of each frame that they complete, behind the number of bytes then fed.
+/// Feeds bytes one by one, and returns the line of each frame that they complete, after the number of bytes fed by
+/// then.
 fn feed(alloc: Global, feeder: &mut Feeder, words: &[&str]) -> Result<String, Error> {
     let [word] = words else {
         return Err(no_row());
@@ -118,7 +119,7 @@ fn feed(alloc: Global, feeder: &mut Feeder, words: &[&str]) -> Result<String, Er
     Ok(lines)
 }
 
-/// A piece comes: whether it leaves a faulty frame, and not one that is not whole.
+/// Feeds a piece, and returns whether it leaves a faulty frame rather than an incomplete one.
 fn feed_piece(feeder: &mut Feeder, piece: &[u8]) -> Result<bool, Error> {
     feeder.feed(piece)?;
     match feeder.next() {
@@ -131,7 +132,8 @@ fn feed_piece(feeder: &mut Feeder, piece: &[u8]) -> Result<bool, Error> {
     }
 }
 
-/// So many pieces of a thousand like bytes come: how many leave a frame that is not whole, and how many a faulty one.
+/// Feeds `count` pieces of a thousand equal bytes, and counts the pieces that leave an incomplete frame and those that
+/// leave a faulty one.
 fn flood(alloc: Global, feeder: &mut Feeder, words: &[&str]) -> Result<String, Error> {
     let [count, byte] = words else {
         return Err(no_row());
@@ -173,7 +175,7 @@ fn pair_message(name: &str, first: &str, second: &str) -> Result<Message, Error>
     }
 }
 
-/// A message of two numbers, or an answer to a status, of counts of 1.
+/// A message of two numbers, or an answer to a status, whose counts are 1.
 fn message(words: &[&str]) -> Result<Message, Error> {
     match words {
         ["StatusIs", clock] => Ok(Message::StatusIs {
@@ -207,7 +209,7 @@ fn is_legal(alloc: Global, words: &[&str]) -> Result<String, Error> {
     yes_or_no(alloc, is)
 }
 
-/// What comes next to the feeder is of a format.
+/// Sets the format of what the feeder is fed next.
 fn set_format(alloc: Global, feeder: &mut Feeder, words: &[&str]) -> Result<String, Error> {
     let [format] = words else {
         return Err(no_row());
@@ -216,7 +218,7 @@ fn set_format(alloc: Global, feeder: &mut Feeder, words: &[&str]) -> Result<Stri
     word(alloc, "set")
 }
 
-/// Begins a feeder anew.
+/// Replaces the feeder by a new one.
 fn begin(alloc: Global, feeder: &mut Feeder, words: &[&str]) -> Result<String, Error> {
     if !words.is_empty() {
         return Err(no_row());

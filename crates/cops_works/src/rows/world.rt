@@ -1,4 +1,4 @@
-//! Rows of the world.
+//! Test cases of the world.
 
 use crate::rows::place;
 use crate::words::Part::{Count, Word};
@@ -12,7 +12,7 @@ use cops_node::Outcome;
 use cops_types::Format;
 use std::alloc::Global;
 
-/// The clients of a word `DATA_CENTRE`, or `DATA_CENTRE*COUNT` for so many at it.
+/// Adds the clients of a word: `DATA_CENTRE` for one, or `DATA_CENTRE*COUNT` for `COUNT` of them.
 fn add_clients(homes: &mut Vec<u8>, word: &str) -> Result<(), Error> {
     let (dc, count) = match word.split_once('*') {
         Some(halves) => halves,
@@ -41,7 +41,7 @@ fn open(alloc: Global, format: Format, words: &[&str; 3]) -> Result<World, Error
     Ok(World::open_in(format, alloc, place, homes)?)
 }
 
-/// Begins a world of a format anew.
+/// Replaces the world by a new one of a format.
 fn begin(
     alloc: Global,
     world: &mut Option<World>,
@@ -59,7 +59,7 @@ fn apply(alloc: Global, world: &mut World, words: &[&str]) -> Result<String, Err
     told_outcome(alloc, world.apply(event))
 }
 
-/// The last outcome of the same event, so many times.
+/// Applies an event `count` times, and returns the last outcome.
 fn last(world: &mut World, count: u32, event: &Event) -> Outcome {
     let mut last = Outcome::Missed;
     for _ in 0..count {
@@ -68,7 +68,7 @@ fn last(world: &mut World, count: u32, event: &Event) -> Outcome {
     last
 }
 
-/// The same event so many times: the last outcome.
+/// Applies one event a number of times, and returns the words of the last outcome.
 fn again(alloc: Global, world: &mut World, words: &[&str]) -> Result<String, Error> {
     let [count, rest @ ..] = words else {
         return Err(no_row());
@@ -80,7 +80,7 @@ fn again(alloc: Global, world: &mut World, words: &[&str]) -> Result<String, Err
     told_outcome(alloc, last)
 }
 
-/// The events whose words stand between `/`.
+/// The events of words, separated by `/`.
 fn events(alloc: Global, words: &[&str]) -> Result<Vec<Event>, Error> {
     let mut events = Vec::new(alloc);
     let parts = parts(alloc, words, "/")?;
@@ -90,7 +90,7 @@ fn events(alloc: Global, words: &[&str]) -> Result<Vec<Event>, Error> {
     Ok(events)
 }
 
-/// What outcomes tell, with `/` between them.
+/// The words of outcomes, separated by `/`.
 fn outcomes_text(alloc: Global, outcomes: &[Outcome]) -> Result<String, Error> {
     let mut text = String::new(alloc);
     for outcome in outcomes {
@@ -118,7 +118,7 @@ fn count(alloc: Global, world: &World, words: &[&str]) -> Result<String, Error> 
     text(alloc, &[Count(world.history().len()), Word(" operations")])
 }
 
-/// The answer to a call of the world that there is.
+/// The answer to a call on the current world.
 fn ask_any(alloc: Global, world: &mut World, words: &[&str]) -> Result<String, Error> {
     let [what, rest @ ..] = words else {
         return Err(no_row());

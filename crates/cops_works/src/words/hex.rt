@@ -21,7 +21,7 @@ fn byte(digits: &[u8]) -> Result<u8, Error> {
     }
 }
 
-/// The bytes of a word of digits; `-` is none.
+/// The bytes of a word of digits; `-` stands for no bytes.
 pub fn bytes(alloc: Global, word: &str) -> Result<Vec<u8>, Error> {
     let mut bytes = Vec::new(alloc);
     if word != "-" {

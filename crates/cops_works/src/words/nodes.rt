@@ -1,5 +1,6 @@
-//! The events of a node: `put CLIENT KEY VALUE DEPS`, `del CLIENT KEY DEPS`, `get CLIENT KEY`, `deliver KEY VALUE
-//! VERSION DEPS`, and without a value of a deletion, `ask KEY VERSION`, `mark VERSION DEP`, `settle VERSION`.
+//! The events of a node: `put CLIENT KEY VALUE DEPS`, `del CLIENT KEY DEPS`, `get CLIENT KEY`,
+//! `deliver KEY VALUE VERSION DEPS`, which has no value for a deletion, `ask KEY VERSION`, `mark VERSION DEP`,
+//! `settle VERSION`.
 
 use crate::words::reading::{deps, key, mark, no_row, only_version, pair, put, u16_of, value};
 use anyhow::Error;
@@ -57,7 +58,7 @@ fn settle_event(words: &[&str]) -> Result<NodeEvent, Error> {
     Ok(NodeEvent::Settle { version })
 }
 
-/// The event of a node that words tell.
+/// The event of a node that words describe.
 pub fn node_event(alloc: Global, words: &[&str]) -> Result<NodeEvent, Error> {
     let [what, rest @ ..] = words else {
         return Err(no_row());

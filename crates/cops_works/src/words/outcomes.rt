@@ -1,4 +1,4 @@
-//! The words that tell a node's outcome.
+//! The words that describe a node's outcome.
 
 use crate::words::reading::{no_row, only_version, u8_of, value, version};
 use crate::words::texts::Part::{At, Bytes, Number, Word};
@@ -24,7 +24,7 @@ const REFUSALS: [Refusal; 12] = [
     Refusal::NotInFormat,
 ];
 
-/// The words of an outcome, as a run prints them; what a get found stands there with its value.
+/// The words of an outcome, as a run prints them; those of a get also have the value that it found.
 pub fn outcome_text(alloc: Global, outcome: &Outcome) -> Result<String, Error> {
     match outcome {
         Outcome::PutDone(version) => text(alloc, &[Word("done "), At(*version)]),
@@ -48,7 +48,7 @@ pub fn outcome_text(alloc: Global, outcome: &Outcome) -> Result<String, Error> {
     }
 }
 
-/// The words of an outcome, which is let go.
+/// The words of an outcome, which is consumed.
 pub fn told_outcome(alloc: Global, outcome: Outcome) -> Result<String, Error> {
     let told = outcome_text(alloc, &outcome);
     drop(outcome);
@@ -92,7 +92,7 @@ fn refused(words: &[&str]) -> Result<Outcome, Error> {
     Err(no_row())
 }
 
-/// The outcome of one word, behind which none may stand.
+/// The outcome of one word, which no other word may follow.
 fn plain(word: &str, rest: &[&str]) -> Result<Outcome, Error> {
     if !rest.is_empty() {
         return Err(no_row());
@@ -109,7 +109,7 @@ fn plain(word: &str, rest: &[&str]) -> Result<Outcome, Error> {
     }
 }
 
-/// The outcome that such words tell.
+/// The outcome that words describe.
 pub fn outcome(alloc: Global, words: &[&str]) -> Result<Outcome, Error> {
     let [what, rest @ ..] = words else {
         return Err(no_row());

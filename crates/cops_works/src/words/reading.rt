@@ -4,12 +4,12 @@ use anyhow::{Error, anyhow};
 use cops_types::{Dep, Deps, Format, Key, Op, PutRecord, Value, Version};
 use std::alloc::Global;
 
-/// The fault of words that are no row.
+/// The error for words that are not a test case.
 pub fn no_row() -> Error {
     anyhow!("not a row")
 }
 
-/// The fault of a node's number that is too great.
+/// The error for a node's number that is too great.
 pub fn no_node() -> Error {
     anyhow!("there is no such node")
 }
@@ -88,7 +88,7 @@ pub fn only_version(words: &[&str]) -> Result<Version, Error> {
     }
 }
 
-/// The version of a put, and the place of one of its dependencies: `VERSION DEP`.
+/// The version of a put, and the index of one of its dependencies: `VERSION DEP`.
 pub fn mark(words: &[&str]) -> Result<(Version, u16), Error> {
     let [at, dep] = words else {
         return Err(no_row());
@@ -176,7 +176,7 @@ pub fn put(alloc: Global, words: &[&str]) -> Result<PutRecord, Error> {
     }
 }
 
-/// A put `KEY VALUE VERSION`, or else a get that found it.
+/// A put `KEY VALUE VERSION`, or a get that found it.
 fn valued_op(alloc: Global, is_put: bool, words: &[&str]) -> Result<Op, Error> {
     let [name, bytes, at] = words else {
         return Err(no_row());
@@ -199,7 +199,7 @@ fn valued_op(alloc: Global, is_put: bool, words: &[&str]) -> Result<Op, Error> {
     }
 }
 
-/// A deletion `KEY VERSION`, or else a get that found it.
+/// A deletion `KEY VERSION`, or a get that found it.
 fn valueless_op(alloc: Global, is_deletion: bool, words: &[&str]) -> Result<Op, Error> {
     let Dep { key, version } = pair(alloc, words)?;
     if is_deletion {
@@ -209,7 +209,7 @@ fn valueless_op(alloc: Global, is_deletion: bool, words: &[&str]) -> Result<Op, 
     }
 }
 
-/// What a client did: `put KEY VALUE VERSION`, `del KEY VERSION`, `got KEY VALUE VERSION`, `gone KEY VERSION` or
+/// An operation of a client: `put KEY VALUE VERSION`, `del KEY VERSION`, `got KEY VALUE VERSION`, `gone KEY VERSION` or
 /// `missed KEY`.
 pub fn op(alloc: Global, words: &[&str]) -> Result<Op, Error> {
     let [what, rest @ ..] = words else {
@@ -227,12 +227,12 @@ pub fn op(alloc: Global, words: &[&str]) -> Result<Op, Error> {
     }
 }
 
-/// The words from one place to before another.
+/// The words from index `from` to before index `end`.
 fn part<'a>(words: &'a [&'a str], from: usize, end: usize) -> &'a [&'a str] {
     words.get(from..end).unwrap_or(&[])
 }
 
-/// The parts of words between which a sign stands.
+/// The parts of words that a sign separates.
 pub fn parts<'a>(
     alloc: Global,
     words: &'a [&'a str],

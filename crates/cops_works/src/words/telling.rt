@@ -1,4 +1,4 @@
-//! The words that tell pairs, values, operations and sessions.
+//! The words that describe pairs, values, operations and sessions.
 
 use crate::words::reading::{no_row, u16_of};
 use crate::words::texts::Part::{At, Bytes, Count, Word};
@@ -30,7 +30,7 @@ pub fn pair_text(alloc: Global, pair: &Dep) -> Result<String, Error> {
     )
 }
 
-/// What was done: `KEY=VALUE at VERSION`.
+/// An operation with a value: `KEY=VALUE at VERSION`.
 fn done_text<'a>(
     alloc: Global,
     done: &'a str,
@@ -52,7 +52,7 @@ fn done_text<'a>(
     )
 }
 
-/// What was done with a deletion: `KEY at VERSION`.
+/// An operation without a value: `KEY at VERSION`.
 fn bare_text<'a>(
     alloc: Global,
     done: &'a str,
@@ -63,7 +63,7 @@ fn bare_text<'a>(
     text(alloc, &[Word(done), key, Word(" at "), At(version)])
 }
 
-/// The text of what a client did.
+/// The text of a client's operation.
 pub fn op_text(alloc: Global, op: &OpRef<'_>) -> Result<String, Error> {
     match op {
         OpRef::Put {

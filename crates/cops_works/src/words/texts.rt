@@ -44,7 +44,7 @@ fn push(alloc: Global, text: &mut String, part: &Part) -> Result<(), Error> {
     }
 }
 
-/// The text of parts, one behind the other.
+/// The text of parts, one after the other.
 pub fn text(alloc: Global, parts: &[Part]) -> Result<String, Error> {
     let mut text = String::new(alloc);
     for part in parts {
@@ -53,7 +53,7 @@ pub fn text(alloc: Global, parts: &[Part]) -> Result<String, Error> {
     Ok(text)
 }
 
-/// Adds a part to a text, behind a sign where others stand before it.
+/// Adds a part to a text, after a separator if the text is not empty.
 pub fn add_behind(text: &mut String, sign: &str, part: &str) -> Result<(), Error> {
     if !text.is_empty() {
         text.push_str(sign)?;

@@ -72,7 +72,7 @@ fn settle(words: &[&str]) -> Result<Event, Error> {
     Ok(Event::Settle { dc, version })
 }
 
-/// The event of a world that words tell.
+/// The event of a world that words describe.
 pub fn world_event(alloc: Global, words: &[&str]) -> Result<Event, Error> {
     let [what, rest @ ..] = words else {
         return Err(no_row());

@@ -21,7 +21,7 @@ one_first h n a b f g = same_name a b (f.is_not_below.same_client ∙ sym g.is_n
 one_fault : (h : Sessions) (a b : NotAbove) → IsNotAbove h a.op a.earlier → IsNotAbove h b.op b.earlier → a.op ≡ b.op → a ≡ b
 one_fault h a b f g e = same_fault a b e (one_first h b.op a.earlier b.earlier (subst (λ n. IsNotAbove h n a.earlier) e f) g)
 
--- a session whose heights are not known yet
+-- a session of which no maximum is known yet
 none_yet : (h : Sessions) (client : ℕ) (heights : List ℕ) → heights ≡ [] → AreHeights h client heights
 none_yet h client heights e = subst (AreHeights h client) (sym e) (λ i height at. absurd cc)
 

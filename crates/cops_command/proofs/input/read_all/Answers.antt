@@ -4,7 +4,7 @@ use Rattle.std.specs.Io.KnownBytes.{Consumes, IsAtEnd}
 use Rattle.cops_types.specs.Counted.{inner}
 use Rattle.cops_command.proofs.input.read_all.Goals as goal
 
--- bytes that were taken, and then more
+-- bytes that were read, and then more
 consumed : (a b c : Option (List ℕ)) (xs ys : List ℕ) → Consumes a b xs → Consumes b c ys → Consumes a c (xs ++ ys)
 consumed None b c xs ys p q = tt
 consumed (Some u) None c xs ys p q = absurd p
@@ -22,7 +22,7 @@ all_read (Some u) None c xs p q r = absurd p
 all_read (Some u) (Some v) None xs p q r = absurd q
 all_read (Some u) (Some v) (Some w) xs p q r = sym (p ∙ ap (λ (t : List ℕ). xs ++ t) (q ∙ r) ∙ append-nil xs)
 
--- of nothing, nothing is taken
+-- from nothing, nothing is read
 none_taken : (a b c : Option (List ℕ)) (xs ys : List ℕ) → Consumes a b xs → Consumes b c ys → a ≡ Some [] → length ys ≡ 0
 none_taken None b c xs ys p q e = absurd cc
 none_taken (Some u) None c xs ys p q e = absurd p

@@ -5,7 +5,7 @@ use Rattle.cops_scenario.specs.File.{IsWrongText}
 use Rattle.cops_command.specs.Scenario.{TellsNone}
 use Rattle.cops_command.proofs.scenario.read_scenario.Goals as goal
 
--- bytes in which a field is wrong tell no scenario
+-- bytes in which a field is wrong decode to no scenario
 wrong_tells : (known : Option (List ℕ)) (bytes : List ℕ) (field : Field) → IfSome known (λ all. bytes ≡ all) → IsWrongText bytes field → IfSome known TellsNone
 wrong_tells None bytes field same wrong = tt
 wrong_tells (Some all) bytes field same wrong = inr (field, subst (λ (b : List ℕ). IsWrongText b field) same wrong)

@@ -3,7 +3,7 @@ use Rattle.std.proofs.Math.Seq.{take-length}
 use Rattle.std.specs.Io.KnownBytes.{Appends}
 use Rattle.cops_command.proofs.status.failed.Goals as goal
 
--- a whole text is a front of it
+-- a whole text is a prefix of itself
 told : (old new : Option (List ℕ)) (text : List ℕ) (F : Type 0) (r : Result (Unit {0}) ℕ) → OnOk r (Appends old new text)
     → IfErr r (λ n. Appends old new (take n text)) → IfErr r (λ n. (n < length text) × F) → (n : ℕ) × Appends old new (take n text) × ((length text ≤ n) ⊎ F)
 told old new text F (Ok u) ok err failed = (length text, subst (λ (t : List ℕ). Appends old new t) (sym (take-length text)) ok, inl (omega arith))

@@ -1,4 +1,4 @@
--- The laws of whole runs.
+-- The theorems about whole runs.
 use Rattle.cops_core.proofs.Asking.{refused_stays}
 use Rattle.cops_core.proofs.Worlds.{reached_accepted, reached_steps, reached_invariants}
 use Rattle.cops_core.proofs.laws.every_interleaving_is_accepted.Goals as goal

@@ -4,7 +4,7 @@ use Rattle.std.specs.Prelude.{string_bytes}
 use Rattle.cops_import.specs.Words.{client_line, client_lines}
 use Rattle.cops_import.proofs.imported.client_lines.Goals as goal
 
--- one line more
+-- adding one line keeps the invariant
 one_more : (names : List (List ℕ)) (n : ℕ) (name old new : List ℕ) → n < length names → name ≡ get_or names n [] → new ≡ old ++ client_line n name
     → new ++ client_lines (n + 1) (drop (n + 1) names) ≡ old ++ client_lines n (drop n names)
 one_more names n name old new inside is grown =

@@ -4,7 +4,7 @@ use Rattle.cops_report.specs.Marks.{mark_at}
 use Rattle.cops_report.specs.Searches.{Follows, IsWalk}
 use Rattle.cops_report.proofs.chains.walk.Given as goal
 
--- the mark is that of a name from which the walk goes on
+-- the mark is that of a name from which the walk continues
 abbrev pub invariant-loop-mark : goal.invariant-loop-mark
 invariant-loop-mark l = (n : OpName) × (mark_at l.marks n ≡ Some l.mark)
     × ((rest : List OpName) → Follows l.marks l.fn.to n rest → IsWalk l.marks l.fn.to l.fn.from (l.names.items ++ rest))

@@ -13,7 +13,7 @@ use Rattle.cops_fields.specs.Json.{text_json}
 use Rattle.cops_scenario.proofs.Forms.{no_such_item, same_list, same_texts}
 use Rattle.cops_scenario.proofs.reading.place.Goals as goal
 
--- where all is within its limits there is a place
+-- if everything is within its limits, there is a place
 placed : (dcs : ℕ) (splits : List (List ℕ)) (r : Result APlace PlaceFault) (e : Unread) → IsInRange dcs splits → AreAscending splits → (IsErrOf r BadCount ↔ (IsInRange dcs splits → ⊥))
     → (IsErrOf r SplitsNotAscending ↔ (IsInRange dcs splits × (AreAscending splits → ⊥))) → result_or r (Err e) ≢ Err e
 placed dcs splits (Ok p) e range ascending bad_count not_ascending told = cc

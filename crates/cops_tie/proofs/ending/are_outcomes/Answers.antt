@@ -9,7 +9,7 @@ use Rattle.cops_tie.specs.declared.outcome.ClientOutcome.TheVariants.{Done}
 use Rattle.cops_tie.specs.Outcomes.{IsOutcome}
 use Rattle.cops_tie.proofs.ending.are_outcomes.Goals as goal
 
--- the same of a world, a script, a session and an outcome that are the same
+-- `IsOutcome` with its arguments replaced by equal ones
 moved : (a b : AWorld) (i : ℕ) (script other : List ScriptOp) (session seen : List Operation) (o p : ClientOutcome) → a ≡ b → script ≡ other → session ≡ seen → o ≡ p
     → IsOutcome a.setting a.world i script session o → IsOutcome b.setting b.world i other seen p
 moved a b i script other session seen o p e f g h at =

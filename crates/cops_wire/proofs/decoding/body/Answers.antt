@@ -5,7 +5,7 @@ use Rattle.cops_wire.proofs.Fields.{IsBytes-take, IsBytes-drop}
 use Rattle.cops_wire.proofs.Answering.{left_within}
 use Rattle.cops_wire.proofs.decoding.body.Goals as goal
 
--- what is left is part of the fields
+-- the bytes left are part of the fields
 pub overflow_sub-place : goal.overflow_sub-place
 overflow_sub-place c =
     let text = c.args.text.now in

@@ -8,7 +8,7 @@ use Rattle.cops_audit.proofs.Learning.{learns_put, learns_got}
 use Rattle.cops_audit.proofs.Places.{stands_item}
 use Rattle.cops_audit.proofs.sweep.Sweep.learn.Goals as goal
 
--- what was got stands at its place
+-- what was got is at its place
 here : (table : List VersionedPut) (seen : Seen) (place : ℕ) (put : VersionedPut) → seen ≡ Got place → above seen ≤ length table → put ≡ get_or table place put → StandsAt table place put.name put.version
 here table seen place put is few at = stands_item table place put (let e : above seen ≡ place + 1 = ap above is in omega (arith, e, few)) at
 

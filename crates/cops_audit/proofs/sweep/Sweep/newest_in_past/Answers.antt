@@ -6,7 +6,7 @@ use Rattle.cops_audit.proofs.Fitting.{no_ok, noted_inside}
 use Rattle.cops_audit.proofs.Closing.{raised_sweeping, raised_about, grown_about, none_from, newest_in}
 use Rattle.cops_audit.proofs.sweep.Sweep.newest_in_past.Goals as goal
 
--- an operation with a note is within its session
+-- an operation with a summary is within its session
 within : (notes : List (List Note)) (name : OpName) (note : Note) → note_at notes name ≡ Some note → name.index ≤ get_or (map length notes) name.client 0
 within notes name note at = let l = noted_inside notes name note at in omega (arith, l)
 

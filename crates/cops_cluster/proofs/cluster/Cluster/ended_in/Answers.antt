@@ -16,7 +16,7 @@ returns-in-Ok-clause-replays c =
     let is : c.from-places.result ≡ length c.args.self.place.splits + 1 = c.from-places.ensures ∙ c.nodes.ensures.count in
     subst (λ (p : ℕ). AllReplay p c.listed-books.result.items) is c.listed-books.ensures.replays
 
--- what is the least of the books is it of their lists
+-- the least difference of the books is that of their lists
 least_of_lists : (p q : ℕ) (lists : List (Vec Entry)) (books all : List ABook) (shares callers : List Share) (o : Option ℕ) (t : ℕ) → p ≡ q → books ≡ all → shares ≡ callers → o ≡ Some t
     → made_in p 0 lists ≡ made_by p 0 all → IfSome o (IsLeastDifference (made_by p 0 books) (told shares)) → IsLeastDifference (made_in q 0 lists) (told callers) t
 least_of_lists p q lists books all shares callers o t places same told_same some made least =

@@ -6,7 +6,7 @@ use Rattle.cops_replication.specs.Lanes.{shown}
 use Rattle.cops_replication.proofs.Sends.{sends_one}
 use Rattle.cops_replication.proofs.outbox.Lane.send.Goals as goal
 
--- what holds where a result is no fault
+-- what holds where a result is not an error
 went_well : {A E : Type 0} (r : Result A E) (P : Type 0) → OnOk r P → false ≡ is_err r → P
 went_well (Ok x) P h e = h
 went_well (Err x) P h e = absurd cc

@@ -1,17 +1,20 @@
-use Rattle.std.proofs.Common.{◌≡◌, ℕ, ◌<◌, [], ◌++◌, length, take, get_or, ◌-◌}
-use Rattle.cops_trace.specs.Text.{records_text}
-use Rattle.cops_trace.specs.Kept.{records_from, IsKept}
-use Rattle.cops_trace.proofs.Lists.{times}
+use Rattle.std.proofs.Common.{◌≡◌, ℕ, ◌<◌, ◌≤◌, ◌++◌, List, length, ◌-◌, vec_capacity}
+use Rattle.std.specs.Prelude.{◌⊎◌}
+use Rattle.cops_trace.specs.Text.{beginning}
+use Rattle.cops_trace.specs.Kept.{trace_of}
+use Rattle.cops_trace.specs.Writing.{CountPrefix, prefix}
 use Rattle.cops_trace.proofs.trace.Trace.append_records.Given as goal
 
-abbrev pub invariant-loop-at : goal.invariant-loop-at
-invariant-loop-at l =
-    let h = l.self-inside.history.sessions in
-    let cs = l.self-inside.arrivals.items in
-    IsKept l.self-inside.format h cs
-    × (length l.turns.items ≡ length h)
-    × ((c : ℕ) → c < length l.turns.items → get_or l.turns.items c 0 ≡ times c (take l.at cs))
-    × (l.out.items ≡ l.fn.out.items ++ records_text [] (records_from h [] (take l.at cs)))
+abbrev pub invariant-loop-self : goal.invariant-loop-self
+invariant-loop-self l =
+    let t = trace_of l.self-inside.format l.self-inside.history.sessions l.self-inside.arrivals.items in record {
+      at : l.at ≡ l.counts.total;
+      counts : CountPrefix t l.counts;
+      text : (before : List ℕ) → before ++ l.fn.out.items ≡ beginning (prefix l.fn.counts.total t) → before ++ l.out.items ≡ beginning (prefix l.counts.total t);
+      since : l.fn.counts.total ≤ l.counts.total;
+      more : (l.out ≡ l.fn.out) ⊎ (l.fn.counts.total < l.counts.total);
+      capacity : vec_capacity l.fn.out ≤ vec_capacity l.out;
+    }
 
-abbrev pub decreases-loop-at : goal.decreases-loop-at
-decreases-loop-at l = length l.self-inside.arrivals.items - l.at
+abbrev pub decreases-loop-self : goal.decreases-loop-self
+decreases-loop-self l = length l.self-inside.arrivals.items - l.at

@@ -21,7 +21,7 @@ returns-in-Put-2 c = λ keys all h op is was.
 pub returns-in-Missed : goal.returns-in-Missed
 returns-in-Missed c = λ keys all h op is was. took_missed h c.args.client op (omega (arith, c.requires.height, was.clients)) c.args.self.now _ was _ (sym is ∙ ap (told keys all) c.in-Missed.is) refl refl refl
 
--- a get stands for a get, whether its put is named or not
+-- an entry of a get stands for a get, whether it names its put or not
 as_got : (keys : List (List ℕ)) (all : EntryLists) (e : Entry) (v : ℕ) → ((k : ℕ) × (x : Option (List ℕ)) × (e ≡ Got k x v)) ⊎ ((k : ℕ) × (put : NumberedPut) × (e ≡ Sourced k put v))
     → (key : List ℕ) × (content : Option (List ℕ)) × (told keys all e ≡ read key content v)
 as_got keys all e v (inl g) = (slice_index_or keys g.0 [], g.1, ap (told keys all) g.2)

@@ -4,7 +4,7 @@ use Rattle.cops_wire.specs.Grammar.{grammar}
 use Rattle.cops_wire.proofs.Stopping.{stopped_stays}
 use Rattle.cops_wire.proofs.feeder.Feeder.feed.Goals as goal
 
--- What stopped the feeder stays whatever comes.
+-- The fault that stopped the feeder stays, whatever bytes come.
 pub invariant_of-self-2 : goal.invariant_of-self-2
 invariant_of-self-2 c =
     let inside = c.self.inside in
