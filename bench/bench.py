@@ -1,10 +1,10 @@
 #!/usr/bin/env python3
-"""Times the audit of large traces beside `cat` and `sha256sum` of the same file, in turn, and prints a table.
+"""Times the audit of large traces, in turn with `cat` and `sha256sum` of the same file, and prints a table.
 
-usage: bench.py [--quick]     --quick leaves out the traces of a million operations
+usage: bench.py [--quick]     --quick uses traces of at most 100,000 operations
 
-Ratios are of the medians of seven runs: what the audit takes for each second of `sha256sum`. Memory is all that the process takes, its greatest resident
-size, by operation; of few operations it is that of the interpreter that starts the program.
+Ratios compare medians of seven runs. Memory is the peak resident size of the process, divided by the number of operations; for few operations it is that of
+the interpreter that starts the program.
 """
 import os
 import statistics
@@ -22,7 +22,7 @@ HEADINGS = "operations", "clients", "keys", "value bytes", "violation", "status"
 
 
 def run(*words):
-    """Wall seconds, the greatest resident bytes, and the status."""
+    """The wall time in seconds, the peak resident size in bytes, and the exit status."""
     begun = time.monotonic()
     child = subprocess.Popen(words, stdout=subprocess.DEVNULL)
     _, status, usage = os.wait4(child.pid, 0)
@@ -30,7 +30,7 @@ def run(*words):
 
 
 def program():
-    """The program itself: the command looks first whether it is that of these sources, which takes longer than a short trace."""
+    """The program itself. The command `./cops` first checks whether the program is up to date, which takes longer than the audit of a short trace."""
     subprocess.run([COMMAND, "--help"], stdout=subprocess.DEVNULL, check=True)
     return max(filter(os.path.exists, PROGRAMS), key=os.path.getmtime)
 

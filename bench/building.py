@@ -1,4 +1,4 @@
-"""The benchmarks' program, and the time that a command takes."""
+"""Builds the program of the benchmarks, and times commands."""
 import os
 import subprocess
 import time
@@ -7,14 +7,14 @@ ROOT = os.path.dirname(os.path.dirname(os.path.abspath(__file__)))
 
 
 def build():
-    """The program of `crates/cops_works`, proved and built where a source is newer."""
+    """The path of the program of `crates/cops_works`, which is first proved and built if a source is newer."""
     crate = os.path.join(ROOT, "crates", "cops_works")
     subprocess.run(["rt", "run"], cwd=crate, check=True, stdout=subprocess.DEVNULL, stdin=subprocess.DEVNULL)
     return os.path.join(crate, "out", "cops_works")
 
 
 def seconds(*command, runs=5):
-    """Wall time of the best of some runs."""
+    """The wall time of the fastest run, in seconds."""
     best = None
     for _ in range(runs):
         begun = time.monotonic()

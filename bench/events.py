@@ -1,6 +1,6 @@
 #!/usr/bin/env python3
-"""Writes a scenario with so many events: clients put and get, and each put is delivered, asked for, marked and settled in the
-other data centres, some steps behind.
+"""Writes a scenario with the given number of events. Clients put and get; each put is delivered to the other data centres some steps later, its
+dependencies are asked for and marked, and it is settled.
 
 usage: events.py EVENTS [DATA_CENTRES] [CLIENTS] [KEYS] [SEED]
 """
@@ -11,7 +11,7 @@ from collections import deque
 
 
 class Cluster:
-    """As much of a cluster as is needed to know the versions: one node in each data centre."""
+    """A minimal model of a cluster that computes the versions, with one node in each data centre."""
 
     def __init__(self, data_centres, clients, keys, seed, puts):
         self.pick = random.Random(seed)
@@ -78,7 +78,7 @@ def made(count, data_centres, clients, keys, seed, puts=0.3):
 
 
 def lines(count, data_centres=3, clients=6, keys=100, seed=1, puts=0.3):
-    """The events, a line for each: its name, and what it is about. That share of what clients do is puts."""
+    """The events as lines, each with a name and its arguments. `puts` is the fraction of puts among the operations of the clients."""
     _, events = made(count, data_centres, clients, keys, seed, puts)
     return "".join(" ".join([name, *map(str, of)]) + "\n" for event in events for name, of in event.items())
 

@@ -1,13 +1,12 @@
 #!/usr/bin/env python3
-"""Writes a large trace of a store with four data centres, each of which sees the puts of the others a while later.
+"""Writes a large trace of a store with four data centres, each of which sees the puts of the others with a delay.
 
 usage: generate.py OPERATIONS CLIENTS KEYS VALUE_BYTES [VIOLATION | lagging] > TRACE
 
-Every put takes the next place of one log, and its version's clock is that place. A data centre sees its own puts at once,
-and the others' up to some place of the log. A get returns the newest put on its key that the client's data centre sees, so
-the trace is causally convergent. VIOLATION is one of doubled, no_source, not_above and stale: one fault of that class stands
-near the end. Where it is lagging no fault is there, but each data centre is 100,000 puts behind the others, so that most gets might be
-stale and have to be looked into.
+Every put is appended to one log, and the clock of its version is its position in the log. A data centre sees its own puts at once, and those of the others
+up to some position of the log. A get returns the newest put on its key that its client's data centre sees, so that the trace is causally convergent.
+VIOLATION is one of doubled, no_source, not_above and stale: one violation of that class is added near the end. With `lagging` there is no fault, but each
+data centre is 100,000 puts behind the others, so that most gets might be stale and have to be examined.
 """
 import random
 import struct
@@ -28,7 +27,7 @@ def version(clock, node):
 
 
 class Store:
-    """The log of puts, and what each data centre has seen of it."""
+    """The log of puts, and how much of it each data centre has seen."""
 
     def __init__(self, keys):
         self.log = []
@@ -51,7 +50,7 @@ class Store:
 
 
 def value_of(raw, size):
-    """Each put's value is its own, as far as the size lets it be."""
+    """The value of a put, which no other put has if the size allows."""
     return (raw.to_bytes(8, "big") * (size // 8 + 1))[:size]
 
 
@@ -81,7 +80,7 @@ class Writer:
 
 
 def violate(kind, store, writer):
-    """One fault by client 0, of data centre 0, on keys that nobody else uses."""
+    """Adds one violation by client 0, in data centre 0, on a key that no other operation uses."""
     key = store.keys
     old, new = store.put(0, 0, key), store.put(0, 0, key)
     if kind == "doubled":

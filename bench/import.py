@@ -1,6 +1,6 @@
 #!/usr/bin/env python3
-"""Times `cops import` of a million lines beside `sha256sum` of them, in turn, and prints the ratio of the medians, and the memory that it takes beside an
-import of no lines: for each client, and as it is with a tenth of the lines.
+"""Times `cops import` of a million lines, in turn with `sha256sum` of the same file. Prints the ratio of the medians, and the memory for each client beyond
+that of an import of no lines, also with a tenth of the lines.
 """
 import os
 import random
@@ -16,7 +16,7 @@ LINES, KEYS, RUNS = 1_000_000, 1_000, 7
 
 
 def write_lines(path, lines, clients):
-    """What clients of a store saw: each client is named, and a get returns what was put last."""
+    """Writes what the clients of a store saw. Each client occurs, and a get returns the last value that was put."""
     pick, last, clock = random.Random(1), {}, 0
     with open(path, "w") as file:
         for n in range(lines):
@@ -30,7 +30,7 @@ def write_lines(path, lines, clients):
 
 
 def measured(*command):
-    """The wall time of a run, and the most memory that it took, in bytes."""
+    """The wall time of a run in seconds, and its peak memory in bytes."""
     begun = time.monotonic()
     process = subprocess.Popen(command, stdout=subprocess.DEVNULL)
     _, status, usage = os.wait4(process.pid, 0)

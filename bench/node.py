@@ -1,11 +1,10 @@
 #!/usr/bin/env python3
-"""Times the answers of a node with a million settled pairs beside those of a node with a hundred, and prints the ratio.
+"""Compares how fast a node answers with a million settled pairs and with a hundred, and prints the ratio.
 
-usage: node.py [--quick]     --quick has ten thousand pairs in place of a million
+usage: node.py [--quick]     --quick uses ten thousand pairs instead of a million
 
-The answers are about the same hundred pairs in both nodes, which shows what their number costs, and then about all pairs in
-turn, which shows what it costs to fetch them from memory. Times are of wall time, the best of five runs, without the time to
-settle the pairs.
+Both nodes first answer about the same hundred pairs, which shows the cost of more pairs. Then the larger node answers about all of its pairs in turn, which
+shows the cost of fetching them from memory. Times are wall times, the fastest of five runs, without the time to settle the pairs.
 """
 import sys
 
@@ -15,7 +14,7 @@ TURNS = 1_000_000
 
 
 def rate(program, pairs, among):
-    """Answers a second: two for each turn, an ask and a get."""
+    """Answers per second: each turn has two, one to an ask and one to a get."""
     took = seconds(program, "node", str(pairs), str(TURNS), str(among)) - seconds(program, "node", str(pairs), "0", "1")
     return 2 * TURNS / max(1e-9, took)
 

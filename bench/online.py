@@ -1,11 +1,10 @@
 #!/usr/bin/env python3
-"""Times an auditor that is fed traces of 1,000,000 operations and asked once what is so far, beside a judge of the same.
+"""Compares the online auditor with the judge: the auditor is fed traces of 1,000,000 operations and asked once for the verdict so far.
 
-usage: online.py [--quick]     --quick takes traces of 100,000 operations
+usage: online.py [--quick]     --quick uses traces of 100,000 operations
 
-Seconds are of the processor, the median of five runs, without the time to read the trace. The operations are fed in turns,
-one of each client, or one client's after the other's, so that many a get comes long before its put. The ratio is the time to
-feed and ask over a judge's time.
+Times are processor seconds, the median of five runs, without the time to read the trace. The operations are fed in turns, one of each client, or one client
+after the other, so that many reads arrive long before their writes. The ratio is the time to feed and ask, divided by the time of the judge.
 """
 import os
 import resource

@@ -1,9 +1,9 @@
 #!/usr/bin/env python3
-"""Times `cops audit -` of a trace that comes by a pipe in pieces of 100 bytes beside `cops audit FILE` of the same trace, and prints the ratio.
+"""Compares `cops audit -` of a trace that arrives by a pipe in pieces of 100 bytes with `cops audit FILE` of the same trace, and prints the ratio.
 
-usage: pipe.py [--quick]     --quick has 100,000 operations in place of 1,000,000
+usage: pipe.py [--quick]     --quick uses 100,000 operations instead of 1,000,000
 
-Times are of wall time, the median of seven runs, in which the two take turns.
+Times are wall times, the median of seven runs, in which the two alternate.
 """
 import os
 import statistics

@@ -1,7 +1,7 @@
 #!/usr/bin/env python3
-"""Times `cops run` of event lists over three data centres, 10,000 and 100,000 events, and prints the ratio of the times.
+"""Times `cops run` with lists of 10,000 and 100,000 events in three data centres, and prints the ratio of the times.
 
-Times are of wall time, the best of five runs; the audit of the recorded trace stands beside them, from the same run.
+Times are wall times, the fastest of five runs. Each is also compared with the time of an audit of the recorded trace.
 """
 import os
 import tempfile

@@ -1,14 +1,14 @@
 #!/usr/bin/env python3
-"""Times `cops run` of scripted clients on threads, until all is settled everywhere and the run is tied, beside a world on one thread that is
-given the events of such clients, and beside a plain program in Rust that does what the run does for the same scripts (`plain_run.rs`).
+"""Times `cops run` of scripted clients on threads, until each put is settled everywhere and the run is tied to its trace. Compares it with a world on one
+thread that applies the events of such clients, and with a plain program in Rust that does what the run does for the same scripts (`plain_run.rs`).
 
-usage: scripts.py [--quick]     --quick has scripts of 1,000 operations
+usage: scripts.py [--quick]     --quick uses scripts of 1,000 operations
 
-Each client has a script of 10,000 puts and gets of 100 keys. Times are of wall time, without the time to read the scenario, which is that of
-its text without its last byte, and without the audit of the trace, which the run makes at its end; each column is the median of seven rounds.
-An operation makes several events: a put is delivered to each other data centre, asked about, marked and settled there. The last columns are
-the run's rate by the world's, both in operations, its time by the plain program's, and how many cores the run kept busy. The plain program takes
-no part where there is no `rustc`.
+Each client has a script of 10,000 puts and gets of 100 keys. Times are wall times without two parts: reading the scenario, which is measured with a text that
+lacks its last byte, and the audit of the trace, which the run makes at its end. Each column is the median of seven rounds. An operation causes several events:
+a put is delivered to each other data centre, and asked about, marked and settled there. The last columns are the rate of the run divided by that of the world,
+both in operations, the time of the run divided by that of the plain program, and the number of cores that the run kept busy. Without `rustc` the plain program
+is left out.
 """
 import json
 import os
@@ -42,7 +42,7 @@ def scripts(clients, data_centres, operations):
 
 
 def plain_program(folder):
-    """The plain program, built into a folder, or none."""
+    """Builds the plain program in a directory and returns its path, or None if there is no `rustc`."""
     if not shutil.which("rustc"):
         return None
     program, source = os.path.join(folder, "plain_run"), os.path.join(ROOT, "bench", "plain_run.rs")
@@ -51,7 +51,7 @@ def plain_program(folder):
 
 
 def took(status, *command):
-    """Wall seconds and processor seconds of a command that ends with this status, and what it printed."""
+    """The wall seconds, the processor seconds and the output of a command, which must end with this status."""
     before, begun = resource.getrusage(resource.RUSAGE_CHILDREN), time.monotonic()
     ran = subprocess.run(command, stdout=subprocess.PIPE, stderr=subprocess.DEVNULL)
     wall, after = time.monotonic() - begun, resource.getrusage(resource.RUSAGE_CHILDREN)
@@ -61,14 +61,14 @@ def took(status, *command):
 
 
 def run_round(scenario, cut, trace, operations):
-    """How many operations a second a run makes, and how many cores it keeps busy."""
+    """The operations per second of a run, and the number of cores that it keeps busy."""
     whole, read, audited = took(0, COPS, "run", scenario, trace), took(2, COPS, "run", cut, trace), took(0, COPS, "audit", trace)
     wall, busy = (whole[at] - read[at] - audited[at] for at in (0, 1))
     return operations / max(1e-9, wall), busy / max(1e-9, wall)
 
 
 def plain_round(plain, *of):
-    """How many operations a second the plain program makes."""
+    """The operations per second of the plain program."""
     if not plain:
         return float("nan")
     _, _, told = took(0, plain, *of)
@@ -76,7 +76,7 @@ def plain_round(plain, *of):
 
 
 def world_round(program, events, *of):
-    """How many operations a second a world makes, and how many events."""
+    """The operations per second of a world, and the events per second."""
     wall, _, told = took(0, program, "world", events, "run", *of)
     read, _, _ = took(0, program, "world", events, "read", *of)
     operations, made = (int(told.split()[at]) for at in (0, 3))

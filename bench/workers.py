@@ -1,10 +1,10 @@
 #!/usr/bin/env python3
-"""Times `cops audit` with one, two and four workers, on accepted traces with values of 8 and of 1,024 bytes, on one with a stale
-get, and on one whose data centres lag far behind, and prints the times of more workers beside that of one.
+"""Times `cops audit` with one, two and four workers: on accepted traces with values of 8 and of 1,024 bytes, on one with a stale get, and on one whose
+data centres lag far behind. Prints the time of one worker, and the ratios of the other times to it.
 
-usage: workers.py [--quick]     --quick has 100,000 operations in place of 1,000,000
+usage: workers.py [--quick]     --quick uses 100,000 operations instead of 1,000,000
 
-Times are of wall time, the median of five runs, in which the numbers of workers take turns.
+Times are wall times, the median of five runs, in which the numbers of workers alternate.
 """
 import os
 import statistics
@@ -27,7 +27,7 @@ def took(path, workers):
 
 
 def medians(path):
-    """Of each number of workers the median time."""
+    """The median time for each number of workers."""
     times = {workers: [] for workers in WORKERS}
     for _ in range(5):
         for workers in WORKERS:

@@ -1,9 +1,9 @@
 #!/usr/bin/env python3
-"""Times a world that is given 100,000 and 1,000,000 events, without scenario files and reports, and prints the rates.
+"""Times a world that applies 100,000 and 1,000,000 events, without scenario files and reports, and prints the rates.
 
-usage: world.py [--quick]     --quick has 10,000 and 100,000 events
+usage: world.py [--quick]     --quick uses 10,000 and 100,000 events
 
-Times are of wall time, the best of five runs, without the time to read the events.
+Times are wall times, the fastest of five runs, without the time to read the events.
 """
 import os
 import sys

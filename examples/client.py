@@ -1,5 +1,5 @@
 #!/usr/bin/env python3
-"""A client of the front door: it sends a message for each line of text and prints the reply.
+"""A client of `cops serve`, the front door: it sends the message of each line of text and prints the reply.
 
 usage: client.py PORT < MESSAGES
 
@@ -11,13 +11,12 @@ Each line is one of
     check KEY VERSION
     status PLACE
     bye
-where VERSION is CLOCK.NODE. PROFILE is the number of the format that the cluster speaks: 1, which has no deletions and stands where none
-is named, or 2. A key has no spaces; a value is the rest of its line, and may have some. A value has at most 4,096 bytes, and behind a
-greeting of profile 2 that was welcomed at most 16,384. In a value that comes back a byte that is no UTF-8 stands as \\xHH. A line that is
-none of these is answered on standard error, and the next one is read. The end of the lines ends the session, as `bye` does.
-docs/FORMATS.md describes the bytes.
+where VERSION is CLOCK.NODE. PROFILE is the number of the cluster's format: 1, the default, which has no deletions, or 2. A key has no spaces;
+a value is the rest of its line, and may have spaces. A value has at most 4,096 bytes, and after an accepted greeting with profile 2 at most
+16,384. A byte of a returned value that is not UTF-8 is printed as \\xHH. Any other line is reported on standard error, and the next one is
+read. The end of the lines ends the session, as `bye` does. docs/FORMATS.md describes the bytes.
 
-The exit status is 0 where each line was a message with a reply, 1 where one was not, and 2 for a wrong usage.
+The exit status is 0 if each line was a message with a reply, 1 if one was not, and 2 for wrong usage.
 """
 import os
 import re
@@ -31,7 +30,7 @@ HELLO, HELLO_OK, PUT, GET, PUT_DONE, GOT, MISSED, REFUSED = 1, 2, 3, 4, 5, 6, 7,
 DEP_CHECK, DEP_YES, DEP_WAIT, STATUS, STATUS_IS, BYE, BYE_OK = 10, 11, 12, 13, 14, 15, 16
 DEL, DELETED, GONE = 22, 23, 24
 
-# The most bytes of a value, and of a frame's body, in each format.
+# The maximum number of bytes of a value, and of a frame's body, in each format.
 MAX_VALUE = {1: 4_096, 2: 16_384}
 MAX_BODY = {1: 32_768, 2: 131_072}
 
@@ -52,11 +51,11 @@ USAGES = {
 
 
 class NotAMessage(ValueError):
-    """What is wrong with a line that is no message."""
+    """The reason why a line is not a message."""
 
 
 def words_of(line):
-    """The words of a line. The value of a put is the rest of the line behind one space."""
+    """The words of a line. The value of a put is the rest of the line after one space."""
     words = line.split()
     if words[:1] == ["put"] and len(words) > 2:
         return re.match(r"\s*(\S+)\s+(\S+)\s(.*?)\r?\n?\Z", line, re.DOTALL).groups()
@@ -64,14 +63,14 @@ def words_of(line):
 
 
 def whole(text, most, what):
-    """The number that a word is."""
+    """Parses a whole number of at most `most`."""
     if not re.fullmatch(r"[0-9]{1,20}", text, re.ASCII) or int(text) > most:
         raise NotAMessage(f"{what} is a whole number of at most {most}")
     return int(text)
 
 
 def sized(text, least, most, what):
-    """A text whose UTF-8 has so many bytes."""
+    """Returns the text if its UTF-8 encoding has `least` to `most` bytes."""
     try:
         length = len(text.encode())
     except UnicodeEncodeError:
@@ -82,7 +81,7 @@ def sized(text, least, most, what):
 
 
 def checked(text):
-    """A version, CLOCK.NODE."""
+    """Returns the text if it is a version, CLOCK.NODE."""
     clock, dot, node = text.partition(".")
     if not dot:
         raise NotAMessage("a version is CLOCK.NODE")
@@ -93,18 +92,18 @@ def checked(text):
 
 
 def counts_of(kind):
-    """How many words may stand behind a message's name: those in brackets may be missing."""
+    """The numbers of words that may follow the name of a message: those in brackets are optional."""
     words = USAGES[kind].split()[1:]
     return range(sum(not word.startswith("[") for word in words), len(words) + 1)
 
 
 def profile_of(words):
-    """The profile of a greeting: 1 where it names none."""
+    """The profile of a greeting: 1 if it names none."""
     return whole(words[2], 65535, "a profile") if words[2:] else 1
 
 
 def message(words, number, spoken=1):
-    """The frame of one line's message, with this number of the asker's, in the format that is spoken."""
+    """The frame of the message of one line, with this sequence number, in the format of the session."""
     kind, *rest = words
     if kind not in USAGES:
         raise NotAMessage(f"there is no message {kind!a}: the messages are {', '.join(USAGES.values())}")
@@ -133,7 +132,7 @@ def version_text(raw):
 
 
 def reply_text(body):
-    """A reply as a line. Behind the kind's byte stands the asker's number, but in the replies to a greeting and a goodbye."""
+    """A reply as a line. The sequence number follows the byte of the kind, except in the replies to a greeting and a goodbye."""
     kind, fields = body[0], body[5:]
     if kind == HELLO_OK:
         return f"hello from data centre {body[1]}, {body[2]} nodes"
@@ -151,13 +150,13 @@ def reply_text(body):
 
 
 def read_all(stream, count):
-    """So many bytes, or None where the stream ends before them."""
+    """Reads `count` bytes, or returns None if the stream ends before that."""
     data = stream.read(count)
     return data if len(data) == count else None
 
 
 def read_reply(replies, spoken):
-    """The next reply, in the format that is spoken, as a line, or that the session has ended."""
+    """Reads the next reply in the format of the session, and returns it as a line, or ENDED if the session has ended."""
     head = read_all(replies, 4)
     length = struct.unpack(">I", head)[0] if head else 0
     if head and not 1 <= length <= MAX_BODY[spoken]:
@@ -172,19 +171,19 @@ def read_reply(replies, spoken):
 
 
 def fail(line, fault):
-    """Raises what is wrong with a line."""
+    """Raises the fault of a line."""
     raise fault
 
 
-def spoken_behind(words, reply, spoken):
-    """The format that is spoken behind a message and its reply: a welcomed greeting's profile, or that which was spoken before."""
+def format_after(words, reply, spoken):
+    """The format of the session after a message and its reply: the profile of an accepted greeting, or else the format before."""
     if words[0] == "hello" and reply.startswith("hello ") and profile_of(words) in MAX_VALUE:
         return profile_of(words)
     return spoken
 
 
 def talk(port, lines, connect=None, wrong=fail):
-    """Sends each line's message over one connection, and yields its reply as a line. `wrong` is told of a line that is no message."""
+    """Sends the message of each line over one connection, and yields each reply as a line. Calls `wrong` for a line that is not a message."""
     spoken, connected = 1, connect() if connect else socket.create_connection(("127.0.0.1", port))
     with connected as connection, connection.makefile("rb") as replies:
         for number, line in enumerate(lines, 1):
@@ -198,14 +197,14 @@ def talk(port, lines, connect=None, wrong=fail):
                 continue
             connection.sendall(sent)
             reply = read_reply(replies, spoken)
-            spoken = spoken_behind(words, reply, spoken)
+            spoken = format_after(words, reply, spoken)
             yield reply
             if reply == ENDED:
                 return
 
 
 def lines_of(stream):
-    """The lines of a stream of text, also of bytes that are no UTF-8; none where it is closed."""
+    """The lines of a text stream, which may have bytes that are not UTF-8; none if the stream is closed."""
     if stream is None:
         return []
     stream.reconfigure(errors="surrogateescape")
@@ -234,7 +233,7 @@ def main(words):
         return 1
     except OSError as fault:
         print(f"client: port {words[0]}: {fault.strerror or fault}", file=sys.stderr)
-        # (where nobody reads the replies, what is left of them is not written at the end either)
+        # If nobody reads the replies, the rest of them must not be written at exit either.
         os.dup2(os.open(os.devnull, os.O_WRONLY), 1)
         return 1
     return 1 if unanswered else 0

@@ -1,5 +1,5 @@
 #!/usr/bin/env python3
-"""Writes a trace file from lines of text, one operation a line, in order of arrival.
+"""Writes a trace file from lines of text, one operation per line, in order of arrival.
 
 usage: write_trace.py < OPERATIONS > TRACE
 
@@ -9,8 +9,8 @@ The first line is `clients N`, or `clients N format 2` for a trace of format 2. 
     CLIENT got KEY VALUE VERSION
     CLIENT gone KEY VERSION
     CLIENT missed KEY
-where VERSION is CLOCK.NODE. A deletion, `del`, and a get that found one, `gone`, are of format 2 alone. Lines that begin with # are passed
-over. docs/FORMATS.md describes the bytes.
+where VERSION is CLOCK.NODE. Only format 2 has deletions, `del`, and gets that found one, `gone`. Lines that begin with # are skipped.
+docs/FORMATS.md describes the bytes.
 """
 import struct
 import sys
@@ -22,7 +22,7 @@ DELETIONS = ("del", "gone")
 
 
 def frame(kind, fields):
-    """A frame: the body's length in four bytes, then the body: the kind's byte and the fields."""
+    """A frame: the length of the body in four bytes, then the body, which is the byte of the kind and the fields."""
     body = bytes([kind]) + fields
     return struct.pack(">I", len(body)) + body
 
@@ -43,13 +43,13 @@ def version(text):
 
 
 def head_of(words):
-    """The number of clients and the format that the words of the first line name."""
+    """The number of clients and the format, from the words of the first line."""
     assert words[:1] == ["clients"] and words[2:] in ([], ["format", "1"], ["format", "2"]), "the first line is 'clients N' or 'clients N format 2'"
     return int(words[1]), int(words[3]) if words[2:] else 1
 
 
 def record(kind, rest):
-    """The fields of a record behind its name: the key, then the value of what has one, then the version of what has one."""
+    """The fields of a record after its name: the key, then the value and the version, if its kind has them."""
     if kind == "missed":
         return key(rest[0])
     if kind in DELETIONS:
@@ -62,7 +62,7 @@ def trace(lines):
     words = [line.split() for line in lines if line.strip() and not line.startswith("#")]
     clients, number = head_of(words[0] if words else [])
     text = [frame(TRACE_HEAD, struct.pack(">HH", number, clients))]
-    # an operation's index is the number of earlier operations of its client
+    # The index of an operation is the number of earlier operations of its client.
     index = [0] * clients
     for client, kind, *rest in words[1:]:
         assert number == 2 or kind not in DELETIONS, f"'{kind}' is of format 2"

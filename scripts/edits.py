@@ -1,4 +1,4 @@
-"""Wrong edits: other texts in a crate's sources, for which the checker has to refuse the function that they change."""
+"""Mutations: edits of a crate's sources for which the checker must refuse the function that they change."""
 import os
 import re
 import shutil
@@ -6,29 +6,29 @@ import tempfile
 
 HEADER = re.compile(r"(?m)^(?:pub(?:\([^)]*\))? )?(?:unsafe )?(?:(impl)\b([^{]*)|mod\b|struct\b|enum\b|trait\b)")
 FUNCTION = re.compile(r"(?m)^( *)(?:pub(?:\([^)]*\))? )?(?:const )?fn (\w+)")
-# (a method, or a function of a module: one of a root file alone could be a module's name)
+# A method, or a function in a module. The bare name of a function in a root file could also be the name of a module.
 FUNCTION_PATH = re.compile(r"::\w+\Z")
 COUNTS = re.compile(r"only=(\d+) proved=(\d+)\Z")
-# (a function that is refused for nothing but one that it calls: where several edits are tried together that may be another one's)
+# A function that is refused only because of one that it calls. If several mutations are tried together, another mutation may be the cause.
 FOR_ANOTHER = re.compile(r": not proved; it calls `[^`]*`")
 
 
 def module_of(path):
-    """The module of a file below src/, as a check names it: none for the root."""
+    """The path of the module that a file in src/ defines, as a check names it: empty for the root."""
     names = path.removeprefix("src/").removesuffix(".rt").split("/")
     return [] if names in (["lib"], ["main"]) else [name for name in names if name != "mod"]
 
 
 def type_of(header):
-    """The type of an impl, as a check names it: behind it the trait, where there is one."""
+    """The type of an impl, as a check names it, followed by the trait if there is one."""
     plain = re.sub(r"<[^<>]*>", "", re.sub(r"<[^<>]*>", "", header)).split(" where ")[0].split()
     names = [name.rpartition("::")[2] for name in plain if name != "for"]
     return "".join(reversed(names))
 
 
 def function_at(path, text, at):
-    """The function that holds a place of a file's text, by the end of the path that a check knows it by: a type's methods are those of the type,
-    wherever they stand. Outside of all functions it is the file's module."""
+    """The function that contains a position in a file's text, as the end of the path by which a check names it. A method is named by its type, in whatever
+    module it is defined. Outside of all functions, the file's module."""
     module, found = module_of(path), None
     for found in FUNCTION.finditer(text, 0, at):
         pass
@@ -42,7 +42,7 @@ def function_at(path, text, at):
 
 
 def changed_functions(folder, edit):
-    """The functions that an edit changes."""
+    """The functions that a mutation changes."""
     functions, path = [], ""
     with open(edit, encoding="utf-8") as file:
         lines = file.read().split("\n")
@@ -58,7 +58,8 @@ def changed_functions(folder, edit):
 
 
 def rounds_of(crate, edits):
-    """The edits in rounds: those of one are of different functions, none of which is a whole module, so that each function tells of its own edit."""
+    """Groups mutations into rounds. Those of one round change different functions, none of which is a whole module, so that the result of each function
+    belongs to one mutation."""
     rounds = []
     for edit in edits:
         functions = changed_functions(crate.folder, edit)
@@ -72,7 +73,7 @@ def rounds_of(crate, edits):
 
 
 class Round:
-    """Edits that are tried by one check, with the functions that each changes."""
+    """Mutations that one check tries together, with the functions that each changes."""
 
     def __init__(self, is_apart):
         self.is_apart, self.edits = is_apart, {}
@@ -82,7 +83,7 @@ class Round:
         return {it for functions in self.edits.values() for it in functions}
 
     def texts(self, module, crate):
-        """The texts of the sources with all the edits, or why one of them cannot be applied."""
+        """The texts of the sources with all mutations applied, or why one of them cannot be applied."""
         texts = {}
         with tempfile.TemporaryDirectory() as room:
             shutil.copytree(f"{crate.folder}/src", f"{room}/src")
@@ -97,13 +98,14 @@ class Round:
         return texts, None
 
     def checked(self, module, crate, texts, kept):
-        """A check of the functions with these texts in place of the crate's own, over what earlier ones kept: its status and its lines."""
+        """Checks the functions with these texts in place of the crate's own, reusing what earlier checks kept. Returns the status and the lines of the
+        output."""
         flags = ["--jobs", "1", *(word for it in sorted(self.functions) for word in ("--only", it))]
         ran = module.checked(crate, texts, flags, kept)
         return ran.returncode, ran.stdout.rstrip("\n").split("\n")
 
     def judged(self, module, crate, kept):
-        """For each edit whether the checker refuses a function that it changes, and what is said of it."""
+        """For each mutation, whether the checker refuses a function that it changes, and the line to print."""
         texts, why = self.texts(module, crate)
         if why:
             return [(False, why)]
@@ -115,7 +117,7 @@ class Round:
         return [self.one(module, crate, kept, edit, status, lines) for edit in self.edits]
 
     def one(self, module, crate, kept, edit, status, lines):
-        """What the check says of one of the edits: it is tried alone where its function may have been refused for another one."""
+        """The result of one mutation. It is tried again alone if its function may have been refused because of another mutation."""
         is_refused, told = one_judged(name_of(crate, edit), crate, self.edits[edit], status, lines)
         if not FOR_ANOTHER.search(told) or len(self.edits) == 1:
             return is_refused, told
@@ -129,7 +131,7 @@ def name_of(crate, edit):
 
 
 def one_judged(name, crate, functions, status, lines):
-    """What a check says of the edit that changed these functions."""
+    """The result of a check for the mutation that changed these functions."""
     of_these = "|".join(map(re.escape, functions))
     refused = [line for line in lines if re.match(rf"fn {crate.name}::(\S+::)?({of_these})(::\S+)?: (not proved|no proof)", line)]
     counts = COUNTS.match(lines[-1])
@@ -141,7 +143,7 @@ def one_judged(name, crate, functions, status, lines):
 
 
 def tried(module, crate, edits):
-    """Tries a crate's edits round by round, each over what those before it proved of the crate, and gives which are refused."""
+    """Tries a crate's mutations round by round, each reusing what earlier rounds proved of the crate, and returns which are refused."""
     are_refused = []
     with tempfile.TemporaryDirectory() as kept:
         for it in rounds_of(crate, edits):

@@ -1,22 +1,23 @@
 #!/usr/bin/env python3
-"""The toolchain's gate, `rt ci`, but for three things: the mutations of must-fail/, for which it proves a crate once more, where ./tried tries them on the
-functions that they change; programs, which it compiles by a second compiler too; and a crate that stands on no other, for which all others wait: it is
-proved by a process for each processor. What it prints and how it ends is the toolchain's."""
+"""The toolchain's gate, `rt ci`, with three differences. It leaves out the mutations of must-fail/: ./tried checks only the functions that they change, where
+the gate proves the whole crate again. It compiles programs with one compiler instead of two. It proves a crate without dependencies, for which all others wait,
+with one process for each processor. The output and the exit status are those of the toolchain."""
 import sys
 
 from kit import build_program, kit
 
 
-def with_own_ways(module):
-    """Has programs proved and compiled as `./build` does, and a crate that stands on no other proved by all processors."""
-    of_kit = module.Crate.ci
+def override_steps(module):
+    """Overrides two steps of the toolchain: programs are proved and compiled as in `./build`, and a crate without dependencies is proved on all
+    processors."""
+    toolchain_ci = module.Crate.ci
 
     def ci(crate, flags, tests):
         if crate.is_program and not tests:
             return build_program(module, crate, flags)
         if not crate.below():
             flags = ["--jobs", str(module.processors())]
-        return of_kit(crate, flags, tests)
+        return toolchain_ci(crate, flags, tests)
 
     module.Crate.ci, module.BACKENDS = ci, {"llvm": ""}
 
@@ -24,6 +25,6 @@ def with_own_ways(module):
 if __name__ == "__main__":
     module = kit()
     module.edits_of = lambda crate: ([], [])
-    with_own_ways(module)
-    # (some kits of one logic first look how much room the disk has)
+    override_steps(module)
+    # Some releases of the toolchain first check the free space on the disk.
     sys.exit(module.where_disk_lasts(module.ci, False) if hasattr(module, "where_disk_lasts") else module.ci())

@@ -1,4 +1,4 @@
-"""The tests of audits that are asked what is said so far of a trace that may be cut."""
+"""Tests of `cops audit --so-far`, which gives the verdict so far on a trace that may be cut."""
 import os
 import sys
 import tempfile
@@ -15,7 +15,7 @@ For more information, try '--help'.
 
 
 def asked(name, data, text, status):
-    """The trace is audited the same by standard input and by file, wherever the words have the option."""
+    """The audit of the trace is the same from standard input and from a file, wherever the option stands."""
     wanted = (status, text.encode(), b"")
     check(f"{name}, by standard input", cops("audit", "-", "--so-far", stdin=data), wanted)
     with tempfile.NamedTemporaryFile(suffix=".trace") as file:
@@ -26,7 +26,7 @@ def asked(name, data, text, status):
 
 
 def cut():
-    """Where a trace is cut, and what is said so far of the whole records before that."""
+    """Where a trace is cut, and the verdict so far on the whole records before that."""
     two, first, stale = (example(f"{name}.trace") for name in ("put_and_get", "get_recorded_first", "stale"))
     asked("no bytes", b"", "cut at 0\nso far: clean\n", 0)
     asked("all bytes but the last", two[:-1], "cut at 57\nso far: clean\n", 0)
@@ -40,7 +40,7 @@ def cut():
 
 
 def whole():
-    """A whole trace, and one with another fault than a cut, are answered as without the option."""
+    """A whole trace, and one with a fault other than a cut, get the same answer as without the option."""
     for name in ("empty", "put_and_get", "no_source", "doubled", "not_above", "stale"):
         data = example(f"{name}.trace")
         status, text, _ = cops("audit", "-", stdin=data)
@@ -51,7 +51,7 @@ def whole():
 
 
 def words():
-    """A number of workers has no place beside the option."""
+    """The option cannot be combined with a number of workers."""
     path = os.path.join(ROOT, "examples", "put_and_get.trace")
     for given in (["--so-far", "--workers", "2", path], ["--workers", "1", path, "--so-far"], [path, "--so-far", "--workers=64"]):
         check(f"usage of audit {given}", cops("audit", *given), (2, b"", CONFLICT))
@@ -69,7 +69,7 @@ def devices():
 
 
 def little_memory():
-    """With too little memory the program says so, and writes nothing else; with enough it answers."""
+    """When the program is out of memory it reports that, and writes nothing else; with enough memory it answers."""
     value = "v" * 4000
     data = trace(["clients 2"] + [f"0 put k{i} {value} {i + 1}.0" for i in range(5000)] + ["1 got k9 " + value + " 10.0"])[:-9]
     enough = (0, f"cut at {len(data)}\nso far: clean\n".encode(), b"")

@@ -1,4 +1,4 @@
-"""The tests of deletions in traces: records of format 2 alone, how they are shown, and gets that found one."""
+"""Tests of deletions in traces: their records, which only format 2 has, how they are shown, and gets that found a deletion."""
 from traces import audited, check, cops, example, trace
 
 # The only client deletes x, and then finds that deletion.
@@ -9,7 +9,7 @@ WHOLE = trace(DELETED)
 HEAD, DEL, GONE, END = WHOLE[:9], WHOLE[9:30], WHOLE[30:51], WHOLE[51:]
 IN_FORMAT_1 = WHOLE[:6] + b"\1" + WHOLE[7:]
 
-# Other bytes, and what is wrong with them.
+# Changed bytes, and their faults.
 FAULTS = [
     ("a deletion in format 1", IN_FORMAT_1, "unknown kind at 9"),
     ("a get that found a deletion in format 1", IN_FORMAT_1[:9] + GONE + END, "unknown kind at 9"),
@@ -27,7 +27,7 @@ FAULTS = [
 
 
 def end_of_records(count):
-    """Where the last whole record ends of the first so many bytes."""
+    """Where the last whole record of the first `count` bytes ends."""
     return max(end for end in (0, 9, 30, 51) if end <= count)
 
 
@@ -54,14 +54,14 @@ def shown():
 
 
 def without_deletions():
-    """The same operations in both formats."""
+    """Traces without deletions have the same audit in both formats."""
     one, two = (example("stale.ops").decode().replace("clients 2", f"clients 2 format {number}").split("\n") for number in (1, 2))
     check("format 1 by its name", trace(one), example("stale.trace"))
     check("a trace of format 2 without deletions", cops(stdin=trace(two)), cops(stdin=example("stale.trace")))
 
 
 def without_source():
-    """A deletion is not what a get of a value returned, nor a put of a value what a get found that found a deletion."""
+    """A deletion is no source of a get that returned a value, and a put of a value is no source of a get that found a deletion."""
     before = example("deleted.ops").decode().strip().split("\n")[:-1]
     for operation, version in (("gone x", "1.0"), ("got x 1", "2.0"), ("gone y", "2.0"), ("gone x", "9.0")):
         text = f"refused: 5 operations, 3 puts, 1 faults\nno source (1,1) at {version}\n"

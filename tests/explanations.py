@@ -1,5 +1,5 @@
 #!/usr/bin/env python3
-"""The tests of what `cops explain` says of a trace: where to look, which classes were not looked for, and the counts of the first line.
+"""Tests of the output of `cops explain`: where to look, which classes were not looked for, and the counts of the first line.
 
 Prints a line for each test that fails, and at the end `N passed, M failed`.
 """
@@ -18,7 +18,7 @@ NOT_LOOKED_FOR = {
     "not_above": "not looked for while puts out of order remain: stale reads",
 }
 
-# A chain from client 0 to client 2 through client 1, whose reads were right.
+# A chain from client 0 to client 2 through client 1, whose reads were correct.
 PHOTO = """clients 3
 0 put photo old 1.0
 0 put photo new 2.0
@@ -28,7 +28,7 @@ PHOTO = """clients 3
 2 got photo old 1.0
 """
 
-# Traces of stale gets, and where to look.
+# Traces with stale gets, and the line that says where to look.
 PLACES = [
     (PHOTO, "look at: (2,1), which returned an older put; its client knew of the newer put by (2,0)"),
     (PHOTO.replace("2 got photo old 1.0", "2 missed photo"), "look at: (2,1), which returned nothing; its client knew of the newer put by (2,0)"),
@@ -40,11 +40,11 @@ PLACES = [
     ("clients 1\n0 put x 1 1.0\n0 put x 2 2.0\n0 got x 1 1.0\n", "look at: (0,2), which returned an older put; the newer put (0,1) is its client's own"),
     ("clients 2\n0 put x 1 1.0\n0 put x 2 2.0\n1 got x 2 2.0\n1 got x 1 1.0\n", "look at: (1,1), which returned an older put; its client knew of the newer put by (1,0)"),
     (
-        # (the newer put is client 1's own, although the client got it again from client 0, who had got it)
+        # The newer put is client 1's own, although the client also knows of it through client 0, which had got it.
         "clients 2\n0 put x 1 1.0\n1 put x 2 2.1\n0 got x 2 2.1\n0 put y 3 3.0\n1 got y 3 3.0\n1 got x 1 1.0\n",
         "look at: (1,2), which returned an older put; the newer put (1,0) is its client's own",
     ),
-    # (a deletion is the newer put, its client's own or another's, and a get found an older deletion)
+    # The newer put is a deletion, by the same client or by another one, or the get found an older deletion.
     ("clients 1 format 2\n0 put x 1 1.0\n0 del x 2.0\n0 got x 1 1.0\n", "look at: (0,2), which returned an older put; the newer put (0,1) is its client's own"),
     ("clients 1 format 2\n0 del x 1.0\n0 missed x\n", "look at: (0,1), which returned nothing; the newer put (0,0) is its client's own"),
     (
@@ -61,12 +61,12 @@ PLACES = [
     ),
 ]
 
-# The same with a deletion in place of the newer photo, as its paragraph tells it.
+# PHOTO with a deletion in place of the newer photo.
 DELETED_PHOTO = PHOTO.replace("clients 3", "clients 3 format 2").replace("put photo new", "del photo").replace("got photo new", "gone photo")
 
 
 def explained(data, *words):
-    """The status and the lines of an explanation; the last one is empty, since each ends with a line feed."""
+    """The status, the errors and the lines of an explanation. The last line is empty, since each line ends with a line feed."""
     status, out, errors = cops("explain", "-", *words, stdin=data)
     return (status, errors), out.decode().split("\n")
 
@@ -98,7 +98,7 @@ look at: (2,1), which returned an older put; its client knew of the newer put by
 
 
 def place_of(paragraph):
-    """Where to look by the chain that stands in a paragraph."""
+    """The operation that a paragraph explains, and the place to look that follows from the chain of the paragraph."""
     op = re.search(r"stale (\(\d+,\d+\))", paragraph)[1]
     found = re.search(r"client \d+ (got nothing at|found a deletion of|got) [^\n]*, though it", paragraph)[1]
     returned = {"got nothing at": "nothing", "found a deletion of": "an older deletion", "got": "an older put"}[found]
@@ -111,8 +111,8 @@ def place_of(paragraph):
 
 
 def generated(seed):
-    """A trace in which gets return what any earlier put of their key had put, or nothing: many are stale, and no other class has a fault. In every second
-    one, of format 2, a third of the puts are deletions."""
+    """A random trace in which a get returns one of the last three puts of its key, or nothing: many gets are stale, and no other class has a fault. Every
+    second trace has format 2, and a third of its puts are deletions."""
     pick, number = random.Random(seed), 1 + seed % 2
     clients, clock, puts, known, deleted, lines = pick.randrange(1, 6), 0, {}, {}, set(), []
     for _ in range(60):
@@ -148,7 +148,8 @@ def generated_places():
 
 
 def later_classes():
-    """The last line, behind an empty one, whatever faults are asked for; none of a stale get, and none of a trace that is accepted or that is none."""
+    """The last line, after an empty one, says which classes were not looked for, whatever faults are asked for. There is no such line for a stale get, for an
+    accepted trace, or for bytes that are not a trace."""
     for name, line in NOT_LOOKED_FOR.items():
         for words in ([], ["--all"], ["--fault", "1"], ["--fault", "9"]):
             status, lines = explained(example(f"{name}.trace"), *words)
@@ -162,7 +163,7 @@ def later_classes():
 
 
 def counts():
-    """The first line names one thing as one."""
+    """The first line uses the singular for one thing."""
     for text, line in (
         ("clients 1\n0 got x 1 1.0\n", "refused: 1 operation, 0 puts, 1 fault"),
         ("clients 1\n0 put y 1 1.0\n0 got x 1 2.0\n0 got x 1 3.0\n", "refused: 3 operations, 1 put, 2 faults"),
@@ -177,7 +178,7 @@ def counts():
 
 
 def sentences():
-    """What a picture says of a stale get."""
+    """The sentence of a picture about a stale get."""
     for name, sentence in (
         ("stale", b"the red get returned an older version than the green put, which was in its past"),
         ("stale_missed", b"the red get returned nothing, though the green put was in its past"),

@@ -1,13 +1,12 @@
 #!/usr/bin/env python3
-"""Lets allocations, reads and writes fail in the test vectors of `crates/cops_works` and in commands of the program: the first, the second and so on, each
-in a run of its own, until a run asks for no more. A run in which nothing fails ends as is wanted. One in which something fails ends so too, or it says by its
-status that it ran out of memory or that a device failed, and has written no more than a prefix of what is wanted. So no failure is answered by anything but
-the answer or its fault.
+"""Makes allocations, reads and writes fail in the test vectors of `crates/cops_works` and in commands of the program: first the first call, then the
+second and so on, each in its own run, until a run makes no further call. A run in which nothing fails must give the expected result. A run with a failure must
+give that result too, or report by its status that it is out of memory or that a device failed; then its output is a prefix of the expected output.
 
-The test vectors go on from where they were: an event of a world, an operation of a client and an operation that an auditor is fed are tried once more. A run
-of scripts that tries no operation again may also end well with a client that stopped for memory, and some run of it has to.
+The test vectors retry: an event of a world, an operation of a client and an operation that is fed to an auditor are tried once more. A run of scripts without
+retries may also end with status 0 and a client that stopped because it was out of memory, and at least one run must end so.
 
-Prints how many failed, a line for each run that ends otherwise, and at the end `N passed, M failed`.
+Prints how many calls failed, a line for each run with another result, and at the end `N passed, M failed`.
 """
 import concurrent.futures
 import os
@@ -20,10 +19,10 @@ import typing
 ROOT = os.path.dirname(os.path.dirname(os.path.abspath(__file__)))
 WORKS = os.path.join(ROOT, "crates", "cops_works")
 SECONDS = 60
-# two clients of which one stopped for memory, or both
+# The output for two clients of which at least one stopped because it was out of memory.
 STOPPED = re.compile(
     rb"client 0 (?:stopped 9\nclient 1 (?:done|stopped 9)|done\nclient 1 stopped 9)\naccepted: [0-3] operations, [0-2] puts\n\Z")
-MOST_TOLD = 20
+MAX_REPORTED = 20
 AT_ONCE = os.cpu_count() or 2
 MEMORY, DEVICE = 3, 4
 
@@ -37,13 +36,13 @@ def data(name):
 
 
 class Work(typing.NamedTuple):
-    """A command, how it ends where nothing is refused, by status and output, and the statuses that it may end with otherwise."""
+    """A command, its expected status and output if nothing fails, and the statuses that it may end with otherwise."""
 
     name: str
     words: list
     wanted: tuple
     failures: tuple = (MEMORY, DEVICE)
-    # another output with which it may end well where an allocation fails, and has to end in one run at least
+    # Another output that it may give with status 0 if an allocation fails, and must give in at least one run.
     other: typing.Optional[re.Pattern] = None
 
 
@@ -54,7 +53,7 @@ def works():
         explained = file.read()
     program = os.path.join(ROOT, "crates", "cops", "out", "cops")
     own = [os.path.join(WORKS, "out", "cops_works"), "growths", example("newer_put_elsewhere.json"), data("events.lines"), example("stale.trace"), data("stale.lines")]
-    # (what is said of the stale get is the same where the newer put is a deletion)
+    # The report on the stale get is the same if the newer put is a deletion.
     deletions = [*own[:2], example("deleted_elsewhere.json"), data("deleted.lines"), example("stale_deleted.trace"), data("stale.lines")]
     imported = b"client 0 writer\nclient 1 reader\nimported: 2 operations, 2 clients\n"
     ran = b"client 0 done\nclient 1 done\naccepted: 4 operations, 2 puts\n"
@@ -66,16 +65,16 @@ def works():
         Work("audit so far", [program, "audit", example("stale.trace"), "--so-far"], (1, report)),
         Work("explain", [program, "explain", example("stale.trace"), "--picture", os.devnull], (1, explained)),
         Work("import", [program, "import", example("put_and_get.jsonl"), os.devnull], (0, imported)),
-        # (standard input has no lines)
+        # Standard input has no lines.
         Work("import of standard input", [program, "import", "-", os.devnull], (0, b"imported: 0 operations, 0 clients\n")),
-        # (an operation is tried once more, so that both clients are done whichever growth of theirs is refused)
+        # An operation is tried once more, so that both clients are done whichever of their allocations fails.
         Work("run", [program, "run", data("scripts.json"), os.devnull], (0, ran)),
         Work("run without another try", [program, "run", data("scripts_once.json"), os.devnull], (0, ran), other=STOPPED),
     ]
 
 
 class Refusing:
-    """Runs with a library before that of the C language that refuses one call."""
+    """Runs commands with a preloaded library that makes one call of the C library fail."""
 
     def __init__(self, folder):
         self.library = os.path.join(folder, "refusing.so")
@@ -83,12 +82,12 @@ class Refusing:
         subprocess.run(["cc", "-shared", "-fPIC", "-O1", "-o", self.library, source], check=True)
 
     def ran(self, words, kind, number, stdin=b""):
-        """A run in which that call fails."""
+        """Runs a command in which the call of that kind and number fails."""
         environment = {"LD_PRELOAD": self.library, "REFUSED": f"{kind} {number}"}
         return subprocess.run(words, env=environment, input=stdin, capture_output=True, timeout=SECONDS)
 
     def run(self, work, kind, number):
-        """How a work ends in which that call fails, by its status and its output, and whether there was such a call."""
+        """The status and the output of a test case in which that call fails, and whether there was such a call."""
         ran = self.ran(work.words, kind, number)
         return (ran.returncode, ran.stdout), b"refused\n" in ran.stderr
 
@@ -97,24 +96,24 @@ def is_other(work, ended):
     return work.other is not None and ended[0] == 0 and work.other.match(ended[1]) is not None
 
 
-def is_well(work, ended, was_refused):
+def is_well(work, ended, call_failed):
     status, out = ended
-    return ended == work.wanted or was_refused and (is_other(work, ended) or status in work.failures and work.wanted[1].startswith(out))
+    return ended == work.wanted or call_failed and (is_other(work, ended) or status in work.failures and work.wanted[1].startswith(out))
 
 
 def refused(refusing, work, kind):
-    """How many calls of a kind failed, one in each run, and how many of these runs ended otherwise than they may, or one where none ended otherwise than
-    that has to."""
+    """Makes each call of a kind fail, one in each run. Returns how many calls failed, and how many runs had a wrong result. If no run gave the other output
+    that at least one must give, this counts as one more wrong result."""
     number, failed, others = 1, 0, 0
     with concurrent.futures.ThreadPoolExecutor(AT_ONCE) as pool:
         while True:
             numbers = range(number, number + 8 * AT_ONCE)
-            for at, (ended, was_refused) in zip(numbers, pool.map(lambda at: refusing.run(work, kind, at), numbers)):
+            for at, (ended, call_failed) in zip(numbers, pool.map(lambda at: refusing.run(work, kind, at), numbers)):
                 others += is_other(work, ended)
-                if not is_well(work, ended, was_refused):
+                if not is_well(work, ended, call_failed):
                     failed += 1
                     print(f"{work.name}, {kind} {at} refused: {ended}")
-                if not was_refused or failed > MOST_TOLD:
+                if not call_failed or failed > MAX_REPORTED:
                     if work.other and kind == "growth" and not others:
                         failed += 1
                         print(f"{work.name}: no run ended with a client that stopped for memory")
@@ -123,21 +122,21 @@ def refused(refusing, work, kind):
 
 
 def is_import_well(ran, kind, trace, older, whole):
-    """Whether an import has written all of its file, or left it as it was and says why: where an allocation fails it is out of memory, and where a write does
-    before the file is touched it is the temporary copy that could not be written. While the file is written a device may fail, and no allocation."""
-    was_refused = b"refused\n" in ran.stderr
+    """Whether an import has written its whole file, or has left it unchanged and reports why: it is out of memory if an allocation failed, and the temporary
+    copy could not be written if a write failed before the file was touched. While the file is written a device may fail, but no allocation."""
+    call_failed = b"refused\n" in ran.stderr
     ended = ran.returncode, ran.stderr.replace(b"refused\n", b"")
     copy = DEVICE, b"failed: temporary copy\n"
     if ran.returncode == 0:
         return trace == whole
     if trace == older:
-        return was_refused and ended in {"growth": [(MEMORY, b"failed: memory\n")], "read": [(DEVICE, b"failed: read\n"), copy], "write": [copy]}[kind]
-    return was_refused and whole.startswith(trace) and ended == {"read": copy, "write": (DEVICE, b"failed: write\n")}.get(kind)
+        return call_failed and ended in {"growth": [(MEMORY, b"failed: memory\n")], "read": [(DEVICE, b"failed: read\n"), copy], "write": [copy]}[kind]
+    return call_failed and whole.startswith(trace) and ended == {"read": copy, "write": (DEVICE, b"failed: write\n")}.get(kind)
 
 
 def imports_into(refusing, folder, kind, stdin):
-    """How many imports into a file that has an older trace, of a named file or of standard input, in each of which one call of a kind fails, end well, and
-    how many do not. That all is there ends them."""
+    """Imports lines, from a named file or from standard input, into a file that has an older trace. One call of a kind fails in each run, until a run makes
+    no further call. Returns the numbers of correct and of wrong results."""
     program, name = os.path.join(ROOT, "crates", "cops", "out", "cops"), os.path.join(folder, "imported.trace")
     with open(example("put_and_get.trace"), "rb") as file:
         whole = file.read()
@@ -152,7 +151,7 @@ def imports_into(refusing, folder, kind, stdin):
         passed, failed = passed + is_well, failed + (not is_well)
         if not is_well:
             print(f"import into a file, {kind} {number} refused: {ran.returncode}, {ran.stderr}, {trace}")
-        if b"refused\n" not in ran.stderr or failed > MOST_TOLD:
+        if b"refused\n" not in ran.stderr or failed > MAX_REPORTED:
             break
     return passed, failed
 
@@ -172,7 +171,7 @@ def main():
         for work in works():
             counts = {kind: refused(refusing, work, kind) for kind in ("growth", "read", "write")}
             print(f"{work.name}: refused in turn {', '.join(f'{count} {kind}s' for kind, (count, _) in counts.items())}")
-            # (and one run of each kind is refused nothing)
+            # One more run of each kind has no failure.
             passed += sum(count + 1 - wrong for count, wrong in counts.values())
             failed += sum(wrong for _, wrong in counts.values())
         passed, failed = map(sum, zip((passed, failed), imports(refusing, folder)))

@@ -1,4 +1,4 @@
-"""The tests of `cops import`: JSON Lines that are made a trace, beside a plain importer in Python."""
+"""Tests of `cops import`, which makes a trace of JSON Lines: it is compared with a plain importer in Python, a reference implementation."""
 import json
 import os
 import random
@@ -21,7 +21,7 @@ PLAIN = b"ABCDEFGHIJKLMNOPQRSTUVWXYZabcdefghijklmnopqrstuvwxyz0123456789-._"
 
 FIRST = b'{"client":1,"get":"k","value":null}\n'
 
-# Lines, and what is wrong with the last of them.
+# Lines, and the fault of the last one.
 WRONG = [
     (b"x", "no JSON"),
     (b"\n\n\xff\n", "no JSON"),
@@ -77,7 +77,7 @@ def has_surrogate(of):
 
 
 def depth_of(of):
-    """How deep lists and objects stand in each other."""
+    """How deep lists and objects are nested."""
     if isinstance(of, (dict, list)):
         return 1 + max(map(depth_of, of.values() if isinstance(of, dict) else of), default=0)
     return 0
@@ -131,7 +131,7 @@ def version_of(of):
 
 
 def told(line):
-    """What a line tells: the client's name, the record's kind, and the bytes of its key, value and version."""
+    """What a line says: the name of the client, the kind of the record, and the bytes of its key, value and version."""
     of = json_of(line)
     name = name_of(of)
     if "put" not in of and "get" not in of:
@@ -152,7 +152,7 @@ def escaped(name):
 
 
 def plain_import(data):
-    """What an import of lines answers: its status, what it prints, and the trace, or none."""
+    """The expected result of an import of these lines: its status, its output, and the trace, or None."""
     indices, records = {}, []
     for number, line in enumerate(data.split(b"\n"), 1):
         if not line.strip(BLANK):
@@ -189,7 +189,7 @@ def read_if_there(path):
 
 
 def imported(data):
-    """What `cops import` of lines answers, and the trace that it writes: by files, and by standard input and output. Where a line is wrong, a front of
+    """The answer of `cops import` for these lines, and the trace that it writes: by files, and by standard input and output. If a line is wrong, a prefix of
     the trace goes to standard output, and there is no file."""
     with tempfile.TemporaryDirectory() as folder:
         lines, trace = os.path.join(folder, "lines"), os.path.join(folder, "trace")
@@ -207,7 +207,7 @@ def imported(data):
 
 
 def as_plain(name, data):
-    """The import answers what the plain importer does. Where a line is wrong, some records before it went out, and no end."""
+    """The import gives the answer of the plain importer. If a line is wrong, it has written some records before that line, and no end."""
     status, out, trace = plain_import(data)
     got = imported(data)
     check(name, got if trace is not None else got[:3], (status, out, b"") if trace is None else (status, out, b"", trace))
@@ -217,7 +217,7 @@ def as_plain(name, data):
 
 
 def whole_frames(trace):
-    """Where the frame begins that is not whole."""
+    """Where the first frame begins that is not whole."""
     at = 0
     while at + 4 <= len(trace) and at + 4 + struct.unpack(">I", trace[at : at + 4])[0] <= len(trace):
         at += 4 + struct.unpack(">I", trace[at : at + 4])[0]
@@ -225,7 +225,7 @@ def whole_frames(trace):
 
 
 def worked():
-    """The trace by hand of docs/FORMATS.md, told in several ways."""
+    """The trace of docs/FORMATS.md that was written by hand, from lines that describe it in several ways."""
     trace, counts = example("put_and_get.trace"), b"imported: 2 operations, 2 clients\n"
     check("import of put_and_get.jsonl", imported(example("put_and_get.jsonl")), (0, b"client 0 writer\nclient 1 reader\n" + counts, b"", trace))
     ways = [
@@ -245,7 +245,7 @@ def worked():
 
 
 def wrong_lines():
-    """The first wrong line is told, and leaves no whole trace."""
+    """The first wrong line is reported, and no whole trace is written."""
     for last, words in WRONG:
         number = last.rstrip(b"\n").count(b"\n") + 1
         check(f"the plain importer of {last[:60]}", plain_import(last)[:2], (2, f"faulty: line {number}: {words}\n".encode()))
@@ -255,8 +255,8 @@ def wrong_lines():
 
 
 def replaced():
-    """A trace that is there stays where a line is wrong, also behind many that are not, where there is none none is left, and one is replaced as a
-    whole where no line is wrong."""
+    """If a line is wrong, even after many correct ones, an existing trace stays unchanged, and a file that does not exist is not created. If no line is
+    wrong, an existing trace is replaced as a whole."""
     old = b"what was there\n" * 100_000
     with tempfile.TemporaryDirectory() as folder:
         lines, trace = os.path.join(folder, "lines"), os.path.join(folder, "trace")
@@ -279,7 +279,7 @@ def replaced():
 
 
 def limits():
-    """The most clients, and one more; the most operations of a client, and one more."""
+    """The maximum number of clients, and one more; the maximum number of operations of a client, and one more."""
     clients = b"".join(b'{"client":%d,"get":"k","value":null}\n' % n for n in range(MAX_CLIENTS))
     names = b"".join(b"client %d %d\n" % (n, n) for n in range(MAX_CLIENTS))
     cases = [
@@ -297,7 +297,7 @@ def limits():
 
 
 def devices():
-    """Files that are not there, readers and writers that fail, and lines that come by a pipe."""
+    """Files that do not exist, reads and writes that fail, and lines that arrive by a pipe."""
     path = os.path.join(ROOT, "examples", "put_and_get.jsonl")
     lines = b"client 0 writer\nclient 1 reader\nimported: 2 operations, 2 clients\n"
     with tempfile.TemporaryDirectory() as folder:
@@ -331,7 +331,7 @@ def devices():
 
 
 def copies(folder, path, lines):
-    """The copy of standard input lies in the folder that TMPDIR names, and nothing is left there."""
+    """The copy of standard input is in the folder that TMPDIR names, and nothing is left there."""
     kept = os.path.join(folder, "kept")
     os.mkdir(kept)
 
@@ -351,13 +351,13 @@ def copies(folder, path, lines):
 
 
 def short_files():
-    """No file of this process may have more than 10 bytes, and a write of more fails."""
+    """Limits the files of this process to 10 bytes, so that longer writes fail."""
     signal.signal(signal.SIGXFSZ, signal.SIG_IGN)
     resource.setrlimit(resource.RLIMIT_FSIZE, (10, 10))
 
 
 def generated(seed):
-    """Random lines, now and then a wrong one."""
+    """Random lines, some of them wrong."""
     pick = random.Random(seed)
     names = [1, 7, "7", "b", "a b", "ü", "", 2**64 - 1, "client"]
     keys, values = ["x", "y", "k" * 64, "ü", " "], ["", "1", "v" * 4096, "a\nb", "\u0000", "ü"]

@@ -37,7 +37,8 @@ def many_rounds():
 
 
 def generated():
-    """The benchmark's traces are accepted, but for the one fault that they are asked for: with few keys, and with so many that they are foreseen."""
+    """The traces of the benchmark are accepted, or have exactly the violation that was asked for: with few keys, and with so many that they are
+    prefetched."""
     faults_of = {None: 0, "doubled": 2, "no_source": 1, "not_above": 1, "stale": 1}
     for operations, keys in ((900, 20), (40_000, 20_000)):
         for violation, faults in faults_of.items():
@@ -52,7 +53,7 @@ def generated():
 
 
 def put_frames(clients, count):
-    """The frames of a trace of so many puts, the head first and the end last: the clients put in turn."""
+    """The frames of a trace of `count` puts, from the head to the end. The clients put in turn."""
     frames = [frame(TRACE_HEAD, struct.pack(">HH", 1, clients))]
     for n in range(count):
         fields = struct.pack(">HI", n % clients, n // clients) + b"\x01k\x00\x02vv" + struct.pack(">Q", (n + 1) << 16)
@@ -61,7 +62,7 @@ def put_frames(clients, count):
 
 
 def long_traces():
-    """A long trace has each fault in turn, in the first of its pieces, later, and where one piece ends and the next begins."""
+    """A long trace with each fault in turn: in its first piece, in a later one, and across the boundary of two pieces."""
     count = 60_000
     frames = put_frames(3, count)
     size = len(frames[1])
@@ -76,7 +77,7 @@ def long_traces():
                 check(f"{name}, by {workers} workers", cops("audit", file.name, "--workers", workers), wanted)
 
         answered("a long trace", b"".join(frames), (0, f"accepted: {count} operations, {count} puts\n".encode(), b""), ("1", "2", "5", "64"))
-        # (a piece has 65,536 bytes, so that the 20,972nd record begins in the eighth and ends in the ninth)
+        # A piece has 65,536 bytes, so that the 20,972nd record begins in the eighth piece and ends in the ninth.
         for at in (10_000, 20_972, 50_000):
             place = len(frames[0]) + (at - 1) * size
             good, rest = frames[at], b"".join(frames[at + 1 :])
@@ -101,8 +102,8 @@ def long_traces():
 
 
 def each_kind():
-    """Records of each kind, with values of each length of a format: a get in the first piece and one in the last have their sources, or one of them
-    returned a value that differs in its last byte, and so has none."""
+    """Records of each kind, with values of many lengths up to the limit of the format. A get in the first piece and one in the last have their sources, or
+    one of them returned a value that differs in its last byte, and so has no source."""
     for which, rounds in ((1, 3_000), (2, 1_200)):
         lines, counts = lines_of_each_kind(which, rounds), f"{3 * rounds} operations, {rounds} puts"
         traces = [(f"records of each kind, format {which}", trace(lines), (0, f"accepted: {counts}\n".encode(), b""))]
@@ -118,7 +119,7 @@ def each_kind():
 
 
 def audited_by_workers(name, data, wanted):
-    """An audit of the trace by one worker and by a few gives this answer."""
+    """The audit of the trace gives this answer with one worker and with several."""
     with tempfile.NamedTemporaryFile(suffix=".trace") as file:
         file.write(data)
         file.flush()
@@ -137,8 +138,9 @@ def lines_of_each_kind(which, rounds):
 
 
 def many_suspects():
-    """Two clients get what client 1 puts as soon as it is put, and what client 0 puts a hundred rounds later, or nine thousand: none of these gets is
-    stale, since client 1 knows of nothing that client 0 does. Then it gets a put of client 0, and whoever gets what it puts next knows of that too."""
+    """Many gets that might be stale. Two clients get each put of client 1 at once, and the puts of client 0 a hundred and nine thousand rounds later: none of
+    these gets is stale, since client 1 knows of no operation of client 0. Then client 1 gets a put of client 0, and a client that gets its next put knows of
+    that too."""
     rounds, lags = 12_000, {2: 100, 3: 9_000}
     lines = ["clients 4"]
     for number in range(rounds):
@@ -148,7 +150,7 @@ def many_suspects():
             if number >= lag:
                 lines.append(f"{client} got k{(number - lag) % 50} 1 {2 * (number - lag) + 1}.0")
     audited("many gets that may be stale", trace(lines), f"accepted: {len(lines) - 1} operations, {2 * rounds} puts\n", 0)
-    # (the last put on k7 is that of round 11,957)
+    # The last put on k7 is that of round 11,957.
     lines += ["1 got k7 1 23915.0", "1 put c0 1 24001.1", "3 got c0 1 24001.1", "3 got k7 1 5915.0"]
     names = f"(0,11957) (1,{rounds}) (1,{rounds + 1}) (3,{2 * rounds - 9_000}) (3,{2 * rounds - 8_999})"
     text = f"refused: {len(lines) - 1} operations, {2 * rounds + 1} puts, 1 faults\n"
@@ -158,7 +160,7 @@ def many_suspects():
 
 
 def little_memory():
-    """With too little memory the program says so, and writes nothing else; with enough it answers."""
+    """When the program is out of memory it reports that, and writes nothing else; with enough memory it answers."""
     value = "v" * 4000
     data = trace(["clients 2"] + [f"0 put k{i} {value} {i + 1}.0" for i in range(5000)] + ["1 got k9 " + value + " 10.0"])
     enough = (0, b"accepted: 5001 operations, 5000 puts\n", b"")

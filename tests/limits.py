@@ -1,5 +1,4 @@
-"""The tests of the limits of values, of pairs and of frames, of which each format has its own: each at its number, one below it and one above it, by every
-way by which it comes in."""
+"""Tests of the limits of each format for values, pairs and frames: at the limit, one below it and one above it, for each kind of input."""
 import json
 import struct
 
@@ -14,12 +13,12 @@ CONTEXT_FULL, NOT_GREETED, OTHER_PROFILE, NO_CLIENTS_MESSAGE = 2, 16, 17, 18
 ACCEPTED = "accepted: 2 operations, 1 puts\n"
 NO_SOURCE = "refused: 2 operations, 1 puts, 1 faults\nno source (1,0) at 1.0\n"
 
-# The messages of these tests bear one number, and in the reply to a message that has none stands 0.
+# The sequence number of all messages of these tests, and the 0 in the reply to a message that has none.
 SEQ, NO_SEQ = struct.pack(">I", 7), bytes(4)
 BYE_SENT, WELCOME, GOODBYE = frame(BYE, b""), frame(HELLO_OK, bytes([0, 1])), frame(BYE_OK, b"")
 
-# For how many seconds the front door is seen to wait for more.
-AWAITED = 0.3
+# If no reply arrives for this many seconds, the front door is considered to wait for more.
+WAIT_SECONDS = 0.3
 
 
 def around(limit):
@@ -27,12 +26,12 @@ def around(limit):
 
 
 def around_each(name):
-    """The numbers about this limit of each format."""
+    """The numbers around this limit, for each format."""
     return [number for limits in LIMITS.values() for number in around(getattr(limits, name))]
 
 
 def each_value():
-    """Each format with values of all lengths about both limits, and whether it allows them: a text counts as its UTF-8 bytes."""
+    """Each format with values of all lengths around both limits, and whether it allows them. The length is that of the UTF-8 encoding."""
     for number, limits in LIMITS.items():
         of_two_bytes = "ü" * (limits.value // 2)
         for text in [*("v" * length for length in around_each("value")), of_two_bytes, of_two_bytes + "v"]:
@@ -44,19 +43,19 @@ def name_of(number, text):
 
 
 def put_and_got(number, put, got):
-    """The trace of a format in which one client puts a value and another gets one."""
+    """A trace of a format in which one client puts a value and another gets a value."""
     return trace([f"clients 2 format {number}", f"0 put x {put} 1.0", f"1 got x {got} 1.0"])
 
 
 def told_of(name, data, shown, words):
-    """An audit and `show` tell these words of what is no trace, `show` behind the lines of the frames before."""
+    """An audit and `show` report this fault of bytes that are not a trace; `show` first prints the lines of the frames before it."""
     line = f"faulty: {words}\n"
     check(f"audit of {name}", cops("audit", "-", stdin=data), (2, line.encode(), b""))
     check(f"show of {name}", cops("show", "-", stdin=data), (2, (shown + line).encode(), b""))
 
 
 def values_of_traces():
-    """The value of a put, which stands at byte 22, and that of a get alone, which stands at byte 46 behind a put of one byte."""
+    """Values in a put, where they are at byte 22, and in a get alone, where they are at byte 46 after a put of one byte."""
     for number, text, fits in each_value():
         name, data, of_get = name_of(number, text), put_and_got(number, text, text), put_and_got(number, "v", text)
         head, shown = f"TraceHead format={number} clients=2\n", text.replace("ü", "%c3%bc")
@@ -73,7 +72,7 @@ def values_of_traces():
 
 
 def values_that_differ():
-    """Of a value of the most bytes none is left out: a get of another first or last byte, or of one byte less, has no source."""
+    """A value of maximum length is compared as a whole: a get of another first or last byte, or of one byte less, has no source."""
     for number, limits in LIMITS.items():
         most = "v" * limits.value
         for text in (most[1:], most[1:] + "w", "w" + most[1:]):
@@ -81,7 +80,8 @@ def values_that_differ():
 
 
 def values_of_scenarios():
-    """The value of an event, whose put comes to another data centre, and of a script. The format stands behind the events, and before the scripts."""
+    """Values in an event, whose put is delivered to another data centre, and in a script. The member `format` comes after the events, and before the
+    scripts."""
     for number, text, fits in each_value():
         name, put = name_of(number, text), {"put": [0, "x", text]}
         given = events(put, {"deliver": [1, "1.0"]}, {"settle": [1, "1.0"]}, {"get": [1, "x"]}, data_centres=2, clients=({"at": 0}, {"at": 1}), format=number)
@@ -95,7 +95,7 @@ def values_of_scenarios():
 
 
 def values_of_imports():
-    """An import writes format 1, of which the put's line and the get's have the value's limit."""
+    """An import writes format 1, whose limit holds for the values of puts and of gets."""
     told = b"client 0 1\nclient 1 2\nimported: 2 operations, 2 clients\n"
 
     def lines(put, got):
@@ -112,7 +112,7 @@ def values_of_imports():
 
 
 def values_of_conversions():
-    """A trace of either format with such values becomes one of format 2 that is audited and explained as before, also where it is refused."""
+    """A trace of either format with such values becomes one of format 2 with the same audit and explanation, also if it is refused."""
     for number, text, fits in each_value():
         name, data = name_of(number, text), put_and_got(number, text, text)
         if not fits:
@@ -157,7 +157,8 @@ def two_clients(number, *homes):
 
 
 def values_at_the_front_door():
-    """A put of a value within the format's limit is answered, and a get then gives all of it; one that is longer ends the session without a reply."""
+    """A put of a value within the limit of the format is answered, and a get then returns the whole value. A put of a longer value ends the session without a
+    reply."""
     for number in LIMITS:
         texts = [(text, fits) for which, text, fits in each_value() if which == number]
         server, clock = Server(one_client(format=number), len(texts)), 0
@@ -189,7 +190,8 @@ def before_a_greeting():
 
 
 def contexts_of_events():
-    """A context takes so many pairs. Then each get is refused, also of a key that the context has and of one that nobody put, until the next put."""
+    """A context has at most the number of pairs that the format allows. Once it is full each get is refused until the next put, also a get of a key that the
+    context has and of one that nobody put."""
     for number, limits in LIMITS.items():
         writes = [{"put": [0, f"k{n}", "1"]} for n in range(limits.pairs + 1)]
         rest = [{"get": [1, "k0"]}, {"get": [1, "none"]}, {"put": [1, "a", ""]}, {"get": [1, "k0"]}]
@@ -204,7 +206,7 @@ def contexts_of_events():
 
 
 def contexts_of_scripts():
-    """A put leaves one pair, and each get of another key adds one: the get at which the context is full stops the client."""
+    """A put leaves one pair, and each get of another key adds one. A get with a full context stops the client."""
     for number, limits in LIMITS.items():
         for count in around(limits.pairs):
             script = [{"put": [f"k{n}", "1"]} for n in range(count)] + [{"get": f"k{n}"} for n in range(count - 1)]
@@ -215,7 +217,7 @@ def contexts_of_scripts():
 
 
 def contexts_at_the_front_door():
-    """A client goes on with its context in a later session: a full one is full there too, until the client puts."""
+    """A client keeps its context in a later session: a full context is still full there, until the client puts."""
     for number, limits in LIMITS.items():
         most, full = limits.pairs, refused(CONTEXT_FULL)
         server = Server(two_clients(number, 0, 0), 3)
@@ -232,7 +234,8 @@ def contexts_at_the_front_door():
 
 
 def largest_puts():
-    """A put with the longest keys, the longest value and the most dependencies comes to another data centre: by a script, and at the front door."""
+    """A put with the longest keys, the longest value and the most dependencies is replicated to another data centre: from a script, and from the front
+    door."""
     for number, limits in LIMITS.items():
         keys, last, text = [f"{n:064}" for n in range(limits.pairs)], "k" * 64, "v" * limits.value
         script = [*({"put": [it, "1"]} for it in keys), *({"get": it} for it in keys[:-1]), {"put": [last, text]}]
@@ -258,7 +261,8 @@ def head_of(number):
 
 
 def pairs_of_frames():
-    """The pairs of dependencies behind a head, as the first frame, and at the front door: a message that is read is no record, and none of a client's."""
+    """The number of dependencies of a message after a head, in the first frame, and at the front door. A message that decodes is still no record, and not one
+    that clients may send."""
     counts = around_each("pairs")
     for number, limits in LIMITS.items():
         head, shown, end = head_of(number)
@@ -279,7 +283,8 @@ def pairs_of_frames():
 
 
 def repeated_pairs():
-    """The last of the most pairs may be none of those before it: a pair of the same key and another version is another, and so is one of another key."""
+    """The last of the maximum number of pairs must differ from all pairs before it. Pairs with one key and different versions differ, and so do pairs with
+    different keys."""
     for number, limits in LIMITS.items():
         head, shown, end = head_of(number)
         pairs = pairs_of(limits.pairs - 1)
@@ -289,7 +294,8 @@ def repeated_pairs():
 
 
 def largest_frames():
-    """The message of the largest put of each format, behind the heads and at the front doors of both: that of format 2 is longer than a frame of format 1."""
+    """The message of the largest put of each format, after the heads and at the front doors of both: that of format 2 is longer than a frame of format 1 may
+    be."""
     for number, limits in LIMITS.items():
         head, shown, end = head_of(number)
         server = Server(one_client(format=number), len(LIMITS))
@@ -303,7 +309,7 @@ def largest_frames():
 
 
 def frames_of_traces():
-    """The length of a frame behind a head, and of the first one, which is read in format 1: where it may be, more of the frame is looked at."""
+    """The length of a frame after a head, and of the first frame, which is read in format 1. If the length is legal, the rest of the frame is examined."""
     for number, limits in LIMITS.items():
         head, shown, end = head_of(number)
         for length in around_each("body"):
@@ -320,7 +326,8 @@ def frames_of_traces():
 
 
 def frames_at_the_front_door():
-    """The front door waits for a frame of the most bytes, and ends the session at the length of a longer one: in format 1 before a greeting was welcomed."""
+    """The front door waits for a frame of maximum length, and ends the session at the length of a longer one. Until a greeting is accepted, the limit is that
+    of format 1."""
     for number, limits in LIMITS.items():
         cases = [(hello(number), WELCOME, limits.body, length) for length in around(limits.body)]
         cases += [(b"", b"", LIMITS[1].body, length) for length in around(LIMITS[1].body)]
@@ -333,11 +340,12 @@ def frames_at_the_front_door():
 
 
 def answer_to(server, given, welcome, waits):
-    """What comes back for these bytes, up to as many as the welcome has, and whether the front door then waits for more, as it is to do or not."""
+    """The reply to these bytes, of at most one byte more than the welcome, and whether the front door then waits for more. `waits` says whether it is
+    expected to."""
     with server.connect() as connection, connection.makefile("rb") as replies:
         connection.sendall(given)
         came = replies.read(len(welcome))
-        connection.settimeout(AWAITED if waits else PATIENCE)
+        connection.settimeout(WAIT_SECONDS if waits else PATIENCE)
         try:
             return came + replies.read(1), False
         except TimeoutError:

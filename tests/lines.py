@@ -1,5 +1,5 @@
 #!/usr/bin/env python3
-"""The tests of gets that found nothing among the lines of an import: they have to say so.
+"""Tests of gets that found nothing in the lines of an import: such a line has to say so.
 
 Prints a line for each test that fails, and at the end `N passed, M failed`.
 """
@@ -40,7 +40,7 @@ WRONG = [
 
 
 def imported(data):
-    """What an import answers, and the trace that is then there, or none."""
+    """The answer of an import, and the trace that it leaves, or None."""
     with tempfile.TemporaryDirectory() as folder:
         path = os.path.join(folder, "trace")
         answer = cops("import", "-", path, stdin=data)

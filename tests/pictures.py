@@ -42,7 +42,7 @@ PICTURES = [
 
 
 def drawn(data, number=1):
-    """The picture of a trace's fault of that number, counted from 1, or another text where there is none."""
+    """The picture of the fault of that number in a trace, counted from 1, or `<nothing/>` if there is none."""
     with tempfile.TemporaryDirectory() as folder:
         path = os.path.join(folder, "fault.trace")
         with open(path, "wb") as file:
@@ -56,7 +56,7 @@ def drawn(data, number=1):
 
 
 def told(picture):
-    """The label of a picture, and its cards, each with its class and the operation that it tells, or how many are left out."""
+    """The label of a picture, and its cards, each with its class and the operation that it shows, or the number of operations that are left out."""
     svg = ElementTree.fromstring(picture)
     shown = []
     for group in svg.findall(f"{SVG}g"):
@@ -66,7 +66,7 @@ def told(picture):
 
 
 def hostile():
-    """A trace whose stale get has keys and values of bytes that mean something in XML, and of every other byte."""
+    """Traces with a stale get whose keys and values have bytes with a meaning in XML, and every other byte."""
     texts = [b"]]><script>alert('&\"');</script><!-- ", bytes(range(64)), b"\"/><x a='", b"%" * 64, b"-->"]
     texts += [bytes(range(start, start + 64)) for start in (64, 128, 192)]
     for text in texts:
@@ -79,7 +79,7 @@ def hostile():
 
 
 def many_clients(clients):
-    """A stale get with a chain through so many clients."""
+    """The trace of a stale get with a chain through this number of clients."""
     lines = [f"clients {clients}", "0 put x 1 1.0", "0 put x 2 2.0", "0 put c0 1 3.0"]
     for client in range(1, clients):
         lines += [f"{client} got c{client - 1} 1 {client + 2}.0", f"{client} put c{client} 1 {client + 3}.0"]
@@ -87,7 +87,7 @@ def many_clients(clients):
 
 
 def pictures():
-    """Each is well-formed, has the label of its fault, and shows what it should; some are rendered where that is possible."""
+    """Each picture is well-formed, has the label of its fault, and shows what it should. The pictures are also rendered if that is possible."""
     all_drawn = []
     for name, label, shown in PICTURES:
         picture = drawn(example(f"{name}.trace"))
@@ -114,7 +114,7 @@ def pictures():
 
 
 def over_inputs():
-    """A file that is read is not written over: it stays as it was."""
+    """A file that is read is not overwritten: it stays unchanged."""
     scenario = os.path.join(ROOT, "examples", "two_clients.json")
     with tempfile.TemporaryDirectory() as folder:
         for words, path in ((("explain", "--picture"), os.path.join(ROOT, "examples", "stale.trace")), (("run",), scenario)):
@@ -128,7 +128,7 @@ def over_inputs():
 
 
 def to_standard_output():
-    """A picture for `-` goes to standard output, and the words to standard error."""
+    """A picture named `-` is written to standard output, and the text to standard error."""
     path = os.path.join(ROOT, "examples", "stale.trace")
     words = cops("explain", path)
     with open(os.path.join(ROOT, "docs", "stale.svg"), "rb") as file:
@@ -142,7 +142,7 @@ def to_standard_output():
 
 
 def not_drawn():
-    """Where there is no such fault the file is left empty, and where the trace is faulty as it was, or it is not made."""
+    """If there is no such fault the file is left empty. If the trace is faulty, an existing file stays unchanged and no new file is created."""
     old = b"<svg/>" * 1_000
     with tempfile.TemporaryDirectory() as folder:
         picture, none = os.path.join(folder, "picture"), os.path.join(folder, "none")
@@ -167,7 +167,7 @@ def not_drawn():
 
 
 def many_others():
-    """Of 22 puts of one version the first paragraph tells the put, 20 others and how many more there are, of 21 all."""
+    """For 22 puts of one version the first paragraph shows the put, 20 others and the number of the rest; for 21 it shows all of them."""
     for count, last in ((21, b"(20,0) client 20 put k20=1 at 1.0"), (22, b"and 1 more of that version"), (30, b"and 9 more of that version")):
         data = trace([f"clients {count}", *(f"{client} put k{client} 1 1.0" for client in range(count))])
         lines = cops("explain", "-", "--fault", "1", stdin=data)[1].split(b"\n")
@@ -176,7 +176,7 @@ def many_others():
 
 
 def rendered(all_drawn):
-    """Each picture is drawn as large as it says."""
+    """The rendered size of each picture is the size that it states."""
     if not shutil.which("rsvg-convert"):
         skip("pictures, rendered", "rsvg-convert is not installed")
         return

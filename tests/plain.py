@@ -1,7 +1,7 @@
-"""A plain auditor of small histories, by the words of docs/DEFINITIONS.md, and the comparison of the program with it.
+"""A plain auditor of small histories: a reference implementation of docs/DEFINITIONS.md, with which the program is compared.
 
-It works with sets of names and pairs of names, and its past is a closure by brute force. The program walks
-the operations as they come, so that the two have nothing in common but the definitions.
+It works with sets of names and pairs of names, and computes the past as a transitive closure by brute force. The program processes the operations
+in the order of their arrival, so that the two have nothing in common but the definitions.
 """
 import glob
 import os
@@ -13,7 +13,7 @@ from concurrent.futures import ThreadPoolExecutor
 from traces import ROOT, check, cops, row, status_of, trace
 from write_trace import TRACE_END, frame
 
-# A deletion is a put without a value, and a get that found one returned none.
+# A deletion is a put without a value, and a get that found a deletion returned no value.
 Operation = namedtuple("Operation", "kind key value version")
 PUTS, GETS = ("put", "del"), ("got", "gone")
 HISTORIES = 4000
@@ -22,12 +22,12 @@ FORMATS = (1, 2)
 WORKERS = ("1", "2", "3", "64")
 LEAST_OF_A_KIND = 20
 
-# The end of a trace has as many bytes whatever it counts.
+# The end of a trace, whose length does not depend on the count.
 TRACE_ENDED = frame(TRACE_END, bytes(4))
 
 
 def history_of(lines):
-    """The operations by name, of the lines from which a trace is written."""
+    """The operations by name, from the lines that a trace is written from."""
     words = [line.split() for line in lines if line.strip() and not line.startswith("#")]
     history, lengths = {}, Counter()
     for client, kind, key, *rest in words[1:]:
@@ -43,18 +43,18 @@ def of_kind(history, *kinds):
 
 
 def sources(history, get):
-    """The puts that have the key, the value or none, and the version that a get returned."""
+    """The puts that have the key, the content and the version that a get returned."""
     return [put for put in of_kind(history, *PUTS) if history[put][1:] == history[get][1:]]
 
 
 def steps(history):
-    """The pairs of names of which the second is a session step or a source step on from the first."""
+    """The pairs of names with a session step or a source step from the first to the second."""
     session = {(a, b) for a in history for b in history if a[0] == b[0] and a[1] < b[1]}
     return session | {(put, get) for get in of_kind(history, *GETS) for put in sources(history, get)}
 
 
 def closure(pairs):
-    """The pairs, and all that follow from them by going on."""
+    """The transitive closure of the pairs."""
     while True:
         longer = pairs | {(a, d) for a, b in pairs for c, d in pairs if b == c}
         if longer == pairs:
@@ -72,7 +72,7 @@ def without_source(history):
 
 
 def not_above(history):
-    """Each put that is not above an earlier put or get of its session, with the first of these."""
+    """Each put whose version is not above that of an earlier put or get of its session, with the first of these."""
     found = []
     for put in of_kind(history, *PUTS):
         before = [a for a in sorted(history) if a[0] == put[0] and a[1] < put[1] and history[a].kind != "missed"]
@@ -92,7 +92,7 @@ def stale(history):
 
 
 def chain(history, first, last):
-    """Of the shortest chains from a name to another the first in order of names."""
+    """The first of the shortest chains from one name to another, in the order of names."""
     pairs, chains = steps(history), [(first,)]
     while not any(names[-1] == last for names in chains):
         chains = [names + (b,) for names in chains for a, b in pairs if a == names[-1]]
@@ -124,7 +124,7 @@ def version_text(version):
 
 
 def told(history, name):
-    """A name with the version of its operation."""
+    """The name of an operation with its version."""
     return f"{name_text(name)} at {version_text(history[name].version)}"
 
 
@@ -135,7 +135,7 @@ def stale_line(history, get, newer):
 
 
 def fault_lines(history):
-    """The lines of the first class that has a fault, or none."""
+    """The lines of the first class that has a fault, or an empty list."""
     classes = (
         lambda: [f"doubled {told(history, put)}" for put in doubled(history)],
         lambda: [f"no source {told(history, get)}" for get in without_source(history)],
@@ -158,7 +158,7 @@ def report(history):
 
 
 def said_so_far(history):
-    """What is said of the records of a trace that is cut: only a get whose version no put bears may be mended by what follows."""
+    """The verdict so far on the records of a cut trace. Of all faults, only a get with a version that no put has may still be resolved by later records."""
     versions = [history[put].version for put in of_kind(history, *PUTS)]
     waiting = [get for get in without_source(history) if history[get].version not in versions]
     if doubled(history) or not_above(history) or stale(history) or len(waiting) < len(without_source(history)):
@@ -167,15 +167,15 @@ def said_so_far(history):
 
 
 def kind_of(text):
-    """Which kind of verdict a report tells: that it is accepted, or the class of its faults."""
+    """The kind of verdict in a report: accepted, or the class of its faults."""
     if text.startswith("accepted: "):
         return "accepted"
     line = text.split("\n")[1]
     return "stale, returned nothing" if " returned nothing, " in line else line.split(" (")[0]
 
 
-def tells_of_deletions(history, text):
-    """Whether an accepted history has a get that found a deletion, or a fault's line names a deletion or such a get before its chain."""
+def involves_deletions(history, text):
+    """Whether an accepted history has a get that found a deletion, or the line of a fault names a deletion or such a get before its chain."""
     if text.startswith("accepted: "):
         return bool(of_kind(history, "gone"))
     named = "".join(line.split(", chain ")[0] for line in text.split("\n")[1:])
@@ -187,7 +187,7 @@ KINDS = ("accepted", "doubled", "no source", "not above", "stale", "stale, retur
 
 
 def some_put(pick, time, number):
-    """A put, or a third of the time where the format has deletions a deletion; mostly at a version above all that were given."""
+    """A random put, or in format 2, a third of the time, a deletion; mostly with a version above all earlier ones."""
     clock = pick.randint(1, 8) if pick.random() < 0.12 else time
     key, version = pick.choice("xy"), f"{clock}.{pick.choice((0, 1, 64))}"
     if number == 2 and pick.random() < 0.33:
@@ -196,12 +196,12 @@ def some_put(pick, time, number):
 
 
 def get_of(put):
-    """The get that returned what was put, or found that deletion."""
+    """The get that returns this put, or that finds this deletion."""
     return "gone" if put[0] == "del" else "got", *put[1:]
 
 
 def some_operation(pick, puts, time, number):
-    """A put or a deletion, or a get: mostly of what was put, half of these of the newest, and rarely of any key and value or deletion."""
+    """A random put, deletion or get. A get mostly returns an earlier put, half the time the newest, and rarely any key and content."""
     dice = pick.random()
     if dice < 0.4 or not puts:
         puts.append(some_put(pick, time, number))
@@ -216,7 +216,7 @@ def some_operation(pick, puts, time, number):
 
 
 def some_lines(seed, number):
-    """The lines of a history of a format, of at most four clients and twelve operations, its sessions mixed anyhow."""
+    """The lines of a random history of a format, with at most four clients and twelve operations, whose sessions are interleaved at random."""
     pick = random.Random(seed)
     clients, puts = pick.randint(1, 4), []
     sessions = [[] for _ in range(clients)]
@@ -228,18 +228,18 @@ def some_lines(seed, number):
 
 
 def with_long_values(lines, length):
-    """The same lines, with a value of so many bytes in place of each value 1."""
+    """The lines with a value of `length` bytes in place of each value 1."""
     words = [line.split() for line in lines]
     return [" ".join([*of[:3], "v" * length, of[4]] if len(of) == 5 and of[3] == "1" else of) for of in words]
 
 
 def format_of(seed):
-    """Histories of the formats come in turn."""
+    """The format of a random history: the formats alternate."""
     return FORMATS[seed % len(FORMATS)]
 
 
 def random_histories():
-    """The program says of many small histories what the plain auditor says, and each kind of verdict comes often, also of deletions."""
+    """The program and the plain auditor agree on many small histories, and each kind of verdict occurs often, also with deletions."""
     met, made = Counter(), [some_lines(seed, format_of(seed)) for seed in range(HISTORIES)]
 
     def audited(seed):
@@ -252,7 +252,7 @@ def random_histories():
         history = history_of(lines)
         text = report(history)
         met[format_of(seed), kind_of(text)] += 1
-        met["of deletions", kind_of(text)] += tells_of_deletions(history, text)
+        met["of deletions", kind_of(text)] += involves_deletions(history, text)
         check(f"a small history, {seed}", answer, (status_of(text), text.encode(), b""))
         wanted = not doubled(history) and converges(history)
         check(f"its verdict by the definition, {seed}", kind_of(text) == "accepted", wanted)
@@ -262,7 +262,7 @@ def random_histories():
 
 
 def cut_at(lines, length):
-    """The first so many bytes of the text of a history, where the last whole record in them ends, and the lines up to that."""
+    """The first `length` bytes of the text of a history, where the last whole record in them ends, and the lines up to there."""
     text = trace(lines)
     ends = [0] + [len(trace(lines[:count])) - len(TRACE_ENDED) for count in range(1, len(lines) + 1)]
     whole = max(count for count, end in enumerate(ends) if end <= length)
@@ -270,13 +270,13 @@ def cut_at(lines, length):
 
 
 def cut_anywhere(seed):
-    """The front of the text of a small history, where the last whole record in it ends, and the lines up to that."""
+    """A random prefix of the text of a small history, where the last whole record in it ends, and the lines up to there."""
     lines = some_lines(seed, format_of(seed))
     return cut_at(lines, random.Random(seed).randrange(len(trace(lines))))
 
 
 def said_of_cuts(made):
-    """What the plain auditor says so far of each of these, once the program says so too."""
+    """Checks that the program and the plain auditor agree on the verdict so far on each of these prefixes, and yields the verdicts."""
     with ThreadPoolExecutor(os.cpu_count() or 2) as pool:
         answers = list(pool.map(lambda cut: cops("audit", "-", "--so-far", stdin=cut[0]), made))
     for (data, end, lines), answer in zip(made, answers):
@@ -287,7 +287,7 @@ def said_of_cuts(made):
 
 
 def random_cuts():
-    """The program says so far of many small histories that are cut anywhere what the plain auditor says, and all that it may say comes."""
+    """The program and the plain auditor agree on many small histories that are cut anywhere, and each verdict so far occurs."""
     met = Counter()
     for seed, said in enumerate(said_of_cuts([cut_anywhere(seed) for seed in range(CUTS)])):
         met[format_of(seed), said.split()[0]] += 1
@@ -297,21 +297,21 @@ def random_cuts():
 
 
 def cuts_of_deletions():
-    """And of each worked row of format 2, cut behind each of its bytes."""
-    rows_of_2 = [lines for lines, _ in map(row, row_paths()) if any(line.endswith(" format 2") for line in lines)]
-    check("there are rows of format 2", len(rows_of_2) > 5, True)
-    given = [[line for line in lines if line and not line.startswith("#")] for lines in rows_of_2]
+    """They also agree on each test case of format 2, cut at each of its bytes."""
+    cases_of_format_2 = [lines for lines, _ in map(row, case_paths()) if any(line.endswith(" format 2") for line in lines)]
+    check("there are rows of format 2", len(cases_of_format_2) > 5, True)
+    given = [[line for line in lines if line and not line.startswith("#")] for lines in cases_of_format_2]
     list(said_of_cuts([cut_at(lines, length) for lines in given for length in range(len(trace(lines)))]))
 
 
-def row_paths():
-    """The files of the worked rows of an audit."""
+def case_paths():
+    """The files of the test cases of an audit."""
     return sorted(glob.glob(os.path.join(ROOT, "tests", "rows", "*.ops")))
 
 
 def rows():
-    """Of each worked row the program, with few workers and many, and the plain auditor say what stands there."""
-    paths = row_paths()
+    """For each test case the program, with few workers and many, and the plain auditor give the expected text."""
+    paths = case_paths()
     check("there are rows", len(paths) > 0, True)
     for path in paths:
         lines, text = row(path)

@@ -1,7 +1,7 @@
-"""A plain cluster of small worlds, by the words of docs/DEFINITIONS.md and docs/FORMATS.md, and the comparison of the program with it.
+"""A plain cluster for small worlds: a reference implementation of docs/DEFINITIONS.md and docs/FORMATS.md, with which the program is compared.
 
-It keeps each data centre's nodes as sets of pairs, and looks a refusal up in the order of the table. Lists of random events, in which much
-is late, lost, repeated or out of order, are given to the program and to it.
+It keeps each node as a set of pairs, and looks for a refusal in the order of the table. The program and the plain cluster are given lists of random
+events, many of which are late, lost, repeated or out of order.
 """
 import json
 import os
@@ -31,8 +31,8 @@ class Node:
 
 
 class World:
-    """The format, all nodes, the issued puts and deletions, the answers yes, and of each client its data centre, its context and what it saw.
-    A deletion is a put whose value is None."""
+    """The format, all nodes, the issued puts and deletions, the answers `yes`, and for each client its data centre, its context and what it saw. A deletion
+    is a put whose value is None."""
 
     def __init__(self, data_centres, splits, homes, number=1):
         self.format, self.data_centres, self.splits, self.homes = number, data_centres, [split.encode() for split in splits], homes
@@ -107,7 +107,7 @@ class World:
         return "yes"
 
     def waiting(self, dc, version):
-        """The node at which the put of a version waits in a data centre, and its dependencies; or none."""
+        """The node at which the put of a version waits in a data centre, its key and its dependencies; or None."""
         if version not in self.issued:
             return None
         key, deps = self.issued[version]
@@ -145,14 +145,14 @@ def text_of(version):
 
 
 def some_value(pick, world):
-    """The value of a put, now and then in format 2 one of more bytes than format 1 allows."""
+    """The value of a put; in format 2 some are longer than format 1 allows."""
     value = f"v{len(world.issued)}"
     longer = world.format == 2 and pick.random() < 0.02
     return value.ljust(pick.randint(LIMITS[1].value + 1, LIMITS[2].value), "w") if longer else value
 
 
 def some_event(pick, world, keys):
-    """An event that names what there is, mostly, and mostly what waits."""
+    """A random event, which mostly names what exists, and mostly what waits."""
     client, dc = pick.randrange(len(world.homes) + (pick.random() < 0.05)), pick.randrange(world.data_centres + (pick.random() < 0.05))
     key, versions = pick.choice(keys), [*world.issued] or [(1, 0)]
     held = [(number // 64, version) for number, node in world.nodes.items() for version in node.held]
@@ -177,7 +177,7 @@ def some_event(pick, world, keys):
 
 
 def some_world(seed):
-    """A scenario of random events of a format, the lines that it is to print, and what its clients saw."""
+    """A scenario of random events, the outcomes that it is expected to print, and what its clients saw."""
     pick = random.Random(seed)
     data_centres, splits = pick.randint(1, 4), sorted(pick.sample(["b", "k2", "m", "é"], pick.randrange(4)))
     world = World(data_centres, splits, [pick.randrange(data_centres) for _ in range(pick.randint(1, 6))], FORMATS[seed % len(FORMATS)])
@@ -190,7 +190,7 @@ def some_world(seed):
 
 
 def scenario_of(world, events):
-    """The scenario file. It names its format; of format 1, which stands where none is named, only where the clients are odd in number."""
+    """The scenario file. It names format 2 always, and format 1, which is the default, only if the number of clients is odd."""
     splits = [split.decode() for split in world.splits]
     clients = [{"at": home} for home in world.homes]
     named = {"format": world.format} if world.format == 2 or len(world.homes) % 2 else {}
@@ -198,8 +198,8 @@ def scenario_of(world, events):
 
 
 def full_context(number):
-    """One client puts more keys than a context has pairs, and in format 2 deletes every third; another gets them: at as many pairs as the format allows its
-    gets are refused, and it may put."""
+    """One client puts more keys than a context has pairs, and in format 2 deletes every third. Another client gets them: once its context is full its gets
+    are refused, until it puts."""
     world, count = World(1, [], [0, 0], number), LIMITS[number].pairs + 44
     writes = [{"del": [0, f"k{n}"]} if number == 2 and n % 3 == 0 else {"put": [0, f"k{n}", "1"]} for n in range(count)]
     events = [*writes, *({"get": [1, f"k{n}"]} for n in range(count)), {"put": [1, "k0", "2"]}, {"get": [1, f"k{count - 1}"]}]
@@ -212,7 +212,7 @@ def kind_of(outcome):
 
 
 def random_worlds():
-    """The program prints of many lists of random events what the plain cluster answers, and records what its clients saw."""
+    """For many lists of random events the program prints the outcomes of the plain cluster, and records what its clients saw."""
     made, met = [*map(full_context, FORMATS), *map(some_world, range(WORLDS))], Counter()
     with ThreadPoolExecutor(os.cpu_count() or 2) as pool:
         answers = list(pool.map(ran, (scenario for scenario, _, _ in made)))

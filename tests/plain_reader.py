@@ -1,6 +1,6 @@
-"""A plain reader of traces, by the tables of docs/FORMATS.md, and the comparison of the program with it on traces of which bytes were changed.
+"""A plain reader of traces: a reference implementation of the tables of docs/FORMATS.md, with which the program is compared on changed traces.
 
-It takes a frame's fields one after the other off a table of kinds. What it reads it gives to the plain auditor.
+It reads the fields of a frame one after the other, according to a table of kinds. The operations that it reads go to the plain auditor.
 """
 import os
 import random
@@ -19,7 +19,7 @@ KINDS_OF_FORMAT_2 = range(22, 28)
 
 
 class Fault(Exception):
-    """What is wrong with a trace's bytes, and at which of them."""
+    """What is wrong with the bytes of a trace, and at which byte."""
 
     def __init__(self, words, at):
         super().__init__(f"{words} at {at}")
@@ -30,7 +30,7 @@ Place = namedtuple("Place", "data at end limits")
 
 
 def number(width, least=0, most=None):
-    """A field that is a number of so many bytes, within these limits."""
+    """A field that is a number of `width` bytes, within these limits."""
 
     def read(place):
         until = place.at + width
@@ -43,7 +43,7 @@ def number(width, least=0, most=None):
 
 
 def text(width, least, most):
-    """A field that is a length of so many bytes, and as many bytes as it says."""
+    """A field that is a length of `width` bytes, followed by that number of bytes."""
 
     def read(place):
         length, behind = number(width, least, most)(place)
@@ -68,7 +68,7 @@ def value(place):
 
 
 def deps(place):
-    """A number of pairs, each a key and a version, none of them twice: one field, whatever is wrong within."""
+    """A number of pairs, each a key and a version, without duplicates. A fault in one of them is a fault of the whole field."""
     try:
         count, behind = number(2, most=place.limits.pairs)(place)
         pairs = []
@@ -112,14 +112,14 @@ def frame(data, at, format_number):
 
 
 def operation(kind, of):
-    """The operation of a record's key, value and version, as far as its kind has these."""
+    """The operation of a record, from its key, and from its value and version if its kind has them."""
     named, rest = of[0], of[1:]
     held = rest.pop(0) if kind in ("put", "got") else None
     return plain.Operation(kind, named, held, rest[0] if rest else None)
 
 
 def history_of(data):
-    """The operations by name that the bytes of a trace have."""
+    """The operations by name of the trace that the bytes encode."""
     kind, fields, at = frame(data, 0, 1)
     if kind != HEAD:
         raise Fault("no head", 0)
@@ -150,7 +150,7 @@ def history_of(data):
 
 
 def answer_of(data):
-    """The text of the audit of these bytes, and its status."""
+    """The status and the text of the audit of these bytes."""
     try:
         report = plain.report(history_of(data))
     except Fault as fault:
@@ -158,7 +158,7 @@ def answer_of(data):
     return status_of(report), report
 
 
-# Frames that are no records: a get, a goodbye, a deletion that a client asks for, a head and an end, and puts with as many dependencies as a format allows
+# Frames that are not records: a get, a goodbye, a deletion that a client requests, a head and an end, and puts with as many dependencies as a format allows
 # and with one more.
 OTHERS = [bytes.fromhex(of) for of in ("0000000704000000010178", "000000010f", "0000000716000000010178", "000000051100020002", "000000051500000000")]
 OTHERS += [put_after(pairs_of(limits.pairs + more)) for limits in LIMITS.values() for more in (0, 1)]
@@ -174,7 +174,7 @@ def begins_of(data):
 
 
 def lengths_of(data):
-    """Where the bytes of the lengths are in a trace: those of its frames, and of their keys and values."""
+    """The positions of the bytes of all lengths in a trace: those of frames, of keys and of values."""
     places = []
     for at in begins_of(data):
         places += range(at, at + 4)
@@ -188,19 +188,19 @@ def lengths_of(data):
 
 
 def with_another(data, pick):
-    """The bytes with a frame put in that is no record, between two frames or behind the last."""
+    """The bytes with an added frame that is not a record, between two frames or after the last."""
     at = pick.choice([*begins_of(data)[1:], len(data)])
     return data[:at] + pick.choice(OTHERS) + data[at:]
 
 
 def with_another_length(data, pick):
-    """The bytes in which a frame says that it is as long as a format allows, or by a byte longer."""
+    """The bytes with the length of a frame set to the maximum of a format, or to one more."""
     at, length = pick.choice(begins_of(data)), pick.choice([limits.body for limits in LIMITS.values()]) + pick.randrange(2)
     return data[:at] + struct.pack(">I", length) + data[at + 4 :]
 
 
 def changed(data, lengths, pick):
-    """The bytes with one of them, now and then one of a length, changed, mostly by little, left out, or put in."""
+    """The bytes with one of them, sometimes one of a length, changed, mostly by little, removed or added."""
     at, dice = pick.choice(lengths) if pick.random() < 0.2 else pick.randrange(len(data)), pick.random()
     byte = (data[at] + pick.choice((1, -1, 2, 7))) % 256 if dice < 0.5 else pick.randrange(256)
     if dice < 0.8:
@@ -209,13 +209,14 @@ def changed(data, lengths, pick):
 
 
 def long_length(pick):
-    """How many bytes a long value has: as many as a format allows, one more, or any number that format 2 alone allows."""
+    """The length of a long value: the maximum of a format, one more, or any length that only format 2 allows."""
     limits = [of.value for of in LIMITS.values()]
     return pick.choice([*limits, *(limit + 1 for limit in limits), pick.randint(limits[0] + 1, limits[1])])
 
 
 def changed_trace(seed):
-    """A small history's trace, rarely with long values, of which one byte or two were changed, or a frame's length, or into which another frame was put."""
+    """The trace of a small history, rarely with long values, in which one or two bytes or the length of a frame were changed, or to which another frame was
+    added."""
     pick, lines = random.Random(seed), plain.some_lines(seed, plain.format_of(seed))
     data = trace(plain.with_long_values(lines, long_length(pick)) if pick.random() < 0.1 else lines)
     dice = pick.random()
@@ -227,7 +228,7 @@ def changed_trace(seed):
 
 
 def kind_of(report):
-    """What is told of a trace's bytes: which fault they have, or of which kind their verdict is."""
+    """The kind of answer for the bytes of a trace: their fault, or the kind of their verdict."""
     return report.split(": ")[1].split(" at ")[0] if report.startswith("faulty: ") else plain.kind_of(report)
 
 
@@ -236,7 +237,7 @@ KINDS = ("accepted", "no source", "cut", "bad length", "unknown kind", "bad fiel
 
 
 def changed_bytes():
-    """The program says of many traces of which bytes were changed what the plain reader and the plain auditor say, and each answer comes often."""
+    """The program agrees with the plain reader and the plain auditor on many traces with changed bytes, and each answer occurs often."""
     met, made = Counter(), [changed_trace(seed) for seed in range(CHANGES)]
     with ThreadPoolExecutor(os.cpu_count() or 2) as pool:
         answers = list(pool.map(lambda data: cops("audit", "-", stdin=data), made))

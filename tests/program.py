@@ -1,5 +1,5 @@
 #!/usr/bin/env python3
-"""The tests of the running program: each runs `cops` and compares what it writes, and its status.
+"""Tests of the running program: each runs `cops` and compares its output and its status.
 
 Prints a line for each test that fails, and at the end `N passed, M failed`.
 """
@@ -31,8 +31,8 @@ from sessions import idle_clients, listens_here_alone, replies, sent_behind, ser
 from terminal import on_a_terminal  # noqa: E402
 
 
-# What is told where both of these options of `explain` stand.
-ALL_BESIDE_FAULT = b"""error: the argument '--all' cannot be used with '--fault <N>'
+# The error if both of these options of `explain` are given.
+ALL_WITH_FAULT = b"""error: the argument '--all' cannot be used with '--fault <N>'
 
 Usage: cops explain --all <TRACE>
 
@@ -177,8 +177,8 @@ def scenarios():
 
 
 def mixed(seed, operations=40, data_centres=3, clients=6):
-    """Scripts of puts and gets of a few keys, and in format 2 of deletions and of a few values of more bytes than format 1 allows, over up to three nodes in
-    each data centre, with small links, messages that are repeated and that come late. Gives the scenario and the number of puts and deletions."""
+    """Scripts of puts and gets of a few keys, and in format 2 of deletions and of a few values that are longer than format 1 allows, with up to three nodes
+    in each data centre, small links, and messages that are repeated and late. Returns the scenario and the number of puts and deletions."""
     pick, number = random.Random(seed), 1 + seed % 2
 
     def value(n):
@@ -193,14 +193,14 @@ def mixed(seed, operations=40, data_centres=3, clients=6):
 
     scripts = [[operation(n) for n in range(operations)] for _ in range(clients)]
     members = [{"at": n % data_centres, "script": script} for n, script in enumerate(scripts)]
-    weather = {"link": 1 + seed % 3, "retries": pick.randrange(4), "repeat": pick.randrange(4), "hold": pick.choice((0, 0, 1, 7, 50))}
+    network = {"link": 1 + seed % 3, "retries": pick.randrange(4), "repeat": pick.randrange(4), "hold": pick.choice((0, 0, 1, 7, 50))}
     splits = pick.choice(([], ["k2"], ["k1", "k3"]))
-    text = json.dumps({"format": number, "data_centres": data_centres, "splits": splits, "clients": members, **weather})
+    text = json.dumps({"format": number, "data_centres": data_centres, "splits": splits, "clients": members, **network})
     return text.encode(), sum("get" not in one for script in scripts for one in script)
 
 
 def mixed_scripts():
-    """Scripted clients on threads: what they saw is accepted, however the threads took turns."""
+    """Scripted clients on threads: what they saw is accepted, however the threads are scheduled."""
     report = b"accepted: 4 operations, 2 puts\n"
     answer, recorded = ran(example("two_clients.json"))
     check("run of two_clients", answer, (0, b"client 0 done\nclient 1 done\n" + report, b""))
@@ -229,7 +229,7 @@ def mixed_scripts():
 
 
 def to_standard_output():
-    """A trace that goes to standard output, and to an audit from there; all else is printed to standard error."""
+    """A trace that is written to standard output, also to a pipe into an audit; everything else is printed to standard error."""
     lines, report = b"client 0 done\nclient 1 done\n", b"accepted: 4 operations, 2 puts\n"
     path = os.path.join(ROOT, "examples", "two_clients.json")
     status, recorded, told = cops("run", path, "-")
@@ -347,7 +347,7 @@ def faulty_scenarios():
 
 
 def replaced():
-    """A faulty scenario leaves an empty file, whether there was a trace or none, and a trace is replaced as a whole where it runs."""
+    """A faulty scenario leaves an empty file, whether or not there was a trace. If the scenario runs, an existing trace is replaced as a whole."""
     old = b"what was there\n" * 1_000
     with tempfile.NamedTemporaryFile(suffix=".trace") as file:
         file.write(old)
@@ -368,7 +368,7 @@ def replaced():
         check("no file where no scenario was opened", os.listdir(folder), [])
 
 
-# Commands whose input is an example, by name or by standard input, and what is put behind for the shell: each writes to its input.
+# Commands whose input is an example, by name or by standard input, with redirections by the shell: each would write to its own input.
 OVER_INPUTS = [
     ("put_and_get.jsonl", "import - FILE < FILE"),
     ("put_and_get.jsonl", "import FILE - >> FILE"),
@@ -392,7 +392,7 @@ OVER_INPUTS = [
 
 
 def over_inputs():
-    """No command writes to the file that it reads, however that is given: it says so, and the file stays as it was."""
+    """No command writes to the file that it reads, however the file is given: the command reports that, and the file stays unchanged."""
     for name, words in OVER_INPUTS:
         with tempfile.TemporaryDirectory() as folder:
             path, new = os.path.join(folder, "file"), os.path.join(folder, "new")
@@ -410,7 +410,7 @@ def over_inputs():
 
 
 def lines_in_place_of_a_trace():
-    """What begins as JSON Lines do is told so on standard error, and the answer is that of any other input."""
+    """Input that begins like JSON Lines is reported as such on standard error, and gets the same answer as any other input."""
     line = b"this looks like JSON Lines, which `cops import` reads\n"
     for data in (b'{"client":1,"get":"k"}\n', b"[1]", b"\xef\xbb\xbf{}"):
         for words in (["audit", "-"], [], ["show", "-"], ["explain", "-"]):
@@ -428,7 +428,7 @@ def random_script(pick, operations, keys):
 
 
 def scripts():
-    """Scripts of clients, each on a thread of its own: whatever the threads do, each client is done and all is accepted."""
+    """Scripts of clients, each on its own thread: however the threads are scheduled, each client is done and the trace is accepted."""
 
     def run(name, text, clients, operations, puts):
         report = f"accepted: {operations} operations, {puts} puts\n"
@@ -460,7 +460,7 @@ def scripts():
 
 
 def working_clusters():
-    """Of event lists of a working cluster nothing is refused, and all are accepted."""
+    """In the event lists of a working cluster no event is refused, and the traces are accepted."""
     for seed in range(20):
         (status, out, err), recorded = ran(scenario(500, keys=4, seed=seed).encode())
         report = out.decode().split("\n")[-2]
@@ -469,7 +469,7 @@ def working_clusters():
 
 
 def many_workers():
-    """However many workers judge a trace, the answer is that of one."""
+    """The answer is the same for each number of workers."""
     for name, status, text in TRACES:
         for workers in ("1", "2", "64"):
             answer = cops("audit", "--workers", workers, "-", stdin=example(f"{name}.trace"))
@@ -486,11 +486,11 @@ def words():
         status, out, err = cops(*given)
         check(f"usage of {given}", (status, out, err != b""), (2, b"", True))
     for given in (["--all", "--fault", "2", path], ["--fault=1", path, "--all", "--picture", "a"], [path, "--all", "--fault", "16000000"]):
-        check(f"usage of explain {given}", cops("explain", *given), (2, b"", ALL_BESIDE_FAULT))
+        check(f"usage of explain {given}", cops("explain", *given), (2, b"", ALL_WITH_FAULT))
     mistaken = (["--fault", "0", path], ["--fault", "16000001", path], ["--fault", path], ["--all=no", path], [path, "--picture"], ["--all"], [path, "--all", "--all"])
     for given in mistaken:
         status, out, err = cops("explain", *given)
-        check(f"usage of explain {given}", (status, out, err != b"", err == ALL_BESIDE_FAULT), (2, b"", True, False))
+        check(f"usage of explain {given}", (status, out, err != b"", err == ALL_WITH_FAULT), (2, b"", True, False))
     for command in ("audit", "explain", "show", "import", "convert", "run", "serve"):
         check(f"the help has {command}", f"  {command} ".encode() in cops("--help")[1], True)
     for option in (b"--all", b"--fault <N>", b"--picture <FILE>"):
@@ -523,7 +523,7 @@ def devices():
 
 
 def no_thread():
-    """A run for which the system makes too few threads says so, once those that were made have ended."""
+    """A run for which the system does not create enough threads reports that, once the threads that were created have ended."""
     clients = [{"at": 0, "script": [{"get": "a"}]} for _ in range(64)]
     soft, hard = resource.getrlimit(resource.RLIMIT_STACK)
     if hard != resource.RLIM_INFINITY and hard < 8 << 20:

@@ -9,12 +9,12 @@ from traces import ROOT, check, cops, skip
 
 RUN = os.path.join(ROOT, "examples", "redis", "run.py")
 
-# For how many seconds both recordings are waited for.
+# The timeout of both recordings, in seconds.
 PATIENCE = 300
 
 
 def redis():
-    """With all gets at the primary what the clients saw is accepted, and a get at a replica that lags is stale."""
+    """If all gets are at the primary, what the clients saw is accepted; a get from a replica that lags is stale."""
     if not shutil.which("redis-server"):
         skip("clients of Redis", "redis-server is not installed")
         return
@@ -26,7 +26,7 @@ def redis():
         check("all at the primary: audited", cops("audit", os.path.join(folder, "primary.trace")), (0, b"accepted: 240 operations, 80 puts\n", b""))
         check("some at the replica: imported", "imported: 87 operations, 4 clients" in told, True)
         text = b"refused: 87 operations, 43 puts, 1 faults\nstale (1,2) returned 1.0, newer (0,1) at 2.0, chain (0,1) (0,2) (1,1) (1,2)\n"
-        # (Carol's and Dave's puts take versions between Alice's)
+        # Carol's and Dave's puts take versions between those of Alice's.
         got, out, errors = cops("audit", os.path.join(folder, "both.trace"))
         check("some at the replica: audited", (got, without_newer(out), errors), (1, without_newer(text), b""))
         check("some at the replica: explained", "fault 1: stale (1,2)" in told, True)

@@ -1,6 +1,6 @@
 #!/usr/bin/env python3
-"""The tests of the release, on a machine with nothing but a shell: release/cops is the program that was proved and built here, it is run where
-the sources are those that it was made of, and where they are not, or it is not that program, it is not run.
+"""Tests of the release, with nothing but the tools of a shell on PATH. release/cops is the program that was proved and built here. It is run if the
+sources are those that it was built from. If they are not, or if it is another program, it is not run.
 
 Prints a line for each test that fails, and at the end `N passed, M failed`.
 """
@@ -17,7 +17,7 @@ from traces import ROOT, check, ended  # noqa: E402
 TOOLS = ("sh", "dirname", "find", "mv", "rm", "sed", "sha256sum", "sort", "touch")
 ANSWER = (0, b"accepted: 2 operations, 1 puts\n", b"")
 NOT_OF_THESE = b"cops: release/cops is not the program of these sources: it is proved and built anew, in minutes at the first time\n"
-NO_KIT = (4, b"", NOT_OF_THESE + b"cops: the command rt of the Rattle kit is not on PATH\n")
+NO_TOOLCHAIN = (4, b"", NOT_OF_THESE + b"cops: the command rt of the Rattle kit is not on PATH\n")
 MADE_WITH = "# Proved and built with "
 BUILD = """#!/bin/sh
 mkdir -p "$(dirname "$0")/crates/cops/out" && cp "$(dirname "$0")/release/cops" "$(dirname "$0")/crates/cops/out/cops"
@@ -39,7 +39,7 @@ def one_byte_changed(path):
 
 
 class Copy:
-    """A copy of the tree as it is cloned, and a PATH of the shell's tools alone."""
+    """A copy of the tree as in a fresh clone, and a PATH with only the shell's tools."""
 
     def __init__(self, folder):
         self.root, self.path = os.path.join(folder, "tree"), os.path.join(folder, "tools")
@@ -68,25 +68,26 @@ def on_a_copy(test):
 
 
 def logic_of(kit):
-    """The logic of a kit, of which `rt version` says `KIT logic LOGIC`."""
+    """The logic of a release of the toolchain, for which `rt version` prints `KIT logic LOGIC`."""
     return kit.rpartition(" logic ")[2]
 
 
-def kit_of(root):
-    """The kit that a tree's release names."""
+def toolchain_of(root):
+    """The toolchain that a tree's release names."""
     with open(os.path.join(root, "release", "SOURCES"), encoding="utf-8") as file:
         return next(line for line in file if line.startswith(MADE_WITH)).removeprefix(MADE_WITH).strip()
 
 
 def differences(root, program, kit):
-    """What does not hold of a tree's release, where this program was built of the tree by this kit: any kit of the same logic makes it of the same bytes."""
+    """What is wrong with the release of a tree, given the program that this toolchain built from the tree. All toolchains with the same logic build the same
+    bytes."""
     release = os.path.join(root, "release", "cops")
     hashes = subprocess.run(["sha256sum", "-c", "--status", "release/SOURCES"], cwd=root)
     if not filecmp.cmp(program, release, shallow=False):
         yield "release/cops is not the program that was proved: after a change of what it is made of, release/make makes it anew"
     if hashes.returncode:
         yield "release/SOURCES names other files than are there: release/make makes it anew"
-    if logic_of(kit_of(root)) != logic_of(kit):
+    if logic_of(toolchain_of(root)) != logic_of(kit):
         yield "release/SOURCES names another logic"
 
 
@@ -95,7 +96,7 @@ def is_what_was_proved():
     kit = subprocess.run(["rt", "version"], stdout=subprocess.PIPE, text=True).stdout.strip()
     check("the release", list(differences(ROOT, program, kit)), [])
     told = subprocess.run([program, "--version"], stdout=subprocess.PIPE, text=True).stdout
-    check("the version names the kit and the logic", told, f"cops 0.1.0 ({kit_of(ROOT).replace(' logic', ', logic')})\n")
+    check("the version names the kit and the logic", told, f"cops 0.1.0 ({toolchain_of(ROOT).replace(' logic', ', logic')})\n")
 
     def changed(copy):
         one_byte_changed(copy.file("release", "cops"))
@@ -117,7 +118,7 @@ def is_run(copy):
 def is_not_run_when_changed(copy):
     check("a command before", copy.answer(), ANSWER)
     one_byte_changed(copy.file("release", "cops"))
-    check("the program is changed", copy.answer(), NO_KIT)
+    check("the program is changed", copy.answer(), NO_TOOLCHAIN)
 
 
 def is_not_run_of_other_sources(copy):
@@ -126,19 +127,20 @@ def is_not_run_of_other_sources(copy):
         text = file.read()
     check("a command before an edit", copy.answer(), ANSWER)
     written(source, text + "\n")
-    check("a source is edited", copy.answer(), NO_KIT)
+    check("a source is edited", copy.answer(), NO_TOOLCHAIN)
     written(source, text)
     check("it is as it was", copy.answer(), ANSWER)
     written(copy.file("crates", "cops_line", "src", "more.rt"), "")
-    check("a source is added", copy.answer(), NO_KIT)
+    check("a source is added", copy.answer(), NO_TOOLCHAIN)
     os.remove(copy.file("crates", "cops_line", "src", "more.rt"))
     check("it is removed", copy.answer(), ANSWER)
     os.remove(copy.file("crates", "cops_types", "specs", "Lib.antt"))
-    check("a definition is removed", copy.answer(), NO_KIT)
+    check("a definition is removed", copy.answer(), NO_TOOLCHAIN)
 
 
 def is_built_of_other_sources(copy):
-    """Whoever has the kit gets the program of the edited sources. (The kit's command and the build stand here for those that take minutes.)"""
+    """With the toolchain on PATH, the program of the edited sources is built and run. Stubs replace the command `rt` and the build, which would take
+    minutes."""
     copy.add("cp", "mkdir")
     written(os.path.join(copy.path, "rt"), "#!/bin/sh\n")
     written(copy.file("build"), BUILD)

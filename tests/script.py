@@ -1,6 +1,6 @@
 #!/usr/bin/env python3
-"""The tests of the script `./cops`, over a small tree in which a shell script stands for the program: in a checkout that cannot be written, by symbolic
-links, under each shell, and where the program cannot run.
+"""Tests of the script `./cops`, in a small tree in which a shell script replaces the program: in a checkout that cannot be written, through symbolic
+links, with each shell, and with a program that cannot run.
 
 Prints a line for each test that fails, and at the end `N passed, M failed`.
 """
@@ -16,7 +16,7 @@ from traces import ROOT, check, ended, skip  # noqa: E402
 
 NOBODY = 65534
 
-# The program of the tree: it has a version, and says what it was asked for with a status that the script itself does not end with.
+# The program of the tree. It has a version, and prints its arguments; its exit status is one that the script itself does not use.
 PROGRAM = """#!/bin/sh
 if [ "$*" = --version ]; then echo "cops of the tests"; exit 0; fi
 echo "asked for: $*"
@@ -38,7 +38,7 @@ def write(path, text, mode=0o644):
 
 
 class Tree:
-    """A checkout with one source, whose release is made of it."""
+    """A checkout with one source, and a release that is built from it."""
 
     def __init__(self, folder, program=PROGRAM):
         os.chmod(folder, 0o755)
@@ -59,7 +59,7 @@ class Tree:
             return hashlib.sha256(file.read()).hexdigest()
 
     def answer(self, *before, script=None, folder=None, words=("audit", "a trace")):
-        """Status, output and errors of the script, called behind these words. There is no `build` in the tree."""
+        """Status, output and errors of the script, with the words `before` in front of the command. The tree has no `build`."""
         command = [*before, script or self.file("cops"), *words]
         ran = subprocess.run(command, capture_output=True, cwd=folder or "/", env={"PATH": "/usr/local/bin:/usr/bin:/bin"})
         return ran.returncode, ran.stdout, ran.stderr
@@ -74,7 +74,7 @@ def on_a_tree(test, *given, **more):
 
 
 def shells():
-    """No shell, which is that of the first line, and those that are installed."""
+    """A name and a prefix for `./cops` as a command, which its first line gives a shell, and for each shell that is installed."""
     yield "as a command", []
     for name in ("dash", "bash"):
         path = shutil.which(name)
@@ -93,7 +93,7 @@ def in_a_plain_tree(tree):
 
 
 def by_links(tree):
-    """By links in another folder: an absolute one, a relative one, and a link to a link."""
+    """Through links in another folder: an absolute one, a relative one, and a link to a link."""
     link = os.path.join(tree.links, "cops")
     os.symlink(tree.file("cops"), link)
     os.symlink("../a tree/cops", os.path.join(tree.links, "relative"))
@@ -108,8 +108,8 @@ def by_links(tree):
 
 
 def as_another_user(tree):
-    """The words behind which a command runs as a user who does not own the tree, none where the tree's folders are closed to this user, or nothing
-    where that cannot be had."""
+    """The prefix for commands that are to run as a user who does not own the tree. It is empty if the tests do not run as root, since the mode of a folder is
+    then enough, and None if this machine does not allow it."""
     if os.geteuid() != 0:
         return []
     words = ["setpriv", f"--reuid={NOBODY}", f"--regid={NOBODY}", "--clear-groups"]
@@ -119,7 +119,7 @@ def as_another_user(tree):
 
 
 def mounted_read_only(tree):
-    """The words behind which a command has the tree mounted so that it cannot be written, or nothing where that cannot be had."""
+    """The prefix for commands that are to see the tree mounted read-only, or None if this machine does not allow it."""
     script = 'mount --bind "$0" "$0" && mount -o remount,bind,ro "$0" && exec "$@"'
     words = ["unshare", "--mount", "sh", "-c", script, tree.root]
     if shutil.which("unshare") and not subprocess.run([*words, "true"], capture_output=True).returncode:
@@ -128,7 +128,7 @@ def mounted_read_only(tree):
 
 
 def not_written(tree, name, words):
-    """In a tree that cannot be written the program is run, and what is not of these sources is not, with status 4."""
+    """In a tree that cannot be written the program is run. A release of other sources is not run, and the status is 4."""
     if words is None:
         skip(f"./cops in a tree {name}", "this machine does not allow it")
         return
@@ -160,7 +160,7 @@ def read_only(tree):
 
 
 def does_not_run(tree):
-    """A program that the loader refuses, whose status would be that of a refused trace, and one that cannot be executed."""
+    """A program that the loader rejects, whose status would be that of a refused trace, and one that cannot be executed."""
     why = f"cops: {tree.file('release/cops')} does not run on this machine: it needs x86-64 Linux with glibc 2.34 or newer\n".encode()
     for name, shell in shells():
         check(f"{name}: the loader refuses the program", tree.answer(*shell), (4, b"", why))
@@ -170,7 +170,7 @@ def does_not_run(tree):
 
 
 def lacks_a_tool(tree):
-    """Where a tool of the script is not there it says so."""
+    """If a tool that the script needs is missing, the script reports that."""
     bin_folder = os.path.join(tree.links, "bin")
     os.mkdir(bin_folder)
     for tool in ("dirname", "find", "sed", "sort"):

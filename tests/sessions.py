@@ -1,4 +1,4 @@
-"""The tests of the front door: its replies, sessions one after the other, strange peers, idle clients, and where it listens."""
+"""Tests of the front door: its replies, consecutive sessions, misbehaving peers, idle clients, and where it listens."""
 import json
 import os
 import socket
@@ -8,11 +8,11 @@ import time
 from traces import ROOT, check, cops, example, skip
 from client import message, talk
 
-# As the system's tables of sockets write them: 127.0.0.1, and a socket that listens.
+# 127.0.0.1, and the state of a socket that listens, as the system's tables of sockets write them.
 LOOPBACK = "0100007F"
 LISTENS = "0A"
 
-# For how many seconds a client of these tests waits for the front door.
+# The timeout of a client of these tests, in seconds.
 PATIENCE = 60
 
 
@@ -23,7 +23,7 @@ def free_port():
 
 
 def read_to_end(connection):
-    """All that comes to the end of the stream. A connection that is cut has no end: then the fault comes last, which no test takes for right."""
+    """All data up to the end of the stream. If the connection breaks instead, the error comes last, which no test expects."""
     got = b""
     try:
         while piece := connection.recv(4096):
@@ -34,7 +34,7 @@ def read_to_end(connection):
 
 
 class Server:
-    """A `cops serve` of so many sessions. Each session is a call, which waits for the port at first."""
+    """A `cops serve` with this number of sessions. Each session is one call, which first waits for the port."""
 
     def __init__(self, text, sessions, *words):
         self.port = free_port()
@@ -54,11 +54,11 @@ class Server:
         raise ConnectionRefusedError(self.process.stderr.read())
 
     def lines(self, *given):
-        """The replies to a client that sends these lines and goes."""
+        """The replies to a client that sends these lines and disconnects."""
         return list(talk(self.port, given, connect=self.connect))
 
     def bytes(self, given, rest=b"", ends=True):
-        """All that comes back for these bytes, which end the client's side or do not."""
+        """Everything that comes back for these bytes. The bytes of `rest` are sent one by one; `ends` says whether the client then shuts its writing side."""
         with self.connect() as connection:
             try:
                 connection.sendall(given)
@@ -71,7 +71,7 @@ class Server:
             return read_to_end(connection)
 
     def leave(self, given):
-        """Sends these bytes, and goes without a look at what comes back."""
+        """Sends these bytes, and disconnects without reading the replies."""
         with self.connect() as connection:
             connection.sendall(given)
 
@@ -85,7 +85,7 @@ def one_client(**more):
 
 
 def served():
-    """Sessions of the front door, one after the other, and the report of the end."""
+    """Consecutive sessions of the front door, and the report at the end."""
     hello, bye = "000000050100010000", "000000010f"
     server = Server(one_client(), 2)
     given = bytes.fromhex(hello + "0000000a03000000010178000131" + bye)
@@ -113,7 +113,7 @@ def served():
 
 
 def served_deletions():
-    """Deletions at the front door of a cluster of format 2, and in the other data centre behind what depends on them."""
+    """Deletions at the front door of a cluster of format 2, and in the other data centre, after a put that depends on them."""
     server = Server(one_client(format=2), 2)
     hello, bye = "000000050100020000", "000000010f"
     given = hello + "0000000a03000000010178000131" + "0000000716000000020178" + "0000000704000000030178" + bye
@@ -131,7 +131,7 @@ def served_deletions():
 
 
 def replies():
-    """What the front door answers to each message, before a greeting and after it, to garbage, and to a session that is cut anywhere."""
+    """The replies of the front door to each message, before a greeting and after it, to garbage, and to a session that is cut anywhere."""
     hello, put, bye = "000000050100010000", "0000000a03000000010178000131", "000000010f"
     welcome, done, goodbye = "00000003020001", "0000000d05000000010000000000010000", "0000000110"
     get, later = "0000000704000000020178", "0000000f0a0000000501780000000000090000"
@@ -179,7 +179,7 @@ def replies():
 
 
 def strange_peers():
-    """Whatever a peer sends, its session alone ends, and the next is served."""
+    """Whatever a peer sends, only its own session ends, and the next is served."""
     hello, bye = message(["hello", "0"], 0), message(["bye"], 0)
     put = message(["put", "x", "1"], 7)
     welcome, refused = bytes.fromhex("00000003020001"), "000000060800000007"
@@ -221,7 +221,8 @@ def strange_peers():
 
 
 def sent_behind():
-    """A reply that was written is read, whatever a client sends behind its session's end, and one that stays there does not keep the door."""
+    """Replies that were written are read, whatever a client sends after the end of its session, and a client that stays connected after it does not block the
+    front door."""
     hello, bye = message(["hello", "0"], 0), message(["bye"], 0)
     get, put = message(["get", "x"], 7), message(["put", "x", "1"], 7)
     welcome, missed, goodbye = (bytes.fromhex(given) for given in ("00000003020001", "000000050700000007", "0000000110"))
@@ -251,7 +252,7 @@ def sent_behind():
 
 
 def sent_until_cut(connection, given, more):
-    """Whether the connection was cut, while these bytes were sent, and then more again and again."""
+    """Whether the connection was cut while these bytes were sent, and then `more` repeatedly."""
     try:
         connection.sendall(given)
         while True:
@@ -263,7 +264,7 @@ def sent_until_cut(connection, given, more):
 
 
 def idle_clients():
-    """A client that is idle for longer than it may be is given up, and no other."""
+    """A client that is idle for longer than the limit is disconnected, and no other client is."""
     hello, bye = message(["hello", "0"], 0), message(["bye"], 0)
     put, get, other = message(["put", "x", "v" * 4096], 7), message(["get", "x"], 7), message(["get", "y"], 7)
     welcome, missed, goodbye = (bytes.fromhex(given) for given in ("00000003020001", "000000050700000007", "0000000110"))
@@ -293,7 +294,7 @@ def idle_clients():
 
 
 def listening(port):
-    """The addresses at which some process listens on this port, as the system's tables of sockets tell them."""
+    """The addresses at which some process listens on this port, according to the system's tables of sockets."""
     for table in filter(os.path.exists, ("/proc/net/tcp", "/proc/net/tcp6")):
         with open(table, encoding="ascii") as file:
             for line in file.readlines()[1:]:

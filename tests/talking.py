@@ -1,5 +1,5 @@
 #!/usr/bin/env python3
-"""The tests of examples/client.py: whatever is typed is answered by a reply or by one plain line on standard error, and values may have spaces.
+"""Tests of examples/client.py: each line of input gets a reply or one line on standard error, and values may have spaces.
 
 Prints a line for each test that fails, and at the end `N passed, M failed`.
 """
@@ -18,12 +18,12 @@ SCENARIO = b'{"data_centres":1,"clients":[{"at":0}]}'
 WITH_DELETIONS = b'{"format":2,"data_centres":1,"clients":[{"at":0}]}'
 USAGE = b"client: usage: client.py PORT < MESSAGES, with a port of 1 to 65535\n"
 
-# For how many seconds a test waits.
+# The timeout of a test, in seconds.
 PATIENCE = 60
 
 MESSAGES = b"hello CLIENT [PROFILE], put KEY VALUE, delete KEY, get KEY, check KEY VERSION, status PLACE, bye"
 
-# Lines that are no messages, and what is said of each.
+# Lines that are not messages, and the error for each.
 WRONG = [
     (b"foo", b"there is no message 'foo': the messages are " + MESSAGES),
     (b"\xff", b"there is no message '\\udcff': the messages are " + MESSAGES),
@@ -73,14 +73,14 @@ def free_port():
 
 
 def client(*words, typed=b"", stdin=None, stdout=subprocess.PIPE):
-    """Status, output and errors of the client for what is typed."""
+    """Status, output and errors of the client for this input."""
     given = {"input": typed} if stdin is None else {"stdin": stdin}
     ran = subprocess.run([sys.executable, CLIENT, *words], stdout=stdout, stderr=subprocess.PIPE, timeout=PATIENCE, **given)
     return ran.returncode, ran.stdout, ran.stderr
 
 
 class Server:
-    """A `cops serve` of so many sessions."""
+    """A `cops serve` with this number of sessions."""
 
     def __init__(self, sessions, scenario=SCENARIO):
         self.port = str(free_port())
@@ -90,7 +90,7 @@ class Server:
         self.process.stdin.close()
 
     def client(self, typed, **more):
-        """What the client answers, once the port is there."""
+        """The answer of the client, once the server listens on the port."""
         end = time.monotonic() + PATIENCE
         while time.monotonic() < end:
             answer = client(self.port, typed=typed, **more)
@@ -106,7 +106,7 @@ class Server:
 
 
 def sessions():
-    """Lines that are no messages stand between others; values have spaces; the session goes on behind each."""
+    """Lines that are not messages among others, and values with spaces. The session continues after each of them."""
     server = Server(5)
     typed = b"".join(line + b"\n" for line, _ in WRONG)
     told = b"".join(b"client: line %d: %s\n" % (number, why) for number, (_, why) in enumerate(WRONG, 2))
@@ -125,7 +125,7 @@ def sessions():
 
 
 def deletions():
-    """A cluster of format 2 has deletions, and one of format 1 ends a session in which one is sent, as format 2 does before its greeting."""
+    """A cluster of format 2 has deletions. A deletion ends the session in a cluster of format 1, and before a greeting in one of format 2."""
     server = Server(4, WITH_DELETIONS)
     typed = b"hello 0\nhello 0 2\nput x 1\ndelete x\nget x\nput x \ndelete y\nget y\nget z\ncheck x 2.0\nbye\n"
     told = b"refused 17\nhello from data centre 0, 1 nodes\ndone 1.0\ndeleted 2.0\ngone 2.0\ndeleted 3.0\ngone 3.0\nmissed\nyes\nbye\n"
@@ -145,7 +145,7 @@ def deletions():
 
 
 def longest_values():
-    """A value has as many bytes as the format allows: format 1 before a greeting was welcomed, and then that of its profile."""
+    """A value is at most as long as the format allows: format 1 until a greeting is accepted, then the format of its profile."""
     short, long = (limits.value for limits in LIMITS.values())
     welcome = b"hello from data centre 0, 1 nodes\n"
     before = b"client: line %d: a value has 0 to 4096 bytes\n"
@@ -173,7 +173,7 @@ def words():
 
 
 def other_servers():
-    """What answers is no front door, or goes at once."""
+    """Servers that are not a front door, or that disconnect at once."""
     no_front_door, gone = "client: port {}: what answers there is no front door of cops serve\n", b"the session has ended\n"
     replies = [
         (b"SSH-2.0-OpenSSH\r\n", b"", no_front_door),
@@ -195,7 +195,7 @@ def other_servers():
 
 
 def answered(typed, sent, out, errors):
-    """What the client says of a server that sends one piece behind each of its messages, and goes."""
+    """Checks the output of the client with a server that sends one piece after each of its messages, and disconnects."""
     with socket.create_server(("127.0.0.1", 0)) as listener:
         port = listener.getsockname()[1]
         answering = threading.Thread(target=answer, args=(listener, sent))
@@ -206,7 +206,7 @@ def answered(typed, sent, out, errors):
 
 
 def answer(listener, sent):
-    """Sends one piece behind each message of one client, and goes."""
+    """Sends one piece after each message of one client, and disconnects."""
     with listener.accept()[0] as connection:
         for piece in sent:
             connection.recv(4096)

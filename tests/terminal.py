@@ -1,4 +1,4 @@
-"""The tests of what an audit tells on a terminal while it reads."""
+"""Tests of the progress lines that a command prints on a terminal while it reads."""
 import os
 import pty
 import subprocess
@@ -8,18 +8,18 @@ import time
 sys.dont_write_bytecode = True
 from traces import BUILT, check, example  # noqa: E402
 
-# An audit reads for a second before it tells how far it is; these are seconds after which it has begun, and a second more has gone by, on any machine.
-SURELY = 3
+# An audit reads for a second before it reports its progress. After this many seconds it has started and read for a second on any machine.
+PAUSE_SECONDS = 3
 
 
 def all_of(terminal):
-    """All that is written on a terminal, which is then closed."""
+    """Everything that is written to a terminal, which is then closed."""
     told = b""
     while True:
         try:
             piece = os.read(terminal, 4096)
         except OSError:
-            # (the other end is closed)
+            # The other end is closed.
             piece = b""
         if not piece:
             os.close(terminal)
@@ -28,14 +28,14 @@ def all_of(terminal):
 
 
 def slowly(words, data):
-    """The status, the output and what is written on a terminal of a command that waits for the second half of its input."""
+    """The status and the output of a command whose input pauses after its first half, and what it wrote to the terminal."""
     terminal, errors = pty.openpty()
     process = subprocess.Popen([BUILT, *words], stdin=subprocess.PIPE, stdout=subprocess.PIPE, stderr=errors)
     os.close(errors)
     with process.stdin as pipe:
         pipe.write(data[: len(data) // 2])
         pipe.flush()
-        time.sleep(SURELY)
+        time.sleep(PAUSE_SECONDS)
         pipe.write(data[len(data) // 2 :])
     out = process.stdout.read()
     told = all_of(terminal)
@@ -43,18 +43,18 @@ def slowly(words, data):
 
 
 def last_line(ended):
-    """The same with what is told last on the terminal."""
+    """The result of a command, with only the last line that it wrote to the terminal."""
     status, out, told = ended
     return status, out, told[told.rfind(b"\r", 0, told.rfind(b"\r")) :]
 
 
 def no_words():
-    """What stands on a terminal, which is also standard input, of a program without words, and how it ends."""
+    """The terminal output, the status and the output of the program without arguments, whose standard input is that terminal."""
     terminal, other = pty.openpty()
     process = subprocess.Popen([BUILT], stdin=other, stdout=subprocess.PIPE, stderr=other)
     os.close(other)
     told = os.read(terminal, 4096)
-    # (the end of the input)
+    # The end of the input.
     os.write(terminal, b"\x04")
     out = process.stdout.read()
     ended = process.wait()
@@ -63,7 +63,7 @@ def no_words():
 
 
 def on_a_terminal():
-    """A line tells how much was read, and is removed before the answer."""
+    """A line reports how much was read, and is erased before the answer."""
     whole = example("put_and_get.trace")
     line = b"\r2 operations, 66 bytes\r\x1b[K"
     check("a slow audit", last_line(slowly(["audit", "-"], whole)), (0, b"accepted: 2 operations, 1 puts\n", line))

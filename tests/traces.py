@@ -1,4 +1,4 @@
-"""What the tests of the running program share: running it, comparing, traces and scenarios."""
+"""Helpers that the tests of the running program share: running it, comparing results, and making traces and scenarios."""
 import json
 import os
 import resource
@@ -17,23 +17,23 @@ from write_trace import frame, key, trace, value, version  # noqa: E402, F401
 
 counts = {"passed": 0, "failed": 0, "skipped": 0}
 
-# The program, without what looks whether it is that of these sources.
+# The program itself, without the script that checks whether it is up to date.
 BUILT = os.path.join(ROOT, "crates", "cops", "out", "cops")
 
-# For how many seconds a pipe stalls.
+# How long a pipe stalls, in seconds.
 STALL = 0.001
 
-# The limits of each format: the most bytes of a value, the most pairs of dependencies and of a context, and the most bytes of a frame's body.
+# The limits of each format: the maximum number of bytes of a value, of pairs of dependencies and of a context, and of bytes of a frame's body.
 Limits = namedtuple("Limits", "value pairs body")
 LIMITS = {1: Limits(4_096, 256, 32_768), 2: Limits(16_384, 1_024, 131_072)}
 
-# The messages of a put and of a deletion from one data centre to another.
+# The kinds of the messages that replicate a put and a deletion to another data centre.
 PUT_AFTER, DEL_AFTER = 9, 25
 
 
 def cops(*words, stdin=b"", stdout=subprocess.PIPE, limit=None):
-    """Status, output and errors of a run, within so many bytes of memory where a limit is given. A trace that comes by standard input is given once
-    more by a pipe that stalls: where that is answered in another way, both answers stand here, which no test wants."""
+    """Status, output and errors of a run, with at most `limit` bytes of memory if a limit is given. A trace from standard input is given once more by a pipe
+    that stalls: if the two answers differ, both are returned, which no test expects."""
 
     def limited():
         resource.setrlimit(resource.RLIMIT_AS, (limit, limit))
@@ -49,12 +49,12 @@ def cops(*words, stdin=b"", stdout=subprocess.PIPE, limit=None):
 
 
 def four_pieces(data):
-    """The data in pieces, of which the first is one byte and most end within a record."""
+    """The data in four pieces, of which the first is one byte and most end inside a record."""
     return data[:1], data[1:8], data[8 : len(data) // 2], data[max(8, len(data) // 2) :]
 
 
 def by_stalling_pipe(words, pieces):
-    """Status, output and errors of a run to which its input comes in pieces, with a pause before each."""
+    """Status, output and errors of a run whose input arrives in pieces, with a pause before each."""
     process = subprocess.Popen([BUILT, *words], stdin=subprocess.PIPE, stdout=subprocess.PIPE, stderr=subprocess.PIPE)
 
     def feed():
@@ -65,7 +65,7 @@ def by_stalling_pipe(words, pieces):
                     pipe.write(piece)
                     pipe.flush()
         except BrokenPipeError:
-            # (it has answered what came before)
+            # The program has already answered.
             pass
 
     feeding = threading.Thread(target=feed)
@@ -77,7 +77,7 @@ def by_stalling_pipe(words, pieces):
 
 
 def ran(text):
-    """What `cops run` of the scenario answers, and the trace that it writes."""
+    """The answer of `cops run` for the scenario, and the trace that it writes."""
     with tempfile.NamedTemporaryFile(suffix=".trace") as file:
         answer = cops("run", "-", file.name, stdin=text)
         return answer, file.read()
@@ -102,7 +102,7 @@ def scripted(*scripts, data_centres=1, **more):
 
 
 def pairs_of(count):
-    """So many pairs of dependencies, none twice."""
+    """A list of `count` different pairs of dependencies."""
     return [(str(n), "1.0") for n in range(count)]
 
 
@@ -111,12 +111,12 @@ def deps(pairs):
 
 
 def put_after(pairs, on="x", text=""):
-    """The message of a put to another data centre, with these dependencies."""
+    """The message that replicates a put with these dependencies to another data centre."""
     return frame(PUT_AFTER, key(on) + value(text) + version("9.0") + deps(pairs))
 
 
 def del_after(pairs):
-    """That of a deletion."""
+    """The message that replicates a deletion with these dependencies to another data centre."""
     return frame(DEL_AFTER, key("x") + version("9.0") + deps(pairs))
 
 
@@ -129,7 +129,7 @@ def check(name, got, wanted):
 
 
 def audited(name, data, text, status):
-    """The trace is audited the same by standard input, by `-` and by file."""
+    """The audit of the trace is the same without words, with `-` and with a file."""
     wanted = (status, text.encode(), b"")
     check(f"{name}, no words", cops(stdin=data), wanted)
     check(f"{name}, audit -", cops("audit", "-", stdin=data), wanted)
@@ -140,13 +140,13 @@ def audited(name, data, text, status):
 
 
 def skip(name, why):
-    """Counts a test that this machine cannot make."""
+    """Counts a test that cannot run on this machine."""
     counts["skipped"] += 1
     print(f"SKIPPED {name}: {why}")
 
 
 def ended():
-    """Prints how many tests passed and failed, and were skipped where any were, and gives the status."""
+    """Prints how many tests passed, failed and, if there are any, were skipped, and returns the exit status."""
     skipped = f", {counts['skipped']} skipped" if counts["skipped"] else ""
     print(f"{counts['passed']} passed, {counts['failed']} failed{skipped}")
     return 1 if counts["failed"] else 0
@@ -158,12 +158,12 @@ def example(name):
 
 
 def row(path):
-    """The lines of a row's operations, and the text that the audit of them says, which stands behind the line `says`."""
+    """The lines of the operations of a test case, and the text of their audit, which follows the line `says`."""
     with open(path, encoding="utf-8") as file:
         operations, text = file.read().split("\nsays\n")
     return operations.split("\n"), text
 
 
 def status_of(text):
-    """The status with which an audit ends that says this of a trace."""
+    """The status of an audit with this text."""
     return 0 if text.startswith("accepted: ") else 1

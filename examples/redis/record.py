@@ -1,7 +1,7 @@
-"""What clients of a Redis primary and its replica see, recorded as JSON Lines.
+"""Records as JSON Lines what clients of a Redis primary and its replica see.
 
-The protocol RESP is spoken by hand, over sockets. A put is a script that raises one clock of the primary and stores the value together with what
-the clock then shows: that is the put's version, and no version is given twice. A get returns both.
+This module implements the protocol RESP itself, over sockets. A put is a script that increments a clock of the primary and stores the value together
+with the new clock: that is the version of the put, and no two puts have the same. A get returns both.
 """
 import json
 import socket
@@ -15,7 +15,7 @@ redis.call('HSET', KEYS[2], 'value', ARGV[1], 'version', version)
 return version
 """
 
-# For how many seconds a reply, or a replica that comes into step, is waited for.
+# The timeout in seconds, for a reply and for a replica that catches up.
 PATIENCE = 20
 
 
@@ -27,7 +27,7 @@ class Connection:
         self.replies = self.socket.makefile("rb")
 
     def call(self, *words):
-        """The reply to a command: text, a whole number, None, or a list of such."""
+        """Sends a command and returns its reply: a text, a whole number, None, or a list of these."""
         text = f"*{len(words)}\r\n".encode()
         for word in words:
             data = str(word).encode()
@@ -53,7 +53,7 @@ class Connection:
         raise ValueError(f"no reply: {line}")
 
     def information(self, section):
-        """What INFO says of a section, as names and texts."""
+        """The fields of a section of INFO, by name."""
         lines = self.call("INFO", section).split("\r\n")
         return dict(line.split(":", 1) for line in lines if ":" in line)
 
@@ -63,7 +63,7 @@ class Connection:
 
 
 class Recorder:
-    """Keeps a line for each operation, in the order in which their replies came."""
+    """Keeps a line for each operation, in the order in which the replies arrive."""
 
     def __init__(self):
         self.lock = threading.Lock()
@@ -78,7 +78,8 @@ class Recorder:
 
 
 class Client:
-    """A client, which puts at the primary and gets where it is told to. It records an operation when its reply has come, before its next one."""
+    """A client, which puts at the primary and gets from the primary or the replica. It records an operation once its reply has arrived, before the next
+    operation."""
 
     def __init__(self, name, recorder, primary, replica):
         self.name = name
@@ -102,7 +103,7 @@ class Client:
 
 
 def wait_until(holds, what):
-    """Asks again and again, until it holds."""
+    """Polls until the condition holds. Raises TimeoutError after PATIENCE seconds."""
     end = time.monotonic() + PATIENCE
     while not holds():
         if time.monotonic() > end:
@@ -111,7 +112,7 @@ def wait_until(holds, what):
 
 
 def in_step(primary, replica):
-    """Waits until the replica has all that the primary has now."""
+    """Waits until the replica has everything that the primary has now."""
     asked, told = Connection(primary), Connection(replica)
     offset = int(asked.information("replication")["master_repl_offset"])
 
@@ -125,13 +126,13 @@ def in_step(primary, replica):
 
 
 def side_by_side(*works):
-    """Does each work on a thread of its own. Where one fails, so does this."""
+    """Runs the functions in parallel, each on its own thread. If some fail, raises the first failure."""
     failures = []
 
     def done(work):
         try:
             work()
-        except Exception as failure:  # (told below, by the thread that waits)
+        except Exception as failure:  # (raised below, by the thread that waits)
             failures.append(failure)
 
     threads = [threading.Thread(target=done, args=(work,)) for work in works]

@@ -1,10 +1,10 @@
 #!/usr/bin/env python3
-"""Records what clients of a Redis primary and its replica see, twice, and has it audited.
+"""Records twice what clients of a Redis primary and its replica see, and audits each recording.
 
 usage: run.py [FOLDER]
 
-In the first recording all clients get at the primary; in the second one gets at the replica too, whose link is held back for a while. The lines
-and the traces are left in FOLDER, where one is named. README.md beside this file says more.
+In the first recording all clients get from the primary. In the second, one client also gets from the replica, whose link is held back for a while.
+The lines and the traces are left in FOLDER, if one is named. README.md in this folder says more.
 """
 import os
 import shutil
@@ -28,7 +28,7 @@ def free_port():
 
 
 class Server:
-    """A Redis server on a free port of this machine, with nothing on the disk but its log."""
+    """A Redis server on a free port of this machine, which writes nothing to the disk but its log."""
 
     def __init__(self, folder, name, primary=None):
         self.port = free_port()
@@ -64,7 +64,7 @@ class Server:
 
 
 class Link:
-    """What a replica takes for its primary: a port that passes everything on, and holds back what the primary sends while it is told to."""
+    """A proxy that a replica uses as its primary: a port that forwards everything, and holds back what the primary sends while `open` is cleared."""
 
     def __init__(self, primary):
         self.primary = primary
@@ -82,12 +82,12 @@ class Link:
                 threading.Thread(target=self.pass_on, args=(near, far), daemon=True).start()
                 threading.Thread(target=self.pass_on, args=(far, near, self.open), daemon=True).start()
         except OSError:
-            # (the link is closed, or the primary has ended)
+            # The link is closed, or the primary has ended.
             pass
 
     @staticmethod
     def pass_on(source, target, is_open=None):
-        """Passes on what comes, as soon as it may, to the end."""
+        """Forwards data to the end of the stream, and waits while `is_open` is cleared."""
         try:
             while data := source.recv(65_536):
                 if is_open:
@@ -95,7 +95,7 @@ class Link:
                 target.sendall(data)
             target.shutdown(socket.SHUT_WR)
         except OSError:
-            # (one of the two servers has ended)
+            # One of the two servers has ended.
             pass
 
     def end(self):
@@ -104,7 +104,7 @@ class Link:
 
 
 def at_the_primary(primary, replica, link):
-    """Four clients side by side, which put at three keys and get them again, all at the primary."""
+    """Four clients in parallel, which put three keys and get them again, all at the primary."""
     recorder = Recorder()
     clients = [Client(name, recorder, primary, replica) for name in ("alice", "bob", "carol", "dave")]
 
@@ -121,8 +121,8 @@ def at_the_primary(primary, replica, link):
 
 
 def at_both(primary, replica, link):
-    """Alice puts a new picture and then says so. Bob gets at the primary what she said, and the picture at the replica, which has the old one as
-    long as its link is held back, and the new one afterwards. Beside them Carol and Dave put and get at the primary."""
+    """Alice puts a new picture and then a message about it. Bob gets the message from the primary, and the picture from the replica, which has the old
+    picture while its link is held back, and the new one afterwards. In parallel, Carol and Dave put and get at the primary."""
     recorder = Recorder()
     alice, bob, carol, dave = clients = [Client(name, recorder, primary, replica) for name in ("alice", "bob", "carol", "dave")]
     alice.put("picture", "old")
@@ -160,7 +160,7 @@ RECORDINGS = [("primary", at_the_primary), ("both", at_both)]
 
 
 def recorded(folder, name, record):
-    """The path of the lines that a recording left, for which two servers were started and ended."""
+    """Starts two servers, makes a recording and ends the servers. Returns the path of the recorded lines."""
     primary = replica = link = None
     try:
         primary = Server(folder, f"{name}_primary")
